@@ -1,26 +1,23 @@
 -- How `round_away` finds the nearest whole number: x less its truncation is exact, and the rule turns on whether that rest is a half or more.
 -- Assumes nothing.
-use mathlib.Core.Path.{_≡_, refl, sym, ap, ap₂, _∙_, subst}
-use mathlib.Core.Logic.{_⊎_, inl, inr}
+use mathlib.Core.Path.{_≡_, refl, sym, ap, _∙_, subst}
 use Prim.Native.Nat.{ℕ, zero, suc, _+_, _-_, _*_, _/_, _%_, _^_, _≤_, _<_, min}
-use native.Mathlib.Nat.{le-refl, le-trans, le-of-eq, le-of-lt, lt-of-lt-of-le, lt-of-le-of-lt, lt-of-not-le, le-of-suc-le-suc, not-le-of-lt, add-mul, mul-add, mul-comm, mul-assoc, mul-left-comm, mul-right-comm, mul-le-mul-right, le-of-mul-le-mul-right, mul-pos, mul-one, one-mul, zero-mul, mul-zero, zero-lt-suc, div-add-mod', mod-lt, mod-le, mod-one, zero-mod, div-eq-of-lt, div-le-self, le-div-iff-mul-le, div-lt-iff-lt-mul}
+use native.Mathlib.Nat.{le-trans, le-of-eq, lt-of-le-of-lt, lt-of-not-le, not-le-of-lt, add-mul, mul-comm, mul-assoc, mul-left-comm, mul-right-comm, mul-pos, mul-one, one-mul, zero-mul, zero-lt-suc, div-add-mod', mod-lt, mod-le, mod-one, zero-mod, div-eq-of-lt}
 use native.Mathlib.Omega.{arith}
-use mathlib.Core.Bool.{Bool, true, false, not, _&&_, cond, true≢false}
+use mathlib.Core.Bool.{Bool, true, false, not, cond, true≢false}
 use lib.Arith.{digits-div}
 use lib.IntN.{ℤ, pos, negsuc, negℤ}
-use lib.Dec.{T, ltb, leb, eqb, eqb→eq, ltb→lt, leb→le, T-not, lit<, lit≤}
-use lib.Pow.{pow-add, pow-pos, pow-lt}
-use lib.Ieee.{Float, nan, inf, fin, Format, binary64, prec, emax, low, up, down, le, lt, round, neg, sum, add, sub, ofInt, toUnsigned, fits}
-use lib.Ieee.Fits.{up-pos, down-pos}
+use lib.Dec.{T, ltb, ltb→lt, T-not, lit≤}
+use lib.Ieee.{Float, nan, inf, fin, Format, binary64, prec, low, up, down, le, lt, round, neg, sum, add, sub, ofInt, toUnsigned, fits}
+use lib.Ieee.Fits.{down-pos}
 use lib.Ieee.Exact.{HasValue}
 use lib.Ieee.Order.{transfer, le-of-values}
 use lib.Ieee.Nearest.{div-mono}
 use lib.Ieee.Scale.{finite, round-same}
-use lib.Ieee.Positive.{num, den, den-pos, value→cross}
 use Rattle.floats.specs.Fraction.{le→cross, cross→le}
 use Rattle.floats.specs.Order.{lt-not-le, between-finite}
 use Rattle.floats.specs.Rounding.{round-zero}
-use Rattle.floats.specs.Monotone.{nonneg-mins}
+use Rattle.floats.specs.Signs.{nonneg-mins}
 use Rattle.floats.specs.Numbers.{zero as fzero, half, pow48}
 use Rattle.floats.specs.Away.{awayN, away}
 use Rattle.floats.specs.Whole.{ofInt-value}

@@ -1,7 +1,7 @@
 -- A float to the nearest whole number, halves away from zero, by its exact value: what Rust's `.round()` answers. Definition and examples.
 -- How it is found with one truncation is in proofs/Truncation. Assumes nothing.
 use mathlib.Core.Path.{_≡_, refl}
-use mathlib.Core.Bool.{Bool, true, false, cond}
+use mathlib.Core.Bool.{true, false, cond}
 use Prim.Native.Nat.{ℕ, _+_, _*_, _/_}
 use lib.IntN.{ℤ, pos, negsuc, negℤ}
 use lib.Ieee.{Float, nan, inf, fin}

@@ -2,7 +2,7 @@
 -- x over one is x, and two values that compare equal are the same or both zeros. Assumes nothing.
 use mathlib.Core.Path.{_≡_, refl, sym, ap, ap₂, _∙_, subst}
 use mathlib.Core.Logic.{_⊎_, inl, inr}
-use Prim.Native.Nat.{ℕ, zero, suc, pred, _+_, _-_, _*_, _%_, _^_, _≤_, _<_}
+use Prim.Native.Nat.{ℕ, zero, suc, pred, _+_, _-_, _*_, _%_, _^_, _≤_, _<_, zero-le}
 use native.Mathlib.Nat.{lt-of-not-le, le-of-suc-le-suc, not-le-of-lt, lt-irrefl, mul-comm, mul-assoc, mul-right-comm, mul-lt-mul-of-pos-right, lt-of-mul-lt-mul-right, eq-of-mul-eq-mul-right, mul-pos, mul-one, one-mul, zero-mul, zero-lt-suc, pow-suc, eq-zero-or-pos}
 use native.Mathlib.Omega.{arith}
 use mathlib.Core.Bool.{Bool, true, false, not, _&&_, cond}
@@ -13,10 +13,10 @@ use lib.Ieee.{Float, nan, inf, fin, Format, binary64, prec, emax, low, up, down,
 use lib.Ieee.Fits.{up-pos, down-pos, and-l, and-r, round-fits}
 use lib.Ieee.Exact.{HasValue, round-exact}
 use lib.Ieee.Scale.{finite, round-same}
-use lib.Ieee.Positive.{num, den-pos}
-use Rattle.floats.specs.Rounding.{round-zero}
+use lib.Ieee.Positive.{num, den, den-pos}
+use Rattle.floats.specs.Rounding.{Rounds, round-zero}
 use Rattle.floats.specs.Numbers.{zero as fzero, one}
-use Rattle.floats.specs.Fraction.{eq→cross}
+use Rattle.floats.specs.Fraction.{plus, mins, eq→cross}
 
 -- ---- what it takes to fit
 pub record Held (f : Format) (m : ℕ) (e : ℤ) : Type 0 where
@@ -145,6 +145,19 @@ one-times f nan t = refl
 one-times f (inf s) t = ap inf (like s)
 one-times f (fin s m e) t =
     ap₂ (λ (a b : ℕ). round f (unlike false s) a b) (one-mul (m * up e)) (one-mul (down e)) ∙ ap (λ (z : Bool). round f z (m * up e) (down e)) (like s) ∙ round-own f s m e t
+
+-- ---- a value of the format is its own rounding, with its sign
+pub own-rounds : (f : Format) (x : Float) → T (fits f x) → T (finite x) → Rounds f x (plus x) (mins x) (den x)
+own-rounds f nan t p = absurd p
+own-rounds f (inf s) t p = absurd p
+own-rounds f (fin false m e) t p = inl (zero-le, sym (round-own f false m e t) ∙ ap (λ (z : ℕ). round f false z (down e)) (less (m * up e)))
+  where
+    less : (a : ℕ) → a ≡ a - 0
+    less a = omega arith
+own-rounds f (fin true m e) t p = inr (zero-le, sym (round-own f true m e t) ∙ ap (λ (z : ℕ). round f true z (down e)) (less (m * up e)))
+  where
+    less : (a : ℕ) → a ≡ a - 0
+    less a = omega arith
 
 -- ---- two values of a format that compare equal are the same, or both are zeros
 first-zero : (a c : ℕ) → 0 < c → a * c ≡ 0 → a ≡ 0

@@ -4,9 +4,12 @@ pub mod Fraction
 pub mod Order
 pub mod Rounding
 pub mod Operations
+pub mod Signs
 pub mod Monotone
 pub mod Whole
 pub mod Exact
+pub mod Infinities
+pub mod Edges
 pub mod Unit
 pub mod Centre
 pub mod Table
@@ -15,3 +18,4 @@ pub mod Radius
 pub mod Away
 pub mod Tile
 pub mod Distance
+pub mod Replies

@@ -1,7 +1,7 @@
 -- What each operation of finite values rounds: a sum, a product and a quotient as (P - N) / c of Rounding, from the fractions of the operands.
 -- Assumes nothing.
 use mathlib.Core.Path.{_≡_, refl, sym, ap, subst}
-use mathlib.Core.Logic.{_⊎_, inl, inr}
+use mathlib.Core.Logic.{inl, inr}
 use Prim.Native.Nat.{ℕ, _+_, _-_, _*_, _≤_, _<_}
 use native.Mathlib.Nat.{add-mul, mul-add, add-assoc, add-comm, add-left-comm, mul-comm, mul-assoc, mul-left-comm}
 use native.Mathlib.Omega.{arith}

@@ -5,14 +5,25 @@ use mathlib.Core.Logic.{_⊎_, inl, inr}
 use Prim.Native.Nat.{ℕ, _+_, _*_, _≤_, _<_}
 use native.Mathlib.Nat.{le-of-eq, le-of-suc-le-suc, lt-of-not-le}
 use native.Mathlib.Omega.{arith}
-use mathlib.Core.Bool.{Bool, true, false, not}
+use mathlib.Core.Bool.{true, false, not}
 use lib.Dec.{T, not-T, T-not}
 use lib.Ieee.{Float, nan, inf, fin, isNan, down, le, lt, eq, ne}
 use lib.Ieee.Fits.{down-pos}
 use lib.Ieee.Scale.{finite}
 use Rattle.floats.specs.Fraction.{or-l, or-r, or-split, decide, is-true, plus, mins, le→cross, cross→le, lt→cross, cross→lt, eq→cross, cross-trans}
 
--- ---- NaN
+-- ---- NaN is on neither side: a comparison with it is false
+pub nan-left : (y : Float) → (le nan y ≡ false) × (lt nan y ≡ false) × (eq nan y ≡ false)
+unfolding le lt eq
+nan-left y = (refl, refl, refl)
+
+pub nan-right : (x : Float) → (le x nan ≡ false) × (lt x nan ≡ false) × (eq x nan ≡ false)
+unfolding le lt eq
+nan-right nan = (refl, refl, refl)
+nan-right (inf s) = (refl, refl, refl)
+nan-right (fin s m e) = (refl, refl, refl)
+
+-- so what stands on a side of `le` is a number
 pub le-left-number : (x y : Float) → T (le x y) → T (not (isNan x))
 unfolding le isNan
 le-left-number nan y h = absurd h
@@ -29,13 +40,26 @@ le-right-number (fin s m e) nan h = absurd h
 le-right-number (fin s m e) (inf t) h = tt
 le-right-number (fin s m e) (fin t n d) h = tt
 
--- ---- the infinities
+pub finite-not-nan : (x : Float) → T (finite x) → T (not (isNan x))
+unfolding isNan
+finite-not-nan nan p = absurd p
+finite-not-nan (inf s) p = absurd p
+finite-not-nan (fin s m e) p = tt
+
+-- ---- the infinities are below and above every number
 pub minus-inf-le : (z : Float) → T (not (isNan z)) → T (le (inf true) z)
 unfolding le isNan
 minus-inf-le nan h = absurd h
 minus-inf-le (inf true) h = tt
 minus-inf-le (inf false) h = tt
 minus-inf-le (fin t n d) h = tt
+
+pub le-plus-inf : (x : Float) → T (not (isNan x)) → T (le x (inf false))
+unfolding le isNan
+le-plus-inf nan h = absurd h
+le-plus-inf (inf true) h = tt
+le-plus-inf (inf false) h = tt
+le-plus-inf (fin s m e) h = tt
 
 pub plus-inf-le : (y : Float) → T (le (inf false) y) → y ≡ inf false
 unfolding le
@@ -44,7 +68,7 @@ plus-inf-le (inf true) h = absurd h
 plus-inf-le (inf false) h = refl
 plus-inf-le (fin t n d) h = absurd h
 
--- ---- transitive
+-- ---- transitive (the mixes with < are below)
 pub le-le-trans : (x y z : Float) → T (le x y) → T (le y z) → T (le x z)
 le-le-trans nan y z h k = absurd (unfold le in h)
 le-le-trans (inf true) y z h k = minus-inf-le z (le-right-number y z k)
@@ -86,7 +110,7 @@ lt-not-le (fin s m e) (fin t n d) h k =
     clash (plus (fin s m e) * down d + mins (fin t n d) * down e) (plus (fin t n d) * down e + mins (fin s m e) * down d)
     (lt→cross (fin s m e) (fin t n d) tt tt h) (le→cross (fin t n d) (fin s m e) tt tt k)
 
--- ---- total
+-- ---- total, reflexive and antisymmetric off NaN
 pub not-lt→le : (x y : Float) → T (not (isNan x)) → T (not (isNan y)) → T (not (lt x y)) → T (le y x)
 not-lt→le nan y p q h = absurd (unfold isNan in p)
 not-lt→le (inf s) nan p q h = absurd (unfold isNan in q)
@@ -118,7 +142,10 @@ le-antisymmetric x y h k = elim (or-split (lt x y) (eq x y) (unfold le in h)) [ 
 pub le-or-lt : (x y : Float) → T (not (isNan x)) → T (not (isNan y)) → T (le x y) ⊎ T (lt y x)
 le-or-lt x y p q = elim (decide (le x y)) [ inl k ↦ inl k | inr k ↦ inr (not-le→lt x y p q k) ]
 
--- ---- the mixes
+pub le-total : (x y : Float) → T (not (isNan x)) → T (not (isNan y)) → T (le x y) ⊎ T (le y x)
+le-total x y p q = elim (le-or-lt x y p q) [ inl k ↦ inl k | inr k ↦ inr (lt→le y x k) ]
+
+-- ---- transitive where one is strict
 pub lt-le-trans : (x y z : Float) → T (lt x y) → T (le y z) → T (lt x z)
 lt-le-trans x y z h k = elim (le-or-lt z x (le-right-number y z k) (le-left-number x y (lt→le x y h))) [ inl l ↦ absurd (lt-not-le x y h (le-le-trans y z x k l)) | inr l ↦ l ]
 
@@ -131,7 +158,7 @@ lt-lt-trans x y z h k = lt-le-trans x y z h (lt→le y z k)
 pub lt-asymmetric : (x y : Float) → T (lt x y) → T (lt y x) → ⊥
 lt-asymmetric x y h k = lt-not-le x y h (lt→le y x k)
 
--- ---- between two finite values
+-- ---- what lies between two finite values is finite
 pub between-finite : (lo z hi : Float) → T (finite lo) → T (finite hi) → T (le lo z) → T (le z hi) → T (finite z)
 unfolding le
 between-finite lo z nan p q h k = absurd q
@@ -142,22 +169,6 @@ between-finite (fin s m e) nan (fin t n d) p q h k = absurd h
 between-finite (fin s m e) (inf true) (fin t n d) p q h k = absurd h
 between-finite (fin s m e) (inf false) (fin t n d) p q h k = absurd k
 between-finite (fin s m e) (fin u l g) (fin t n d) p q h k = tt
-
-pub le-total : (x y : Float) → T (not (isNan x)) → T (not (isNan y)) → T (le x y) ⊎ T (le y x)
-le-total x y p q = elim (le-or-lt x y p q) [ inl k ↦ inl k | inr k ↦ inr (lt→le y x k) ]
-
-pub finite-not-nan : (x : Float) → T (finite x) → T (not (isNan x))
-unfolding isNan
-finite-not-nan nan p = absurd p
-finite-not-nan (inf s) p = absurd p
-finite-not-nan (fin s m e) p = tt
-
-pub le-plus-inf : (x : Float) → T (not (isNan x)) → T (le x (inf false))
-unfolding le isNan
-le-plus-inf nan h = absurd h
-le-plus-inf (inf true) h = tt
-le-plus-inf (inf false) h = tt
-le-plus-inf (fin s m e) h = tt
 
 -- ---- `eq` is an equivalence on what is no NaN, and the order does not tell equals apart
 pub eq-reflexive : (x : Float) → T (not (isNan x)) → T (eq x x)

@@ -5,12 +5,13 @@ use native.Mathlib.Nat.{le-trans, mul-le-mul-left, mul-pos}
 use lib.IntN.{pos}
 use lib.Dec.{T, lit≤}
 use lib.Pow.{pow-pos, pow-mono}
-use lib.Ieee.{Float, fin, binary64, le, round, mul, div, ofInt, fits}
+use lib.Ieee.{Float, binary64, le, round, mul, div, ofInt, fits}
 use lib.Ieee.Scale.{finite}
 use lib.Ieee.Positive.{positive, between}
 use Rattle.floats.specs.Numbers.{zero, one, pow16, float}
 use Rattle.floats.specs.Order.{le-le-trans, between-finite}
-use Rattle.floats.specs.Monotone.{mul-mono, div-anti, div-nonneg}
+use Rattle.floats.specs.Signs.{div-nonneg}
+use Rattle.floats.specs.Monotone.{mul-mono, div-anti}
 use Rattle.floats.specs.Whole.{ofInt-finite, ofInt-positive, ofInt-nonneg, ofInt-mul-one, ofInt-mono, ofInt-one, ofInt-mul}
 use Rattle.floats.specs.Exact.{div-one}
 

@@ -6,13 +6,14 @@ use Prim.Native.Nat.{ℕ, _^_, _≤_}
 use native.Mathlib.Nat.{le-trans}
 use lib.IntN.{pos}
 use lib.Dec.{T, lit≤}
-use lib.Pow.{pow-pos, pow-mono}
+use lib.Pow.{pow-pos}
 use lib.Ieee.{Float, fin, binary64, le, round, neg, sum, add, sub, mul, ofInt}
 use lib.Ieee.Scale.{finite}
 use Rattle.floats.specs.Numbers.{zero, one, pow16, pow31, pow48, float}
 use Rattle.floats.specs.Order.{le-le-trans, between-finite}
 use Rattle.floats.specs.Rounding.{neg-le}
-use Rattle.floats.specs.Monotone.{mul-commutes, mul-neg, sub-mono, mul-mono, neg-finite}
+use Rattle.floats.specs.Signs.{mul-commutes, mul-neg}
+use Rattle.floats.specs.Monotone.{sub-mono, mul-mono, neg-finite}
 use Rattle.floats.specs.Whole.{ofInt-mono}
 use Rattle.floats.specs.Unit.{In01}
 use Rattle.floats.specs.Centre.{Weighted, weigh-one}

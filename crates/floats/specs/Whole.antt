@@ -16,7 +16,7 @@ use lib.Ieee.Scale.{finite, round-same}
 use lib.Ieee.Positive.{positive, positive-of-value, mul-at}
 use Rattle.floats.specs.Numbers.{zero, one}
 use Rattle.floats.specs.Operations.{ring, skip}
-use Rattle.floats.specs.Monotone.{num-pos}
+use Rattle.floats.specs.Signs.{num-pos}
 
 pub value-finite : (x : Float) (s : Bool) (a c : ℕ) → HasValue x s a c → T (finite x)
 value-finite nan s a c h = absurd h

@@ -1,8 +1,7 @@
 -- `floats::in_unit` meets its contract: the two tests are those of `in01`. Assumes nothing.
-use mathlib.Core.Path.{_≡_, refl, sym, ap, _∙_}
-use mathlib.Core.Bool.{Bool, true, false, _&&_}
-use lib.Ieee.{le, ofBits, binary64}
-use Rattle.floats.specs.Unit.{in01}
+use mathlib.Core.Path.{sym, ap, _∙_}
+use mathlib.Core.Bool.{Bool, _&&_}
+use lib.Ieee.{le, ofBits}
 use Rattle.floats.specs.Numbers.{one}
 use Rattle.floats.proofs.in_unit.Statement.{statement}
 use Rattle.floats.proofs.in_unit.Tie as tie

@@ -1,12 +1,12 @@
 -- `floats::round_away` meets its contract: by its sign, from what `round_up` ensures. Assumes nothing.
 use mathlib.Core.Path.{_≡_, sym, ap, _∙_, subst}
-use mathlib.Core.Bool.{Bool, true, false, not}
+use mathlib.Core.Bool.{Bool, false, not}
 use Prim.Native.Nat.{ℕ, zero, suc, _<_, _^_}
-use native.Mathlib.Nat.{lt-of-lt-of-le, lt-of-le-of-lt, le-suc, zero-lt-suc}
+use native.Mathlib.Nat.{lt-of-lt-of-le, lt-of-le-of-lt, le-suc}
 use lib.Dec.{T, lit<, lit≤}
-use lib.IntN.{ℤ, pos, negsuc, negℤ, _-ℤ_, +ℤ-idl}
+use lib.IntN.{ℤ, pos, negℤ, _-ℤ_, +ℤ-idl}
 use lib.Signed.{mag}
-use lib.Ieee.{Float, fin, le, lt, neg, isNan, ofBits, binary64}
+use lib.Ieee.{Float, le, lt, neg, isNan, ofBits}
 use mir.Syntax.{w64}
 use mir.Val.{SFits, toZ}
 use mir.Facts.{toZ-ofZ, toZ-pos}

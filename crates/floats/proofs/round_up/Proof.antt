@@ -1,11 +1,11 @@
-use mathlib.Core.Path.{_≡_, sym, subst}
-use mathlib.Core.Bool.{Bool, true, false}
-use Prim.Native.Nat.{ℕ, _≤_, _^_}
+use mathlib.Core.Path.{_≡_}
+use mathlib.Core.Bool.{true, false}
+use Prim.Native.Nat.{_≤_, _^_}
 use native.Mathlib.Nat.{le-trans, le-of-eq}
 use native.Mathlib.Omega.{arith}
-use lib.Dec.{T, le→leb, lit≤}
+use lib.Dec.{le→leb, lit≤}
 use lib.IntN.{pos}
-use lib.Ieee.{fin, lt, fits, ofBits, inFloat, toUnsigned, binary64}
+use lib.Ieee.{fin, lt, ofBits, inFloat, toUnsigned}
 use borrow.Author.Needs.{needs}
 use Rattle.floats.specs.Numbers.{zero}
 use Rattle.floats.specs.Order.{lt-le-trans, le-lt-trans}
