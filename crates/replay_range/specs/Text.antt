@@ -1,0 +1,95 @@
+-- What the contracts say of a line's text: its digits, patterns, dashes and fields, and the case that these make. Definitions only.
+use Prim.Native.Nat.{ℕ, _+_, _*_, _^_, _<_}
+use mathlib.Core.Bool.{Bool, true, false, cond}
+use mathlib.Core.List.{List}
+use mathlib.Core.Path.{_≡_}
+use lib.Dec.{eqb}
+use lib.ListN.{getD}
+use lib.Ieee.{binary64, ofBits}
+use Rattle.io.specs.Digits.{glyph, digits}
+use Rattle.range.specs.declared.Setting.{Setting}
+use Rattle.range.specs.declared.Setting.the-variants.{Given, Derived as Setting·Derived}
+use Rattle.range.specs.declared.DataRange.{DataRange}
+use Rattle.replay_range.specs.declared.Digit.{Digit}
+use Rattle.replay_range.specs.declared.Digit.the-variants.{Value, Bad as Digit·Bad}
+use Rattle.replay_range.specs.declared.Pattern.{Pattern}
+use Rattle.replay_range.specs.declared.Pattern.the-variants.{Bits, Bad as Pattern·Bad}
+use Rattle.replay_range.specs.declared.Field.{Field}
+use Rattle.replay_range.specs.declared.Field.the-variants.{Number, Derived, Bad}
+use Rattle.replay_range.specs.declared.Settled.{Settled}
+use Rattle.replay_range.specs.declared.Settled.the-variants.{Setting as Settled·Setting, Bad as Settled·Bad}
+use Rattle.replay_range.specs.declared.Ranged.{Ranged}
+use Rattle.replay_range.specs.declared.Ranged.the-variants.{Range, Bad as Ranged·Bad}
+use Rattle.replay_range.specs.declared.Case.{Case}
+use Rattle.replay_range.specs.declared.Parsed.{Parsed}
+use Rattle.replay_range.specs.declared.Parsed.the-variants.{Case as Parsed·Case, Bad as Parsed·Bad}
+
+-- the character c is that of the digit's value, or of no digit
+abbrev pub digitIs : ℕ → Digit → Type 0
+digitIs c (Value d) = (d < 16) × (glyph d ≡ c)
+digitIs c Digit·Bad = (d : ℕ) → d < 16 → glyph d ≡ c → ⊥
+
+-- the k bytes from a place on are the digits of n, which has no more, as io::hex writes them
+pub record Spelt (s : List ℕ) (at k n : ℕ) : Type 0 where
+  pub small : n < 16 ^ k
+  pub same : (i : ℕ) → i < k → getD s (at + i) 0 ≡ getD (digits 16 k n) i 0
+
+-- the 16 bytes from a place on spell a pattern's bits, or no number
+abbrev pub patternIs : List ℕ → ℕ → Pattern → Type 0
+patternIs s at (Bits n) = Spelt s at 16 n
+patternIs s at Pattern·Bad = (n : ℕ) → Spelt s at 16 n → ⊥
+
+-- they are dashes
+abbrev pub Dashes : List ℕ → ℕ → Type 0
+Dashes s at = (i : ℕ) → i < 16 → getD s (at + i) 0 ≡ 45
+
+abbrev pub dashesIs : List ℕ → ℕ → Bool → Type 0
+dashesIs s at true = Dashes s at
+dashesIs s at false = Dashes s at → ⊥
+
+-- the byte after the field k: a line end after the field 9, and a space after any other
+abbrev pub separatorOf : ℕ → ℕ
+separatorOf k = cond (eqb k 9) 10 32
+
+abbrev pub Ended : List ℕ → ℕ → Type 0
+Ended s k = getD s (k * 17 + 16) 0 ≡ separatorOf k
+
+-- the field k, with the byte after it, writes a number's bits, is dashes, or is neither
+abbrev pub fieldIs : List ℕ → ℕ → Field → Type 0
+fieldIs s k (Number x) = Ended s k × ((n : ℕ) × (Spelt s (k * 17) 16 n × (x ≡ ofBits binary64 n)))
+fieldIs s k Derived = Ended s k × Dashes s (k * 17)
+fieldIs s k Bad = Ended s k → (Dashes s (k * 17) → ⊥) × ((n : ℕ) → Spelt s (k * 17) 16 n → ⊥)
+
+-- the field k holds the offset or the scale
+abbrev pub settingIs : List ℕ → ℕ → Setting → Type 0
+settingIs s k (Given x) = fieldIs s k (Number x)
+settingIs s k Setting·Derived = fieldIs s k Derived
+
+abbrev pub settledIs : List ℕ → ℕ → Settled → Type 0
+settledIs s k (Settled·Setting x) = settingIs s k x
+settledIs s k Settled·Bad = Unit {0}
+
+-- the fields 0 to 5 hold the range
+pub record RangeIs (s : List ℕ) (d : DataRange) : Type 0 where
+  pub min-x : fieldIs s 0 (Number (d .«min_x»))
+  pub min-y : fieldIs s 1 (Number (d .«min_y»))
+  pub max-x : fieldIs s 2 (Number (d .«max_x»))
+  pub max-y : fieldIs s 3 (Number (d .«max_y»))
+  pub offset : settingIs s 4 (d .offset)
+  pub scale : settingIs s 5 (d .scale)
+
+abbrev pub rangedIs : List ℕ → Ranged → Type 0
+rangedIs s (Range d) = RangeIs s d
+rangedIs s Ranged·Bad = Unit {0}
+
+-- the line holds the case
+pub record CaseIs (s : List ℕ) (c : Case) : Type 0 where
+  pub range : RangeIs s (c .range)
+  pub v : fieldIs s 6 (Number (c .v))
+  pub normalized : fieldIs s 7 (Number (c .normalized))
+  pub denormalized : fieldIs s 8 (Number (c .denormalized))
+  pub longitude : fieldIs s 9 (Number (c .longitude))
+
+abbrev pub parsedIs : List ℕ → Parsed → Type 0
+parsedIs s (Parsed·Case c) = CaseIs s c
+parsedIs s Parsed·Bad = Unit {0}

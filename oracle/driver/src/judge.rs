@@ -1,0 +1,219 @@
+//! One face for both builds of the Rust: every question of the driver, put to the Rust's own functions.
+
+use crate::plain::{Entry, Item, Options, Plane, Range};
+use geojson::{feature::Id, Feature, Geometry, JsonObject, Value};
+
+/// A build of the Rust. An error is the Rust's own, by its name.
+pub trait Judge: Sized {
+    /// Which build this is.
+    const NAME: &'static str;
+
+    fn load(options: &Options, points: &[[f64; 2]]) -> Result<Self, String>;
+    fn table(&self, zoom: usize) -> Option<Vec<Entry>>;
+    fn decode(&self, id: usize) -> (usize, usize);
+    fn children(&self, id: usize) -> Result<Vec<Item>, String>;
+    fn leaves(&self, id: usize, limit: usize, offset: usize) -> Vec<Item>;
+    fn expansion_zoom(&self, id: usize) -> usize;
+    fn tile(&self, z: u8, x: f64, y: f64) -> Result<Vec<Item>, String>;
+    fn in_box(&self, corners: [f64; 4], zoom: u8) -> Result<Vec<Item>, String>;
+    fn within(&self, zoom: u8, x: f64, y: f64, radius: f64) -> Vec<usize>;
+
+    /// An index alone: its slots, and the answers of its two searches.
+    fn slots(node_size: usize, points: &[[f64; 2]]) -> Vec<usize>;
+    fn index_within(node_size: usize, points: &[[f64; 2]], query: [f64; 3]) -> Vec<usize>;
+    fn index_range(node_size: usize, points: &[[f64; 2]], corners: [f64; 4]) -> Vec<usize>;
+
+    fn normalize(range: &Range, v: f64) -> f64;
+    fn denormalize(range: &Range, v: f64) -> f64;
+
+    /// Changes in the tables of a finished build, by the Rust's public fields.
+    fn set_entry(&mut self, zoom: usize, place: usize, entry: Entry);
+    fn set_slot(&mut self, zoom: usize, slot: usize, place: usize);
+    fn drop_table(&mut self, zoom: usize);
+}
+
+/// A point with an empty properties object; its id is its number.
+pub fn feature(number: usize, point: &[f64; 2]) -> Feature {
+    Feature {
+        bbox: None,
+        geometry: Some(Geometry::new(Value::Point(point.to_vec()))),
+        id: Some(Id::String(number.to_string())),
+        properties: Some(JsonObject::new()),
+        foreign_members: None,
+    }
+}
+
+/// What a feature of an answer says. A cluster is told by the property that the Rust gives it.
+pub fn item(feature: &Feature) -> Item {
+    let Some(Value::Point(at)) = feature.geometry.as_ref().map(|geometry| &geometry.value) else {
+        panic!("an answer without a point");
+    };
+    let number = |name| {
+        let value = feature.property(name).and_then(|value| value.as_u64());
+        value.unwrap_or_else(|| panic!("a cluster without {name}")) as usize
+    };
+    let (id, num) = if feature.contains_property("cluster") {
+        (number("cluster_id"), number("point_count"))
+    } else {
+        match &feature.id {
+            Some(Id::String(text)) => (text.parse().expect("a lamp's number"), 1),
+            None => panic!("a lamp without its number"),
+        }
+    };
+    Item { id, num, x: at[0], y: at[1] }
+}
+
+/// The items of an answer, or the name of the Rust's error.
+fn items<E: std::fmt::Debug>(answer: Result<Vec<Feature>, E>) -> Result<Vec<Item>, String> {
+    match answer {
+        Ok(features) => Ok(features.iter().map(item).collect()),
+        Err(error) => Err(format!("{error:?}")),
+    }
+}
+
+/// The six numbers of an entry in the Rust's order.
+fn row(entry: Entry) -> [f64; 6] {
+    [entry.x, entry.y, entry.seen, entry.id, entry.parent, entry.num]
+}
+
+/// An entry from the Rust's six numbers.
+fn entry(row: &[f64]) -> Entry {
+    Entry { x: row[0], y: row[1], seen: row[2], id: row[3], parent: row[4], num: row[5] }
+}
+
+macro_rules! judge {
+    ($module:ident, $rust:ident, $name:literal) => {
+        mod $module {
+            use super::*;
+            use $rust::{CoordinateSystem, DataRange, KDBush, Supercluster, SuperclusterOptions};
+
+            fn data_range(range: &Range) -> DataRange {
+                DataRange {
+                    min_x: range.min_x,
+                    min_y: range.min_y,
+                    max_x: range.max_x,
+                    max_y: range.max_y,
+                    offset: range.offset,
+                    scale: range.scale,
+                }
+            }
+
+            fn rust_options(options: &Options) -> SuperclusterOptions {
+                SuperclusterOptions {
+                    min_zoom: options.min_zoom,
+                    max_zoom: options.max_zoom,
+                    min_points: options.min_points,
+                    radius: options.radius,
+                    extent: options.extent,
+                    node_size: options.node_size,
+                    coordinate_system: match &options.plane {
+                        Plane::Globe => CoordinateSystem::LatLng,
+                        Plane::Cartesian(range) => {
+                            CoordinateSystem::Cartesian { range: data_range(range) }
+                        }
+                    },
+                }
+            }
+
+            fn index(node_size: usize, points: &[[f64; 2]]) -> KDBush {
+                let mut index = KDBush::new(points.len(), node_size);
+                for [x, y] in points {
+                    index.add_point(*x, *y);
+                }
+                index.build_index();
+                index
+            }
+
+            /// A loaded instance of this build.
+            pub struct Build(Supercluster);
+
+            impl Judge for Build {
+                const NAME: &'static str = $name;
+
+                fn load(options: &Options, points: &[[f64; 2]]) -> Result<Self, String> {
+                    let mut rust = Supercluster::new(rust_options(options));
+                    let features = points.iter().enumerate();
+                    match rust.load(features.map(|(i, point)| feature(i, point)).collect()) {
+                        Ok(_) => Ok(Build(rust)),
+                        Err(error) => Err(format!("{error:?}")),
+                    }
+                }
+
+                fn table(&self, zoom: usize) -> Option<Vec<Entry>> {
+                    let data = &self.0.trees.get(&zoom)?.data;
+                    Some(data.chunks(self.0.stride).map(entry).collect())
+                }
+
+                fn decode(&self, id: usize) -> (usize, usize) {
+                    (self.0.get_origin_id(id), self.0.get_origin_zoom(id))
+                }
+
+                fn children(&self, id: usize) -> Result<Vec<Item>, String> {
+                    items(self.0.get_children(id))
+                }
+
+                fn leaves(&self, id: usize, limit: usize, offset: usize) -> Vec<Item> {
+                    let leaves = self.0.get_leaves(id, limit, offset);
+                    leaves.iter().map(item).collect()
+                }
+
+                fn expansion_zoom(&self, id: usize) -> usize {
+                    self.0.get_cluster_expansion_zoom(id)
+                }
+
+                fn tile(&self, z: u8, x: f64, y: f64) -> Result<Vec<Item>, String> {
+                    items(self.0.get_tile(z, x, y).map(|tile| tile.features))
+                }
+
+                fn in_box(&self, corners: [f64; 4], zoom: u8) -> Result<Vec<Item>, String> {
+                    items(self.0.get_clusters(corners, zoom))
+                }
+
+                fn within(&self, zoom: u8, x: f64, y: f64, radius: f64) -> Vec<usize> {
+                    self.0.trees[&self.0.limit_zoom(zoom)].within(x, y, radius)
+                }
+
+                fn slots(node_size: usize, points: &[[f64; 2]]) -> Vec<usize> {
+                    index(node_size, points).ids
+                }
+
+                fn index_within(size: usize, points: &[[f64; 2]], query: [f64; 3]) -> Vec<usize> {
+                    let [x, y, radius] = query;
+                    index(size, points).within(x, y, radius)
+                }
+
+                fn index_range(size: usize, points: &[[f64; 2]], corners: [f64; 4]) -> Vec<usize> {
+                    let [min_x, min_y, max_x, max_y] = corners;
+                    index(size, points).range(min_x, min_y, max_x, max_y)
+                }
+
+                fn normalize(range: &Range, v: f64) -> f64 {
+                    data_range(range).normalize(v)
+                }
+
+                fn denormalize(range: &Range, v: f64) -> f64 {
+                    data_range(range).denormalize(v)
+                }
+
+                fn set_entry(&mut self, zoom: usize, place: usize, entry: Entry) {
+                    let tree = self.0.trees.get_mut(&zoom).expect("a table");
+                    tree.data[place * 6..][..6].copy_from_slice(&row(entry));
+                }
+
+                fn set_slot(&mut self, zoom: usize, slot: usize, place: usize) {
+                    self.0.trees.get_mut(&zoom).expect("a table").ids[slot] = place;
+                }
+
+                fn drop_table(&mut self, zoom: usize) {
+                    self.0.trees.remove(&zoom).expect("a table");
+                }
+            }
+        }
+    };
+}
+
+judge!(untouched, oracle_untouched, "untouched");
+judge!(patched, oracle_patched, "patched");
+
+pub use patched::Build as Patched;
+pub use untouched::Build as Untouched;

@@ -1,0 +1,96 @@
+//! The plain values that pass between the driver and a build of the Rust: options, entries, items.
+
+/// The four numbers of a Cartesian range, and what is given of offset and scale.
+#[derive(Clone, Copy, Debug)]
+pub struct Range {
+    pub min_x: f64,
+    pub min_y: f64,
+    pub max_x: f64,
+    pub max_y: f64,
+    pub offset: Option<f64>,
+    pub scale: Option<f64>,
+}
+
+/// The range of the table lister: offset 0 and scale 1.
+pub const UNIT: Range =
+    Range { min_x: 0.0, min_y: 0.0, max_x: 1.0, max_y: 1.0, offset: Some(0.0), scale: Some(1.0) };
+
+/// The coordinate system of a build.
+#[derive(Clone, Copy, Debug)]
+pub enum Plane {
+    /// Longitude and latitude.
+    Globe,
+    /// Cartesian coordinates in a range.
+    Cartesian(Range),
+}
+
+/// The options of a build.
+#[derive(Clone, Copy, Debug)]
+pub struct Options {
+    pub min_zoom: u8,
+    pub max_zoom: u8,
+    pub min_points: u8,
+    pub radius: f64,
+    pub extent: f64,
+    pub node_size: usize,
+    pub plane: Plane,
+}
+
+/// The options of 01's worked build.
+pub const WORKED: Options = Options {
+    min_zoom: 0,
+    max_zoom: 1,
+    min_points: 2,
+    radius: 64.0,
+    extent: 512.0,
+    node_size: 64,
+    plane: Plane::Cartesian(UNIT),
+};
+
+/// The four lamps of 01's worked build, in 65,536ths.
+pub const LAMPS: [[u32; 2]; 4] = [[16384, 32768], [20480, 32768], [26624, 32768], [26624, 32768]];
+
+/// Points in 65,536ths as numbers.
+pub fn points(parts: &[[u32; 2]]) -> Vec<[f64; 2]> {
+    parts.iter().map(|part| part.map(|n| f64::from(n) / 65_536.0)).collect()
+}
+
+/// One entry of a table, in the Rust's numbers: infinity and -1 stand for unset.
+#[derive(Clone, Copy, Debug)]
+pub struct Entry {
+    pub x: f64,
+    pub y: f64,
+    pub seen: f64,
+    pub id: f64,
+    pub parent: f64,
+    pub num: f64,
+}
+
+/// One feature of an answer: a cluster with its id and count, or a lamp with its number and count 1.
+#[derive(Clone, Copy, Debug, PartialEq)]
+pub struct Item {
+    pub id: usize,
+    pub num: usize,
+    pub x: f64,
+    pub y: f64,
+}
+
+/// Numbers with commas between them, or `nothing`.
+pub fn listed<T: ToString>(numbers: &[T]) -> String {
+    let texts: Vec<String> = numbers.iter().map(T::to_string).collect();
+    match texts.is_empty() {
+        true => "nothing".to_string(),
+        false => texts.join(","),
+    }
+}
+
+/// The ids of items, listed.
+pub fn ids(items: &[Item]) -> String {
+    listed(&items.iter().map(|item| item.id).collect::<Vec<_>>())
+}
+
+/// The places of items, listed.
+pub fn spots(items: &[Item]) -> String {
+    let texts: Vec<String> = items.iter().map(|item| format!("({},{})", item.x, item.y)).collect();
+    listed(&texts)
+}

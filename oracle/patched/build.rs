@@ -1,0 +1,5 @@
+//! Points the modules of this crate at the Rust's files, and kdbush at a patched text of it.
+
+fn main() {
+    sources::patched("kdbush", "without-window.patch");
+}

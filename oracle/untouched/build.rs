@@ -1,0 +1,5 @@
+//! Points the modules of this crate at the Rust's files, where they stand.
+
+fn main() {
+    sources::untouched();
+}
