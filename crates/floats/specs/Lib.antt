@@ -2,6 +2,7 @@
 pub mod Numbers
 pub mod Fraction
 pub mod Order
+pub mod NotAbove
 pub mod Rounding
 pub mod Operations
 pub mod Signs

@@ -1,5 +1,6 @@
 // Tests and functions on f64 whose meaning is said in the words of lib.Ieee, and below specs/ the laws of f64 that the other crates rest on.
 ghost use mathlib.Core.Path.{_≡_};
+ghost use mathlib.Core.Bool.{_&&_};
 ghost use Prim.Native.Nat.{_<_, _^_};
 ghost use lib.Dec.{T};
 ghost use lib.Ieee.{le, neg, isNan};
@@ -27,6 +28,16 @@ pub fn is_finite(x: f64) -> bool
     ensures { λ r. ⌜ r ≡ finite x ⌝ }
 {
     x - x == 0.0
+}
+
+// Whether both are numbers and no infinities.
+pub fn both_finite(a: f64, b: f64) -> bool
+    ensures { λ r. ⌜ r ≡ (finite a && finite b) ⌝ }
+{
+    if is_finite(a) {
+        return is_finite(b);
+    }
+    false
 }
 
 const POWERS: [f64; 32] = [

@@ -2,7 +2,6 @@
 // The names are the Rust's range.rs, with its Option fields and its CoordinateSystem as enums that carry the floats.
 ghost use mathlib.Core.Path.{_≡_};
 ghost use mathlib.Core.Bool.{_&&_};
-ghost use lib.Ieee.Scale.{finite};
 ghost use Rattle.range.specs.Range.{smallerOf, largerOf, offsetOf, scaleOf, normalized, denormalized, inBounds, converted, systemInBounds};
 
 // An offset or a scale: given by the caller, or derived from the range.
@@ -60,13 +59,6 @@ fn both(a: bool, b: bool) -> bool
     if a { b } else { false }
 }
 
-// Whether both are numbers and no infinities.
-fn both_finite(a: f64, b: f64) -> bool
-    ensures { λ r. ⌜ r ≡ (finite a && finite b) ⌝ }
-{
-    both(floats::is_finite(a), floats::is_finite(b))
-}
-
 impl DataRange {
     // (v - offset) / scale.
     pub fn normalize(self, v: f64) -> f64
@@ -106,10 +98,10 @@ impl DataRange {
     fn is_in_bounds(self) -> bool
         ensures { λ r. ⌜ r ≡ inBounds self ⌝ }
     {
-        let mins = both_finite(self.min_x, self.min_y);
-        let maxs = both_finite(self.max_x, self.max_y);
+        let mins = floats::both_finite(self.min_x, self.min_y);
+        let maxs = floats::both_finite(self.max_x, self.max_y);
         let scale = self.scale();
-        let settings = both_finite(self.offset(), scale);
+        let settings = floats::both_finite(self.offset(), scale);
         both(both(mins, maxs), both(settings, 0.0 < scale))
     }
 }

@@ -1,0 +1,21 @@
+-- How many slots a query answers, or the refusal of its search. Definitions only.
+use mathlib.Core.List.{List}
+use Prim.Native.Nat.{ℕ}
+use lib.ListN.{length}
+use lib.Ieee.{Float}
+use Rattle.kdbush.specs.declared.Query.{Query}
+use Rattle.kdbush.specs.declared.Step.{Step}
+use Rattle.kdbush.specs.declared.Step.the-variants.{Slot, Done, Box, Spoiled}
+use Rattle.kdbush.specs.Reply.{ending, walk}
+use Rattle.counting.specs.declared.Counted.{Counted}
+use Rattle.counting.specs.declared.Counted.the-variants.{Answers, Box as Counted·Box, Spoiled as Counted·Spoiled}
+
+-- by how the walk ends; it does not end with a slot
+abbrev pub endedWith : Step → ℕ → Counted
+endedWith (Slot c) k = Answers k
+endedWith Done k = Answers k
+endedWith Box k = Counted·Box
+endedWith Spoiled k = Counted·Spoiled
+
+unfoldable pub countedOf : Query → ℕ → ℕ → List Float → Counted
+countedOf q size n co = endedWith (ending q size n co) (length (walk q size n co))

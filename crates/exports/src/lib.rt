@@ -1,0 +1,234 @@
+// The public functions by C names, for Rust and C: numbers and slices only. A slice is passed as a pointer and a length, a `&mut usize` as a pointer.
+// Each answers 01's number of the reply, 0 where there is no refusal, and leaves what the reply carries in `carried`, 0 where it carries nothing.
+use kdbush::BuildReply;
+use kdbush::Query;
+use kdbush::SearchReply;
+use kdbush::Step;
+ghost use mathlib.Core.Path.{_≡_};
+ghost use lib.ListN.{length};
+ghost use Rattle.kdbush.specs.Reply.{buildNumber, buildCarried, built, checked, searchNumber, searchCarried, searched, columnAfter, stepNumber, firstStep, afterStep};
+ghost use Rattle.exports.specs.Numbers.{slotOf};
+ghost use Rattle.kdsort.specs.Cols.{cols};
+
+// The number of a build's reply.
+fn build_number(r: BuildReply) -> u32
+    ensures { λ n. ⌜ n ≡ buildNumber r ⌝ }
+{
+    match r {
+        BuildReply::Done => 0,
+        BuildReply::Options => 1,
+        BuildReply::Count => 2,
+        BuildReply::Point(_) => 3,
+        BuildReply::Tables => 4,
+    }
+}
+
+// What a build's reply carries.
+fn build_carried(r: BuildReply) -> usize
+    ensures { λ n. ⌜ n ≡ buildCarried r ⌝ }
+{
+    match r {
+        BuildReply::Done => 0,
+        BuildReply::Options => 0,
+        BuildReply::Count => 0,
+        BuildReply::Point(i) => i,
+        BuildReply::Tables => 0,
+    }
+}
+
+// The number of a search's reply.
+fn search_number(r: SearchReply) -> u32
+    ensures { λ n. ⌜ n ≡ searchNumber r ⌝ }
+{
+    match r {
+        SearchReply::Found(_) => 0,
+        SearchReply::Box => 9,
+        SearchReply::NoRoom(_) => 10,
+        SearchReply::Spoiled => 11,
+    }
+}
+
+// What a search's reply carries.
+fn search_carried(r: SearchReply) -> usize
+    ensures { λ n. ⌜ n ≡ searchCarried r ⌝ }
+{
+    match r {
+        SearchReply::Found(k) => k,
+        SearchReply::Box => 0,
+        SearchReply::NoRoom(k) => k,
+        SearchReply::Spoiled => 0,
+    }
+}
+
+// The number of a step.
+fn step_number(s: Step) -> u32
+    ensures { λ n. ⌜ n ≡ stepNumber s ⌝ }
+{
+    match s {
+        Step::Slot(_) => 0,
+        Step::Done => 0,
+        Step::Box => 9,
+        Step::Spoiled => 11,
+    }
+}
+
+// The slot of a step; the largest usize where there is none.
+fn step_slot(s: Step) -> usize
+    ensures { λ n. ⌜ n ≡ slotOf s ⌝ }
+{
+    match s {
+        Step::Slot(i) => i,
+        Step::Done => 0xffff_ffff_ffff_ffff,
+        Step::Box => 0xffff_ffff_ffff_ffff,
+        Step::Spoiled => 0xffff_ffff_ffff_ffff,
+    }
+}
+
+#[no_mangle]
+pub extern "C" fn kdbush_build(
+    node_size: usize,
+    xs: &[f64],
+    ys: &[f64],
+    ids: &mut [u32],
+    coords: &mut [f64],
+    carried: &mut usize,
+) -> u32
+    ensures { λ r. ⌜ r ≡ buildNumber (checked «node_size» (now (xs .entry)) (now (ys .entry)) (cols (now (ids .entry)) (now (coords .entry)))) ⌝ }
+    ensures { λ _. ⌜ now (carried .exit) ≡ buildCarried (checked «node_size» (now (xs .entry)) (now (ys .entry)) (cols (now (ids .entry)) (now (coords .entry)))) ⌝ }
+    ensures { λ _. ⌜ cols (now (ids .exit)) (now (coords .exit)) ≡ built «node_size» (now (xs .entry)) (now (ys .entry)) (cols (now (ids .entry)) (now (coords .entry))) ⌝ }
+{
+    let r = kdbush::build(node_size, xs, ys, ids, coords);
+    *carried = build_carried(r);
+    build_number(r)
+}
+
+#[no_mangle]
+pub extern "C" fn kdbush_range(
+    node_size: usize,
+    n: usize,
+    ids: &[u32],
+    coords: &[f64],
+    min_x: f64,
+    min_y: f64,
+    max_x: f64,
+    max_y: f64,
+    out: &mut [u32],
+    carried: &mut usize,
+) -> u32
+    ensures { λ r. ⌜ r ≡ searchNumber (searched (Query.Range «min_x» «min_y» «max_x» «max_y») «node_size» n (now (ids .entry)) (now (coords .entry)) (length (now (out .entry)))) ⌝ }
+    ensures { λ _. ⌜ now (carried .exit) ≡ searchCarried (searched (Query.Range «min_x» «min_y» «max_x» «max_y») «node_size» n (now (ids .entry)) (now (coords .entry)) (length (now (out .entry)))) ⌝ }
+    ensures { λ _. ⌜ now (out .exit) ≡ columnAfter (Query.Range «min_x» «min_y» «max_x» «max_y») «node_size» n (now (ids .entry)) (now (coords .entry)) (now (out .entry)) ⌝ }
+{
+    let r = kdbush::range(node_size, n, ids, coords, min_x, min_y, max_x, max_y, out);
+    *carried = search_carried(r);
+    search_number(r)
+}
+
+#[no_mangle]
+pub extern "C" fn kdbush_within(
+    node_size: usize,
+    n: usize,
+    ids: &[u32],
+    coords: &[f64],
+    qx: f64,
+    qy: f64,
+    radius: f64,
+    out: &mut [u32],
+    carried: &mut usize,
+) -> u32
+    ensures { λ r. ⌜ r ≡ searchNumber (searched (Query.Within qx qy radius) «node_size» n (now (ids .entry)) (now (coords .entry)) (length (now (out .entry)))) ⌝ }
+    ensures { λ _. ⌜ now (carried .exit) ≡ searchCarried (searched (Query.Within qx qy radius) «node_size» n (now (ids .entry)) (now (coords .entry)) (length (now (out .entry)))) ⌝ }
+    ensures { λ _. ⌜ now (out .exit) ≡ columnAfter (Query.Within qx qy radius) «node_size» n (now (ids .entry)) (now (coords .entry)) (now (out .entry)) ⌝ }
+{
+    let r = kdbush::within(node_size, n, ids, coords, qx, qy, radius, out);
+    *carried = search_carried(r);
+    search_number(r)
+}
+
+#[no_mangle]
+pub extern "C" fn kdbush_range_first(
+    node_size: usize,
+    n: usize,
+    coords: &[f64],
+    min_x: f64,
+    min_y: f64,
+    max_x: f64,
+    max_y: f64,
+    slot: &mut usize,
+) -> u32
+    ensures { λ r. ⌜ r ≡ stepNumber (firstStep (Query.Range «min_x» «min_y» «max_x» «max_y») «node_size» n (now (coords .entry))) ⌝ }
+    ensures { λ _. ⌜ now (slot .exit) ≡ slotOf (firstStep (Query.Range «min_x» «min_y» «max_x» «max_y») «node_size» n (now (coords .entry))) ⌝ }
+{
+    let q = Query::Range {
+        min_x,
+        min_y,
+        max_x,
+        max_y,
+    };
+    let s = kdbush::first(q, node_size, n, coords);
+    *slot = step_slot(s);
+    step_number(s)
+}
+
+#[no_mangle]
+pub extern "C" fn kdbush_range_after(
+    node_size: usize,
+    n: usize,
+    coords: &[f64],
+    min_x: f64,
+    min_y: f64,
+    max_x: f64,
+    max_y: f64,
+    slot: usize,
+    next: &mut usize,
+) -> u32
+    ensures { λ r. ⌜ r ≡ stepNumber (afterStep (Query.Range «min_x» «min_y» «max_x» «max_y») «node_size» n (now (coords .entry)) slot) ⌝ }
+    ensures { λ _. ⌜ now (next .exit) ≡ slotOf (afterStep (Query.Range «min_x» «min_y» «max_x» «max_y») «node_size» n (now (coords .entry)) slot) ⌝ }
+{
+    let q = Query::Range {
+        min_x,
+        min_y,
+        max_x,
+        max_y,
+    };
+    let s = kdbush::after(q, node_size, n, coords, slot);
+    *next = step_slot(s);
+    step_number(s)
+}
+
+#[no_mangle]
+pub extern "C" fn kdbush_within_first(
+    node_size: usize,
+    n: usize,
+    coords: &[f64],
+    qx: f64,
+    qy: f64,
+    radius: f64,
+    slot: &mut usize,
+) -> u32
+    ensures { λ r. ⌜ r ≡ stepNumber (firstStep (Query.Within qx qy radius) «node_size» n (now (coords .entry))) ⌝ }
+    ensures { λ _. ⌜ now (slot .exit) ≡ slotOf (firstStep (Query.Within qx qy radius) «node_size» n (now (coords .entry))) ⌝ }
+{
+    let s = kdbush::first(Query::Within { qx, qy, radius }, node_size, n, coords);
+    *slot = step_slot(s);
+    step_number(s)
+}
+
+#[no_mangle]
+pub extern "C" fn kdbush_within_after(
+    node_size: usize,
+    n: usize,
+    coords: &[f64],
+    qx: f64,
+    qy: f64,
+    radius: f64,
+    slot: usize,
+    next: &mut usize,
+) -> u32
+    ensures { λ r. ⌜ r ≡ stepNumber (afterStep (Query.Within qx qy radius) «node_size» n (now (coords .entry)) slot) ⌝ }
+    ensures { λ _. ⌜ now (next .exit) ≡ slotOf (afterStep (Query.Within qx qy radius) «node_size» n (now (coords .entry)) slot) ⌝ }
+{
+    let s = kdbush::after(Query::Within { qx, qy, radius }, node_size, n, coords, slot);
+    *next = step_slot(s);
+    step_number(s)
+}

@@ -1,0 +1,195 @@
+-- Each way out of a public function is its definition's case: a refusal, or the answer that the search left. Assumes nothing.
+use mathlib.Core.Path.{_≡_, refl, sym, ap, _∙_}
+use mathlib.Core.Bool.{Bool, true, false, cond, _&&_}
+use mathlib.Core.List.{List, [], _∷_}
+use Prim.Native.Nat.{ℕ, suc, _+_, _*_, _≤_, _<_}
+use native.Mathlib.Numerals.{add-one}
+use native.Mathlib.Omega.{arith}
+use borrow.Author.Tests.{le-leb, lt-leb}
+use lib.Dec.{leb, ltb, eqb}
+use lib.ListN.{length, getD, drop}
+use lib.Seq.{drop-cons}
+use lib.Ieee.{Float, nan}
+use Rattle.floats.specs.Unit.{in01}
+use Rattle.kdsort.specs.Cols.{Cols}
+use Rattle.kdsort.specs.Sort.{indexed}
+use Rattle.kdbush.specs.declared.Query.{Query}
+use Rattle.kdbush.specs.declared.Found.{Found as Came}
+use Rattle.kdbush.specs.declared.Found.the-variants.{All, Spoiled as Came·Spoiled}
+use Rattle.kdbush.specs.declared.Next.{Next}
+use Rattle.kdbush.specs.declared.Next.the-variants.{Slot as Next·Slot, Done as Next·Done}
+use Rattle.kdbush.specs.declared.BuildReply.{BuildReply}
+use Rattle.kdbush.specs.declared.BuildReply.the-variants.{Done as Build·Done, Options, Count, Point, Tables}
+use Rattle.kdbush.specs.declared.SearchReply.{SearchReply}
+use Rattle.kdbush.specs.declared.SearchReply.the-variants.{Found, Box, NoRoom, Spoiled}
+use Rattle.kdbush.specs.declared.Step.{Step}
+use Rattle.kdbush.specs.declared.Step.the-variants.{Slot, Done, Box as Step·Box, Spoiled as Step·Spoiled}
+use Rattle.kdbush.specs.declared.Outside.{Outside}
+use Rattle.kdbush.specs.declared.Outside.the-variants.{At, Nothing}
+use Rattle.kdbush.specs.Query.{queryOk}
+use Rattle.kdbush.specs.Slots.{answers}
+use Rattle.kdbush.specs.Run.{ran, run, reply, pickReply, sound, whole, filled, places}
+use Rattle.kdbush.specs.Cursor.{headOf, restOf}
+use Rattle.kdbush.specs.Reply.{nodeSizeOk, countOk, coordsOk, firstOutside, pointed, checked, builtBy, built, found, told, searched, columnAfter, nextStep, ending, walk, walkAfter, firstStep, afterStep}
+use Rattle.kdbush.proofs.Runs.{ends}
+
+-- ---- tests
+
+yes : {A : Type 0} (b : Bool) (x y : A) → b ≡ true → cond b x y ≡ x
+yes b x y e = rw e
+
+no : {A : Type 0} (b : Bool) (x y : A) → b ≡ false → cond b x y ≡ y
+no b x y e = rw e
+
+pub both-true : {a b : Bool} → a ≡ true → b ≡ true → (a && b) ≡ true
+both-true e f = rw (e, f)
+
+pub first-false : {a : Bool} (b : Bool) → a ≡ false → (a && b) ≡ false
+first-false b e = rw e
+
+pub second-false : {a b : Bool} → a ≡ true → b ≡ false → (a && b) ≡ false
+second-false e f = rw (e, f)
+
+-- ---- the searches
+
+module _ (q : Query) (size n : ℕ) (ids : List ℕ) (co : List Float) (out : List ℕ) where
+  -- the index is refused
+  pub search-spoiled : (coordsOk size n (length co) && leb n (length ids)) ≡ false → (Spoiled ≡ searched q size n ids co (length out)) × (out ≡ columnAfter q size n ids co out)
+  unfolding searched columnAfter
+  search-spoiled e = (sym (no _ _ _ e), sym (no _ _ _ (first-false (queryOk q) e)))
+
+  -- the query is refused
+  pub search-box : (coordsOk size n (length co) && leb n (length ids)) ≡ true → queryOk q ≡ false → (Box ≡ searched q size n ids co (length out)) × (out ≡ columnAfter q size n ids co out)
+  unfolding searched columnAfter
+  search-box e f = (sym (yes _ _ _ e ∙ no _ _ _ f), sym (no _ _ _ (second-false e f)))
+
+  module _ (e : (coordsOk size n (length co) && leb n (length ids)) ≡ true) (f : queryOk q ≡ true) where
+    searched-told : (b : Bool) → whole n (found q size n ids co) ≡ b → searched q size n ids co (length out) ≡ told b (length (found q size n ids co)) (length out)
+    unfolding searched
+    searched-told b g = yes _ _ _ e ∙ yes _ _ _ f ∙ ap (λ (x : Bool). told x (length (found q size n ids co)) (length out)) g
+
+    column-is : columnAfter q size n ids co out ≡ filled (sound n (found q size n ids co)) out
+    unfolding columnAfter
+    column-is = yes _ _ _ (both-true e f)
+
+    -- a slot names a place past the table
+    pub search-past : (o : List ℕ) → ran Came·Spoiled o ≡ run n 0 (found q size n ids co) out → (Spoiled ≡ searched q size n ids co (length out)) × (o ≡ columnAfter q size n ids co out)
+    search-past o g =
+        let w = ends n (found q size n ids co) out Came·Spoiled o g in
+        (sym (searched-told false (not-whole (whole n (found q size n ids co)) (length (found q size n ids co)) (w .0))), w .1 ∙ sym column-is)
+      where
+        not-whole : (b : Bool) (k : ℕ) → Came·Spoiled ≡ pickReply b k → b ≡ false
+        not-whole true k h = absurd (let z : _≡_ {A = ℕ} 0 1 = cc in omega arith)
+        not-whole false k h = refl
+
+    all-found : (k : ℕ) (o : List ℕ) → ran (All k) o ≡ run n 0 (found q size n ids co) out → (whole n (found q size n ids co) ≡ true) × (k ≡ length (found q size n ids co)) × (o ≡ columnAfter q size n ids co out)
+    all-found k o g =
+        let w = ends n (found q size n ids co) out (All k) o g in
+        let v = is-whole (whole n (found q size n ids co)) k (length (found q size n ids co)) (w .0) in
+        (v .0, v .1, w .1 ∙ sym column-is)
+      where
+        is-whole : (b : Bool) (k j : ℕ) → All k ≡ pickReply b j → (b ≡ true) × (k ≡ j)
+        is-whole true k j h = (refl, cc)
+        is-whole false k j h = absurd (let z : _≡_ {A = ℕ} 0 1 = cc in omega arith)
+
+    -- the answer is longer than the column
+    pub search-no-room : (k : ℕ) (o : List ℕ) → ran (All k) o ≡ run n 0 (found q size n ids co) out → length out < k → (NoRoom k ≡ searched q size n ids co (length out)) × (o ≡ columnAfter q size n ids co out)
+    search-no-room k o g h =
+        let w = all-found k o g in
+        (ap NoRoom (w .1) ∙ sym (searched-told true (w .0) ∙ no _ _ _ (lt-leb (length (found q size n ids co)) (length out) (omega (arith, w .1)))), w .2)
+
+    -- and where it is not
+    pub search-found : (k : ℕ) (o : List ℕ) → ran (All k) o ≡ run n 0 (found q size n ids co) out → k ≤ length out → (Found k ≡ searched q size n ids co (length out)) × (o ≡ columnAfter q size n ids co out)
+    search-found k o g h =
+        let w = all-found k o g in
+        (ap Found (w .1) ∙ sym (searched-told true (w .0) ∙ yes _ _ _ (le-leb (length (found q size n ids co)) (length out) (omega (arith, w .1)))), w .2)
+
+-- ---- the cursor
+
+-- what an interval's search answers, as a step
+abbrev pub stepOf : Next → Step
+stepOf (Next·Slot i) = Slot i
+stepOf Next·Done = Done
+
+step-head : (l : List ℕ) → stepOf (headOf l) ≡ nextStep Done l
+step-head [] = refl
+step-head (i ∷ l) = refl
+
+module _ (q : Query) (size n : ℕ) (co : List Float) where
+  pub first-spoiled : coordsOk size n (length co) ≡ false → Step·Spoiled ≡ firstStep q size n co
+  unfolding firstStep
+  first-spoiled e = sym (ap (nextStep (ending q size n co)) (no _ _ _ (first-false (queryOk q) e)) ∙ no _ _ _ e)
+
+  pub first-box : coordsOk size n (length co) ≡ true → queryOk q ≡ false → Step·Box ≡ firstStep q size n co
+  unfolding firstStep
+  first-box e f = sym (ap (nextStep (ending q size n co)) (no _ _ _ (second-false e f)) ∙ yes _ _ _ e ∙ no _ _ _ f)
+
+  pub first-found : coordsOk size n (length co) ≡ true → queryOk q ≡ true → (x : Next) → x ≡ headOf (answers q co size n) → stepOf x ≡ firstStep q size n co
+  unfolding firstStep
+  first-found e f x g =
+      ap stepOf g ∙ step-head (answers q co size n)
+      ∙ sym (ap (nextStep (ending q size n co)) (yes _ _ _ (both-true e f)) ∙ ap (λ (s : Step). nextStep s (answers q co size n)) (yes _ _ _ e ∙ yes _ _ _ f))
+
+  module _ (c : ℕ) where
+    pub after-spoiled : coordsOk size n (length co) ≡ false → Step·Spoiled ≡ afterStep q size n co c
+    unfolding afterStep
+    after-spoiled e = sym (ap (nextStep (ending q size n co)) (no _ _ _ (first-false (ltb c n) (first-false (queryOk q) e))) ∙ no _ _ _ e)
+
+    pub after-box : coordsOk size n (length co) ≡ true → queryOk q ≡ false → Step·Box ≡ afterStep q size n co c
+    unfolding afterStep
+    after-box e f = sym (ap (nextStep (ending q size n co)) (no _ _ _ (first-false (ltb c n) (second-false e f))) ∙ yes _ _ _ e ∙ no _ _ _ f)
+
+    pub after-past : coordsOk size n (length co) ≡ true → queryOk q ≡ true → ltb c n ≡ false → Done ≡ afterStep q size n co c
+    unfolding afterStep
+    after-past e f g = sym (ap (nextStep (ending q size n co)) (no _ _ _ (second-false (both-true e f) g)) ∙ yes _ _ _ e ∙ yes _ _ _ f)
+
+    pub after-found : coordsOk size n (length co) ≡ true → queryOk q ≡ true → ltb c n ≡ true → (x : Next) → x ≡ headOf (restOf q co size n c) → stepOf x ≡ afterStep q size n co c
+    unfolding afterStep
+    after-found e f g x h =
+        ap stepOf h ∙ step-head (restOf q co size n c)
+        ∙ sym (ap (nextStep (ending q size n co)) (yes _ _ _ (both-true (both-true e f) g)) ∙ ap (λ (s : Step). nextStep s (restOf q co size n c)) (yes _ _ _ e ∙ yes _ _ _ f))
+
+-- ---- the build
+
+-- one point: the rest is looked at, or it is the first outside
+pub outside-step : (xs ys : List Float) (i : ℕ) → i < length xs → i < length ys → (in01 (getD xs i nan) && in01 (getD ys i nan)) ≡ true
+    → firstOutside (drop i xs) (drop i ys) i ≡ firstOutside (drop (i + 1) xs) (drop (i + 1) ys) (i + 1)
+unfolding firstOutside
+outside-step xs ys i h k e = rw (add-one i) (rw (drop-cons xs i nan h, drop-cons ys i nan k, e, firstOutside))
+
+pub outside-here : (xs ys : List Float) (i : ℕ) → i < length xs → i < length ys → (in01 (getD xs i nan) && in01 (getD ys i nan)) ≡ false
+    → At i ≡ firstOutside (drop i xs) (drop i ys) i
+unfolding firstOutside
+outside-here xs ys i h k e = rw (drop-cons xs i nan h, drop-cons ys i nan k, e, firstOutside)
+
+module _ (size : ℕ) (xs ys : List Float) (s : Cols) where
+  leaves : (r : BuildReply) → checked size xs ys s ≡ r → builtBy r size xs ys s ≡ built size xs ys s
+  leaves r e = ap (λ (x : BuildReply). builtBy x size xs ys s) (sym e)
+
+  pub build-options : nodeSizeOk size ≡ false → (Options ≡ checked size xs ys s) × (s ≡ built size xs ys s)
+  unfolding checked
+  build-options e = let c : checked size xs ys s ≡ Options = no _ _ _ e in (sym c, leaves Options c)
+
+  pub build-count : nodeSizeOk size ≡ true → (countOk (length xs) && eqb (length ys) (length xs)) ≡ false → (Count ≡ checked size xs ys s) × (s ≡ built size xs ys s)
+  unfolding checked
+  build-count e f = let c : checked size xs ys s ≡ Count = yes _ _ _ e ∙ no _ _ _ f in (sym c, leaves Count c)
+
+  module _ (e : nodeSizeOk size ≡ true) (f : (countOk (length xs) && eqb (length ys) (length xs)) ≡ true) where
+    past-count : checked size xs ys s ≡ pointed (firstOutside xs ys 0) (cond (leb (length xs) (length (s .ids)) && leb (2 * length xs) (length (s .co))) Build·Done Tables)
+    unfolding checked
+    past-count = yes _ _ _ e ∙ yes _ _ _ f
+
+    pub build-point : (i : ℕ) → At i ≡ firstOutside xs ys 0 → (Point i ≡ checked size xs ys s) × (s ≡ built size xs ys s)
+    build-point i g =
+        let c : checked size xs ys s ≡ Point i = past-count ∙ ap (λ (x : Outside). pointed x (cond (leb (length xs) (length (s .ids)) && leb (2 * length xs) (length (s .co))) Build·Done Tables)) (sym g) in
+        (sym c, leaves (Point i) c)
+
+    past-points : Nothing ≡ firstOutside xs ys 0 → checked size xs ys s ≡ cond (leb (length xs) (length (s .ids)) && leb (2 * length xs) (length (s .co))) Build·Done Tables
+    past-points g = past-count ∙ ap (λ (x : Outside). pointed x (cond (leb (length xs) (length (s .ids)) && leb (2 * length xs) (length (s .co))) Build·Done Tables)) (sym g)
+
+    pub build-tables : Nothing ≡ firstOutside xs ys 0 → (leb (length xs) (length (s .ids)) && leb (2 * length xs) (length (s .co))) ≡ false → (Tables ≡ checked size xs ys s) × (s ≡ built size xs ys s)
+    build-tables g h = let c : checked size xs ys s ≡ Tables = past-points g ∙ no _ _ _ h in (sym c, leaves Tables c)
+
+    pub build-done : Nothing ≡ firstOutside xs ys 0 → (leb (length xs) (length (s .ids)) && leb (2 * length xs) (length (s .co))) ≡ true
+        → (Build·Done ≡ checked size xs ys s) × (indexed size xs ys s ≡ built size xs ys s)
+    build-done g h = let c : checked size xs ys s ≡ Build·Done = past-points g ∙ yes _ _ _ h in (sym c, leaves Build·Done c)

@@ -1,0 +1,194 @@
+-- Of an index built from its points, what the searches answer, in places: `range` exactly the points in the box; `within` only points that pass the distance
+-- test, and each one that passes it and lies inside the four rounded edges, the own place of a query among them. No place is answered twice, and each is
+-- below the number of points, so that no search of it is refused as spoiled. Assumes nothing.
+use mathlib.Core.Path.{_≡_, refl, sym, ap, _∙_, subst}
+use mathlib.Core.Bool.{true}
+use mathlib.Core.List.{List, [], _∷_, _++_}
+use Prim.Native.Nat.{ℕ, zero, suc, _≤_, _<_}
+use native.Mathlib.Omega.{arith}
+use borrow.Author.Tests.{lt-ltb, le-leb}
+use lib.Dec.{T}
+use lib.ListN.{length, getD, drop, length-map}
+use lib.Seq.{take-all}
+use lib.Ieee.{Float, nan, binary64, le, fits}
+use lib.Ieee.Scale.{finite}
+use Rattle.floats.specs.Numbers.{zero as fzero}
+use Rattle.floats.specs.Fraction.{is-true}
+use Rattle.floats.specs.Edges.{le-add, sub-le}
+use Rattle.floats.specs.Distance.{passes-self}
+use Rattle.kdsort.specs.Cols.{Cols, key}
+use Rattle.kdsort.specs.Tree.{Index}
+use Rattle.kdbush.specs.declared.Query.{Query}
+use Rattle.kdbush.specs.declared.Query.the-variants.{Range, Within}
+use Rattle.kdbush.specs.declared.SearchReply.the-variants.{Found}
+use Rattle.kdbush.specs.Query.{passesQ, least, greatest, queryOk}
+use Rattle.kdbush.specs.Slots.{answers}
+use Rattle.kdbush.specs.Run.{places, sound, whole}
+use Rattle.kdbush.specs.Reply.{coordsOk, found, searched, columnAfter}
+use Rattle.kdbush.specs.Walk.{no-nil, answers-length}
+use Rattle.kdbush.specs.Members.{In, NotIn, Distinct, Between}
+use Rattle.kdbush.specs.Sound.{answers-sound, answers-between, answers-distinct}
+use Rattle.kdbush.specs.Complete.{Inside, answers-complete, in-box}
+
+-- ---- slots and their places
+
+-- a place that is answered is that of an answered slot
+from-slot : (ids l pre : List ℕ) (q : ℕ) (post : List ℕ) → places ids l ≡ pre ++ q ∷ post → (i : ℕ) × In i l × (q ≡ getD ids i 0)
+unfolding places
+from-slot ids [] pre q post e = absurd (no-nil pre q post e)
+from-slot ids (i ∷ l) [] q post e = (i, ([], l, refl), cc)
+from-slot ids (i ∷ l) (y ∷ pre) q post e =
+    let f : places ids l ≡ pre ++ q ∷ post = cc in
+    let w = from-slot ids l pre q post f in
+    (w .0, (i ∷ w .1 .0, w .1 .1, ap (λ (z : List ℕ). i ∷ z) (w .1 .2)), w .2)
+
+to-place : (ids pre : List ℕ) (i : ℕ) (post : List ℕ) → In (getD ids i 0) (places ids (pre ++ i ∷ post))
+unfolding places
+to-place ids [] i post = ([], places ids post, refl)
+to-place ids (y ∷ pre) i post =
+    let w = to-place ids pre i post in
+    (getD ids y 0 ∷ w .0, w .1, ap (λ (z : List ℕ). getD ids y 0 ∷ z) (w .2))
+
+-- each place is below n
+unfoldable pub AllBelow : ℕ → List ℕ → Type 0
+AllBelow n [] = Unit
+AllBelow n (k ∷ ks) = (k < n) × AllBelow n ks
+
+places-below : (ids : List ℕ) (n : ℕ) → ((p : ℕ) → p < n → getD ids p 0 < n) → (l : List ℕ) → Between 0 n l → AllBelow n (places ids l)
+unfolding places Between AllBelow
+places-below ids n f [] w = tt
+places-below ids n f (k ∷ ks) w = (f k (w .1), places-below ids n f ks (w .2))
+
+notin-places : (ids : List ℕ) (n : ℕ) → ((p q : ℕ) → p < n → q < n → getD ids p 0 ≡ getD ids q 0 → p ≡ q) → (k : ℕ) → k < n → (l : List ℕ) → Between 0 n l → NotIn k l
+    → NotIn (getD ids k 0) (places ids l)
+unfolding places Between
+notin-places ids n f k h [] w d = tt
+notin-places ids n f k h (j ∷ js) w d = ((λ e. d .0 (f k j h (w .1) e)), notin-places ids n f k h js (w .2) (d .1))
+
+distinct-places : (ids : List ℕ) (n : ℕ) → ((p q : ℕ) → p < n → q < n → getD ids p 0 ≡ getD ids q 0 → p ≡ q) → (l : List ℕ) → Between 0 n l → Distinct l → Distinct (places ids l)
+unfolding places Between
+distinct-places ids n f [] w d = tt
+distinct-places ids n f (k ∷ ks) w d = (notin-places ids n f k (w .1) ks (w .2) (d .0), distinct-places ids n f ks (w .2) (d .1))
+
+pub all-whole : (n : ℕ) (l : List ℕ) → AllBelow n l → whole n l ≡ true
+unfolding AllBelow whole
+all-whole n [] w = refl
+all-whole n (k ∷ ks) w = rw (lt-ltb k n (w .0), whole) (all-whole n ks (w .1))
+
+pub all-sound : (n : ℕ) (l : List ℕ) → AllBelow n l → sound n l ≡ l
+unfolding AllBelow sound
+all-sound n [] w = refl
+all-sound n (k ∷ ks) w = rw (lt-ltb k n (w .0), sound) (ap (λ (z : List ℕ). k ∷ z) (all-sound n ks (w .1)))
+
+pub places-length : (ids l : List ℕ) → length (places ids l) ≡ length l
+unfolding places
+places-length ids l = length-map l (λ i. getD ids i 0)
+
+-- ---- an index built from the points
+
+module _ (size : ℕ) (xs ys : List Float) (s S : Cols) (I : Index size xs ys s S) (q : Query) where
+  -- the places that the query answers
+  abbrev pub answered : List ℕ
+  answered = found q size (length xs) (S .ids) (S .co)
+
+  apart : (p r : ℕ) → p < length xs → r < length xs → getD (S .ids) p 0 ≡ getD (S .ids) r 0 → p ≡ r
+  apart p r h k e = sym (I .slot-back p h) ∙ ap (I .slot-of) e ∙ I .slot-back r k
+
+  pub answered-below : AllBelow (length xs) answered
+  answered-below = places-below (S .ids) (length xs) (I .id-in) (answers q (S .co) size (length xs)) (answers-between q (S .co) size (length xs))
+
+  -- no place twice
+  pub answered-once : Distinct answered
+  answered-once = distinct-places (S .ids) (length xs) apart (answers q (S .co) size (length xs)) (answers-between q (S .co) size (length xs)) (answers-distinct q (S .co) size (length xs))
+
+  pub answered-length : length answered ≤ length xs
+  answered-length = omega (arith, places-length (S .ids) (answers q (S .co) size (length xs)), answers-length q (S .co) size (length xs))
+
+  -- each answer is a point that passes the test
+  pub answered-sound : (p : ℕ) → In p answered → (p < length xs) × (passesQ q (getD xs p nan) (getD ys p nan) ≡ true)
+  answered-sound p m =
+      let w = from-slot (S .ids) (answers q (S .co) size (length xs)) (m .0) p (m .1) (m .2) in
+      let v = answers-sound q (S .co) size (length xs) (w .0) (w .1) in
+      let c : passesQ q (getD xs (getD (S .ids) (w .0) 0) nan) (getD ys (getD (S .ids) (w .0) 0) nan) ≡ true =
+      subst (λ (u : Float). passesQ q (getD xs (getD (S .ids) (w .0) 0) nan) u ≡ true) (I .y-of (w .0) (v .0))
+      (subst (λ (u : Float). passesQ q u (key 1 (S .co) (w .0)) ≡ true) (I .x-of (w .0) (v .0)) (v .1)) in
+      subst (λ (k : ℕ). (k < length xs) × (passesQ q (getD xs k nan) (getD ys k nan) ≡ true)) (sym (w .2)) (I .id-in (w .0) (v .0), c)
+
+  -- the point p passes the test and lies inside the edges of the search, on both axes
+  pub record Reached (p : ℕ) : Type 0 where
+    pub passes : passesQ q (getD xs p nan) (getD ys p nan) ≡ true
+    pub west : T (le (least q 0) (getD xs p nan))
+    pub east : T (le (getD xs p nan) (greatest q 0))
+    pub south : T (le (least q 1) (getD ys p nan))
+    pub north : T (le (getD ys p nan) (greatest q 1))
+
+  x-at : (p : ℕ) → p < length xs → getD xs p nan ≡ key 0 (S .co) (I .slot-of p)
+  x-at p h = ap (λ (k : ℕ). getD xs k nan) (sym (I .id-back p h)) ∙ sym (I .x-of (I .slot-of p) (I .slot-in p h))
+
+  y-at : (p : ℕ) → p < length xs → getD ys p nan ≡ key 1 (S .co) (I .slot-of p)
+  y-at p h = ap (λ (k : ℕ). getD ys k nan) (sym (I .id-back p h)) ∙ sym (I .y-of (I .slot-of p) (I .slot-in p h))
+
+  inside-is : (p : ℕ) → p < length xs → Reached p → Inside q (S .co) (I .slot-of p)
+  inside-is p h w =
+      let ex = x-at p h in
+      let ey = y-at p h in
+      record {
+        passes = subst (λ (u : Float). passesQ q (key 0 (S .co) (I .slot-of p)) u ≡ true) ey (subst (λ (u : Float). passesQ q u (getD ys p nan) ≡ true) ex (w .passes));
+        from = low (subst (λ (u : Float). T (le (least q 0) u)) ex (w .west)) (subst (λ (u : Float). T (le (least q 1) u)) ey (w .south));
+        to = high (subst (λ (u : Float). T (le u (greatest q 0))) ex (w .east)) (subst (λ (u : Float). T (le u (greatest q 1))) ey (w .north));
+      }
+    where
+      low : T (le (least q 0) (key 0 (S .co) (I .slot-of p))) → T (le (least q 1) (key 1 (S .co) (I .slot-of p))) → (ax : ℕ) → ax < 2 → T (le (least q ax) (key ax (S .co) (I .slot-of p)))
+      low a b zero k = a
+      low a b (suc zero) k = b
+      low a b (suc (suc j)) k = absurd (omega arith)
+
+      high : T (le (key 0 (S .co) (I .slot-of p)) (greatest q 0)) → T (le (key 1 (S .co) (I .slot-of p)) (greatest q 1)) → (ax : ℕ) → ax < 2 → T (le (key ax (S .co) (I .slot-of p)) (greatest q ax))
+      high a b zero k = a
+      high a b (suc zero) k = b
+      high a b (suc (suc j)) k = absurd (omega arith)
+
+  -- each point that passes the test and lies inside the edges is answered
+  pub answered-complete : (p : ℕ) → p < length xs → Reached p → In p answered
+  answered-complete p h w =
+      let m = answers-complete q (S .co) size (length xs) (I .tree) (I .slot-of p) (I .slot-in p h) (inside-is p h w) in
+      let t = to-place (S .ids) (m .0) (I .slot-of p) (m .1) in
+      subst (λ (l : List ℕ). In p (places (S .ids) l)) (sym (m .2)) (subst (λ (k : ℕ). In k (places (S .ids) (m .0 ++ I .slot-of p ∷ m .1))) (I .id-back p h) t)
+
+  -- a search of the index with room for all its places is answered
+  module _ (ok : coordsOk size (length xs) (length (S .co)) ≡ true) (wide : length xs ≤ length (S .ids)) (fine : queryOk q ≡ true) (out : List ℕ) (room : length xs ≤ length out) where
+    pub built-searched : searched q size (length xs) (S .ids) (S .co) (length out) ≡ Found (length answered)
+    unfolding searched
+    built-searched = rw (ok, le-leb (length xs) (length (S .ids)) wide, fine, all-whole (length xs) answered answered-below, le-leb (length answered) (length out) (omega (arith, answered-length)))
+
+    pub built-column : columnAfter q size (length xs) (S .ids) (S .co) out ≡ answered ++ drop (length answered) out
+    unfolding columnAfter
+    built-column =
+        let h : length answered ≤ length out = omega (arith, answered-length) in
+        rw (ok, le-leb (length xs) (length (S .ids)) wide, fine, all-sound (length xs) answered answered-below, take-all (length out) answered h)
+
+-- ---- `range`: exactly the points in the box
+
+module _ (size : ℕ) (xs ys : List Float) (s S : Cols) (I : Index size xs ys s S) (a b c d : Float) where
+  pub range-sound : (p : ℕ) → In p (found (Range a b c d) size (length xs) (S .ids) (S .co)) → (p < length xs) × (passesQ (Range a b c d) (getD xs p nan) (getD ys p nan) ≡ true)
+  range-sound p m = answered-sound size xs ys s S I (Range a b c d) p m
+
+  pub range-complete : (p : ℕ) → p < length xs → passesQ (Range a b c d) (getD xs p nan) (getD ys p nan) ≡ true → In p (found (Range a b c d) size (length xs) (S .ids) (S .co))
+  range-complete p h e =
+      let w = in-box a b c d (getD xs p nan ∷ getD ys p nan ∷ []) 0 e in
+      answered-complete size xs ys s S I (Range a b c d) p h (record { passes = e; west = w .from 0 (omega arith); east = w .to 0 (omega arith); south = w .from 1 (omega arith); north = w .to 1 (omega arith) })
+
+-- ---- `within`: the own place of a query that is a point of the index, for a finite radius not below 0
+
+module _ (size : ℕ) (xs ys : List Float) (s S : Cols) (I : Index size xs ys s S) (p : ℕ) (h : p < length xs) (r : Float)
+    (fx : T (fits binary64 (getD xs p nan))) (fy : T (fits binary64 (getD ys p nan))) (x : T (finite (getD xs p nan))) (y : T (finite (getD ys p nan))) (fr : T (finite r)) (nr : T (le fzero r)) where
+  pub own-place : In p (found (Within (getD xs p nan) (getD ys p nan) r) size (length xs) (S .ids) (S .co))
+  own-place =
+      answered-complete size xs ys s S I (Within (getD xs p nan) (getD ys p nan) r) p h
+      (record {
+        passes = is-true _ (passes-self (getD xs p nan) (getD ys p nan) r x y fr);
+        west = sub-le binary64 (getD xs p nan) r fx x fr nr;
+        east = le-add binary64 (getD xs p nan) r fx x fr nr;
+        south = sub-le binary64 (getD ys p nan) r fy y fr nr;
+        north = le-add binary64 (getD ys p nan) r fy y fr nr;
+      })

@@ -1,0 +1,31 @@
+-- Any two replies that meet the contract of a public function of this crate are equal, and so are any two columns that they leave. Assumes nothing.
+use mathlib.Core.Path.{_≡_}
+use mathlib.Core.List.{List}
+use Prim.Native.Nat.{ℕ}
+use lib.Ieee.{Float}
+use Rattle.floats.specs.Replies.{same-reply}
+use Rattle.kdsort.specs.Cols.{Cols}
+use Rattle.kdbush.specs.declared.Query.{Query}
+use Rattle.kdbush.specs.declared.BuildReply.{BuildReply}
+use Rattle.kdbush.specs.declared.SearchReply.{SearchReply}
+use Rattle.kdbush.specs.declared.Step.{Step}
+use Rattle.kdbush.specs.Reply.{checked, built, searched, columnAfter, firstStep, afterStep}
+
+pub build-replies : (size : ℕ) (xs ys : List Float) (s : Cols) (r t : BuildReply) → r ≡ checked size xs ys s → t ≡ checked size xs ys s → r ≡ t
+build-replies size xs ys s r t = same-reply
+
+pub build-columns : (size : ℕ) (xs ys : List Float) (s u v : Cols) → u ≡ built size xs ys s → v ≡ built size xs ys s → u ≡ v
+build-columns size xs ys s u v = same-reply
+
+-- `range` and `within`
+pub search-replies : (q : Query) (size n : ℕ) (ids : List ℕ) (co : List Float) (room : ℕ) (r t : SearchReply) → r ≡ searched q size n ids co room → t ≡ searched q size n ids co room → r ≡ t
+search-replies q size n ids co room r t = same-reply
+
+pub search-columns : (q : Query) (size n : ℕ) (ids : List ℕ) (co : List Float) (out u v : List ℕ) → u ≡ columnAfter q size n ids co out → v ≡ columnAfter q size n ids co out → u ≡ v
+search-columns q size n ids co out u v = same-reply
+
+pub first-replies : (q : Query) (size n : ℕ) (co : List Float) (r t : Step) → r ≡ firstStep q size n co → t ≡ firstStep q size n co → r ≡ t
+first-replies q size n co r t = same-reply
+
+pub after-replies : (q : Query) (size n : ℕ) (co : List Float) (c : ℕ) (r t : Step) → r ≡ afterStep q size n co c → t ≡ afterStep q size n co c → r ≡ t
+after-replies q size n co c r t = same-reply

@@ -1,0 +1,147 @@
+-- The replies of the public functions and what they leave in the lent columns, for every input: 01's refusals in 01's order, and otherwise the answer.
+-- Definitions only.
+use mathlib.Core.Bool.{Bool, true, false, cond, _&&_}
+use mathlib.Core.List.{List, [], _∷_}
+use Prim.Native.Nat.{ℕ, suc, _*_}
+use lib.Dec.{leb, ltb, eqb}
+use lib.ListN.{length}
+use lib.Ieee.{Float}
+use Rattle.floats.specs.Unit.{in01}
+use Rattle.kdsort.specs.Cols.{Cols}
+use Rattle.kdsort.specs.Sort.{indexed}
+use Rattle.kdbush.specs.declared.Query.{Query}
+use Rattle.kdbush.specs.declared.BuildReply.{BuildReply}
+use Rattle.kdbush.specs.declared.BuildReply.the-variants.{Done as Build·Done, Options, Count, Point, Tables}
+use Rattle.kdbush.specs.declared.SearchReply.{SearchReply}
+use Rattle.kdbush.specs.declared.SearchReply.the-variants.{Found, Box, NoRoom, Spoiled}
+use Rattle.kdbush.specs.declared.Step.{Step}
+use Rattle.kdbush.specs.declared.Step.the-variants.{Slot, Done, Box as Step·Box, Spoiled as Step·Spoiled}
+use Rattle.kdbush.specs.declared.Outside.{Outside}
+use Rattle.kdbush.specs.declared.Outside.the-variants.{At, Nothing}
+use Rattle.kdbush.specs.Query.{queryOk}
+use Rattle.kdbush.specs.Slots.{answers}
+use Rattle.kdbush.specs.Run.{places, sound, whole, filled}
+use Rattle.kdbush.specs.Cursor.{restOf}
+
+-- ---- 01's numbers of the replies, and what they carry
+
+abbrev pub buildNumber : BuildReply → ℕ
+buildNumber Build·Done = 0
+buildNumber Options = 1
+buildNumber Count = 2
+buildNumber (Point i) = 3
+buildNumber Tables = 4
+
+abbrev pub buildCarried : BuildReply → ℕ
+buildCarried Build·Done = 0
+buildCarried Options = 0
+buildCarried Count = 0
+buildCarried (Point i) = i
+buildCarried Tables = 0
+
+abbrev pub searchNumber : SearchReply → ℕ
+searchNumber (Found k) = 0
+searchNumber Box = 9
+searchNumber (NoRoom k) = 10
+searchNumber Spoiled = 11
+
+abbrev pub searchCarried : SearchReply → ℕ
+searchCarried (Found k) = k
+searchCarried Box = 0
+searchCarried (NoRoom k) = k
+searchCarried Spoiled = 0
+
+abbrev pub stepNumber : Step → ℕ
+stepNumber (Slot i) = 0
+stepNumber Done = 0
+stepNumber Step·Box = 9
+stepNumber Step·Spoiled = 11
+
+-- ---- the bounds
+
+abbrev pub nodeSizeOk : ℕ → Bool
+nodeSizeOk size = leb 1 size && leb size 65535
+
+abbrev pub countOk : ℕ → Bool
+countOk n = leb 1 n && leb n 1048576
+
+-- an index of n slots whose coordinates may be searched
+abbrev pub coordsOk : ℕ → ℕ → ℕ → Bool
+coordsOk size n co = nodeSizeOk size && countOk n && leb (2 * n) co
+
+-- ---- the build
+
+-- the first point from i on with a coordinate outside [0,1] or no number
+unfoldable pub firstOutside : List Float → List Float → ℕ → Outside
+firstOutside [] ys i = Nothing
+firstOutside (x ∷ xs) [] i = Nothing
+firstOutside (x ∷ xs) (y ∷ ys) i = elim (in01 x && in01 y) [ true ↦ firstOutside xs ys (suc i) | false ↦ At i ]
+
+abbrev pub pointed : Outside → BuildReply → BuildReply
+pointed (At i) r = Point i
+pointed Nothing r = r
+
+-- refusals 1, 2, 3, 4, in this order
+unfoldable pub checked : ℕ → List Float → List Float → Cols → BuildReply
+checked size xs ys s =
+    cond (nodeSizeOk size)
+    (cond (countOk (length xs) && eqb (length ys) (length xs))
+    (pointed (firstOutside xs ys 0) (cond (leb (length xs) (length (s .ids)) && leb (2 * length xs) (length (s .co))) Build·Done Tables))
+    Count)
+    Options
+
+-- the columns after a reply: the index, or as they were
+abbrev pub builtBy : BuildReply → ℕ → List Float → List Float → Cols → Cols
+builtBy Build·Done size xs ys s = indexed size xs ys s
+builtBy Options size xs ys s = s
+builtBy Count size xs ys s = s
+builtBy (Point i) size xs ys s = s
+builtBy Tables size xs ys s = s
+
+abbrev pub built : ℕ → List Float → List Float → Cols → Cols
+built size xs ys s = builtBy (checked size xs ys s) size xs ys s
+
+-- ---- the searches, over any lent columns
+
+-- the places that a query answers
+abbrev pub found : Query → ℕ → ℕ → List ℕ → List Float → List ℕ
+found q size n ids co = places ids (answers q co size n)
+
+-- an answer of k places in a column of length room; ok says whether each place is below n
+abbrev pub told : Bool → ℕ → ℕ → SearchReply
+told ok k room = cond ok (cond (leb k room) (Found k) (NoRoom k)) Spoiled
+
+-- refusals 11, 9, 11, 10, in this order
+unfoldable pub searched : Query → ℕ → ℕ → List ℕ → List Float → ℕ → SearchReply
+searched q size n ids co room =
+    cond (coordsOk size n (length co) && leb n (length ids)) (cond (queryOk q) (told (whole n (found q size n ids co)) (length (found q size n ids co)) room) Box) Spoiled
+
+-- the column: the places before the first that is past the table, as many as fit, and then the old contents; as it was, where the index or the query is refused
+unfoldable pub columnAfter : Query → ℕ → ℕ → List ℕ → List Float → List ℕ → List ℕ
+columnAfter q size n ids co out =
+    cond (coordsOk size n (length co) && leb n (length ids) && queryOk q) (filled (sound n (found q size n ids co)) out) out
+
+-- ---- the same answers one at a time
+
+-- the first of the list, or how it ends
+abbrev pub nextStep : Step → List ℕ → Step
+nextStep e [] = e
+nextStep e (i ∷ l) = Slot i
+
+-- how a walk ends: with a refusal that it began with, or done
+abbrev pub ending : Query → ℕ → ℕ → List Float → Step
+ending q size n co = cond (coordsOk size n (length co)) (cond (queryOk q) Done Step·Box) Step·Spoiled
+
+-- the slots that a walk goes over: none where it is refused
+abbrev pub walk : Query → ℕ → ℕ → List Float → List ℕ
+walk q size n co = cond (coordsOk size n (length co) && queryOk q) (answers q co size n) []
+
+unfoldable pub firstStep : Query → ℕ → ℕ → List Float → Step
+firstStep q size n co = nextStep (ending q size n co) (walk q size n co)
+
+-- what follows the slot c; a slot past the index has nothing after it
+abbrev pub walkAfter : Query → ℕ → ℕ → List Float → ℕ → List ℕ
+walkAfter q size n co c = cond (coordsOk size n (length co) && queryOk q && ltb c n) (restOf q co size n c) []
+
+unfoldable pub afterStep : Query → ℕ → ℕ → List Float → ℕ → Step
+afterStep q size n co c = nextStep (ending q size n co) (walkAfter q size n co c)

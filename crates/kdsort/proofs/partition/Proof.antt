@@ -1,0 +1,298 @@
+-- `kdsort::partition` meets its contract: the columns placed, then pass after pass by the definition's steps, then settled. Each scan has a slot that stops
+-- it at the latest, so no index leaves the interval. Assumes nothing.
+mod Places
+use mathlib.Core.Path.{_≡_, refl, sym, ap, _∙_}
+use mathlib.Core.List.{List}
+use Prim.Native.Nat.{ℕ, _+_, _-_}
+use native.Mathlib.Nat.{le-refl, le-of-lt, lt-of-lt-of-le, lt-irrefl}
+use native.Mathlib.Omega.{arith}
+use lib.Ieee.{Float, lt}
+use borrow.Author.Tests.{not-true, not-false}
+use Rattle.kdsort.specs.Cols.{Cols, cols, swapCo, key}
+use Rattle.kdsort.specs.Select.{scanUp, scanDown}
+use Rattle.kdsort.specs.Scans.{up-none, up-more, up-stops, down-none, down-more, down-stops, placed-stops}
+use Rattle.kdsort.proofs.Turns.{parted-then, parted-else, cut-eq, passing-cols, passing-starts, passing-turn}
+use Rattle.kdsort.proofs.partition.Statement.{statement}
+use Rattle.kdsort.proofs.partition.Tie as tie
+use Rattle.kdsort.proofs.partition.Proof.Places.{Inv-up, μ-up, Inv-down, μ-down, Inv-pass, μ-pass, columns, pivot, placed-of, j1→start, placed-is, placed-long, s→pass, s→start, i-of, j-of, passed, swapped, swapped-is, swapped-long, turn, stops, up-ahead, down-ahead, ap→start, passes-is}
+
+mul-t : tie.Need-mul-t Inv-up μ-up Inv-down μ-down Inv-pass μ-pass
+mul-t c = omega arith
+
+add-t : tie.Need-add-t Inv-up μ-up Inv-down μ-down Inv-pass μ-pass
+add-t c = omega arith
+
+mul-t-2 : tie.Need-mul-t-2 Inv-up μ-up Inv-down μ-down Inv-pass μ-pass
+mul-t-2 c = omega arith
+
+slice-read-t : tie.Need-slice-read-t Inv-up μ-up Inv-down μ-down Inv-pass μ-pass
+slice-read-t c = omega arith
+
+swap-item-requires : tie.Need-swap-item-requires Inv-up μ-up Inv-down μ-down Inv-pass μ-pass
+swap-item-requires c κs = omega arith
+
+mul-if1 : tie.Need-mul-if1 Inv-up μ-up Inv-down μ-down Inv-pass μ-pass
+mul-if1 c = omega arith
+
+add-if1 : tie.Need-add-if1 Inv-up μ-up Inv-down μ-down Inv-pass μ-pass
+add-if1 c = omega arith
+
+mul-if1-2 : tie.Need-mul-if1-2 Inv-up μ-up Inv-down μ-down Inv-pass μ-pass
+mul-if1-2 c = omega arith
+
+slice-read-if1 : tie.Need-slice-read-if1 Inv-up μ-up Inv-down μ-down Inv-pass μ-pass
+slice-read-if1 c = omega arith
+
+swap-item-requires-2 : tie.Need-swap-item-requires-2 Inv-up μ-up Inv-down μ-down Inv-pass μ-pass
+swap-item-requires-2 c κs = omega arith
+
+pass-holds : tie.Need-pass-holds Inv-up μ-up Inv-down μ-down Inv-pass μ-pass
+pass-holds c =
+    let s = j1→start c in
+    let a = s .args in
+    let h = s .pre in
+    let w = placed-stops (a .axis) (columns s) (a .k) (a .left) (a .right) h in
+    let e : c .if1 .coords ≡ placed-of s .co = ap (λ (s : Cols). s .co) (placed-is c) in
+    record {
+      ids-long = refl;
+      co-long = refl;
+      i-from = le-refl _;
+      i-to = le-of-lt (h .lr);
+      j-from = le-of-lt (h .lr);
+      j-to = le-refl _;
+      i-stop = ap (λ (x : List Float). lt (key (a .axis) x (a .left)) (pivot s)) e ∙ w .0;
+      j-stop = ap (λ (x : List Float). lt (pivot s) (key (a .axis) x (a .right))) e ∙ w .1;
+      moved = λ l. absurd (lt-irrefl _ (lt-of-lt-of-le (h .lr) l));
+      goes = passing-starts _ _ _ _ _;
+    }
+
+swap-item-requires-3 : tie.Need-swap-item-requires-3 Inv-up μ-up Inv-down μ-down Inv-pass μ-pass
+swap-item-requires-3 c κs =
+    let e = placed-long (c .before .before .before .before) in
+    let h = j1→start (c .before .before .before .before) .pre in
+    omega arith
+
+add-i : tie.Need-add-i Inv-up μ-up Inv-down μ-down Inv-pass μ-pass
+add-i c = omega arith
+
+sub-j : tie.Need-sub-j Inv-up μ-up Inv-down μ-down Inv-pass μ-pass
+sub-j c = omega arith
+
+up-holds : tie.Need-up-holds Inv-up μ-up Inv-down μ-down Inv-pass μ-pass
+up-holds c =
+    let h = turn c in
+    let e : j-of c - 1 + 1 ≡ j-of c = omega arith in
+    (up-none _ _ _ _, omega arith, ap (λ (q : ℕ). lt (key (s→start c .args .axis) (swapped c .co) q) (pivot (s→start c))) e ∙ stops c .0)
+
+mul-if2 : tie.Need-mul-if2 Inv-up μ-up Inv-down μ-down Inv-pass μ-pass
+mul-if2 c = omega arith
+
+add-if2 : tie.Need-add-if2 Inv-up μ-up Inv-down μ-down Inv-pass μ-pass
+add-if2 c = omega arith
+
+mul-if2-2 : tie.Need-mul-if2-2 Inv-up μ-up Inv-down μ-down Inv-pass μ-pass
+mul-if2-2 c = omega arith
+
+slice-read-if2 : tie.Need-slice-read-if2 Inv-up μ-up Inv-down μ-down Inv-pass μ-pass
+slice-read-if2 c = let h = turn (c .before .before) in omega arith
+
+add-i-2 : tie.Need-add-i-2 Inv-up μ-up Inv-down μ-down Inv-pass μ-pass
+add-i-2 c = omega arith
+
+up-less : tie.Need-up-less Inv-up μ-up Inv-down μ-down Inv-pass μ-pass
+up-less c = let h = up-ahead c in omega arith
+
+up-again : tie.Need-up-again Inv-up μ-up Inv-down μ-down Inv-pass μ-pass
+up-again c =
+    let h = up-ahead c in
+    (up-more _ _ _ _ _ (c .before .before .up .inv .0) (not-false _ (c .if2 .left)), omega arith, c .before .before .up .inv .2)
+
+down-holds : tie.Need-down-holds Inv-up μ-up Inv-down μ-down Inv-pass μ-pass
+down-holds c =
+    let s = c .before .before .before in
+    let h = turn s in
+    (down-none _ _ _ _, record { slot = i-of s; from = h .li; to = omega arith; stop = stops s .1 })
+
+mul-if3 : tie.Need-mul-if3 Inv-up μ-up Inv-down μ-down Inv-pass μ-pass
+mul-if3 c = omega arith
+
+add-if3 : tie.Need-add-if3 Inv-up μ-up Inv-down μ-down Inv-pass μ-pass
+add-if3 c = omega arith
+
+mul-if3-2 : tie.Need-mul-if3-2 Inv-up μ-up Inv-down μ-down Inv-pass μ-pass
+mul-if3-2 c = omega arith
+
+slice-read-if3 : tie.Need-slice-read-if3 Inv-up μ-up Inv-down μ-down Inv-pass μ-pass
+slice-read-if3 c = let h = turn (c .before .before .before .before .before) in omega arith
+
+pass-less : tie.Need-pass-less Inv-up μ-up Inv-down μ-down Inv-pass μ-pass
+pass-less c = omega arith
+
+pass-again : tie.Need-pass-again Inv-up μ-up Inv-down μ-down Inv-pass μ-pass
+pass-again c =
+    let s = c .before .before .before .before .before .before in
+    let h = turn s in
+    let g = swapped-long s in
+    let z = s→start s in
+    let u = c .before .before .before .before .before .up .inv in
+    let d = c .before .before .down .inv in
+    let i-end = not-true _ (c .before .before .before .if2 .taken) in
+    let j-end = not-true _ (c .if3 .taken) in
+    let v = s→pass s .before .pass .inv in
+    let e : swapped s .co ≡ swapCo (passed s .co) (i-of s) (j-of s) = ap (λ (x : Cols). x .co) (swapped-is s) in
+    let U = up-stops (j-of s) (z .args .axis) (pivot z) (swapped s .co) (i-of s + 1) (c .before .before .before .before .before .up .i) (u .0) (omega arith) i-end in
+    let D = down-stops (j-of s) (z .args .axis) (pivot z) (swapped s .co) (j-of s - 1) (c .before .before .down .j) (d .0) (omega arith) j-end in
+    record {
+      ids-long = g .ids-as ∙ v .ids-long;
+      co-long = g .co-as ∙ v .co-long;
+      i-from = omega arith;
+      i-to = omega arith;
+      j-from = omega arith;
+      j-to = omega arith;
+      i-stop = i-end;
+      j-stop = j-end;
+      moved = λ l. omega arith;
+      goes = passing-cols _ _ _ _ _ _ _ (swapped-is s)
+          (passing-turn _ (z .args .axis) (pivot z) (passed s) (i-of s) (j-of s) _ _ (v .goes) (h .ij) (u .0 .from) (d .0 .from)
+          (ap (λ (x : List Float). scanUp (j-of s) (z .args .axis) (pivot z) x (i-of s + 1)) (sym e) ∙ U)
+          (ap (λ (x : List Float). scanDown (j-of s) (z .args .axis) (pivot z) x (j-of s - 1)) (sym e) ∙ D));
+    }
+
+sub-j-2 : tie.Need-sub-j-2 Inv-up μ-up Inv-down μ-down Inv-pass μ-pass
+sub-j-2 c = let h = down-ahead c in omega arith
+
+down-less : tie.Need-down-less Inv-up μ-up Inv-down μ-down Inv-pass μ-pass
+down-less c = let h = down-ahead c in omega arith
+
+down-again : tie.Need-down-again Inv-up μ-up Inv-down μ-down Inv-pass μ-pass
+down-again c =
+    let h = down-ahead c in
+    let low = c .before .before .down .inv .1 in
+    (down-more _ _ _ _ _ (omega arith) (c .before .before .down .inv .0) (not-false _ (c .if3 .left)), record { slot = low .slot; from = low .from; to = omega arith; stop = low .stop })
+
+mul-if4 : tie.Need-mul-if4 Inv-up μ-up Inv-down μ-down Inv-pass μ-pass
+mul-if4 c = omega arith
+
+add-if4 : tie.Need-add-if4 Inv-up μ-up Inv-down μ-down Inv-pass μ-pass
+add-if4 c = omega arith
+
+mul-if4-2 : tie.Need-mul-if4-2 Inv-up μ-up Inv-down μ-down Inv-pass μ-pass
+mul-if4-2 c = omega arith
+
+slice-read-if4 : tie.Need-slice-read-if4 Inv-up μ-up Inv-down μ-down Inv-pass μ-pass
+slice-read-if4 c =
+    let h = ap→start (c .before) .pre in
+    let e = placed-long (c .before .before .before) in
+    omega arith
+
+swap-item-requires-4 : tie.Need-swap-item-requires-4 Inv-up μ-up Inv-down μ-down Inv-pass μ-pass
+swap-item-requires-4 c κs =
+    let h = ap→start (c .before .before .before .before) .pre in
+    let e = placed-long (c .before .before .before .before .before .before) in
+    omega arith
+
+same-length : tie.Need-same-length Inv-up μ-up Inv-down μ-down Inv-pass μ-pass
+same-length c = let e = placed-long (c .before .before .before .before .before .before .before .before .before .before .before) in omega arith
+
+same-length-2 : tie.Need-same-length-2 Inv-up μ-up Inv-down μ-down Inv-pass μ-pass
+same-length-2 c = let e = placed-long (c .before .before .before .before .before .before .before .before .before .before .before) in omega arith
+
+returns : tie.Need-returns Inv-up μ-up Inv-down μ-down Inv-pass μ-pass
+returns c =
+    let q = c .before .before .before .before .before .before .before .before .before in
+    let s = ap→start q in
+    let a = s .args in
+    let x = cols (q .before .pass .ids) (q .before .pass .coords) in (
+      cut-eq (c .before .before .before .before .swap-item4 .ensures) refl
+          ∙ sym (parted-then (a .axis) (a .k) (columns s) x (a .left) (a .right) (q .before .pass .j) (passes-is q) (c .before .before .before .before .before .before .before .if4 .taken)),
+      (q .before .pass .inv .j-from, q .before .pass .inv .j-to),
+    )
+
+add-swap-item : tie.Need-add-swap-item Inv-up μ-up Inv-down μ-down Inv-pass μ-pass
+add-swap-item c = omega arith
+
+swap-item-requires-5 : tie.Need-swap-item-requires-5 Inv-up μ-up Inv-down μ-down Inv-pass μ-pass
+swap-item-requires-5 c κs =
+    let h = ap→start (c .before .before .before .before) .pre in
+    let e = placed-long (c .before .before .before .before .before .before) in
+    let t = c .before .before .before .before .before .pass .inv .moved (c .before .before .before .before .pass-test .left) in
+    omega arith
+
+add-result : tie.Need-add-result Inv-up μ-up Inv-down μ-down Inv-pass μ-pass
+add-result c = omega arith
+
+same-length-3 : tie.Need-same-length-3 Inv-up μ-up Inv-down μ-down Inv-pass μ-pass
+same-length-3 c = let e = placed-long (c .before .before .before .before .before .before .before .before .before .before .before) in omega arith
+
+same-length-4 : tie.Need-same-length-4 Inv-up μ-up Inv-down μ-down Inv-pass μ-pass
+same-length-4 c = let e = placed-long (c .before .before .before .before .before .before .before .before .before .before .before) in omega arith
+
+returns-2 : tie.Need-returns-2 Inv-up μ-up Inv-down μ-down Inv-pass μ-pass
+returns-2 c =
+    let q = c .before .before .before .before .before .before .before .before .before in
+    let s = ap→start q in
+    let a = s .args in
+    let x = cols (q .before .pass .ids) (q .before .pass .coords) in
+    let t = q .before .pass .inv .moved (q .pass-test .left) in
+    let f = q .before .pass .inv .j-from in (
+      cut-eq (c .before .before .before .before .swap-item5 .ensures) refl
+          ∙ sym (parted-else (a .axis) (a .k) (columns s) x (a .left) (a .right) (q .before .pass .j) (passes-is q) (c .before .before .before .before .before .before .before .if4 .left)),
+      (omega arith, omega arith),
+    )
+
+pub partition-spec : {M : Type 1} → statement M
+partition-spec =
+    tie.close
+    (tie.spec
+    Inv-up
+    μ-up
+    Inv-down
+    μ-down
+    Inv-pass
+    μ-pass
+    mul-t
+    add-t
+    mul-t-2
+    slice-read-t
+    swap-item-requires
+    mul-if1
+    add-if1
+    mul-if1-2
+    slice-read-if1
+    swap-item-requires-2
+    pass-holds
+    swap-item-requires-3
+    add-i
+    sub-j
+    up-holds
+    mul-if2
+    add-if2
+    mul-if2-2
+    slice-read-if2
+    add-i-2
+    up-less
+    up-again
+    down-holds
+    mul-if3
+    add-if3
+    mul-if3-2
+    slice-read-if3
+    pass-less
+    pass-again
+    sub-j-2
+    down-less
+    down-again
+    mul-if4
+    add-if4
+    mul-if4-2
+    slice-read-if4
+    swap-item-requires-4
+    same-length
+    same-length-2
+    returns
+    add-swap-item
+    swap-item-requires-5
+    add-result
+    same-length-3
+    same-length-4
+    returns-2)

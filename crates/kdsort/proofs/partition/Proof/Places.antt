@@ -1,0 +1,186 @@
+-- The places of `kdsort::partition` and what is known there: its invariants, the columns before, during and after the passes, and what stops each scan.
+-- Assumes nothing.
+use mathlib.Core.Path.{_≡_, sym, ap, _∙_}
+use mathlib.Core.Logic.{⊎-elim}
+use mathlib.Core.Bool.{false}
+use mathlib.Core.List.{List}
+use Prim.Native.Nat.{ℕ, _+_, _-_, _*_, _<_, _≤_}
+use native.Mathlib.Omega.{arith}
+use lib.Dec.{ltb}
+use lib.ListN.{length}
+use lib.Ieee.{Float, lt}
+use borrow.Author.Tests.{not-false}
+use Rattle.kdsort.specs.Cols.{Cols, cols, swapItem, swapCo, key}
+use Rattle.kdsort.specs.Select.{cut, passes, placed}
+use Rattle.kdsort.specs.Swaps.{length-swapIds, length-swapCo}
+use Rattle.kdsort.specs.Scans.{Up, Down, before-stop, after-stop, length-placed-ids, length-placed-co, swap-stops}
+use Rattle.kdsort.proofs.Turns.{Low, Pass, placed-then, placed-else, cols-eq, passing-ends}
+use Rattle.kdsort.proofs.partition.Tie as tie
+
+abbrev pub Inv-up : tie.InvT-up
+Inv-up ids coords k left right axis t i₀ j i = Up axis t coords i₀ i × (i ≤ j + 1) × (lt (key axis coords (j + 1)) t ≡ false)
+
+abbrev pub μ-up : tie.MeasureT-up
+μ-up ids coords k left right axis t i₀ j i = j + 1 - i
+
+abbrev pub Inv-down : tie.InvT-down
+Inv-down ids coords k left right axis t i j₀ j = Down axis t coords j₀ j × Low axis t coords left j
+
+abbrev pub μ-down : tie.MeasureT-down
+μ-down ids coords k left right axis t i j₀ j = j
+
+abbrev pub Inv-pass : tie.InvT-pass
+Inv-pass ids₀ coords₀ k left right axis t i₀ j₀ ids coords i j = Pass (passes (j₀ - i₀) (ltb i₀ j₀) axis t (cols ids₀ coords₀) i₀ j₀) axis t left right (length ids₀) (length coords₀) ids coords i j
+
+abbrev pub μ-pass : tie.MeasureT-pass
+μ-pass ids₀ coords₀ k left right axis t i₀ j₀ ids coords i j = j - i
+
+abbrev pub Start : Type 0
+Start = tie.Start Inv-up μ-up Inv-down μ-down Inv-pass μ-pass
+
+abbrev pub Joined1 : Type 0
+Joined1 = tie.Joined1 Inv-up μ-up Inv-down μ-down Inv-pass μ-pass
+
+abbrev pub After-pass : Type 0
+After-pass = tie.After-pass Inv-up μ-up Inv-down μ-down Inv-pass μ-pass
+
+abbrev pub Swapped : Type 0
+Swapped = tie.After-slice-known10 Inv-up μ-up Inv-down μ-down Inv-pass μ-pass
+
+-- ---- the start: its columns and pivot
+abbrev pub columns : Start → Cols
+columns c = cols (c .args .ids .now) (c .args .coords .now)
+
+abbrev pub pivot : Start → Float
+pivot c = key (c .args .axis) (c .args .coords .now) (c .args .k)
+
+abbrev pub placed-of : Start → Cols
+placed-of c = placed (c .args .axis) (pivot c) (columns c) (c .args .k) (c .args .left) (c .args .right)
+
+-- ---- before the passes
+abbrev pub j1→start : Joined1 → Start
+j1→start c = c .before .before .before .before .before .before .before .before .before .before .before .before
+
+pub placed-is : (c : Joined1) → cols (c .if1 .ids) (c .if1 .coords) ≡ placed-of (j1→start c)
+placed-is c =
+    let s = j1→start c in
+    let a = s .args in
+    let one = c .before .before .before .before .before .before .swap-item in
+    ⊎-elim
+    (λ w. cols-eq (w .8) (w .9) ∙ placed-then (a .axis) (pivot s) (columns s) (cols (one .last .0) (one .last .1 .0)) (cols (w .3 .last .0) (w .3 .last .1 .0)) (a .k) (a .left) (a .right) (one .ensures) (w .0 .taken) (w .3 .ensures))
+    (λ w. cols-eq (w .1) (w .2) ∙ placed-else (a .axis) (pivot s) (columns s) (cols (one .last .0) (one .last .1 .0)) (a .k) (a .left) (a .right) (one .ensures) (w .0 .left))
+    (c .if1 .came)
+
+pub record Long (s s' : Cols) : Type 0 where
+  pub ids-as : length (s .ids) ≡ length (s' .ids)
+  pub co-as : length (s .co) ≡ length (s' .co)
+
+pub placed-long : (c : Joined1) → Long (cols (c .if1 .ids) (c .if1 .coords)) (columns (j1→start c))
+placed-long c =
+    let s = j1→start c in
+    let a = s .args in
+    record {
+      ids-as = ap (λ (s : Cols). length (s .ids)) (placed-is c) ∙ length-placed-ids (a .axis) (pivot s) (columns s) (a .k) (a .left) (a .right);
+      co-as = ap (λ (s : Cols). length (s .co)) (placed-is c) ∙ length-placed-co (a .axis) (pivot s) (columns s) (a .k) (a .left) (a .right);
+    }
+
+-- ---- a pass, after its exchange
+abbrev pub s→pass : Swapped → tie.In-pass Inv-up μ-up Inv-down μ-down Inv-pass μ-pass
+s→pass c = c .before .before .before .before .before .before .before
+
+abbrev pub s→start : Swapped → Start
+s→start c = j1→start (s→pass c .before .before)
+
+abbrev pub i-of : Swapped → ℕ
+i-of c = s→pass c .before .pass .i
+
+abbrev pub j-of : Swapped → ℕ
+j-of c = s→pass c .before .pass .j
+
+abbrev pub passed : Swapped → Cols
+passed c = cols (s→pass c .before .pass .ids) (s→pass c .before .pass .coords)
+
+abbrev pub swapped : Swapped → Cols
+swapped c = cols (c .before .before .before .before .swap-item3 .last .0) (c .before .before .before .before .swap-item3 .last .1 .0)
+
+pub swapped-is : (c : Swapped) → swapped c ≡ swapItem (passed c) (i-of c) (j-of c)
+swapped-is c = c .before .before .before .before .swap-item3 .ensures
+
+pub swapped-long : (c : Swapped) → Long (swapped c) (passed c)
+swapped-long c =
+    record {
+      ids-as = ap (λ (s : Cols). length (s .ids)) (swapped-is c) ∙ length-swapIds (passed c .ids) (i-of c) (j-of c);
+      co-as = ap (λ (s : Cols). length (s .co)) (swapped-is c) ∙ length-swapCo (passed c .co) (i-of c) (j-of c);
+    }
+
+-- what is known of the pass
+pub record Turn (i j l r a n m : ℕ) (s s' : Cols) : Type 0 where
+  pub ij : i < j
+  pub li : l ≤ i
+  pub jr : j ≤ r
+  pub rn : r < n
+  pub nm : 2 * r + 1 < m
+  pub a2 : a < 2
+  pub n-is : length (s .ids) ≡ n
+  pub m-is : length (s .co) ≡ m
+  pub n'-is : length (s' .ids) ≡ n
+  pub m'-is : length (s' .co) ≡ m
+
+pub turn : (c : Swapped) → let s = s→start c in Turn (i-of c) (j-of c) (s .args .left) (s .args .right) (s .args .axis) (length (columns s .ids)) (length (columns s .co)) (passed c) (swapped c)
+turn c =
+    let h = s→start c .pre in
+    let p = s→pass c .before .pass .inv in
+    let e = placed-long (s→pass c .before .before) in
+    let g = swapped-long c in
+    record {
+      ij = s→pass c .pass-test .taken;
+      li = p .i-from;
+      jr = p .j-to;
+      rn = h .rn;
+      nm = h .nm;
+      a2 = h .a2;
+      n-is = p .ids-long ∙ e .ids-as;
+      m-is = p .co-long ∙ e .co-as;
+      n'-is = g .ids-as ∙ p .ids-long ∙ e .ids-as;
+      m'-is = g .co-as ∙ p .co-long ∙ e .co-as;
+    }
+
+pub stops : (c : Swapped) → let s = s→start c in (lt (key (s .args .axis) (swapped c .co) (j-of c)) (pivot s) ≡ false) × (lt (pivot s) (key (s .args .axis) (swapped c .co) (i-of c)) ≡ false)
+stops c =
+    let h = turn c in
+    let s = s→start c in
+    let p = s→pass c .before .pass .inv in
+    let e : swapped c .co ≡ swapCo (passed c .co) (i-of c) (j-of c) = ap (λ (s : Cols). s .co) (swapped-is c) in
+    let w = swap-stops (s .args .axis) (pivot s) (passed c .co) (i-of c) (j-of c) (h .a2) (room-i h) (room-j h) (p .i-stop) (p .j-stop) in (
+      ap (λ (x : List Float). lt (key (s .args .axis) x (j-of c)) (pivot s)) e ∙ w .0,
+      ap (λ (x : List Float). lt (pivot s) (key (s .args .axis) x (i-of c))) e ∙ w .1,
+    ) where
+      room-i : {i j l r a n m : ℕ} {s s' : Cols} → Turn i j l r a n m s s' → 2 * i + 1 < length (s .co)
+      room-i h = omega arith
+
+      room-j : {i j l r a n m : ℕ} {s s' : Cols} → Turn i j l r a n m s s' → 2 * j + 1 < length (s .co)
+      room-j h = omega arith
+
+-- the scan up has not reached its last stop, and the scan down neither
+pub up-ahead : (c : tie.Else2 Inv-up μ-up Inv-down μ-down Inv-pass μ-pass) → c .before .before .up .i < j-of (c .before .before .before) - 1 + 1
+up-ahead c =
+    let s = c .before .before .before in
+    before-stop (s→start s .args .axis) (pivot (s→start s)) (swapped s .co) (c .before .before .up .i) (j-of s - 1 + 1) (c .before .before .up .inv .1) (not-false _ (c .if2 .left)) (c .before .before .up .inv .2)
+
+pub down-ahead : (c : tie.Else3 Inv-up μ-up Inv-down μ-down Inv-pass μ-pass) → c .before .before .down .inv .1 .slot < c .before .before .down .j
+down-ahead c =
+    let s = c .before .before .before .before .before .before in
+    let low = c .before .before .down .inv .1 in
+    after-stop (s→start s .args .axis) (pivot (s→start s)) (swapped s .co) (c .before .before .down .j) (low .slot) (low .to) (not-false _ (c .if3 .left)) (low .stop)
+
+-- ---- after the passes
+abbrev pub ap→start : After-pass → Start
+ap→start c = j1→start (c .before .before)
+
+pub passes-is : (c : After-pass) → let s = ap→start c in let a = s .args in
+    passes (a .right - a .left) (ltb (a .left) (a .right)) (a .axis) (pivot s) (placed-of s) (a .left) (a .right) ≡ cut (cols (c .before .pass .ids) (c .before .pass .coords)) (c .before .pass .j)
+passes-is c =
+    let s = ap→start c in
+    let a = s .args in
+    ap (λ (x : Cols). passes (a .right - a .left) (ltb (a .left) (a .right)) (a .axis) (pivot s) x (a .left) (a .right)) (sym (placed-is (c .before .before)))
+    ∙ passing-ends _ (a .axis) (pivot s) (cols (c .before .pass .ids) (c .before .pass .coords)) (c .before .pass .i) (c .before .pass .j) (c .before .pass .inv .goes) (c .pass-test .left)

@@ -1,0 +1,146 @@
+-- `kdsort::swap_item` meets its contract: the two slots' ids and both their coordinates are exchanged together, and nothing else changes. Assumes nothing.
+use borrow.Author.Needs.{needs}
+use mathlib.Core.Path.{refl}
+use native.Mathlib.Omega.{arith}
+use lib.ListN.{length-set}
+use Rattle.kdsort.specs.Cols.{swapCo, swapIds}
+use Rattle.kdsort.proofs.swap_item.Statement.{statement}
+use Rattle.kdsort.proofs.swap_item.Tie as tie
+
+mul-a : tie.Need-mul-a
+mul-a c = search needs
+
+slice-read-a : tie.Need-slice-read-a
+slice-read-a c = search needs
+
+mul-ids : tie.Need-mul-ids
+mul-ids c = search needs
+
+slice-read-ids : tie.Need-slice-read-ids
+slice-read-ids c = search needs
+
+mul-ids-2 : tie.Need-mul-ids-2
+mul-ids-2 c = search needs
+
+slice-write-ids : tie.Need-slice-write-ids
+slice-write-ids c = search needs
+
+mul-ids-3 : tie.Need-mul-ids-3
+mul-ids-3 c = search needs
+
+slice-write-ids-2 : tie.Need-slice-write-ids-2
+slice-write-ids-2 c = search needs
+
+mul-xi : tie.Need-mul-xi
+mul-xi c = search needs
+
+mul-xj : tie.Need-mul-xj
+mul-xj c = search needs
+
+mul-x : tie.Need-mul-x
+mul-x c = search needs
+
+slice-read-x : tie.Need-slice-read-x
+slice-read-x c = search needs
+
+mul-coords : tie.Need-mul-coords
+mul-coords c = search needs
+
+slice-read-coords : tie.Need-slice-read-coords
+slice-read-coords c = search needs
+
+mul-coords-2 : tie.Need-mul-coords-2
+mul-coords-2 c = search needs
+
+slice-write-coords : tie.Need-slice-write-coords
+slice-write-coords c = search needs
+
+mul-coords-3 : tie.Need-mul-coords-3
+mul-coords-3 c = search needs
+
+slice-write-coords-2 : tie.Need-slice-write-coords-2
+slice-write-coords-2 c = simp length-set (omega arith)
+
+mul-yi : tie.Need-mul-yi
+mul-yi c = search needs
+
+add-yi : tie.Need-add-yi
+add-yi c = search needs
+
+mul-yj : tie.Need-mul-yj
+mul-yj c = search needs
+
+add-yj : tie.Need-add-yj
+add-yj c = search needs
+
+mul-y : tie.Need-mul-y
+mul-y c = search needs
+
+slice-read-y : tie.Need-slice-read-y
+slice-read-y c = simp length-set (omega arith)
+
+mul-coords-4 : tie.Need-mul-coords-4
+mul-coords-4 c = search needs
+
+slice-read-coords-2 : tie.Need-slice-read-coords-2
+slice-read-coords-2 c = simp length-set (omega arith)
+
+mul-coords-5 : tie.Need-mul-coords-5
+mul-coords-5 c = search needs
+
+slice-write-coords-3 : tie.Need-slice-write-coords-3
+slice-write-coords-3 c = simp length-set (omega arith)
+
+mul-coords-6 : tie.Need-mul-coords-6
+mul-coords-6 c = search needs
+
+slice-write-coords-4 : tie.Need-slice-write-coords-4
+slice-write-coords-4 c = simp length-set (omega arith)
+
+same-length : tie.Need-same-length
+same-length c = search needs
+
+same-length-2 : tie.Need-same-length-2
+same-length-2 c = search needs
+
+returns : tie.Need-returns
+unfolding swapCo swapIds
+returns c = refl
+
+pub swap-item-spec : {M : Type 1} → statement M
+swap-item-spec =
+    tie.close
+    (tie.spec
+    mul-a
+    slice-read-a
+    mul-ids
+    slice-read-ids
+    mul-ids-2
+    slice-write-ids
+    mul-ids-3
+    slice-write-ids-2
+    mul-xi
+    mul-xj
+    mul-x
+    slice-read-x
+    mul-coords
+    slice-read-coords
+    mul-coords-2
+    slice-write-coords
+    mul-coords-3
+    slice-write-coords-2
+    mul-yi
+    add-yi
+    mul-yj
+    add-yj
+    mul-y
+    slice-read-y
+    mul-coords-4
+    slice-read-coords-2
+    mul-coords-5
+    slice-write-coords-3
+    mul-coords-6
+    slice-write-coords-4
+    same-length
+    same-length-2
+    returns)

@@ -1,0 +1,125 @@
+// The index's build, kdbush.rs without the window block of `select`: the exchange of two slots, the partition, the selection and the sort.
+// Slot p has the id ids[p] and the coordinates coords[2 * p] and coords[2 * p + 1]. The axis is 0 for x and 1 for y.
+ghost use mathlib.Core.Path.{_≡_};
+ghost use Prim.Native.Nat.{_+_, _*_, _≤_, _<_};
+ghost use lib.ListN.{length};
+ghost use Rattle.kdsort.specs.Cols.{cols, swapItem};
+ghost use Rattle.kdsort.specs.Shape.{shape};
+ghost use Rattle.kdsort.specs.Select.{cut, parted, selected};
+ghost use Rattle.kdsort.specs.Sort.{sorted, indexed};
+ghost use Rattle.kdsort.specs.Room.{Here, Room};
+
+// Exchanges the slots i and j.
+fn swap_item(ids: &mut [u32], coords: &mut [f64], i: usize, j: usize)
+    requires { ⌜ (i < length (now ids)) × (j < length (now ids)) × (2 * i + 1 < length (now coords)) × (2 * j + 1 < length (now coords)) ⌝ }
+    ensures { λ _. ⌜ cols (now (ids .exit)) (now (coords .exit)) ≡ swapItem (cols (now (ids .entry)) (now (coords .entry))) i j ⌝ }
+{
+    let a = ids[i];
+    ids[i] = ids[j];
+    ids[j] = a;
+    let xi = 2 * i;
+    let xj = 2 * j;
+    let x = coords[xi];
+    coords[xi] = coords[xj];
+    coords[xj] = x;
+    let yi = 2 * i + 1;
+    let yj = 2 * j + 1;
+    let y = coords[yi];
+    coords[yi] = coords[yj];
+    coords[yj] = y;
+}
+
+// Cuts the slots from left to right in two at the coordinate t that slot k has, and answers the slot between the two sides.
+fn partition(
+    ids: &mut [u32],
+    coords: &mut [f64],
+    k: usize,
+    left: usize,
+    right: usize,
+    axis: usize,
+) -> usize
+    requires { ⌜ Here k left right axis (length (now ids)) (length (now coords)) ⌝ }
+    ensures { λ r. ⌜ cut (cols (now (ids .exit)) (now (coords .exit))) r ≡ parted axis k (cols (now (ids .entry)) (now (coords .entry))) left right ⌝ }
+    ensures { λ r. ⌜ (left ≤ r) × (r ≤ right) ⌝ }
+{
+    let t = coords[2 * k + axis];
+    swap_item(ids, coords, left, k);
+    if coords[2 * right + axis] > t {
+        swap_item(ids, coords, left, right);
+    }
+    let mut i = left;
+    let mut j = right;
+    'pass: while i < j {
+        swap_item(ids, coords, i, j);
+        i += 1;
+        j -= 1;
+        'up: loop {
+            if !(coords[2 * i + axis] < t) {
+                break 'up;
+            }
+            i += 1;
+        }
+        'down: loop {
+            if !(coords[2 * j + axis] > t) {
+                break 'down;
+            }
+            j -= 1;
+        }
+    }
+    if coords[2 * left + axis] == t {
+        swap_item(ids, coords, left, j);
+        return j;
+    }
+    swap_item(ids, coords, j + 1, right);
+    j + 1
+}
+
+// Brings to slot k the coordinate that belongs there among the slots from first to last: what stands left of k is not above it, what stands right not below.
+fn select(ids: &mut [u32], coords: &mut [f64], k: usize, first: usize, last: usize, axis: usize)
+    requires { ⌜ Room (cols (now ids) (now coords)) first last axis ⌝ }
+    requires { ⌜ (first ≤ k) × (k ≤ last) × (1 ≤ k) ⌝ }
+    ensures { λ _. ⌜ cols (now (ids .exit)) (now (coords .exit)) ≡ selected axis k (cols (now (ids .entry)) (now (coords .entry))) first last ⌝ }
+{
+    let mut left = first;
+    let mut right = last;
+    while left < right {
+        let j = partition(ids, coords, k, left, right, axis);
+        if j <= k {
+            left = j + 1;
+        }
+        if k <= j {
+            right = j - 1;
+        }
+    }
+}
+
+// Sorts the slots from lo up to hi into the order of the tree: an interval of more than `most` slots is split at its middle, and each side on the other axis.
+fn sort(ids: &mut [u32], coords: &mut [f64], most: usize, lo: usize, hi: usize, axis: usize)
+    requires { ⌜ (lo ≤ hi) × (hi ≤ length (now ids)) × (2 * hi ≤ length (now coords)) × (axis < 2) × (2 ≤ most) ⌝ }
+    ensures { λ _. ⌜ cols (now (ids .exit)) (now (coords .exit)) ≡ sorted axis lo hi (shape most lo hi) (cols (now (ids .entry)) (now (coords .entry))) ⌝ }
+{
+    if hi - lo <= most {
+        return;
+    }
+    let m = lo + (hi - lo - 1) / 2;
+    select(ids, coords, m, lo, hi - 1, axis);
+    sort(ids, coords, most, lo, m, 1 - axis);
+    sort(ids, coords, most, m + 1, hi, 1 - axis);
+}
+
+// Builds the index of the points (xs[i], ys[i]) in the first slots of the lent columns.
+pub fn build_index(node_size: usize, xs: &[f64], ys: &[f64], ids: &mut [u32], coords: &mut [f64])
+    requires { ⌜ (1 ≤ length (now xs)) × (length (now xs) ≤ 1048576) × (length (now ys) ≡ length (now xs)) ⌝ }
+    requires { ⌜ (length (now xs) ≤ length (now ids)) × (2 * length (now xs) ≤ length (now coords)) × (1 ≤ «node_size») × («node_size» ≤ 65535) ⌝ }
+    ensures { λ _. ⌜ cols (now (ids .exit)) (now (coords .exit)) ≡ indexed «node_size» (now (xs .entry)) (now (ys .entry)) (cols (now (ids .entry)) (now (coords .entry))) ⌝ }
+{
+    let n = xs.len();
+    let mut i = 0;
+    while i < n {
+        ids[i] = i as u32;
+        coords[2 * i] = xs[i];
+        coords[2 * i + 1] = ys[i];
+        i += 1;
+    }
+    sort(ids, coords, node_size + 1, 0, n, 0);
+}
