@@ -38,6 +38,18 @@ rest s ax (node m r l) c =
       ]
     ]
 
+-- up to where the slots after c are answered one by one: the end of the leaf that has it; a median has none after it
+unfoldable pub leafEnd : Shape → ℕ → ℕ
+leafEnd (leaf lo hi) c = hi
+leafEnd (node m r l) c =
+    elim (eqb c m) [
+      | true ↦ c + 1
+      | false ↦ elim (ltb m c) [
+        | true ↦ leafEnd r c
+        | false ↦ leafEnd l c
+      ]
+    ]
+
 -- what a query over an index answers after the slot c
 abbrev pub restOf : Query → List Float → ℕ → ℕ → ℕ → List ℕ
 restOf q cs size n c = rest (over q cs) 0 (shape (size + 1) 0 n) c

@@ -9,7 +9,7 @@ ghost use Rattle.kdsort.specs.Shape.{shape};
 ghost use Rattle.kdbush.specs.Query.{passesQ, queryOk};
 ghost use Rattle.kdbush.specs.Slots.{over, when, scanned, slots, below};
 ghost use Rattle.kdbush.specs.Run.{ran, run, places};
-ghost use Rattle.kdbush.specs.Cursor.{headOf, rest};
+ghost use Rattle.kdbush.specs.Cursor.{headOf, rest, leafEnd};
 ghost use Rattle.kdbush.specs.Reply.{nodeSizeOk, countOk, coordsOk, firstOutside, checked, built, searched, columnAfter, firstStep, afterStep};
 
 // What is asked of an index: the entries of a box, or those around a place.
@@ -68,6 +68,13 @@ enum Found {
 enum Next {
     Slot(usize),
     Done,
+}
+
+// The slots from lo up to hi, and the axis that they are split on.
+struct Interval {
+    lo: usize,
+    hi: usize,
+    axis: usize,
 }
 
 // Whether the point is answered.
@@ -141,6 +148,37 @@ fn right_at(q: Query, coords: &[f64], axis: usize, m: usize) -> bool
             }
         }
     }
+}
+
+// An interval that has all that is answered of the slots below n: parts are left out while the median does not pass and only one side is searched.
+fn narrow(q: Query, coords: &[f64], most: usize, n: usize) -> Interval
+    requires { ⌜ 2 * n ≤ length (now coords) ⌝ }
+    ensures { λ r. ⌜ slots (over q (now (coords .entry))) (r .axis) (shape most (r .lo) (r .hi)) ≡ slots (over q (now (coords .entry))) 0 (shape most 0 n) ⌝ }
+    ensures { λ r. ⌜ (r .lo ≤ r .hi) × (r .hi ≤ n) × (r .axis < 2) ⌝ }
+{
+    let mut lo = 0;
+    let mut hi = n;
+    let mut axis = 0;
+    while most < hi - lo {
+        let m = lo + (hi - lo - 1) / 2;
+        if test_at(q, coords, m) {
+            return Interval { lo, hi, axis };
+        }
+        if right_at(q, coords, axis, m) {
+            if left_at(q, coords, axis, m) {
+                return Interval { lo, hi, axis };
+            }
+            lo = m + 1;
+            axis = 1 - axis;
+        } else {
+            if !left_at(q, coords, axis, m) {
+                return Interval { lo, hi, axis };
+            }
+            hi = m;
+            axis = 1 - axis;
+        }
+    }
+    Interval { lo, hi, axis }
 }
 
 fn wide(x: u32) -> usize
@@ -291,6 +329,27 @@ fn first_left(q: Query, coords: &[f64], most: usize, lo: usize, m: usize, axis: 
         return first_in(q, coords, most, lo, m, 1 - axis);
     }
     Next::Done
+}
+
+// Up to where the slots after c are answered one by one: the end of the unsplit interval that has it; a median has none after it.
+fn leaf_end(most: usize, n: usize, c: usize) -> usize
+    requires { ⌜ c < n ⌝ }
+    ensures { λ r. ⌜ r ≡ leafEnd (shape most 0 n) c ⌝ }
+{
+    let mut lo = 0;
+    let mut hi = n;
+    while most < hi - lo {
+        let m = lo + (hi - lo - 1) / 2;
+        if c == m {
+            return c + 1;
+        }
+        if c < m {
+            hi = m;
+        } else {
+            lo = m + 1;
+        }
+    }
+    hi
 }
 
 // The slot that is answered after the slot c, from lo up to hi.
@@ -455,7 +514,8 @@ fn search(
     if !query_ok(q) {
         return SearchReply::Box;
     }
-    let Found::All(k) = part(q, ids, coords, n, node_size + 1, 0, n, 0, 0, out) else {
+    let v = narrow(q, coords, node_size + 1, n);
+    let Found::All(k) = part(q, ids, coords, n, node_size + 1, v.lo, v.hi, v.axis, 0, out) else {
         return SearchReply::Spoiled;
     };
     if out.len() < k {
@@ -516,7 +576,8 @@ pub fn first(q: Query, node_size: usize, n: usize, coords: &[f64]) -> Step
     if !query_ok(q) {
         return Step::Box;
     }
-    match first_in(q, coords, node_size + 1, 0, n, 0) {
+    let v = narrow(q, coords, node_size + 1, n);
+    match first_in(q, coords, node_size + 1, v.lo, v.hi, v.axis) {
         Next::Slot(i) => Step::Slot(i),
         Next::Done => Step::Done,
     }
@@ -534,6 +595,9 @@ pub fn after(q: Query, node_size: usize, n: usize, coords: &[f64], c: usize) -> 
     }
     if n <= c {
         return Step::Done;
+    }
+    if let Next::Slot(i) = first_from(q, coords, c + 1, leaf_end(node_size + 1, n, c)) {
+        return Step::Slot(i);
     }
     match next_in(q, coords, node_size + 1, 0, n, 0, c) {
         Next::Slot(i) => Step::Slot(i),

@@ -5,7 +5,6 @@ mod differences;
 mod judge;
 mod plain;
 mod report;
-mod splitmix;
 mod vectors;
 mod worked;
 

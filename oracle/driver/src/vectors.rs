@@ -3,8 +3,8 @@
 use crate::{
     judge::{Judge, Untouched},
     plain::{Options, Plane, Range, WORKED},
-    splitmix::Splitmix,
 };
+use splitmix::Splitmix;
 use std::{
     io::{self, BufWriter, Write},
     process::ExitCode,
@@ -166,7 +166,7 @@ fn systematic() -> Vec<Case> {
 fn random_case(source: &mut Splitmix, number: usize) -> Case {
     match number % 6 {
         0 => ordinary(source),
-        1 => of_kind(source, |source| canonical(f64::from_bits(source.next()))),
+        1 => of_kind(source, |source| canonical(f64::from_bits(source.bits()))),
         2 => of_kind(source, |source| exponent(source, 2026, 21)),
         3 => of_kind(source, |source| exponent(source, 0, 60)),
         4 => of_kind(source, |source| exponent(source, 963, 120)),
@@ -186,7 +186,7 @@ fn canonical(number: f64) -> f64 {
 /// Any sign and significand, and one of `span` exponents from `first` on (in the format's own count).
 fn exponent(source: &mut Splitmix, first: u64, span: u64) -> f64 {
     let exponent = first + source.below(span);
-    let rest = source.next() & 0x800f_ffff_ffff_ffff;
+    let rest = source.bits() & 0x800f_ffff_ffff_ffff;
     f64::from_bits(rest | exponent << 52)
 }
 

@@ -1,0 +1,46 @@
+//! The table: a line for each measurement, with the medians and their ratios.
+
+use crate::rounds::median;
+
+/// The head of the table; what is printed can stand in a page as it is.
+pub fn head() {
+    println!("| | answers | port | untouched | port / untouched | patched | port / patched |");
+    println!("|---|---|---|---|---|---|---|");
+}
+
+/// One line: what was measured, how many answers there are on average, how many pieces of work are in
+/// one measurement, and the nanoseconds of port, untouched and perhaps patched, round by round.
+pub fn line(what: &str, answers: Option<f64>, pieces: usize, times: &[Vec<u64>]) {
+    let time = |side: &[u64]| shown(median(side) as f64 / pieces as f64);
+    let (port, untouched) = (&times[0], &times[1]);
+    let answers = answers.map_or(String::new(), |answers| format!("{answers:.1}"));
+    let (patched, beside_patched) = match times.get(2) {
+        Some(patched) => (time(patched), ratio(port, patched)),
+        None => (String::new(), String::new()),
+    };
+    println!(
+        "| {what} | {answers} | {} | {} | {} | {patched} | {beside_patched} |",
+        time(port),
+        time(untouched),
+        ratio(port, untouched)
+    );
+}
+
+/// The median of the rounds' own ratios, and from where to where the middle half of them lies.
+fn ratio(port: &[u64], other: &[u64]) -> String {
+    let one = |(port, other): (&u64, &u64)| *port as f64 / *other as f64;
+    let mut single: Vec<f64> = port.iter().zip(other).map(one).collect();
+    single.sort_by(f64::total_cmp);
+    let (middle, quarter) = (single.len() / 2, single.len() / 4);
+    let (low, high) = (single[quarter], single[single.len() - 1 - quarter]);
+    format!("{:.2} ({low:.2} to {high:.2})", single[middle])
+}
+
+/// A time with its unit.
+fn shown(nanoseconds: f64) -> String {
+    if nanoseconds >= 1e6 {
+        format!("{:.0} ms", nanoseconds / 1e6)
+    } else {
+        format!("{:.2} µs", nanoseconds / 1e3)
+    }
+}

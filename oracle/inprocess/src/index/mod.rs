@@ -1,0 +1,103 @@
+//! The index: its build, both searches and their cursors, what they refuse, and columns that no build
+//! made.
+
+mod arrangement;
+mod damaged;
+mod points;
+mod queries;
+mod reference;
+mod refusals;
+mod rust;
+mod searches;
+
+use crate::{
+    report::{finish, Group},
+    Form,
+};
+use points::{Points, SHAPES};
+use ported::Lent;
+use searches::Searches;
+use splitmix::Splitmix;
+use std::process::ExitCode;
+
+/// Node sizes: the least, odd and even, the usual one, the greatest.
+const NODE_SIZES: [usize; 6] = [1, 2, 3, 8, 64, 65_535];
+
+/// A range of numbers of points, and how many queries each of their indexes is asked.
+type Sizes = (Vec<usize>, usize);
+
+/// Runs every group.
+pub fn run(form: Form) -> ExitCode {
+    let mut source = Splitmix(1);
+    let mut built = Group::new("index, build");
+    let mut searches = Searches::new("index, range", "index, within", "index, cursor");
+    let mut judged = Group::new("index, 01's reference beside the Rust");
+    for (counts, queries) in sizes(form) {
+        for count in counts {
+            for shape in SHAPES {
+                let points = points::made(shape, count, &mut source);
+                for node_size in NODE_SIZES {
+                    let plan = Plan { node_size, points: &points, queries };
+                    one_index(&plan, &mut source, &mut built, &mut searches, &mut judged);
+                }
+            }
+        }
+    }
+    let mut groups = vec![built];
+    groups.extend(searches.groups());
+    groups.push(refusals::of_builds());
+    groups.push(refusals::of_searches());
+    groups.extend(damaged::run(form, &mut judged));
+    groups.push(judged);
+    finish("index", groups)
+}
+
+/// Small numbers of points, each; those around the window block's bound; large ones.
+fn sizes(form: Form) -> Vec<Sizes> {
+    match form {
+        Form::Short => vec![
+            ((1..=200).collect(), 16),
+            ((597..=606).collect(), 16),
+            (vec![1_000, 4_097, 20_000, 50_000], 16),
+        ],
+        Form::Full => vec![
+            ((1..=200).collect(), 128),
+            ((590..=620).collect(), 64),
+            ((201..=1_500).step_by(7).collect(), 32),
+            (vec![4_095, 4_096, 4_097, 10_000, 50_000, 100_000, 300_000], 48),
+            (vec![1_048_576], 32),
+        ],
+    }
+}
+
+/// One index: its points and node size, and how many queries it is asked.
+struct Plan<'a> {
+    node_size: usize,
+    points: &'a Points,
+    queries: usize,
+}
+
+/// Compares the build of one index, then the searches over it.
+fn one_index(
+    plan: &Plan,
+    source: &mut Splitmix,
+    built: &mut Group,
+    searches: &mut Searches,
+    judged: &mut Group,
+) {
+    let Plan { node_size, points, queries } = *plan;
+    let about = format!("{}, node_size {node_size}", points.name());
+    let tail = source.below(4) as usize;
+    let arranged = arrangement::compare(node_size, points, tail, &about, built);
+    let (ids, coords) = arranged.lengthened(tail);
+    let lent = Lent { node_size, count: points.xs.len(), ids: &ids, coords: &coords };
+    let rust = rust::Searcher::over(&lent);
+    for query in queries::around(&lent, 0..queries, source) {
+        let about = || format!("{about}, {query:?}");
+        let slots = reference::slots(&lent, &query);
+        let places = rust.places(&query);
+        judged.compare(about, searches::other_places(&lent, &slots, &places));
+        searches.compare(&lent, &query, &slots, &places, about);
+        searches.compare_any_slot(&lent, &query, source, about);
+    }
+}

@@ -1,0 +1,29 @@
+//! The comparison in one process: the proved library, linked in, beside both builds of the Rust. See
+//! ../README.md.
+
+mod index;
+mod report;
+
+use std::{env, process::ExitCode};
+
+const USAGE: &str = "usage: inprocess index [--full]";
+
+/// How much is compared.
+#[derive(Clone, Copy, PartialEq, Eq)]
+pub enum Form {
+    Short,
+    Full,
+}
+
+fn main() -> ExitCode {
+    let words: Vec<String> = env::args().skip(1).collect();
+    let words: Vec<&str> = words.iter().map(String::as_str).collect();
+    match words.as_slice() {
+        ["index"] => index::run(Form::Short),
+        ["index", "--full"] => index::run(Form::Full),
+        _ => {
+            eprintln!("{USAGE}");
+            ExitCode::from(2)
+        }
+    }
+}
