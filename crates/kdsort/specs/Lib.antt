@@ -1,9 +1,10 @@
--- Definitions that contracts cite: Cols, Room, Shape (its first), Select, Sort, Tree. All else is laws about them, in the order in which they rest on each other.
+-- Definitions that contracts cite: Cols, Room, Shape (its first), Select, Sort, Tree; Worked is an example of them. All else is laws about them, in the order in which they rest on each other.
 pub mod Cols
 pub mod Room
 pub mod Shape
 pub mod Select
 pub mod Sort
+pub mod Worked
 pub mod Tree
 pub mod Swaps
 pub mod Perms

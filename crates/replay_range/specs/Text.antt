@@ -1,19 +1,15 @@
--- What the contracts say of a line's text: its digits, patterns, dashes and fields, and the case that these make. Definitions only.
-use Prim.Native.Nat.{ℕ, _+_, _*_, _^_, _<_}
+-- What the contracts say of a line's text: its dashes and fields, and the case that these make. Definitions only.
+use Prim.Native.Nat.{ℕ, _+_, _*_, _<_}
 use mathlib.Core.Bool.{Bool, true, false, cond}
 use mathlib.Core.List.{List}
 use mathlib.Core.Path.{_≡_}
 use lib.Dec.{eqb}
 use lib.ListN.{getD}
 use lib.Ieee.{binary64, ofBits}
-use Rattle.io.specs.Digits.{glyph, digits}
+use Rattle.vectors.specs.Words.{Spelt}
 use Rattle.range.specs.declared.Setting.{Setting}
 use Rattle.range.specs.declared.Setting.the-variants.{Given, Derived as Setting·Derived}
 use Rattle.range.specs.declared.DataRange.{DataRange}
-use Rattle.replay_range.specs.declared.Digit.{Digit}
-use Rattle.replay_range.specs.declared.Digit.the-variants.{Value, Bad as Digit·Bad}
-use Rattle.replay_range.specs.declared.Pattern.{Pattern}
-use Rattle.replay_range.specs.declared.Pattern.the-variants.{Bits, Bad as Pattern·Bad}
 use Rattle.replay_range.specs.declared.Field.{Field}
 use Rattle.replay_range.specs.declared.Field.the-variants.{Number, Derived, Bad}
 use Rattle.replay_range.specs.declared.Settled.{Settled}
@@ -24,22 +20,7 @@ use Rattle.replay_range.specs.declared.Case.{Case}
 use Rattle.replay_range.specs.declared.Parsed.{Parsed}
 use Rattle.replay_range.specs.declared.Parsed.the-variants.{Case as Parsed·Case, Bad as Parsed·Bad}
 
--- the character c is that of the digit's value, or of no digit
-abbrev pub digitIs : ℕ → Digit → Type 0
-digitIs c (Value d) = (d < 16) × (glyph d ≡ c)
-digitIs c Digit·Bad = (d : ℕ) → d < 16 → glyph d ≡ c → ⊥
-
--- the k bytes from a place on are the digits of n, which has no more, as io::hex writes them
-pub record Spelt (s : List ℕ) (at k n : ℕ) : Type 0 where
-  pub small : n < 16 ^ k
-  pub same : (i : ℕ) → i < k → getD s (at + i) 0 ≡ getD (digits 16 k n) i 0
-
--- the 16 bytes from a place on spell a pattern's bits, or no number
-abbrev pub patternIs : List ℕ → ℕ → Pattern → Type 0
-patternIs s at (Bits n) = Spelt s at 16 n
-patternIs s at Pattern·Bad = (n : ℕ) → Spelt s at 16 n → ⊥
-
--- they are dashes
+-- the 16 bytes from a place on are dashes
 abbrev pub Dashes : List ℕ → ℕ → Type 0
 Dashes s at = (i : ℕ) → i < 16 → getD s (at + i) 0 ≡ 45
 

@@ -5,24 +5,17 @@
 // An offset or a scale may be 16 dashes, for one that is derived from the range.
 // Expected of the range are normalize(v) and denormalize(v), and of longitude/latitude the point (v, v) converted: (longitude, v).
 use libc::STDIN_FILENO;
-use libc::STDOUT_FILENO;
+use vectors::Ending;
+use vectors::First;
+use vectors::Function;
+use vectors::Pattern;
+use vectors::Tally;
+use vectors::Verdict;
 ghost use mathlib.Core.Path.{_≡_};
 ghost use Prim.Native.Nat.{_+_, _≤_, _<_};
-ghost use lib.Ieee.{binary64, nanBits, ofBits};
-ghost use Rattle.replay_range.specs.Text.{digitIs, patternIs, dashesIs, separatorOf, fieldIs, settledIs, rangedIs, parsedIs};
-ghost use Rattle.replay_range.specs.Judge.{agreeing, convertsTo, verdictOf, firstOf, withAgreed, withDiffered, endingIs};
-
-// The value of a hexadecimal digit, or a byte that is none.
-enum Digit {
-    Value(u64),
-    Bad,
-}
-
-// The number that 16 digits write, or bytes that are no 16 digits.
-enum Pattern {
-    Bits(u64),
-    Bad,
-}
+ghost use Rattle.replay_range.specs.Text.{dashesIs, separatorOf, fieldIs, settledIs, rangedIs, parsedIs};
+ghost use Rattle.replay_range.specs.Judge.{convertsTo, verdictOf};
+ghost use Rattle.vectors.specs.Tallies.{endingIs};
 
 // What a field holds: a number, 16 dashes, or neither.
 enum Field {
@@ -58,80 +51,6 @@ enum Parsed {
     Bad,
 }
 
-// The functions that a vector has an answer of.
-enum Function {
-    Normalize,
-    Denormalize,
-    Longitude,
-}
-
-// What became of a line: the answers agree, or this function's is the first that does not; it is not of the form; there is none.
-enum Verdict {
-    Agrees,
-    Differs(Function),
-    Malformed,
-    End,
-}
-
-// The case and the function of the first difference, if there is one yet. Cases count from 1.
-enum First {
-    Nothing,
-    At(u64, Function),
-}
-
-// The cases so far, those that differ, and the first of these.
-struct Tally {
-    cases: u64,
-    differences: u64,
-    first: First,
-}
-
-// How the replay ended: at the end of the input; at a case that is not of the form; with more cases than it takes.
-enum Ending {
-    Finished(Tally),
-    Malformed(u64),
-    TooMany,
-}
-
-// The most cases that are taken: a loop that is proved has to end, and nothing says that the input does.
-const MOST: u64 = 4_000_000;
-
-// The value of a lowercase hexadecimal digit.
-fn hex_digit(c: u8) -> Digit
-    ensures { λ r. ⌜ digitIs c r ⌝ }
-{
-    if c < b'0' {
-        return Digit::Bad;
-    }
-    if c <= b'9' {
-        return Digit::Value((c - b'0') as u64);
-    }
-    if c < b'a' {
-        return Digit::Bad;
-    }
-    if c <= b'f' {
-        return Digit::Value((c - b'a') as u64 + 10);
-    }
-    Digit::Bad
-}
-
-// The number that the 16 digits from `at` on write.
-fn read_pattern(line: &[u8; 170], at: usize) -> Pattern
-    requires { ⌜ at + 16 ≤ 170 ⌝ }
-    ensures { λ r. ⌜ patternIs (now (line .entry)) at r ⌝ }
-{
-    let mut bits: u64 = 0;
-    let mut i = 0;
-    while i < 16 {
-        let Digit::Value(d) = hex_digit(line[at + i]) else {
-            return Pattern::Bad;
-        };
-        bits = bits * 16 + d;
-        i += 1;
-    }
-    Pattern::Bits(bits)
-}
-
 // Whether the 16 bytes from `at` on are dashes.
 fn dashes(line: &[u8; 170], at: usize) -> bool
     requires { ⌜ at + 16 ≤ 170 ⌝ }
@@ -145,28 +64,6 @@ fn dashes(line: &[u8; 170], at: usize) -> bool
         i += 1;
     }
     true
-}
-
-// Whether a bit pattern is a NaN's: the exponent's 11 bits are all ones, and the 52 bits below them are not all zeros.
-fn is_nan_pattern(bits: u64) -> bool
-    ensures { λ r. ⌜ r ≡ nanBits binary64 bits ⌝ }
-{
-    let exponent = bits % 0x8000_0000_0000_0000 / 0x10_0000_0000_0000;
-    let fraction = bits % 0x10_0000_0000_0000;
-    if exponent != 0x7ff {
-        return false;
-    }
-    fraction != 0
-}
-
-// The float of a bit pattern, NaN for each pattern of a NaN.
-fn float_of(bits: u64) -> f64
-    ensures { λ r. ⌜ r ≡ ofBits binary64 bits ⌝ }
-{
-    if is_nan_pattern(bits) {
-        return 0.0 / 0.0;
-    }
-    f64::from_bits(bits)
 }
 
 // The byte after the field k.
@@ -188,8 +85,8 @@ fn read_field(line: &[u8; 170], k: usize) -> Field
     if dashes(line, at) {
         return Field::Derived;
     }
-    match read_pattern(line, at) {
-        Pattern::Bits(bits) => Field::Number(float_of(bits)),
+    match vectors::read_pattern(line, at) {
+        Pattern::Bits(bits) => Field::Number(vectors::float_of(bits)),
         Pattern::Bad => Field::Bad,
     }
 }
@@ -266,26 +163,13 @@ fn read_case(line: &[u8; 170]) -> Parsed
     })
 }
 
-// Whether two floats are equal, the two zeros too, or both NaN.
-fn agree(a: f64, b: f64) -> bool
-    ensures { λ r. ⌜ r ≡ agreeing a b ⌝ }
-{
-    if a == b {
-        return true;
-    }
-    if floats::is_nan(a) {
-        return floats::is_nan(b);
-    }
-    false
-}
-
 // Whether the point (v, v) under longitude/latitude becomes (longitude, v).
 fn converts(v: f64, longitude: f64) -> bool
     ensures { λ r. ⌜ r ≡ convertsTo v longitude ⌝ }
 {
     let p = range::CoordinateSystem::LatLng.convert(range::Point { x: v, y: v });
-    if agree(p.x, longitude) {
-        return agree(p.y, v);
+    if vectors::agree(p.x, longitude) {
+        return vectors::agree(p.y, v);
     }
     false
 }
@@ -295,10 +179,10 @@ fn replay(c: Case) -> Verdict
     ensures { λ r. ⌜ r ≡ verdictOf c ⌝ }
 {
     let range = c.range;
-    if !agree(range.normalize(c.v), c.normalized) {
+    if !vectors::agree(range.normalize(c.v), c.normalized) {
         return Verdict::Differs(Function::Normalize);
     }
-    if !agree(range.denormalize(c.v), c.denormalized) {
+    if !vectors::agree(range.denormalize(c.v), c.denormalized) {
         return Verdict::Differs(Function::Denormalize);
     }
     if !converts(c.v, c.longitude) {
@@ -323,47 +207,6 @@ fn next_case() -> Verdict {
     }
 }
 
-impl First {
-    // The first difference once one more is found, in this case and function.
-    fn or_at(self, case: u64, function: Function) -> First
-        ensures { λ r. ⌜ r ≡ firstOf self case function ⌝ }
-    {
-        match self {
-            First::Nothing => First::At(case, function),
-            First::At(k, f) => First::At(k, f),
-        }
-    }
-}
-
-impl Tally {
-    // The tally with one more case that agrees.
-    fn agreed(self) -> Tally
-        requires { ⌜ self .cases ≤ 4000000 ⌝ }
-        ensures { λ r. ⌜ r ≡ withAgreed self ⌝ }
-    {
-        let first = self.first;
-        Tally {
-            cases: self.cases + 1,
-            differences: self.differences,
-            first,
-        }
-    }
-
-    // The tally with one more case that differs.
-    fn differed(self, function: Function) -> Tally
-        requires { ⌜ self .cases ≤ 4000000 ⌝ }
-        requires { ⌜ self .differences ≤ self .cases ⌝ }
-        ensures { λ r. ⌜ r ≡ withDiffered self function ⌝ }
-    {
-        let first = self.first;
-        Tally {
-            cases: self.cases + 1,
-            differences: self.differences + 1,
-            first: first.or_at(self.cases + 1, function),
-        }
-    }
-}
-
 // Replays every line of standard input, one past the most at the utmost.
 fn replay_all() -> Ending
     ensures { λ r. ⌜ endingIs r ⌝ }
@@ -373,7 +216,7 @@ fn replay_all() -> Ending
         differences: 0,
         first: First::Nothing,
     };
-    while tally.cases <= MOST {
+    while tally.cases <= vectors::MOST {
         match next_case() {
             Verdict::Agrees => tally = tally.agreed(),
             Verdict::Differs(function) => tally = tally.differed(function),
@@ -384,69 +227,7 @@ fn replay_all() -> Ending
     Ending::TooMany
 }
 
-// Writes a text and a number.
-fn say_number(text: &[u8], n: u64) {
-    io::write_all(STDOUT_FILENO, text);
-    io::print_decimal(STDOUT_FILENO, n);
-}
-
-// Writes a function's name.
-fn say_function(function: Function) {
-    match function {
-        Function::Normalize => {
-            io::write_all(STDOUT_FILENO, b"normalize");
-        }
-        Function::Denormalize => {
-            io::write_all(STDOUT_FILENO, b"denormalize");
-        }
-        Function::Longitude => {
-            io::write_all(STDOUT_FILENO, b"longitude");
-        }
-    }
-}
-
-// Writes which difference was the first.
-fn say_first(first: First) {
-    let First::At(case, function) = first else {
-        io::write_all(STDOUT_FILENO, b"no difference\n");
-        return;
-    };
-    say_number(b"first difference: case=", case);
-    io::write_all(STDOUT_FILENO, b" function=");
-    say_function(function);
-    io::write_all(STDOUT_FILENO, b"\n");
-}
-
-// Writes what the replay of a whole input found.
-fn say_tally(tally: Tally) {
-    if tally.cases == 0 {
-        io::write_all(STDOUT_FILENO, b"no case\n");
-        return;
-    }
-    say_number(b"cases=", tally.cases);
-    say_number(b" differences=", tally.differences);
-    io::write_all(STDOUT_FILENO, b"\n");
-    let first = tally.first;
-    say_first(first);
-}
-
-// Writes that a case is not of the form.
-fn say_malformed(case: u64) {
-    say_number(b"case=", case);
-    io::write_all(STDOUT_FILENO, b" is not of the form\n");
-}
-
-// Writes that there are more cases than are taken.
-fn say_too_many() {
-    say_number(b"more than ", MOST);
-    io::write_all(STDOUT_FILENO, b" cases\n");
-}
-
 // Replays standard input, and writes how that ended.
 fn main() {
-    match replay_all() {
-        Ending::Finished(tally) => say_tally(tally),
-        Ending::Malformed(case) => say_malformed(case),
-        Ending::TooMany => say_too_many(),
-    }
+    vectors::say_ending(replay_all());
 }

@@ -2,17 +2,23 @@
 
 mod attempt;
 mod differences;
+mod index_vectors;
 mod judge;
 mod plain;
+mod range_vectors;
 mod report;
-mod vectors;
 mod worked;
 
-use std::{env, fs, process::ExitCode};
+use std::{
+    env, fs,
+    io::{self, BufWriter, StdoutLock},
+    process::ExitCode,
+};
 
 const USAGE: &str = "usage: driver worked
        driver differences PAGE
-       driver range-vectors [--count N] [--seed S]";
+       driver range-vectors [--count N] [--seed S]
+       driver index-vectors";
 
 fn main() -> ExitCode {
     attempt::silence();
@@ -25,11 +31,23 @@ fn main() -> ExitCode {
             Err(why) => fail(&format!("{page}: {why}")),
         },
         ["case", code, build] => differences::run_one(code, build),
-        ["range-vectors", rest @ ..] => match vectors::Wanted::parse(rest) {
-            Some(wanted) => vectors::run(&wanted),
+        ["range-vectors", rest @ ..] => match range_vectors::Wanted::parse(rest) {
+            Some(wanted) => written(|out| range_vectors::write(&wanted, out)),
             None => fail(USAGE),
         },
+        ["index-vectors"] => written(|out| index_vectors::write(out)),
         _ => fail(USAGE),
+    }
+}
+
+/// Writes vectors to standard output.
+fn written(write: impl FnOnce(&mut BufWriter<StdoutLock>) -> io::Result<()>) -> ExitCode {
+    match write(&mut BufWriter::new(io::stdout().lock())) {
+        Ok(()) => ExitCode::SUCCESS,
+        Err(why) => {
+            eprintln!("standard output: {why}");
+            ExitCode::FAILURE
+        }
     }
 }
 

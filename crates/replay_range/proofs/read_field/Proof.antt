@@ -1,7 +1,8 @@
 -- `replay_range::read_field` meets its contract, by the tests on the way and what the callees say. Assumes nothing.
 use mathlib.Core.Path.{subst, _∙_}
 use borrow.Author.Needs.{needs}
-use Rattle.replay_range.specs.Text.{Ended, dashesIs, patternIs}
+use Rattle.vectors.specs.Words.{patternIs}
+use Rattle.replay_range.specs.Text.{Ended, dashesIs}
 use Rattle.replay_range.proofs.read_field.Statement.{statement}
 use Rattle.replay_range.proofs.read_field.Tie as tie
 
@@ -46,13 +47,13 @@ returns-3 : tie.Need-returns-3
 returns-3 c =
     let read = c .before .before .before .before in
     let spelt = subst (patternIs _ _) (c .before .before .bits .given .1) (read .read-pattern .ensures) in
-    (ended (read .before .before .before), (c .before .before .bits .given .0 .0, (spelt, c .float-of .ensures)))
+    (ended (read .before .before .before .before), (c .before .before .bits .given .0 .0, (spelt, c .float-of .ensures)))
 
 returns-4 : tie.Need-returns-4
 returns-4 c =
     let read = c .before .before in
     λ e. (
-      subst (dashesIs _ _) (read .before .if2 .left) (read .before .before .dashes .ensures),
+      subst (dashesIs _ _) (read .before .before .if2 .left) (read .before .before .before .dashes .ensures),
       subst (patternIs _ _) (c .enum-told .given .1) (read .read-pattern .ensures),
     )
 

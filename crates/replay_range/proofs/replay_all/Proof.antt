@@ -2,10 +2,8 @@
 -- Assumes nothing.
 use Prim.Native.Nat.{_-_, _≤_}
 use native.Mathlib.Omega.{arith}
-use mathlib.Core.Path.{refl}
 use borrow.Author.Needs.{needs}
-use Rattle.replay_range.specs.Judge.{Sound}
-use Rattle.replay_range.proofs.Laws.{sound-agreed, sound-differed}
+use Rattle.vectors.specs.Tallies.{Sound, sound-none, sound-agreed, sound-differed}
 use Rattle.replay_range.proofs.replay_all.Statement.{statement}
 use Rattle.replay_range.proofs.replay_all.Tie as tie
 
@@ -16,7 +14,7 @@ abbrev μ-loop : tie.MeasureT-loop
 μ-loop tally₀ tally = 4000001 - tally .cases
 
 loop-holds : tie.Need-loop-holds Inv-loop μ-loop
-loop-holds c = (record { most = omega arith; told = refl }, omega arith)
+loop-holds c = (sound-none, omega arith)
 
 next-case-requires : tie.Need-next-case-requires Inv-loop μ-loop
 next-case-requires c κs = tt

@@ -1,7 +1,8 @@
 //! The build of an index: every id and the bits of every coordinate, and what stands past them.
 
-use super::{points::Points, reference::plain, rust};
+use super::{reference::plain, rust};
 use crate::report::{other, other_column, Group};
+use points::Points;
 use ported::Reply;
 
 /// Up to so many points the untouched build arranges as the patched one does.

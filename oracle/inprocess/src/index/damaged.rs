@@ -4,11 +4,11 @@
 
 use super::{
     arrangement::Columns,
-    points::{self, EDGES, SHAPES},
     queries, reference, rust,
     searches::{self, Searches},
 };
 use crate::{report::Group, Form};
+use points::{EDGES, SHAPES};
 use ported::Lent;
 use splitmix::Splitmix;
 

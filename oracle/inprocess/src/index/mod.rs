@@ -3,7 +3,6 @@
 
 mod arrangement;
 mod damaged;
-mod points;
 mod queries;
 mod reference;
 mod refusals;

@@ -1,0 +1,126 @@
+-- Laws of the comparisons, over plain values. Assumes nothing.
+use Prim.Native.Nat.{ℕ, zero, suc, _+_, _-_, _≤_, _<_}
+use native.Mathlib.Nat.{not-suc-le-zero, eq-or-lt-of-le}
+use native.Mathlib.Numerals.{add-one}
+use native.Mathlib.Omega.{arith}
+use mathlib.Core.Bool.{Bool, true, false, _&&_}
+use mathlib.Core.List.{List}
+use mathlib.Core.Logic.{⊎-elim}
+use mathlib.Core.Path.{_≡_, refl, sym, subst}
+use borrow.Author.Tests.{lt-ltb, le-ltb, eq-eqb, ne-eqb}
+use lib.ListN.{length, getD}
+use lib.Ieee.{Float}
+use Rattle.kdbush.specs.declared.Step.{Step}
+use Rattle.kdbush.specs.declared.Query.{Query}
+use Rattle.kdbush.specs.declared.BuildReply.{BuildReply}
+use Rattle.kdbush.specs.declared.SearchReply.{SearchReply}
+use Rattle.kdbush.specs.Reply.{checked, built, searched, columnAfter, firstStep, afterStep}
+use Rattle.kdsort.specs.Cols.{cols}
+use Rattle.replay_index.specs.Same.{upto, placeAt, floatAt, samePlaces, sameFloats, doneIs, buildsTo, foundIs, listsTo, slotOf, overIs, walked, walksTo}
+
+and-false : (b : Bool) → (b && false) ≡ false
+and-false true = refl
+and-false false = refl
+
+-- none to pass
+pub none-yet : (f : ℕ → Bool) → upto 0 f ≡ true
+unfolding upto
+none-yet f = refl
+
+-- one more that passes
+pub upto-more : (f : ℕ → Bool) (i : ℕ) → upto i f ≡ true → f i ≡ true → upto (i + 1) f ≡ true
+unfolding upto
+upto-more f i p h = rw (add-one i) (simp (p, h))
+
+-- one that does not
+pub upto-fails : (f : ℕ → Bool) (k i : ℕ) → i < k → f i ≡ false → upto k f ≡ false
+unfolding upto
+upto-fails f zero i l h = absurd (not-suc-le-zero l)
+upto-fails f (suc k) i l h =
+    ⊎-elim
+    (λ e. rw (subst (λ (j : ℕ). f j ≡ false) e h) (and-false (upto k f)))
+    (λ m. simp (upto-fails f k i m h))
+    (eq-or-lt-of-le {n = i} {m = k} (omega arith))
+
+module _ (want got : List ℕ) where
+  pub places-none : (length want ≡ length got → ⊥) → samePlaces want got ≡ false
+  unfolding samePlaces
+  places-none h = simp (ne-eqb _ _ h)
+
+  pub places-fail : (i : ℕ) → length want ≡ length got → i < length want → placeAt want got i ≡ false → samePlaces want got ≡ false
+  unfolding samePlaces
+  places-fail i e l h = simp (eq-eqb _ _ e, upto-fails (placeAt want got) (length want) i l h)
+
+  pub places-all : (i : ℕ) → length want ≡ length got → length want ≤ i → i ≤ length want → upto i (placeAt want got) ≡ true → samePlaces want got ≡ true
+  unfolding samePlaces
+  places-all i e a b p =
+      let s : i ≡ length want = omega arith in
+      simp (eq-eqb _ _ e, subst (λ (j : ℕ). upto j (placeAt want got) ≡ true) s p)
+
+module _ (want got : List Float) where
+  pub floats-none : (length want ≡ length got → ⊥) → sameFloats want got ≡ false
+  unfolding sameFloats
+  floats-none h = simp (ne-eqb _ _ h)
+
+  pub floats-fail : (i : ℕ) → length want ≡ length got → i < length want → floatAt want got i ≡ false → sameFloats want got ≡ false
+  unfolding sameFloats
+  floats-fail i e l h = simp (eq-eqb _ _ e, upto-fails (floatAt want got) (length want) i l h)
+
+  pub floats-all : (i : ℕ) → length want ≡ length got → length want ≤ i → i ≤ length want → upto i (floatAt want got) ≡ true → sameFloats want got ≡ true
+  unfolding sameFloats
+  floats-all i e a b p =
+      let s : i ≡ length want = omega arith in
+      simp (eq-eqb _ _ e, subst (λ (j : ℕ). upto j (floatAt want got) ≡ true) s p)
+
+-- a walk of m steps, before its step i, and the slot that this step has
+module _ (next : ℕ → Step) (ids want : List ℕ) (m i : ℕ) (step : Step) (s : ℕ) (e : s ≡ slotOf step (length ids)) (l : i < m) where
+  -- one step further: m - i is not zero
+  left : m - i ≡ suc (m - (i + 1))
+  left = omega arith
+
+  pub walk-none : length ids ≤ s → walked next ids want (m - i) i step ≡ false
+  unfolding walked
+  walk-none h = rw left (simp (le-ltb (slotOf step (length ids)) (length ids) (subst (λ (x : ℕ). length ids ≤ x) e h)))
+
+  pub walk-other : s < length ids → (getD ids s 0 ≡ getD want i 0 → ⊥) → walked next ids want (m - i) i step ≡ false
+  unfolding walked
+  walk-other h d = rw (left, sym e) (simp (lt-ltb s (length ids) h, ne-eqb _ _ d))
+
+  pub walk-more : s < length ids → getD ids s 0 ≡ getD want i 0 → walked next ids want (m - i) i step ≡ walked next ids want (m - (i + 1)) (i + 1) (next s)
+  unfolding walked
+  walk-more h d = rw (left, sym e) (simp (lt-ltb s (length ids) h, eq-eqb _ _ d))
+
+-- where a walk begins, and where it ends
+pub walk-starts : (q : Query) (size n : ℕ) (ids : List ℕ) (co : List Float) (m : ℕ) (want : List ℕ) (step : Step) → step ≡ firstStep q size n co →
+    walked (afterStep q size n co) ids want (m - 0) 0 step ≡ walksTo q size n ids co m want
+unfolding walksTo
+walk-starts q size n ids co m want step e = let z : m - 0 ≡ m = omega arith in rw (z, e) refl
+
+pub walk-ends : (next : ℕ → Step) (ids want : List ℕ) (m i : ℕ) (step : Step) → m ≤ i → walked next ids want (m - i) i step ≡ overIs step
+unfolding walked
+walk-ends next ids want m i step h = let z : m - i ≡ 0 = omega arith in rw z refl
+
+-- a query's list: a reply that is not the one expected, and one that is
+module _ (q : Query) (size n : ℕ) (ids : List ℕ) (co : List Float) (m : ℕ) (want out : List ℕ) (r : SearchReply) (e : r ≡ searched q size n ids co (length out)) where
+  pub lists-none : foundIs r m ≡ false → false ≡ listsTo q size n ids co m want out
+  unfolding listsTo
+  lists-none h = rw (sym e, h) refl
+
+  pub lists-some : foundIs r m ≡ true → (o : List ℕ) → o ≡ columnAfter q size n ids co out → (b : Bool) → b ≡ samePlaces want o → b ≡ listsTo q size n ids co m want out
+  unfolding listsTo
+  lists-some h o f b g = rw (sym e, h, sym f) g
+
+-- a build: refused, with other ids, and with the ids expected
+module _ (size : ℕ) (xs ys : List Float) (wi : List ℕ) (wc : List Float) (ids : List ℕ) (co : List Float) (r : BuildReply) (e : r ≡ checked size xs ys (cols ids co)) where
+  pub builds-none : doneIs r ≡ false → false ≡ buildsTo size xs ys wi wc ids co
+  unfolding buildsTo
+  builds-none h = rw (sym e, h) refl
+
+  module _ (h : doneIs r ≡ true) (i : List ℕ) (c : List Float) (f : cols i c ≡ built size xs ys (cols ids co)) where
+    pub builds-other : samePlaces wi i ≡ false → false ≡ buildsTo size xs ys wi wc ids co
+    unfolding buildsTo
+    builds-other g = rw (sym f) (rw (sym e, h, g) refl)
+
+    pub builds-ids : samePlaces wi i ≡ true → (b : Bool) → b ≡ sameFloats wc c → b ≡ buildsTo size xs ys wi wc ids co
+    unfolding buildsTo
+    builds-ids g b k = rw (sym f) (rw (sym e, h, g) k)

@@ -1,0 +1,73 @@
+-- `replay_index::same_floats` meets its contract. The loop's invariant: each position passed is the same. Assumes nothing.
+use Prim.Native.Nat.{_-_, _≤_}
+use native.Mathlib.Omega.{arith}
+use mathlib.Core.Path.{_≡_, sym, _∙_}
+use mathlib.Core.Bool.{true}
+use borrow.Author.Tests.{not-true, not-false}
+use lib.ListN.{length}
+use Rattle.replay_index.specs.Same.{upto, floatAt}
+use Rattle.replay_index.proofs.Laws.{none-yet, upto-more, floats-none, floats-fail, floats-all}
+use borrow.Author.Needs.{needs}
+use Rattle.replay_index.proofs.same_floats.Statement.{statement}
+use Rattle.replay_index.proofs.same_floats.Tie as tie
+
+abbrev Inv-loop : tie.InvT-loop
+Inv-loop want got i₀ i = (i ≤ length want) × (upto i (floatAt want got) ≡ true)
+
+abbrev μ-loop : tie.MeasureT-loop
+μ-loop want got i₀ i = length want - i
+
+returns : tie.Need-returns Inv-loop μ-loop
+returns c = sym (floats-none _ _ (c .if1 .taken))
+
+loop-holds : tie.Need-loop-holds Inv-loop μ-loop
+loop-holds c = (omega arith, none-yet _)
+
+mul-agree : tie.Need-mul-agree Inv-loop μ-loop
+mul-agree c = omega arith
+
+shared-slice-read-agree : tie.Need-shared-slice-read-agree Inv-loop μ-loop
+shared-slice-read-agree c = omega arith
+
+mul-agree-2 : tie.Need-mul-agree-2 Inv-loop μ-loop
+mul-agree-2 c = omega arith
+
+shared-slice-read-agree-2 : tie.Need-shared-slice-read-agree-2 Inv-loop μ-loop
+shared-slice-read-agree-2 c = omega arith
+
+agree-requires : tie.Need-agree-requires Inv-loop μ-loop
+agree-requires c κs = search needs
+
+returns-2 : tie.Need-returns-2 Inv-loop μ-loop
+returns-2 c = sym (floats-fail _ _ _ (c .before .before .before .before .before .before .if1 .left) (c .before .before .before .before .loop-test .taken) (sym (c .before .agree .ensures) ∙ not-true _ (c .if2 .taken)))
+
+add-i : tie.Need-add-i Inv-loop μ-loop
+add-i c = omega arith
+
+loop-less : tie.Need-loop-less Inv-loop μ-loop
+loop-less c = omega arith
+
+loop-again : tie.Need-loop-again Inv-loop μ-loop
+loop-again c = (omega arith, upto-more (floatAt (c .before .before .before .before .before .before .before .before .before .args .want .now) (c .before .before .before .before .before .before .before .before .before .args .got .now)) _ (c .before .before .before .before .before .loop .inv .1) (sym (c .before .agree .ensures) ∙ not-false _ (c .if2 .left)))
+
+returns-3 : tie.Need-returns-3 Inv-loop μ-loop
+returns-3 c = sym (floats-all _ _ _ (c .before .before .if1 .left) (c .loop-test .left) (c .before .loop .inv .0) (c .before .loop .inv .1))
+
+pub same-floats-spec : {M : Type 1} → statement M
+same-floats-spec =
+    tie.close
+    (tie.spec
+    Inv-loop
+    μ-loop
+    returns
+    loop-holds
+    mul-agree
+    shared-slice-read-agree
+    mul-agree-2
+    shared-slice-read-agree-2
+    agree-requires
+    returns-2
+    add-i
+    loop-less
+    loop-again
+    returns-3)

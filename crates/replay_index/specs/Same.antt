@@ -1,0 +1,99 @@
+-- What the comparisons are: of columns, of a build, of a query's list and of the cursor's walk with what is expected. Definitions only.
+use Prim.Native.Nat.{ℕ, zero, suc, _+_}
+use mathlib.Core.Bool.{Bool, true, false, _&&_}
+use mathlib.Core.List.{List}
+use lib.Dec.{eqb, ltb}
+use lib.ListN.{length, getD}
+use lib.Ieee.{Float, nan}
+use Rattle.vectors.specs.Words.{agreeing}
+use Rattle.vectors.specs.declared.Function.{Function}
+use Rattle.vectors.specs.declared.Function.the-variants.{Range as Function·Range, Within as Function·Within}
+use Rattle.vectors.specs.declared.Verdict.{Verdict}
+use Rattle.vectors.specs.declared.Verdict.the-variants.{Agrees, Differs, Malformed, End}
+use Rattle.kdsort.specs.Cols.{cols}
+use Rattle.kdbush.specs.declared.Query.{Query}
+use Rattle.kdbush.specs.declared.Query.the-variants.{Range, Within}
+use Rattle.kdbush.specs.declared.BuildReply.{BuildReply}
+use Rattle.kdbush.specs.declared.BuildReply.the-variants.{Done as Build·Done, Options, Count, Point, Tables}
+use Rattle.kdbush.specs.declared.SearchReply.{SearchReply}
+use Rattle.kdbush.specs.declared.SearchReply.the-variants.{Found, Box as Search·Box, NoRoom, Spoiled as Search·Spoiled}
+use Rattle.kdbush.specs.declared.Step.{Step}
+use Rattle.kdbush.specs.declared.Step.the-variants.{Slot, Done, Box, Spoiled}
+use Rattle.kdbush.specs.Reply.{checked, built, searched, columnAfter, firstStep, afterStep}
+
+-- each number below k passes
+unfoldable pub upto : ℕ → (ℕ → Bool) → Bool
+upto zero f = true
+upto (suc k) f = upto k f && f k
+
+abbrev pub placeAt : List ℕ → List ℕ → ℕ → Bool
+placeAt want got i = eqb (getD want i 0) (getD got i 0)
+
+abbrev pub floatAt : List Float → List Float → ℕ → Bool
+floatAt want got i = agreeing (getD want i nan) (getD got i nan)
+
+-- columns of one length, the same at each position
+unfoldable pub samePlaces : List ℕ → List ℕ → Bool
+samePlaces want got = eqb (length want) (length got) && upto (length want) (placeAt want got)
+
+unfoldable pub sameFloats : List Float → List Float → Bool
+sameFloats want got = eqb (length want) (length got) && upto (length want) (floatAt want got)
+
+-- a build that is not refused, and comes out as the columns expected
+abbrev pub doneIs : BuildReply → Bool
+doneIs Build·Done = true
+doneIs Options = false
+doneIs Count = false
+doneIs (Point i) = false
+doneIs Tables = false
+
+unfoldable pub buildsTo : ℕ → List Float → List Float → List ℕ → List Float → List ℕ → List Float → Bool
+buildsTo size xs ys wantIds wantCo ids co =
+    doneIs (checked size xs ys (cols ids co)) &&
+    (samePlaces wantIds (built size xs ys (cols ids co) .ids) && sameFloats wantCo (built size xs ys (cols ids co) .co))
+
+-- a search that finds m places, and leaves the column expected
+abbrev pub foundIs : SearchReply → ℕ → Bool
+foundIs (Found k) m = eqb k m
+foundIs Search·Box m = false
+foundIs (NoRoom k) m = false
+foundIs Search·Spoiled m = false
+
+unfoldable pub listsTo : Query → ℕ → ℕ → List ℕ → List Float → ℕ → List ℕ → List ℕ → Bool
+listsTo q size n ids co m want out =
+    foundIs (searched q size n ids co (length out)) m && samePlaces want (columnAfter q size n ids co out)
+
+-- the slot of a step, and the end of a walk
+abbrev pub slotOf : Step → ℕ → ℕ
+slotOf (Slot s) none = s
+slotOf Done none = none
+slotOf Box none = none
+slotOf Spoiled none = none
+
+abbrev pub overIs : Step → Bool
+overIs (Slot s) = false
+overIs Done = true
+overIs Box = false
+overIs Spoiled = false
+
+-- from a step on: k more slots, in which the ids are those expected from i on, and then the end
+unfoldable pub walked : (ℕ → Step) → List ℕ → List ℕ → ℕ → ℕ → Step → Bool
+walked next ids want zero i step = overIs step
+walked next ids want (suc k) i step =
+    let s = slotOf step (length ids) in
+    ltb s (length ids) && (eqb (getD ids s 0) (getD want i 0) && walked next ids want k (i + 1) (next s))
+
+unfoldable pub walksTo : Query → ℕ → ℕ → List ℕ → List Float → ℕ → List ℕ → Bool
+walksTo q size n ids co m want = walked (afterStep q size n co) ids want m 0 (firstStep q size n co)
+
+-- whose list a query asks for
+abbrev pub functionOf : Query → Function
+functionOf (Range a b c d) = Function·Range
+functionOf (Within a b c) = Function·Within
+
+-- the first that differs stays
+abbrev pub earlierOf : Verdict → Function → Verdict
+earlierOf (Differs g) f = Differs g
+earlierOf Agrees f = Differs f
+earlierOf Malformed f = Differs f
+earlierOf End f = Differs f

@@ -1,0 +1,97 @@
+//! Test vectors for kdbush.rs, made by calling the patched Rust: one case a line. A word is 16 digits.
+//! `node_size n`, the points, the slots `id x y`, the number of queries, and the queries with their places.
+
+use oracle_patched::KDBush;
+use points::{Points, SHAPES};
+use splitmix::Splitmix;
+use std::io::{self, Write};
+
+const NODE_SIZES: [usize; 5] = [1, 2, 3, 8, 64];
+const LARGER: [usize; 5] = [50, 64, 100, 200, 601];
+const QUERIES: usize = 4;
+const SEED: u64 = 1;
+
+/// A question to an index.
+enum Query {
+    /// Least x, least y, greatest x, greatest y.
+    Range([f64; 4]),
+    /// x and y of the centre, and the radius.
+    Within([f64; 3]),
+}
+
+/// Writes the cases: each small count twice, then the larger ones, with node sizes and shapes in turn.
+pub fn write(out: &mut impl Write) -> io::Result<()> {
+    let mut source = Splitmix(SEED);
+    let small = (1..=20).flat_map(|count| [count; 2]);
+    let larger = LARGER.iter().flat_map(|count| vec![*count; if *count > 200 { 2 } else { 4 }]);
+    for (number, count) in small.chain(larger).enumerate() {
+        let node_size = NODE_SIZES[number % NODE_SIZES.len()];
+        let shape = SHAPES[number % SHAPES.len()];
+        let made = points::made(shape, count, &mut source);
+        out.write_all(line(node_size, &pairs(&made), number, &mut source).as_bytes())?;
+    }
+    out.flush()
+}
+
+/// The points, x and y together.
+fn pairs(points: &Points) -> Vec<[f64; 2]> {
+    points.xs.iter().zip(&points.ys).map(|(x, y)| [*x, *y]).collect()
+}
+
+/// The words of a case and a line feed.
+fn line(node_size: usize, points: &[[f64; 2]], number: usize, source: &mut Splitmix) -> String {
+    let mut index = KDBush::new(points.len(), node_size);
+    points.iter().for_each(|[x, y]| index.add_point(*x, *y));
+    index.build_index();
+    let mut words = vec![node_size as u64, points.len() as u64];
+    words.extend(points.iter().flatten().map(|v| v.to_bits()));
+    for (slot, id) in index.ids.iter().enumerate() {
+        let at = [index.coords[2 * slot], index.coords[2 * slot + 1]];
+        words.push(*id as u64);
+        words.extend(at.map(f64::to_bits));
+    }
+    words.push(QUERIES as u64);
+    // The kinds move on against the shapes.
+    let first_kind = QUERIES * (number + number / SHAPES.len());
+    for turn in 0..QUERIES {
+        words.extend(asked(&index, &query(points, first_kind + turn, source)));
+    }
+    words.iter().map(|word| format!("{word:016x}")).collect::<Vec<_>>().join(" ") + "\n"
+}
+
+/// The words of a query and of its answer.
+fn asked(index: &KDBush, query: &Query) -> Vec<u64> {
+    let (kind, numbers, places) = match *query {
+        Query::Range([a, b, c, d]) => (0, [a, b, c, d], index.range(a, b, c, d)),
+        Query::Within([x, y, radius]) => (1, [x, y, radius, 0.0], index.within(x, y, radius)),
+    };
+    let mut words = vec![kind];
+    words.extend(numbers.map(f64::to_bits));
+    words.push(places.len() as u64);
+    words.extend(places.iter().map(|place| *place as u64));
+    words
+}
+
+/// A query of a kind: 12 in a row are one of each, and any four of a case are of both functions.
+fn query(points: &[[f64; 2]], kind: usize, source: &mut Splitmix) -> Query {
+    let [[x, y], [u, v]] = [source.pick(points), source.pick(points)];
+    match kind % 12 {
+        // Edges and radii exactly on a coordinate.
+        0 => Query::Range([x.min(u), y.min(v), x.max(u), y.max(v)]),
+        1 => Query::Within([x, y, source.pick(&[u - x, v - y]).abs()]),
+        2 => Query::Range([x, y, x, y]),
+        3 => Query::Within([x, y, 0.0]),
+        // Anywhere.
+        4 => Query::Range([0.5 * source.unit(), 0.5 * source.unit(), 0.9, 0.9]),
+        5 => Query::Within([source.unit(), source.unit(), 0.3 * source.unit()]),
+        // Nothing.
+        6 => Query::Range([x.next_up(), 2.0, x.next_down(), -1.0]),
+        7 => Query::Within([3.0, -2.0, 0.5]),
+        // One step of the format beside a coordinate.
+        8 => Query::Range([x.next_up(), y.min(v), 1.0, y.max(v).next_down()]),
+        9 => Query::Within([x.next_up(), y, f64::MIN_POSITIVE]),
+        // Everything.
+        10 => Query::Range([0.0, 0.0, 1.0, 1.0]),
+        _ => Query::Within([0.5, 0.5, 2.0]),
+    }
+}
