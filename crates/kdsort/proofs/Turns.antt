@@ -1,6 +1,6 @@
--- The definition's steps, said as a loop's turns: a turn of the passes, and of the selection, is one step of the definition's, with fuel enough for what is
--- left. Assumes nothing.
-use mathlib.Core.Path.{_≡_, refl, sym, ap, _∙_, subst}
+-- The definition's steps, said as a loop's turns: a turn of the selection is one step of the definition's, with fuel enough for what is left; and what holds at
+-- the head of each loop. Assumes nothing.
+use mathlib.Core.Path.{_≡_, refl, sym, ap, _∙_}
 use mathlib.Core.Bool.{Bool, true, false, cond}
 use mathlib.Core.List.{List}
 use Prim.Native.Nat.{ℕ, zero, suc, _+_, _-_, _<_, _≤_}
@@ -10,33 +10,9 @@ use lib.Dec.{ltb, leb}
 use lib.ListN.{length}
 use lib.Ieee.{Float, lt, eq}
 use borrow.Author.Tests.{lt-ltb, le-ltb}
-use Rattle.kdsort.specs.Cols.{Cols, cols, swapItem, swapCo, key}
-use Rattle.kdsort.specs.Select.{Cut, cut, scanUp, scanDown, passes, placed, settled, parted, sel, selected}
-
--- ---- the passes
-
--- with some fuel that is enough, the passes from here on come to P
-pub Passing : Cut → ℕ → Float → Cols → ℕ → ℕ → Type 0
-Passing P a t s i j = (f : ℕ) × (j - i ≤ f) × (passes f (ltb i j) a t s i j ≡ P)
-
-pub passing-starts : (a : ℕ) (t : Float) (s : Cols) (i j : ℕ) → Passing (passes (j - i) (ltb i j) a t s i j) a t s i j
-unfolding Passing
-passing-starts a t s i j = (j - i, le-refl (j - i), refl)
-
-pub passing-turn : (P : Cut) (a : ℕ) (t : Float) (s : Cols) (i j i' j' : ℕ) → Passing P a t s i j → i < j → i + 1 ≤ i' → j' ≤ j - 1
-    → scanUp j a t (swapCo (s .co) i j) (i + 1) ≡ i' → scanDown j a t (swapCo (s .co) i j) (j - 1) ≡ j' → Passing P a t (swapItem s i j) i' j'
-unfolding Passing passes
-passing-turn P a t s i j i' j' h l li lj ui dj = go (h .0) (h .1) (rw (lt-ltb i j l) at (h .2)) where
-  go : (f : ℕ) → j - i ≤ f → passes f true a t s i j ≡ P → (f : ℕ) × (j' - i' ≤ f) × (passes f (ltb i' j') a t (swapItem s i j) i' j' ≡ P)
-  go zero fu e = absurd (omega arith)
-  go (suc f) fu e = (f, omega arith, rw (← ui, ← dj) e)
-
-pub passing-ends : (P : Cut) (a : ℕ) (t : Float) (s : Cols) (i j : ℕ) → Passing P a t s i j → j ≤ i → P ≡ cut s j
-unfolding Passing passes
-passing-ends P a t s i j h l = go (h .0) (rw (le-ltb i j l) at (h .2)) where
-  go : (f : ℕ) → passes f false a t s i j ≡ P → P ≡ cut s j
-  go zero e = sym e
-  go (suc f) e = sym e
+use Rattle.kdsort.specs.Cols.{Cols, cols, swapItem, key}
+use Rattle.kdsort.specs.Select.{Cut, cut, passes, placed, settled, parted, sel, selected}
+use Rattle.kdsort.specs.Passes.{Passing}
 
 -- ---- the selection
 
@@ -135,6 +111,3 @@ le-more p = omega arith
 
 pub lt-more : {a b : ℕ} → a < b → a + 1 ≤ b
 lt-more p = omega arith
-
-pub passing-cols : (P : Cut) (a : ℕ) (t : Float) (s s' : Cols) (i j : ℕ) → s ≡ s' → Passing P a t s' i j → Passing P a t s i j
-passing-cols P a t s s' i j e h = subst (λ (x : Cols). Passing P a t x i j) (sym e) h

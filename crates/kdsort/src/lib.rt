@@ -1,13 +1,15 @@
 // The index's build, kdbush.rs without the window block of `select`: the exchange of two slots, the partition, the selection and the sort.
+// A partition makes most of its exchanges in batches, which the Rust does not: they are the same exchanges, in the same order.
 // Slot p has the id ids[p] and the coordinates coords[2 * p] and coords[2 * p + 1]. The axis is 0 for x and 1 for y.
 ghost use mathlib.Core.Path.{_≡_};
-ghost use Prim.Native.Nat.{_+_, _*_, _≤_, _<_};
+ghost use Prim.Native.Nat.{_+_, _-_, _*_, _≤_, _<_};
 ghost use lib.ListN.{length};
 ghost use Rattle.kdsort.specs.Cols.{cols, swapItem};
 ghost use Rattle.kdsort.specs.Shape.{shape};
 ghost use Rattle.kdsort.specs.Select.{cut, parted, selected};
 ghost use Rattle.kdsort.specs.Sort.{sorted, indexed};
 ghost use Rattle.kdsort.specs.Room.{Here, Room};
+ghost use Rattle.kdsort.specs.Batches.{entry, Ups, Downs, Slots, exchanged, Nearer};
 
 // Exchanges the slots i and j.
 fn swap_item(ids: &mut [u32], coords: &mut [f64], i: usize, j: usize)
@@ -27,6 +29,105 @@ fn swap_item(ids: &mut [u32], coords: &mut [f64], i: usize, j: usize)
     let y = coords[yi];
     coords[yi] = coords[yj];
     coords[yj] = y;
+}
+
+// Where the two scans of a pass go on.
+struct Ends {
+    up: usize,
+    down: usize,
+}
+
+// Writes down where a scan up from `from` stops, stop after stop within `len` slots, and at last the slot that comes after these; answers the number of stops.
+// There is no branch on a coordinate, so that none is guessed wrong.
+fn stops_up(
+    coords: &[f64],
+    found: &mut [usize],
+    from: usize,
+    len: usize,
+    axis: usize,
+    t: f64,
+) -> usize
+    requires { ⌜ (2 * (from + len) ≤ length (now coords)) × (len < length (now found)) × (axis < 2) ⌝ }
+    ensures { λ r. ⌜ Ups axis t (now (coords .entry)) from (from + len) (entry (now (found .exit))) r ⌝ }
+{
+    let end = from + len;
+    let mut n = 0;
+    let mut p = from;
+    found[0] = p;
+    while p < end {
+        n += !(coords[2 * p + axis] < t) as usize;
+        p += 1;
+        found[n] = p;
+    }
+    n
+}
+
+// The same for a scan down.
+fn stops_down(
+    coords: &[f64],
+    found: &mut [usize],
+    from: usize,
+    len: usize,
+    axis: usize,
+    t: f64,
+) -> usize
+    requires { ⌜ (2 * from + 1 < length (now coords)) × (len ≤ from) × (len < length (now found)) × (axis < 2) ⌝ }
+    ensures { λ r. ⌜ Downs axis t (now (coords .entry)) from (from - len) (entry (now (found .exit))) r ⌝ }
+{
+    let end = from - len;
+    let mut n = 0;
+    let mut p = from;
+    found[0] = p;
+    while end < p {
+        n += !(coords[2 * p + axis] > t) as usize;
+        p -= 1;
+        found[n] = p;
+    }
+    n
+}
+
+// Exchanges the slots of two lists, the first with the first, the second with the second, and so on.
+fn exchange(ids: &mut [u32], coords: &mut [f64], ups: &[usize], downs: &[usize], count: usize)
+    requires { ⌜ (count ≤ length (now ups)) × (count ≤ length (now downs)) × Slots (entry (now ups)) (entry (now downs)) count (length (now ids)) (length (now coords)) ⌝ }
+    ensures { λ _. ⌜ cols (now (ids .exit)) (now (coords .exit)) ≡ exchanged (cols (now (ids .entry)) (now (coords .entry))) (entry (now (ups .entry))) (entry (now (downs .entry))) count ⌝ }
+{
+    let mut k = 0;
+    while k < count {
+        swap_item(ids, coords, ups[k], downs[k]);
+        k += 1;
+    }
+}
+
+// The lesser of two numbers.
+fn lesser(m: usize, n: usize) -> usize
+    ensures { λ r. ⌜ (r ≤ m) × (r ≤ n) ⌝ }
+{
+    if m < n {
+        return m;
+    }
+    n
+}
+
+// Makes the exchanges of the next passes in one batch, where i and j are far apart: the stops among some slots from i up, and among as many from j down, are
+// written down first and then exchanged in pairs. Answers where the scans go on.
+fn batch(ids: &mut [u32], coords: &mut [f64], i: usize, j: usize, axis: usize, t: f64) -> Ends
+    requires { ⌜ (i ≤ j + 1) × (j < length (now ids)) × (2 * j + 1 < length (now coords)) × (axis < 2) ⌝ }
+    ensures { λ r. ⌜ Nearer axis t (cols (now (ids .entry)) (now (coords .entry))) (cols (now (ids .exit)) (now (coords .exit))) i j (r .up) (r .down) ⌝ }
+{
+    if j < i + 32 {
+        return Ends { up: i, down: j };
+    }
+    let len = lesser(64, (j - i) / 2);
+    let mut ups = [0usize; 65];
+    let mut downs = [0usize; 65];
+    let m = stops_up(coords, &mut ups, i, len, axis, t);
+    let n = stops_down(coords, &mut downs, j, len, axis, t);
+    let count = lesser(m, n);
+    exchange(ids, coords, &ups, &downs, count);
+    Ends {
+        up: ups[count],
+        down: downs[count],
+    }
 }
 
 // Cuts the slots from left to right in two at the coordinate t that slot k has, and answers the slot between the two sides.
@@ -53,6 +154,9 @@ fn partition(
         swap_item(ids, coords, i, j);
         i += 1;
         j -= 1;
+        let e = batch(ids, coords, i, j, axis, t);
+        i = e.up;
+        j = e.down;
         'up: loop {
             if !(coords[2 * i + axis] < t) {
                 break 'up;

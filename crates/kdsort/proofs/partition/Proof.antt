@@ -3,18 +3,18 @@
 mod Places
 use mathlib.Core.Path.{_≡_, refl, sym, ap, _∙_}
 use mathlib.Core.List.{List}
-use Prim.Native.Nat.{ℕ, _+_, _-_}
+use Prim.Native.Nat.{_-_}
 use native.Mathlib.Nat.{le-refl, le-of-lt, lt-of-lt-of-le, lt-irrefl}
 use native.Mathlib.Omega.{arith}
 use lib.Ieee.{Float, lt}
 use borrow.Author.Tests.{not-true, not-false}
-use Rattle.kdsort.specs.Cols.{Cols, cols, swapCo, key}
-use Rattle.kdsort.specs.Select.{scanUp, scanDown}
-use Rattle.kdsort.specs.Scans.{up-none, up-more, up-stops, down-none, down-more, down-stops, placed-stops}
-use Rattle.kdsort.proofs.Turns.{parted-then, parted-else, cut-eq, passing-cols, passing-starts, passing-turn}
+use Rattle.kdsort.specs.Cols.{Cols, cols, key}
+use Rattle.kdsort.specs.Scans.{up-none, up-more, down-none, down-more, placed-stops}
+use Rattle.kdsort.specs.Passes.{passing-starts}
+use Rattle.kdsort.proofs.Turns.{parted-then, parted-else, cut-eq}
 use Rattle.kdsort.proofs.partition.Statement.{statement}
 use Rattle.kdsort.proofs.partition.Tie as tie
-use Rattle.kdsort.proofs.partition.Proof.Places.{Inv-up, μ-up, Inv-down, μ-down, Inv-pass, μ-pass, columns, pivot, placed-of, j1→start, placed-is, placed-long, s→pass, s→start, i-of, j-of, passed, swapped, swapped-is, swapped-long, turn, stops, up-ahead, down-ahead, ap→start, passes-is}
+use Rattle.kdsort.proofs.partition.Proof.Places.{Inv-up, μ-up, Inv-down, μ-down, Inv-pass, μ-pass, columns, pivot, placed-of, j1→start, placed-is, placed-long, s→pass, s→start, swapped-long, turn, m→s, up-of, step, scanning, up-ahead, down-ahead, ap→start, passes-is}
 
 mul-t : tie.Need-mul-t Inv-up μ-up Inv-down μ-down Inv-pass μ-pass
 mul-t c = omega arith
@@ -78,11 +78,11 @@ add-i c = omega arith
 sub-j : tie.Need-sub-j Inv-up μ-up Inv-down μ-down Inv-pass μ-pass
 sub-j c = omega arith
 
+batch-requires : tie.Need-batch-requires Inv-up μ-up Inv-down μ-down Inv-pass μ-pass
+batch-requires c κs = let h = turn (c .before .before) in omega arith
+
 up-holds : tie.Need-up-holds Inv-up μ-up Inv-down μ-down Inv-pass μ-pass
-up-holds c =
-    let h = turn c in
-    let e : j-of c - 1 + 1 ≡ j-of c = omega arith in
-    (up-none _ _ _ _, omega arith, ap (λ (q : ℕ). lt (key (s→start c .args .axis) (swapped c .co) q) (pivot (s→start c))) e ∙ stops c .0)
+up-holds c = (up-none _ _ _ _, step c .xy, scanning c .j-stop)
 
 mul-if2 : tie.Need-mul-if2 Inv-up μ-up Inv-down μ-down Inv-pass μ-pass
 mul-if2 c = omega arith
@@ -94,7 +94,7 @@ mul-if2-2 : tie.Need-mul-if2-2 Inv-up μ-up Inv-down μ-down Inv-pass μ-pass
 mul-if2-2 c = omega arith
 
 slice-read-if2 : tie.Need-slice-read-if2 Inv-up μ-up Inv-down μ-down Inv-pass μ-pass
-slice-read-if2 c = let h = turn (c .before .before) in omega arith
+slice-read-if2 c = let h = step (c .before .before) in omega arith
 
 add-i-2 : tie.Need-add-i-2 Inv-up μ-up Inv-down μ-down Inv-pass μ-pass
 add-i-2 c = omega arith
@@ -110,8 +110,8 @@ up-again c =
 down-holds : tie.Need-down-holds Inv-up μ-up Inv-down μ-down Inv-pass μ-pass
 down-holds c =
     let s = c .before .before .before in
-    let h = turn s in
-    (down-none _ _ _ _, record { slot = i-of s; from = h .li; to = omega arith; stop = stops s .1 })
+    let h = step s in
+    (down-none _ _ _ _, record { slot = up-of s - 1; from = omega arith; to = omega arith; stop = scanning s .i-stop })
 
 mul-if3 : tie.Need-mul-if3 Inv-up μ-up Inv-down μ-down Inv-pass μ-pass
 mul-if3 c = omega arith
@@ -120,31 +120,32 @@ add-if3 : tie.Need-add-if3 Inv-up μ-up Inv-down μ-down Inv-pass μ-pass
 add-if3 c = omega arith
 
 mul-if3-2 : tie.Need-mul-if3-2 Inv-up μ-up Inv-down μ-down Inv-pass μ-pass
-mul-if3-2 c = omega arith
+mul-if3-2 c =
+    let s = c .before .before .before .before in
+    let h = step s in
+    let g = s→start (m→s s) .good .1 .0 in
+    omega arith
 
 slice-read-if3 : tie.Need-slice-read-if3 Inv-up μ-up Inv-down μ-down Inv-pass μ-pass
-slice-read-if3 c = let h = turn (c .before .before .before .before .before) in omega arith
+slice-read-if3 c = let h = step (c .before .before .before .before .before) in omega arith
 
 pass-less : tie.Need-pass-less Inv-up μ-up Inv-down μ-down Inv-pass μ-pass
-pass-less c = omega arith
+pass-less c = let h = step (c .before .before .before .before .before .before) in omega arith
 
 pass-again : tie.Need-pass-again Inv-up μ-up Inv-down μ-down Inv-pass μ-pass
 pass-again c =
     let s = c .before .before .before .before .before .before in
-    let h = turn s in
-    let g = swapped-long s in
-    let z = s→start s in
+    let h = step s in
+    let g = swapped-long (m→s s) in
+    let w = s .before .before .before .before .batch .kept in
     let u = c .before .before .before .before .before .up .inv in
     let d = c .before .before .down .inv in
     let i-end = not-true _ (c .before .before .before .if2 .taken) in
     let j-end = not-true _ (c .if3 .taken) in
-    let v = s→pass s .before .pass .inv in
-    let e : swapped s .co ≡ swapCo (passed s .co) (i-of s) (j-of s) = ap (λ (x : Cols). x .co) (swapped-is s) in
-    let U = up-stops (j-of s) (z .args .axis) (pivot z) (swapped s .co) (i-of s + 1) (c .before .before .before .before .before .up .i) (u .0) (omega arith) i-end in
-    let D = down-stops (j-of s) (z .args .axis) (pivot z) (swapped s .co) (j-of s - 1) (c .before .before .down .j) (d .0) (omega arith) j-end in
+    let v = s→pass (m→s s) .before .pass .inv in
     record {
-      ids-long = g .ids-as ∙ v .ids-long;
-      co-long = g .co-as ∙ v .co-long;
+      ids-long = w .0 ∙ g .ids-as ∙ v .ids-long;
+      co-long = w .1 .0 ∙ g .co-as ∙ v .co-long;
       i-from = omega arith;
       i-to = omega arith;
       j-from = omega arith;
@@ -152,10 +153,7 @@ pass-again c =
       i-stop = i-end;
       j-stop = j-end;
       moved = λ l. omega arith;
-      goes = passing-cols _ _ _ _ _ _ _ (swapped-is s)
-          (passing-turn _ (z .args .axis) (pivot z) (passed s) (i-of s) (j-of s) _ _ (v .goes) (h .ij) (u .0 .from) (d .0 .from)
-          (ap (λ (x : List Float). scanUp (j-of s) (z .args .axis) (pivot z) x (i-of s + 1)) (sym e) ∙ U)
-          (ap (λ (x : List Float). scanDown (j-of s) (z .args .axis) (pivot z) x (j-of s - 1)) (sym e) ∙ D));
+      goes = scanning s .goes _ _ (u .1) (u .0) i-end (d .0) j-end;
     }
 
 sub-j-2 : tie.Need-sub-j-2 Inv-up μ-up Inv-down μ-down Inv-pass μ-pass
@@ -264,6 +262,7 @@ partition-spec =
     swap-item-requires-3
     add-i
     sub-j
+    batch-requires
     up-holds
     mul-if2
     add-if2

@@ -3,18 +3,18 @@
 use mathlib.Core.Path.{_≡_, sym, ap, _∙_}
 use mathlib.Core.Logic.{⊎-elim}
 use mathlib.Core.Bool.{false}
-use mathlib.Core.List.{List}
 use Prim.Native.Nat.{ℕ, _+_, _-_, _*_, _<_, _≤_}
 use native.Mathlib.Omega.{arith}
 use lib.Dec.{ltb}
 use lib.ListN.{length}
 use lib.Ieee.{Float, lt}
 use borrow.Author.Tests.{not-false}
-use Rattle.kdsort.specs.Cols.{Cols, cols, swapItem, swapCo, key}
-use Rattle.kdsort.specs.Select.{cut, passes, placed}
+use Rattle.kdsort.specs.Cols.{Cols, cols, swapItem, key}
+use Rattle.kdsort.specs.Select.{Cut, cut, passes, placed}
 use Rattle.kdsort.specs.Swaps.{length-swapIds, length-swapCo}
-use Rattle.kdsort.specs.Scans.{Up, Down, before-stop, after-stop, length-placed-ids, length-placed-co, swap-stops}
-use Rattle.kdsort.proofs.Turns.{Low, Pass, placed-then, placed-else, cols-eq, passing-ends}
+use Rattle.kdsort.specs.Scans.{Up, Down, before-stop, after-stop, length-placed-ids, length-placed-co}
+use Rattle.kdsort.specs.Passes.{passing-ends, Scanning, scanning-turn, scanning-cols}
+use Rattle.kdsort.proofs.Turns.{Low, Pass, placed-then, placed-else, cols-eq}
 use Rattle.kdsort.proofs.partition.Tie as tie
 
 abbrev pub Inv-up : tie.InvT-up
@@ -46,6 +46,9 @@ After-pass = tie.After-pass Inv-up μ-up Inv-down μ-down Inv-pass μ-pass
 
 abbrev pub Swapped : Type 0
 Swapped = tie.After-slice-known10 Inv-up μ-up Inv-down μ-down Inv-pass μ-pass
+
+abbrev pub Met : Type 0
+Met = tie.After-slice-known12 Inv-up μ-up Inv-down μ-down Inv-pass μ-pass
 
 -- ---- the start: its columns and pivot
 abbrev pub columns : Start → Cols
@@ -145,33 +148,83 @@ turn c =
       m'-is = g .co-as ∙ p .co-long ∙ e .co-as;
     }
 
-pub stops : (c : Swapped) → let s = s→start c in (lt (key (s .args .axis) (swapped c .co) (j-of c)) (pivot s) ≡ false) × (lt (pivot s) (key (s .args .axis) (swapped c .co) (i-of c)) ≡ false)
-stops c =
-    let h = turn c in
-    let s = s→start c in
-    let p = s→pass c .before .pass .inv in
-    let e : swapped c .co ≡ swapCo (passed c .co) (i-of c) (j-of c) = ap (λ (s : Cols). s .co) (swapped-is c) in
-    let w = swap-stops (s .args .axis) (pivot s) (passed c .co) (i-of c) (j-of c) (h .a2) (room-i h) (room-j h) (p .i-stop) (p .j-stop) in (
-      ap (λ (x : List Float). lt (key (s .args .axis) x (j-of c)) (pivot s)) e ∙ w .0,
-      ap (λ (x : List Float). lt (pivot s) (key (s .args .axis) x (i-of c))) e ∙ w .1,
-    ) where
-      room-i : {i j l r a n m : ℕ} {s s' : Cols} → Turn i j l r a n m s s' → 2 * i + 1 < length (s .co)
-      room-i h = omega arith
+-- ---- a pass, after its batch of exchanges
+abbrev pub m→s : Met → Swapped
+m→s c = c .before .before .before .before .before .before .before
 
+abbrev pub met : Met → Cols
+met c = cols (c .before .before .before .before .batch .last .0) (c .before .before .before .before .batch .last .1 .0)
+
+-- where its scans begin
+abbrev pub up-of : Met → ℕ
+up-of c = c .before .before .before .before .batch .result .up
+
+abbrev pub down-of : Met → ℕ
+down-of c = c .before .before .before .before .batch .result .down
+
+pub record Step (i j x y l r a n m : ℕ) (s : Cols) : Type 0 where
+  pub ij : i < j
+  pub li : l ≤ i
+  pub jr : j ≤ r
+  pub rn : r < n
+  pub nm : 2 * r + 1 < m
+  pub a2 : a < 2
+  pub ix : i + 1 ≤ x
+  pub yj : y ≤ j - 1
+  pub xy : x ≤ y + 1
+  pub n-is : length (s .ids) ≡ n
+  pub m-is : length (s .co) ≡ m
+
+pub step : (c : Met) → let s = s→start (m→s c) in Step (i-of (m→s c)) (j-of (m→s c)) (up-of c) (down-of c) (s .args .left) (s .args .right) (s .args .axis) (length (columns s .ids)) (length (columns s .co)) (met c)
+step c =
+    let h = turn (m→s c) in
+    let w = c .before .before .before .before .batch in
+    record {
+      ij = h .ij;
+      li = h .li;
+      jr = h .jr;
+      rn = h .rn;
+      nm = h .nm;
+      a2 = h .a2;
+      ix = w .ensures .up;
+      yj = w .ensures .down;
+      xy = w .ensures .meet;
+      n-is = w .kept .0 ∙ h .n'-is;
+      m-is = w .kept .1 .0 ∙ h .m'-is;
+    }
+
+-- what all the passes come to
+abbrev pub end-of : Met → Cut
+end-of c =
+    let a = s→start (m→s c) .args in
+    let z = s→pass (m→s c) .before .before in
+    passes (a .right - a .left) (ltb (a .left) (a .right)) (a .axis) (pivot (s→start (m→s c))) (cols (z .if1 .ids) (z .if1 .coords)) (a .left) (a .right)
+
+pub scanning : (c : Met) → let s = s→start (m→s c) in Scanning (end-of c) (s .args .axis) (pivot s) (met c) (up-of c) (down-of c)
+scanning c =
+    let q = m→s c in
+    let s = s→start q in
+    let h = turn q in
+    let p = s→pass q .before .pass .inv in
+    c .before .before .before .before .batch .ensures .goes (end-of c)
+    (scanning-cols (end-of c) (s .args .axis) (pivot s) (swapped q) (swapItem (passed q) (i-of q) (j-of q)) (i-of q + 1) (j-of q - 1) (swapped-is q)
+    (scanning-turn (end-of c) (s .args .axis) (pivot s) (passed q) (i-of q) (j-of q) (p .goes) (h .ij) (h .a2) (room-j h) (p .i-stop) (p .j-stop))) where
       room-j : {i j l r a n m : ℕ} {s s' : Cols} → Turn i j l r a n m s s' → 2 * j + 1 < length (s .co)
       room-j h = omega arith
 
 -- the scan up has not reached its last stop, and the scan down neither
-pub up-ahead : (c : tie.Else2 Inv-up μ-up Inv-down μ-down Inv-pass μ-pass) → c .before .before .up .i < j-of (c .before .before .before) - 1 + 1
+pub up-ahead : (c : tie.Else2 Inv-up μ-up Inv-down μ-down Inv-pass μ-pass) → c .before .before .up .i < down-of (c .before .before .before) + 1
 up-ahead c =
-    let s = c .before .before .before in
-    before-stop (s→start s .args .axis) (pivot (s→start s)) (swapped s .co) (c .before .before .up .i) (j-of s - 1 + 1) (c .before .before .up .inv .1) (not-false _ (c .if2 .left)) (c .before .before .up .inv .2)
+    let q = c .before .before .before in
+    let s = s→start (m→s q) in
+    before-stop (s .args .axis) (pivot s) (met q .co) (c .before .before .up .i) (down-of q + 1) (c .before .before .up .inv .1) (not-false _ (c .if2 .left)) (c .before .before .up .inv .2)
 
 pub down-ahead : (c : tie.Else3 Inv-up μ-up Inv-down μ-down Inv-pass μ-pass) → c .before .before .down .inv .1 .slot < c .before .before .down .j
 down-ahead c =
-    let s = c .before .before .before .before .before .before in
+    let q = c .before .before .before .before .before .before in
+    let s = s→start (m→s q) in
     let low = c .before .before .down .inv .1 in
-    after-stop (s→start s .args .axis) (pivot (s→start s)) (swapped s .co) (c .before .before .down .j) (low .slot) (low .to) (not-false _ (c .if3 .left)) (low .stop)
+    after-stop (s .args .axis) (pivot s) (met q .co) (c .before .before .down .j) (low .slot) (low .to) (not-false _ (c .if3 .left)) (low .stop)
 
 -- ---- after the passes
 abbrev pub ap→start : After-pass → Start
