@@ -2,6 +2,7 @@
 
 use crate::{
     clock::timed,
+    points::{clustered, in_order, uniform, Points},
     rounds::{measured, Found, Side},
     table, Size,
 };
@@ -14,12 +15,6 @@ const NODE_SIZE: usize = 64;
 
 /// About how many answers a query has, and how many such queries are in one measurement.
 const ASKED: [[usize; 2]; 4] = [[1, 100_000], [12, 60_000], [200, 15_000], [3_000, 2_000]];
-
-/// The columns of the points.
-struct Points {
-    xs: Vec<f64>,
-    ys: Vec<f64>,
-}
 
 /// The port's columns of an index.
 struct Columns {
@@ -45,7 +40,7 @@ pub fn run(size: &Size) -> Result<(), String> {
     let mut source = Splitmix(1);
     println!("{} points, node_size {NODE_SIZE}, {} rounds", size.points, size.rounds);
     println!();
-    table::head();
+    table::head("answers");
     let uniform = uniform(size.points, &mut source);
     build("build, uniform", &uniform, size)?;
     build("build, clustered", &clustered(size.points, &mut source), size)?;
@@ -56,35 +51,6 @@ pub fn run(size: &Size) -> Result<(), String> {
     circles.iter().try_for_each(|circles| cursor(&both, circles, size))?;
     let boxes = ASKED.map(|asked| boxes(asked, size, &mut source));
     boxes.iter().try_for_each(|boxes| range(&both, boxes, size))
-}
-
-/// Points spread evenly over the unit square.
-fn uniform(count: usize, source: &mut Splitmix) -> Points {
-    let xs = (0..count).map(|_| source.unit()).collect();
-    let ys = (0..count).map(|_| source.unit()).collect();
-    Points { xs, ys }
-}
-
-/// Points close to one of a hundred centres each, the closer the more of them.
-fn clustered(count: usize, source: &mut Splitmix) -> Points {
-    let centres = uniform(100, source);
-    let mut points = Points { xs: Vec::new(), ys: Vec::new() };
-    for _ in 0..count {
-        let centre = source.below(100) as usize;
-        let spread = 0.05 * source.unit() * source.unit();
-        let mut near = |at: f64| (at + spread * (2.0 * source.unit() - 1.0)).clamp(0.0, 1.0);
-        points.xs.push(near(centres.xs[centre]));
-        points.ys.push(near(centres.ys[centre]));
-    }
-    points
-}
-
-/// The same points in order of x.
-fn in_order(points: &Points) -> Points {
-    let mut order: Vec<usize> = (0..points.xs.len()).collect();
-    order.sort_by(|a, b| points.xs[*a].total_cmp(&points.xs[*b]));
-    let column = |column: &[f64]| order.iter().map(|at| column[*at]).collect();
-    Points { xs: column(&points.xs), ys: column(&points.ys) }
 }
 
 /// The port's index of these points, in new columns.
@@ -158,7 +124,7 @@ fn build(what: &str, points: &Points, size: &Size) -> Result<(), String> {
         Side::new("patched", || patched_build(points)),
     ];
     let measured = measured(size.rounds, &mut sides).map_err(|why| format!("{what}: {why}"))?;
-    table::line(what, None, 1, &measured.times);
+    table::line(what, "", 1, &measured.times);
     Ok(())
 }
 
@@ -258,6 +224,6 @@ fn searches(
     let mut sides = [Side::new("port", port), Side::new("untouched", rust)];
     let measured = measured(size.rounds, &mut sides).map_err(|why| format!("{what}: {why}"))?;
     let answers = measured.found.count as f64 / queries as f64;
-    table::line(what, Some(answers), queries, &measured.times);
+    table::line(what, &format!("{answers:.1}"), queries, &measured.times);
     Ok(())
 }

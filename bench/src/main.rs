@@ -2,21 +2,32 @@
 
 mod clock;
 mod index;
+mod load;
+mod memory;
+mod points;
 mod rounds;
 mod table;
 
 use std::{env, process::ExitCode};
 
-/// How large the benchmark is: how many points, how many rounds, and by what the number of queries in a
-/// measurement is divided.
+/// How large the benchmark is.
 pub struct Size {
+    /// Of an index: how many points, and how many rounds.
     pub points: usize,
     pub rounds: usize,
+    /// By what the number of queries in a measurement is divided.
     pub fewer: usize,
+    /// Of the builds of the tables: how many points, and how many rounds.
+    pub loads: &'static [[usize; 2]],
 }
 
-const WHOLE: Size = Size { points: 1_000_000, rounds: 11, fewer: 1 };
-const QUICK: Size = Size { points: 100_000, rounds: 5, fewer: 10 };
+const WHOLE: Size = Size {
+    points: 1_000_000,
+    rounds: 11,
+    fewer: 1,
+    loads: &[[10_000, 11], [100_000, 7], [1_000_000, 5]],
+};
+const QUICK: Size = Size { points: 100_000, rounds: 5, fewer: 10, loads: &[[10_000, 5]] };
 
 fn main() -> ExitCode {
     let words: Vec<String> = env::args().skip(1).collect();
@@ -24,16 +35,33 @@ fn main() -> ExitCode {
     let size = match words.as_slice() {
         [] => WHOLE,
         ["--quick"] => QUICK,
+        // What the benchmark runs of itself, in a process of its own.
+        ["peak", side, shape, count] => return peak(side, shape, count),
         _ => {
-            eprintln!("usage: bench [--quick]");
-            return ExitCode::from(2);
+            return usage();
         }
     };
-    match index::run(&size) {
+    match index::run(&size).and_then(|()| load::run(&size)) {
         Ok(()) => ExitCode::SUCCESS,
         Err(difference) => {
             println!("DIFFERENT  {difference}");
             ExitCode::FAILURE
         }
     }
+}
+
+/// Prints the peak memory of one load.
+fn peak(side: &str, shape: &str, count: &str) -> ExitCode {
+    match load::peak(side, shape, count) {
+        Some(peak) => {
+            println!("{peak}");
+            ExitCode::SUCCESS
+        }
+        None => usage(),
+    }
+}
+
+fn usage() -> ExitCode {
+    eprintln!("usage: bench [--quick]");
+    ExitCode::from(2)
 }

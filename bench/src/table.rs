@@ -1,25 +1,25 @@
-//! The table: a line for each measurement, with the medians and their ratios.
+//! The tables: a line for each measurement, with the medians and their ratios, or with the peaks.
 
-use crate::rounds::median;
+use crate::{memory::Peak, rounds::median};
 
-/// The head of the table; what is printed can stand in a page as it is.
-pub fn head() {
-    println!("| | answers | port | untouched | port / untouched | patched | port / patched |");
+/// The head of a table of times, with the name of what is counted; what is printed can stand in a page as it
+/// is.
+pub fn head(counted: &str) {
+    println!("| | {counted} | port | untouched | port / untouched | patched | port / patched |");
     println!("|---|---|---|---|---|---|---|");
 }
 
-/// One line: what was measured, how many answers there are on average, how many pieces of work are in
-/// one measurement, and the nanoseconds of port, untouched and perhaps patched, round by round.
-pub fn line(what: &str, answers: Option<f64>, pieces: usize, times: &[Vec<u64>]) {
+/// One line: what was measured, what was counted, how many pieces of work are in one measurement, and the
+/// nanoseconds of port, untouched and perhaps patched, round by round.
+pub fn line(what: &str, counted: &str, pieces: usize, times: &[Vec<u64>]) {
     let time = |side: &[u64]| shown(median(side) as f64 / pieces as f64);
     let (port, untouched) = (&times[0], &times[1]);
-    let answers = answers.map_or(String::new(), |answers| format!("{answers:.1}"));
     let (patched, beside_patched) = match times.get(2) {
         Some(patched) => (time(patched), ratio(port, patched)),
         None => (String::new(), String::new()),
     };
     println!(
-        "| {what} | {answers} | {} | {} | {} | {patched} | {beside_patched} |",
+        "| {what} | {counted} | {} | {} | {} | {patched} | {beside_patched} |",
         time(port),
         time(untouched),
         ratio(port, untouched)
@@ -38,9 +38,32 @@ fn ratio(port: &[u64], other: &[u64]) -> String {
 
 /// A time with its unit.
 fn shown(nanoseconds: f64) -> String {
-    if nanoseconds >= 1e6 {
+    if nanoseconds >= 1e8 {
         format!("{:.0} ms", nanoseconds / 1e6)
+    } else if nanoseconds >= 1e6 {
+        format!("{:.1} ms", nanoseconds / 1e6)
     } else {
         format!("{:.2} µs", nanoseconds / 1e3)
     }
+}
+
+/// The head of the table of memory: of the whole process, and what the work added to what was there before.
+pub fn memory_head() {
+    println!(
+        "| peak memory | port | untouched | port / untouched | added, port | added, untouched | \
+         port / untouched |"
+    );
+    println!("|---|---|---|---|---|---|---|");
+}
+
+/// One line of it.
+pub fn memory_line(what: &str, port: Peak, untouched: Peak) {
+    let added = |peak: Peak| peak.most - peak.before;
+    let shown = |kilobytes: u64| format!("{:.1} MB", kilobytes as f64 * 1_024.0 / 1e6);
+    let three = |port: u64, untouched: u64| {
+        let ratio = port as f64 / untouched as f64;
+        format!("{} | {} | {ratio:.2}", shown(port), shown(untouched))
+    };
+    let whole = three(port.most, untouched.most);
+    println!("| {what} | {whole} | {} |", three(added(port), added(untouched)));
 }

@@ -1,24 +1,24 @@
 -- A build that is not refused leaves an index of its points: each slot holds one point and each point has one slot, in the order of the tree, and what lies
 -- past them is as it was. Every coordinate in it is from 0 to 1. Assumes nothing.
 use mathlib.Core.Path.{_≡_, refl, sym, subst}
-use mathlib.Core.Bool.{Bool, true, false, cond, _&&_}
+use mathlib.Core.Bool.{Bool, true, false, _&&_}
 use mathlib.Core.List.{List, [], _∷_}
 use Prim.Native.Nat.{ℕ, zero, suc, _*_, _≤_, _<_}
 use native.Mathlib.Omega.{arith}
-use borrow.Author.Tests.{leb-true, eqb-true}
+use borrow.Author.Tests.{leb-true, eqb-true, le-leb, eq-eqb}
 use lib.Dec.{leb, eqb}
 use lib.ListN.{length, getD}
 use lib.Ieee.{Float, nan}
-use Rattle.floats.specs.Fraction.{yes-of}
-use Rattle.floats.specs.Unit.{In01, in01, in01→In01, In01-not-nan}
+use Rattle.floats.specs.Fraction.{yes-of, is-true}
+use Rattle.floats.specs.Unit.{In01, in01, in01→In01, In01→in01, In01-not-nan}
 use Rattle.kdsort.specs.Cols.{Cols}
 use Rattle.kdsort.specs.Sort.{indexed}
 use Rattle.kdsort.specs.Tree.{Points, Index}
 use Rattle.kdsort.specs.Indexes.{indexed-ok}
-use Rattle.kdbush.specs.declared.BuildReply.the-variants.{Done, Options, Count, Tables}
+use Rattle.kdbush.specs.declared.BuildReply.the-variants.{Done}
 use Rattle.kdbush.specs.declared.Outside.{Outside}
 use Rattle.kdbush.specs.declared.Outside.the-variants.{At, Nothing}
-use Rattle.kdbush.specs.Reply.{nodeSizeOk, countOk, firstOutside, pointed, checked, built}
+use Rattle.kdbush.specs.Reply.{nodeSizeOk, countOk, pairOk, firstOutside, inOrder, checked, built}
 use Rattle.kdbush.specs.Bounds.{and-both, size-is, count-is}
 
 -- what an accepted build was given
@@ -33,7 +33,7 @@ pub record Accepted (size : ℕ) (xs ys : List Float) (s : Cols) : Type 0 where
   pub co-room : 2 * length xs ≤ length (s .co)
 
 -- where no point is outside, each is inside
-none-outside : (xs ys : List Float) (i : ℕ) → firstOutside xs ys i ≡ Nothing → length ys ≡ length xs → (p : ℕ) → p < length xs → In01 (getD xs p nan) × In01 (getD ys p nan)
+pub none-outside : (xs ys : List Float) (i : ℕ) → firstOutside xs ys i ≡ Nothing → length ys ≡ length xs → (p : ℕ) → p < length xs → In01 (getD xs p nan) × In01 (getD ys p nan)
 unfolding firstOutside
 none-outside [] ys i e l p h = absurd (omega arith)
 none-outside (x ∷ xs) [] i e l p h = absurd (omega arith)
@@ -46,7 +46,7 @@ none-outside (x ∷ xs) (y ∷ ys) i e l p h = go (in01 x && in01 y) refl p h (�
     go false f p h r = let g : At i ≡ Nothing = rw (f, firstOutside) at e in absurd (let z : _≡_ {A = ℕ} 0 1 = cc in omega arith)
 
 -- a reply of Done passed every test
-done-tests : (a b : Bool) (o : Outside) (c : Bool) → cond a (cond b (pointed o (cond c Done Tables)) Count) Options ≡ Done → (a ≡ true) × (b ≡ true) × (o ≡ Nothing) × (c ≡ true)
+pub done-tests : (a b : Bool) (o : Outside) (c : Bool) → inOrder a b o c ≡ Done → (a ≡ true) × (b ≡ true) × (o ≡ Nothing) × (c ≡ true)
 done-tests true true Nothing true e = (refl, refl, refl, refl)
 done-tests true true Nothing false e = absurd (let z : _≡_ {A = ℕ} 0 1 = cc in omega arith)
 done-tests true true (At i) c e = absurd (let z : _≡_ {A = ℕ} 0 1 = cc in omega arith)
@@ -57,7 +57,7 @@ module _ (size : ℕ) (xs ys : List Float) (s : Cols) (e : checked size xs ys s 
   pub accepted : Accepted size xs ys s
   unfolding checked
   accepted =
-      let w = done-tests (nodeSizeOk size) (countOk (length xs) && eqb (length ys) (length xs)) (firstOutside xs ys 0) (leb (length xs) (length (s .ids)) && leb (2 * length xs) (length (s .co))) e in
+      let w = done-tests (nodeSizeOk size) (pairOk xs ys) (firstOutside xs ys 0) (leb (length xs) (length (s .ids)) && leb (2 * length xs) (length (s .co))) e in
       let n = size-is size (w .0) in
       let v = and-both (countOk (length xs)) (eqb (length ys) (length xs)) (w .1) in
       let c = count-is (length xs) (v .0) in
@@ -86,3 +86,27 @@ module _ (size : ℕ) (xs ys : List Float) (s : Cols) (e : checked size xs ys s 
   build-is-index =
       let A = accepted in
       subst (Index size xs ys s) (sym built-is) (indexed-ok xs ys s size (A .size-from) (A .some) (A .ids-room) (A .co-room) points)
+
+-- ---- and such points, a node size and columns as 01 asks are accepted
+
+no-outside : (xs ys : List Float) (i : ℕ) → length ys ≡ length xs → ((p : ℕ) → p < length xs → In01 (getD xs p nan) × In01 (getD ys p nan)) → firstOutside xs ys i ≡ Nothing
+unfolding firstOutside
+no-outside [] ys i l f = refl
+no-outside (x ∷ xs) [] i l f = refl
+no-outside (x ∷ xs) (y ∷ ys) i l f =
+    let w = f 0 (omega arith) in
+    rw (is-true (in01 x) (In01→in01 x (w .0)), is-true (in01 y) (In01→in01 y (w .1)), firstOutside) (no-outside xs ys (suc i) (omega arith) (λ p h. f (suc p) (omega arith)))
+
+pub accepts : (size : ℕ) (xs ys : List Float) (s : Cols) → Accepted size xs ys s → checked size xs ys s ≡ Done
+unfolding checked
+accepts size xs ys s A =
+    rw (
+      le-leb 1 size (A .size-from),
+      le-leb size 65535 (A .size-to),
+      le-leb 1 (length xs) (A .some),
+      le-leb (length xs) 1048576 (A .most),
+      eq-eqb (length ys) (length xs) (A .paired),
+      no-outside xs ys 0 (A .paired) (A .inside),
+      le-leb (length xs) (length (s .ids)) (A .ids-room),
+      le-leb (2 * length xs) (length (s .co)) (A .co-room),
+    )

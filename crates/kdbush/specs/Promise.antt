@@ -155,17 +155,31 @@ module _ (size : ℕ) (xs ys : List Float) (s S : Cols) (I : Index size xs ys s 
       let t = to-place (S .ids) (m .0) (I .slot-of p) (m .1) in
       subst (λ (l : List ℕ). In p (places (S .ids) l)) (sym (m .2)) (subst (λ (k : ℕ). In k (places (S .ids) (m .0 ++ I .slot-of p ∷ m .1))) (I .id-back p h) t)
 
-  -- a search of the index with room for all its places is answered
-  module _ (ok : coordsOk size (length xs) (length (S .co)) ≡ true) (wide : length xs ≤ length (S .ids)) (fine : queryOk q ≡ true) (out : List ℕ) (room : length xs ≤ length out) where
-    pub built-searched : searched q size (length xs) (S .ids) (S .co) (length out) ≡ Found (length answered)
-    unfolding searched
-    built-searched = rw (ok, le-leb (length xs) (length (S .ids)) wide, fine, all-whole (length xs) answered answered-below, le-leb (length answered) (length out) (omega (arith, answered-length)))
+-- ---- what the clustering rests on: an index of n places, whose answers name each of them at most once, and nothing else
 
-    pub built-column : columnAfter q size (length xs) (S .ids) (S .co) out ≡ answered ++ drop (length answered) out
-    unfolding columnAfter
-    built-column =
-        let h : length answered ≤ length out = omega (arith, answered-length) in
-        rw (ok, le-leb (length xs) (length (S .ids)) wide, fine, all-sound (length xs) answered answered-below, take-all (length out) answered h)
+pub record Promised (size n : ℕ) (ids : List ℕ) (co : List Float) : Type 0 where
+  pub ok : coordsOk size n (length co) ≡ true
+  pub wide : n ≤ length ids
+  pub below : (q : Query) → AllBelow n (found q size n ids co)
+  pub once : (q : Query) → Distinct (found q size n ids co)
+  pub short : (q : Query) → length (found q size n ids co) ≤ n
+
+pub promised : (size : ℕ) (xs ys : List Float) (s S : Cols) → Index size xs ys s S → coordsOk size (length xs) (length (S .co)) ≡ true → length xs ≤ length (S .ids)
+    → Promised size (length xs) (S .ids) (S .co)
+promised size xs ys s S I ok wide = record { ok = ok; wide = wide; below = answered-below size xs ys s S I; once = answered-once size xs ys s S I; short = answered-length size xs ys s S I }
+
+-- a search of it with room for all its places is answered: no refusal, and the places at the front of the column
+module _ (size n : ℕ) (ids : List ℕ) (co : List Float) (P : Promised size n ids co) (q : Query) (fine : queryOk q ≡ true) (out : List ℕ) (room : n ≤ length out) where
+  pub promised-searched : searched q size n ids co (length out) ≡ Found (length (found q size n ids co))
+  unfolding searched
+  promised-searched =
+      rw (P .ok, le-leb n (length ids) (P .wide), fine, all-whole n (found q size n ids co) (P .below q), le-leb (length (found q size n ids co)) (length out) (omega (arith, P .short q)))
+
+  pub promised-column : columnAfter q size n ids co out ≡ found q size n ids co ++ drop (length (found q size n ids co)) out
+  unfolding columnAfter
+  promised-column =
+      let h : length (found q size n ids co) ≤ length out = omega (arith, P .short q) in
+      rw (P .ok, le-leb n (length ids) (P .wide), fine, all-sound n (found q size n ids co) (P .below q), take-all (length out) (found q size n ids co) h)
 
 -- ---- `range`: exactly the points in the box
 

@@ -81,14 +81,16 @@ abbrev pub pointed : Outside → BuildReply → BuildReply
 pointed (At i) r = Point i
 pointed Nothing r = r
 
--- refusals 1, 2, 3, 4, in this order
+-- refusals 1, 2, 3, 4, in this order: whether the options, the count, every point and the lent columns are as 01 asks
+abbrev pub inOrder : Bool → Bool → Outside → Bool → BuildReply
+inOrder options count points room = cond options (cond count (pointed points (cond room Build·Done Tables)) Count) Options
+
+-- xs and ys are as long as each other, and not too long
+abbrev pub pairOk : List Float → List Float → Bool
+pairOk xs ys = countOk (length xs) && eqb (length ys) (length xs)
+
 unfoldable pub checked : ℕ → List Float → List Float → Cols → BuildReply
-checked size xs ys s =
-    cond (nodeSizeOk size)
-    (cond (countOk (length xs) && eqb (length ys) (length xs))
-    (pointed (firstOutside xs ys 0) (cond (leb (length xs) (length (s .ids)) && leb (2 * length xs) (length (s .co))) Build·Done Tables))
-    Count)
-    Options
+checked size xs ys s = inOrder (nodeSizeOk size) (pairOk xs ys) (firstOutside xs ys 0) (leb (length xs) (length (s .ids)) && leb (2 * length xs) (length (s .co)))
 
 -- the columns after a reply: the index, or as they were
 abbrev pub builtBy : BuildReply → ℕ → List Float → List Float → Cols → Cols

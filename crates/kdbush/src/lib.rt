@@ -53,7 +53,7 @@ pub enum Step {
 }
 
 // The first point outside [0,1], if there is one.
-enum Outside {
+pub enum Outside {
     At(usize),
     Nothing,
 }

@@ -1,7 +1,7 @@
 //! One face for both builds of the Rust: every question of the driver, put to the Rust's own functions.
 
-use crate::plain::{Entry, Item, Options, Plane, Range};
-use geojson::{feature::Id, Feature, Geometry, JsonObject, Value};
+use crate::plain::{Entry, Item, Options, Range};
+use geojson::{feature::Id, Feature, Value};
 
 /// A build of the Rust. An error is the Rust's own, by its name.
 pub trait Judge: Sized {
@@ -34,13 +34,7 @@ pub trait Judge: Sized {
 
 /// A point with an empty properties object; its id is its number.
 pub fn feature(number: usize, point: &[f64; 2]) -> Feature {
-    Feature {
-        bbox: None,
-        geometry: Some(Geometry::new(Value::Point(point.to_vec()))),
-        id: Some(Id::String(number.to_string())),
-        properties: Some(JsonObject::new()),
-        foreign_members: None,
-    }
+    Feature { id: Some(Id::String(number.to_string())), ..builds::feature(*point) }
 }
 
 /// What a feature of an answer says. A cluster is told by the property that the Rust gives it.
@@ -85,35 +79,8 @@ macro_rules! judge {
     ($module:ident, $rust:ident, $name:literal) => {
         mod $module {
             use super::*;
-            use $rust::{CoordinateSystem, DataRange, KDBush, Supercluster, SuperclusterOptions};
-
-            fn data_range(range: &Range) -> DataRange {
-                DataRange {
-                    min_x: range.min_x,
-                    min_y: range.min_y,
-                    max_x: range.max_x,
-                    max_y: range.max_y,
-                    offset: range.offset,
-                    scale: range.scale,
-                }
-            }
-
-            fn rust_options(options: &Options) -> SuperclusterOptions {
-                SuperclusterOptions {
-                    min_zoom: options.min_zoom,
-                    max_zoom: options.max_zoom,
-                    min_points: options.min_points,
-                    radius: options.radius,
-                    extent: options.extent,
-                    node_size: options.node_size,
-                    coordinate_system: match &options.plane {
-                        Plane::Globe => CoordinateSystem::LatLng,
-                        Plane::Cartesian(range) => {
-                            CoordinateSystem::Cartesian { range: data_range(range) }
-                        }
-                    },
-                }
-            }
+            use builds::$module::{data_range, unloaded};
+            use $rust::{KDBush, Supercluster};
 
             fn index(node_size: usize, points: &[[f64; 2]]) -> KDBush {
                 let mut index = KDBush::new(points.len(), node_size);
@@ -131,7 +98,7 @@ macro_rules! judge {
                 const NAME: &'static str = $name;
 
                 fn load(options: &Options, points: &[[f64; 2]]) -> Result<Self, String> {
-                    let mut rust = Supercluster::new(rust_options(options));
+                    let mut rust = unloaded(options);
                     let features = points.iter().enumerate();
                     match rust.load(features.map(|(i, point)| feature(i, point)).collect()) {
                         Ok(_) => Ok(Build(rust)),

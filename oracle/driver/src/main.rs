@@ -4,6 +4,7 @@ mod attempt;
 mod differences;
 mod index_vectors;
 mod judge;
+mod load_vectors;
 mod plain;
 mod range_vectors;
 mod report;
@@ -18,7 +19,8 @@ use std::{
 const USAGE: &str = "usage: driver worked
        driver differences PAGE
        driver range-vectors [--count N] [--seed S]
-       driver index-vectors";
+       driver index-vectors
+       driver load-vectors";
 
 fn main() -> ExitCode {
     attempt::silence();
@@ -36,6 +38,7 @@ fn main() -> ExitCode {
             None => fail(USAGE),
         },
         ["index-vectors"] => written(|out| index_vectors::write(out)),
+        ["load-vectors"] => written(|out| load_vectors::write(out)),
         _ => fail(USAGE),
     }
 }

@@ -1,40 +1,6 @@
 //! The plain values that pass between the driver and a build of the Rust: options, entries, items.
 
-/// The four numbers of a Cartesian range, and what is given of offset and scale.
-#[derive(Clone, Copy, Debug)]
-pub struct Range {
-    pub min_x: f64,
-    pub min_y: f64,
-    pub max_x: f64,
-    pub max_y: f64,
-    pub offset: Option<f64>,
-    pub scale: Option<f64>,
-}
-
-/// The range of the table lister: offset 0 and scale 1.
-pub const UNIT: Range =
-    Range { min_x: 0.0, min_y: 0.0, max_x: 1.0, max_y: 1.0, offset: Some(0.0), scale: Some(1.0) };
-
-/// The coordinate system of a build.
-#[derive(Clone, Copy, Debug)]
-pub enum Plane {
-    /// Longitude and latitude.
-    Globe,
-    /// Cartesian coordinates in a range.
-    Cartesian(Range),
-}
-
-/// The options of a build.
-#[derive(Clone, Copy, Debug)]
-pub struct Options {
-    pub min_zoom: u8,
-    pub max_zoom: u8,
-    pub min_points: u8,
-    pub radius: f64,
-    pub extent: f64,
-    pub node_size: usize,
-    pub plane: Plane,
-}
+pub use options::{Options, Plane, Range, UNIT};
 
 /// The options of 01's worked build.
 pub const WORKED: Options = Options {

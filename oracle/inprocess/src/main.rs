@@ -3,10 +3,11 @@
 
 mod index;
 mod report;
+mod tables;
 
 use std::{env, process::ExitCode};
 
-const USAGE: &str = "usage: inprocess index [--full]";
+const USAGE: &str = "usage: inprocess index|tables [--full]";
 
 /// How much is compared.
 #[derive(Clone, Copy, PartialEq, Eq)]
@@ -21,6 +22,8 @@ fn main() -> ExitCode {
     match words.as_slice() {
         ["index"] => index::run(Form::Short),
         ["index", "--full"] => index::run(Form::Full),
+        ["tables"] => tables::run(Form::Short),
+        ["tables", "--full"] => tables::run(Form::Full),
         _ => {
             eprintln!("{USAGE}");
             ExitCode::from(2)

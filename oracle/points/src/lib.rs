@@ -1,4 +1,9 @@
-//! Points for an index: many shapes, all within [0,1].
+//! Points for an index and for the tables: many shapes, all within [0,1].
+
+mod drawn;
+mod placed;
+
+pub use drawn::Drawn;
 
 use splitmix::Splitmix;
 

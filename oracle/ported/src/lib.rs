@@ -3,6 +3,9 @@
 //! to be what `crates/exports` exports; nothing checks that but the comparison.
 
 mod linked;
+mod load;
+
+pub use load::{load, Columns, Lengths, Lent as LentColumns, State, COLUMNS, ZOOMS};
 
 /// A reply: 01's number of it, and the number that it carries.
 #[derive(Clone, Copy, Debug, PartialEq, Eq)]

@@ -1,0 +1,117 @@
+-- The tables of a build by their numbers, from max_zoom + 1, the finest, down to min_zoom: table z as it came, before a zoom marked it, and as the build has it.
+-- Each comes of the one before by one zoom, and the build's is what that zoom left of it; the last is as it came. Assumes nothing.
+use mathlib.Core.Path.{_≡_, refl, sym, ap, ap₂, _∙_, subst}
+use mathlib.Core.List.{List, []}
+use Prim.Native.Nat.{ℕ, zero, suc, _+_, _-_, _<_, _≤_}
+use native.Mathlib.Omega.{arith}
+use native.Mathlib.Nat.{add-suc}
+use lib.ListN.{length, getD}
+use lib.Ieee.{Float}
+use Rattle.tables.specs.declared.Options.{Options}
+use Rattle.tables.specs.Entries.{Table}
+use Rattle.supercluster.specs.Build.{Plan, planOf, zoomed, run, zoomsOf, tablesOf}
+use Rattle.supercluster.specs.Fill.{lamps}
+
+-- the table that comes after j zooms, the first of them top - 1
+unfoldable pub comes : Plan → ℕ → Table → ℕ → Table
+comes p top t zero = t
+comes p top t (suc j) = zoomed p (top - suc j) (comes p top t j) .next
+
+-- table z of a build as it came
+unfoldable pub came : Options → List Float → List Float → ℕ → Table
+came o xs ys z = comes (planOf o (length xs)) (o .«max_zoom» + 1) (lamps (o .«coordinate_system») xs ys) (o .«max_zoom» + 1 - z)
+
+-- table z of a build
+unfoldable pub tableAt : Options → List Float → List Float → ℕ → Table
+tableAt o xs ys z = getD (tablesOf o xs ys) (o .«max_zoom» + 1 - z) []
+
+-- ---- what `run` makes
+
+-- the first zoom taken out
+comes-shift : (p : Plan) (top : ℕ) (t : Table) (j : ℕ) → comes p (suc top) t (suc j) ≡ comes p top (zoomed p top t .next) j
+unfolding comes
+comes-shift p top t zero = let e : suc top - 1 ≡ top = omega arith in ap (λ (z : ℕ). zoomed p z t .next) e
+comes-shift p top t (suc j) =
+    let e : suc top - suc (suc j) ≡ top - suc j = omega arith in
+    ap₂ (λ (z : ℕ) (q : Table). zoomed p z q .next) e (comes-shift p top t j)
+
+run-length : (p : Plan) (k : ℕ) (t : Table) → length (run p k t) ≡ suc k
+unfolding run
+run-length p zero t = refl
+run-length p (suc k) t = ap suc (run-length p k (zoomed p (p .options .«min_zoom» + k) t .next))
+
+run-at : (p : Plan) (k : ℕ) (t : Table) (j : ℕ) → j < k →
+    getD (run p k t) j [] ≡ zoomed p (p .options .«min_zoom» + k - suc j) (comes p (p .options .«min_zoom» + k) t j) .table
+unfolding run comes
+run-at p zero t j h = absurd (omega arith)
+run-at p (suc k) t zero h = let e : p .options .«min_zoom» + k ≡ p .options .«min_zoom» + suc k - 1 = omega arith in ap (λ (z : ℕ). zoomed p z t .table) e
+run-at p (suc k) t (suc j) h =
+    let m = p .options .«min_zoom» in
+    let e : m + k - suc j ≡ m + suc k - suc (suc j) = omega arith in
+    run-at p k (zoomed p (m + k) t .next) j (omega arith)
+    ∙ ap₂ (λ (z : ℕ) (q : Table). zoomed p z q .table) e (sym (comes-shift p (m + k) t j) ∙ ap (λ (w : ℕ). comes p w t (suc j)) (sym (add-suc m k)))
+
+run-last : (p : Plan) (k : ℕ) (t : Table) → getD (run p k t) k [] ≡ comes p (p .options .«min_zoom» + k) t k
+unfolding run comes
+run-last p zero t = refl
+run-last p (suc k) t =
+    let m = p .options .«min_zoom» in
+    run-last p k (zoomed p (m + k) t .next) ∙ sym (comes-shift p (m + k) t k) ∙ ap (λ (w : ℕ). comes p w t (suc k)) (sym (add-suc m k))
+
+-- ---- of a build
+
+module _ (o : Options) (xs ys : List Float) where
+  -- a build has one table more than zooms
+  pub tables-count : length (tablesOf o xs ys) ≡ suc (zoomsOf o)
+  unfolding tablesOf
+  tables-count = run-length (planOf o (length xs)) (zoomsOf o) (lamps (o .«coordinate_system») xs ys)
+
+  -- the finest came as the lamps
+  pub came-first : came o xs ys (o .«max_zoom» + 1) ≡ lamps (o .«coordinate_system») xs ys
+  unfolding came comes
+  came-first =
+      let e : o .«max_zoom» + 1 - (o .«max_zoom» + 1) ≡ 0 = omega arith in
+      ap (comes (planOf o (length xs)) (o .«max_zoom» + 1) (lamps (o .«coordinate_system») xs ys)) e
+
+  -- table z is what the zoom z made of table z + 1
+  pub came-next : (z : ℕ) → z ≤ o .«max_zoom» → came o xs ys z ≡ zoomed (planOf o (length xs)) z (came o xs ys (suc z)) .next
+  unfolding came comes
+  came-next z h =
+      let p = planOf o (length xs) in
+      let top = o .«max_zoom» + 1 in
+      let F = lamps (o .«coordinate_system») xs ys in
+      let e : top - z ≡ suc (top - suc z) = omega arith in
+      let f : top - suc (top - suc z) ≡ z = omega arith in
+      ap (comes p top F) e ∙ ap (λ (w : ℕ). zoomed p w (comes p top F (top - suc z)) .next) f
+
+  module _ (w : o .«min_zoom» ≤ o .«max_zoom») where
+    top-is : o .«min_zoom» + zoomsOf o ≡ o .«max_zoom» + 1
+    top-is = omega arith
+
+    -- table z + 1 of the build is what the zoom z left of it
+    pub table-left : (z : ℕ) → o .«min_zoom» ≤ z → z ≤ o .«max_zoom» → tableAt o xs ys (suc z) ≡ zoomed (planOf o (length xs)) z (came o xs ys (suc z)) .table
+    unfolding tableAt tablesOf came
+    table-left z h k =
+        let p = planOf o (length xs) in
+        let F = lamps (o .«coordinate_system») xs ys in
+        let j = o .«max_zoom» + 1 - suc z in
+        let e : o .«min_zoom» + zoomsOf o - suc j ≡ z = omega arith in
+        run-at p (zoomsOf o) F j (omega arith)
+        ∙ ap₂ (λ (v : ℕ) (q : Table). zoomed p v q .table) e (ap (λ (v : ℕ). comes p v F j) top-is)
+
+    -- the last table of the build is as it came
+    pub table-last : tableAt o xs ys (o .«min_zoom») ≡ came o xs ys (o .«min_zoom»)
+    unfolding tableAt tablesOf came
+    table-last =
+        let p = planOf o (length xs) in
+        let F = lamps (o .«coordinate_system») xs ys in
+        run-last p (zoomsOf o) F ∙ ap (λ (v : ℕ). comes p v F (zoomsOf o)) top-is
+
+-- ---- what holds of the finest, and of a table where it holds of the one before, holds of each
+
+pub down : (P : ℕ → Type 0) (low top : ℕ) → P top → ((z : ℕ) → low ≤ z → z < top → P (suc z) → P z) → (z : ℕ) → low ≤ z → z ≤ top → P z
+down P low top a f z h k = go (top - z) z h (omega arith)
+  where
+    go : (d z : ℕ) → low ≤ z → z + d ≡ top → P z
+    go zero z h e = let q : top ≡ z = omega arith in subst P q a
+    go (suc d) z h e = f z h (omega arith) (go d (suc z) (omega arith) (omega arith))

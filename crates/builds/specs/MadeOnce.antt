@@ -1,0 +1,100 @@
+-- Of every such build: a cluster's id says in which table it was made. In that table, and in no other, it is new; no two places of the build's tables have the same
+-- cluster new. As a table came, its new entries are marked by none, and the others by the zoom that made it. Assumes nothing.
+use mathlib.Core.Path.{_≡_, sym, ap, _∙_, subst}
+use mathlib.Core.Logic.{_⊎_, inl, inr}
+use mathlib.Core.List.{List}
+use Prim.Native.Nat.{ℕ, suc, _≤_, _<_}
+use native.Mathlib.Omega.{arith}
+use native.Mathlib.Nat.{le-refl}
+use lib.ListN.{length}
+use lib.Ieee.{Float}
+use Rattle.tables.specs.Bounds.{options-are}
+use Rattle.tables.specs.declared.Entry.{Entry}
+use Rattle.tables.specs.declared.Options.{Options}
+use Rattle.tables.specs.Entries.{Table, entry, never}
+use Rattle.tables.specs.Ids.{tableOf, id-apart}
+use Rattle.supercluster.specs.Ready.{Accepted}
+use Rattle.builds.specs.Came.{came, tableAt, table-last}
+use Rattle.builds.specs.Fitting.{Fitting}
+use Rattle.builds.specs.Identities.{Known, identities, ids-distinct, id-table-suc}
+use Rattle.builds.specs.Marks.{Carried, New, marks-came}
+use Rattle.builds.specs.Same.{Same, table-same}
+
+-- by its id, the entry is a cluster that was made in table z, in a build of n points
+abbrev pub MadeAt : ℕ → ℕ → Entry → Type 0
+MadeAt n z e = (n ≤ e .id) × (tableOf n (e .id) ≡ suc z)
+
+made-like : (n z : ℕ) (a b : Entry) → Same a b → MadeAt n z b → MadeAt n z a
+made-like n z a b s m = subst (λ (i : ℕ). (n ≤ i) × (tableOf n i ≡ suc z)) (sym (s .id)) m
+
+module _ (o : Options) (xs ys : List Float) (a : Accepted o xs ys) (f : Fitting (o .«coordinate_system») xs ys) where
+  -- what the zoom z made was made in table z
+  pub new-made : (z : ℕ) → z ≤ o .«max_zoom» → (j : ℕ) → New (length xs) z (tableAt o xs ys (suc z)) (came o xs ys z) j → MadeAt (length xs) z (entry (came o xs ys z) j)
+  new-made z l j w =
+      let e = w .id in
+      let m = options-are o (a .options) .zoom-to in
+      (omega arith, ap (tableOf (length xs)) e ∙ id-table-suc (length xs) z (w .origin) (omega arith))
+
+  -- what it carried was not
+  pub carried-not : (z : ℕ) → o .«min_zoom» ≤ z → z ≤ o .«max_zoom» → (j : ℕ) → Carried z (tableAt o xs ys (suc z)) (came o xs ys z) j → MadeAt (length xs) z (entry (came o xs ys z) j) → ⊥
+  carried-not z h l j c m = by (identities o xs ys a f (suc z) (omega arith) (omega arith) (c .source) (c .place))
+    where
+      same : entry (came o xs ys z) j .id ≡ entry (tableAt o xs ys (suc z)) (c .source) .id
+      same = c .same .id
+
+      by : Known o xs ys (suc z) (entry (tableAt o xs ys (suc z)) (c .source)) → ⊥
+      by (inl w) = let b = w .below in let e = same in let d = m .0 in omega arith
+      by (inr w) = let b = w .table-from in let e = ap (tableOf (length xs)) same in let d = m .1 in omega arith
+
+  -- table z as it came: new and marked by none, or not new and marked z
+  pub marks-exact : (z : ℕ) → o .«min_zoom» ≤ z → z ≤ o .«max_zoom» → (j : ℕ) → j < length (came o xs ys z) →
+      (MadeAt (length xs) z (entry (came o xs ys z) j) × (entry (came o xs ys z) j .seen ≡ never))
+      ⊎ ((MadeAt (length xs) z (entry (came o xs ys z) j) → ⊥) × (entry (came o xs ys z) j .seen ≡ z))
+  marks-exact z h l j k = by (marks-came o xs ys a f z h l j k)
+    where
+      by : Carried z (tableAt o xs ys (suc z)) (came o xs ys z) j ⊎ New (length xs) z (tableAt o xs ys (suc z)) (came o xs ys z) j →
+          (MadeAt (length xs) z (entry (came o xs ys z) j) × (entry (came o xs ys z) j .seen ≡ never))
+          ⊎ ((MadeAt (length xs) z (entry (came o xs ys z) j) → ⊥) × (entry (came o xs ys z) j .seen ≡ z))
+      by (inl c) = inr (carried-not z h l j c, c .seen)
+      by (inr c) = inl (new-made z l j c, c .seen)
+
+  -- so in the last table of the build
+  pub marks-last-exact : (j : ℕ) → j < length (tableAt o xs ys (o .«min_zoom»)) →
+      (MadeAt (length xs) (o .«min_zoom») (entry (tableAt o xs ys (o .«min_zoom»)) j) × (entry (tableAt o xs ys (o .«min_zoom»)) j .seen ≡ never))
+      ⊎ ((MadeAt (length xs) (o .«min_zoom») (entry (tableAt o xs ys (o .«min_zoom»)) j) → ⊥) × (entry (tableAt o xs ys (o .«min_zoom»)) j .seen ≡ o .«min_zoom»))
+  marks-last-exact j k =
+      let m = o .«min_zoom» in
+      let w = options-are o (a .options) .zooms in
+      let e = table-last o xs ys w in
+      let v = ap length e in
+      subst (λ (t : Table). (MadeAt (length xs) m (entry t j) × (entry t j .seen ≡ never)) ⊎ ((MadeAt (length xs) m (entry t j) → ⊥) × (entry t j .seen ≡ m))) (sym e)
+      (marks-exact m (le-refl m) w j (omega arith))
+
+  -- a cluster is new at one place of one table
+  pub made-once : (z w : ℕ) → o .«min_zoom» ≤ z → z ≤ o .«max_zoom» → w ≤ o .«max_zoom» → (j l : ℕ) → j < length (tableAt o xs ys z) → l < length (tableAt o xs ys w) →
+      MadeAt (length xs) z (entry (tableAt o xs ys z) j) → MadeAt (length xs) w (entry (tableAt o xs ys w) l) → entry (tableAt o xs ys z) j .id ≡ entry (tableAt o xs ys w) l .id →
+      (z ≡ w) × (j ≡ l)
+  made-once z w h k m j l p q s t e = (same, ids-distinct o xs ys a f z h (omega arith) j l p there at)
+    where
+      same : z ≡ w
+      same = let b = s .1 in let c = t .1 in let d = ap (tableOf (length xs)) e in omega arith
+
+      there : l < length (tableAt o xs ys z)
+      there = subst (λ (v : ℕ). l < length (tableAt o xs ys v)) (sym same) q
+
+      at : entry (tableAt o xs ys z) j .id ≡ entry (tableAt o xs ys z) l .id
+      at = e ∙ ap (λ (v : ℕ). entry (tableAt o xs ys v) l .id) (sym same)
+
+  -- the same of what two zooms made: with the same id, they are the same zoom, the same place of the next table, and the same origin
+  pub new-once : (z w : ℕ) → o .«min_zoom» ≤ z → z ≤ o .«max_zoom» → o .«min_zoom» ≤ w → w ≤ o .«max_zoom» → (j l : ℕ) → j < length (came o xs ys z) → l < length (came o xs ys w) →
+      (p : New (length xs) z (tableAt o xs ys (suc z)) (came o xs ys z) j) → (q : New (length xs) w (tableAt o xs ys (suc w)) (came o xs ys w) l) →
+      entry (came o xs ys z) j .id ≡ entry (came o xs ys w) l .id → (z ≡ w) × (j ≡ l) × (p .origin ≡ q .origin)
+  new-once z w h k h' k' j l m n p q e =
+      let s = table-same o xs ys a f z h (omega arith) in
+      let t = table-same o xs ys a f w h' (omega arith) in
+      let u = s .long in
+      let v = t .long in
+      let top = options-are o (a .options) .zoom-to in
+      let x = made-once z w h k k' j l (omega arith) (omega arith) (made-like (length xs) z _ _ (s .each j m) (new-made z k j p)) (made-like (length xs) w _ _ (t .each l n) (new-made w k' l q))
+      (s .each j m .id ∙ e ∙ sym (t .each l n .id)) in
+      (x .0, x .1, id-apart (length xs) z w (p .origin) (q .origin) (omega arith) (omega arith) (sym (p .id) ∙ e ∙ q .id) .0)

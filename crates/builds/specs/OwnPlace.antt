@@ -1,0 +1,55 @@
+-- The own place of each entry of a table is answered around it, where its coordinates are binary64 numbers from 0 to 1 and the radius is finite and not below
+-- 0. Assumes nothing.
+use mathlib.Core.Path.{sym, subst}
+use mathlib.Core.List.{List}
+use Prim.Native.Nat.{ℕ, _*_, _≤_, _<_}
+use native.Mathlib.Omega.{arith}
+use lib.Dec.{T}
+use lib.ListN.{length, getD, length-map, List·getD-map, length-replicate}
+use lib.Ieee.{Float, nan, le}
+use lib.Ieee.Scale.{finite}
+use Rattle.floats.specs.Numbers.{zero as fzero}
+use Rattle.floats.specs.Unit.{In01-not-nan, In01-finite}
+use Rattle.kdsort.specs.Tree.{Points, Index}
+use Rattle.kdsort.specs.Indexes.{blank, indexed-ok}
+use Rattle.kdbush.specs.declared.Query.the-variants.{Within}
+use Rattle.kdbush.specs.Members.{In}
+use Rattle.kdbush.specs.Promise.{own-place}
+use Rattle.kdbush.specs.Reply.{found}
+use Rattle.tables.specs.Entries.{Table, entry, none, xsOf, ysOf}
+use Rattle.zoom.specs.Keeps.{All, all-at}
+use Rattle.zoom.specs.Sound.{Body}
+use Rattle.supercluster.specs.Build.{indexOf, slotsOf, nearIn}
+use Rattle.supercluster.specs.Parts.{Inside}
+use Rattle.supercluster.specs.Running.{table-inside}
+use Rattle.builds.specs.Fitting.{Held, Fits64}
+
+-- an index of points from 0 to 1 is one
+index-of : (size : ℕ) (xs ys : List Float) → 1 ≤ size → 1 ≤ length xs → Inside xs ys → Index size xs ys (blank (length xs)) (indexOf size xs ys)
+unfolding indexOf Points
+index-of size xs ys n1 some inside =
+    let a = length-replicate {A = ℕ} (length xs) 0 in
+    let c = length-replicate (2 * length xs) nan in
+    indexed-ok xs ys (blank (length xs)) size n1 some (omega (arith, a)) (omega (arith, c)) points
+  where
+    points : Points xs ys
+    points p h = let w = inside p h in (In01-not-nan (getD xs p nan) (w .0), In01-not-nan (getD ys p nan) (w .1))
+
+module _ (size : ℕ) (t : Table) (n1 : 1 ≤ size) (some : 1 ≤ length t) (b : All Body t) (f : All Held t) (r : Float) (fr : T (finite r)) (nr : T (le fzero r)) where
+  pub own-answered : (i : ℕ) → i < length t → In i (nearIn size r t (entry t i .x) (entry t i .y))
+  unfolding slotsOf
+  own-answered i h =
+      let lx = length-map t (λ e. e .x) in
+      let ex = List·getD-map (λ e. e .x) t i none in
+      let ey = List·getD-map (λ e. e .y) t i none in
+      let w = all-at Body t i b h in
+      let v = all-at Held t i f h in
+      let s = indexOf size (xsOf t) (ysOf t) in
+      let a : In i (found (Within (getD (xsOf t) i nan) (getD (ysOf t) i nan) r) size (length (xsOf t)) (s .ids) (s .co)) =
+      own-place size (xsOf t) (ysOf t) (blank (length (xsOf t))) s (index-of size (xsOf t) (ysOf t) n1 (omega (arith, lx)) (table-inside t b)) i (omega (arith, lx)) r
+      (subst (λ (q : Float). Fits64 q) (sym ex) (v .0)) (subst (λ (q : Float). Fits64 q) (sym ey) (v .1))
+      (subst (λ (q : Float). T (finite q)) (sym ex) (In01-finite (entry t i .x) (w .0))) (subst (λ (q : Float). T (finite q)) (sym ey) (In01-finite (entry t i .y) (w .1)))
+      fr nr in
+      subst (λ (n : ℕ). In i (found (Within (entry t i .x) (entry t i .y) r) size n (s .ids) (s .co))) lx
+      (subst (λ (q : Float). In i (found (Within (entry t i .x) q r) size (length (xsOf t)) (s .ids) (s .co))) ey
+      (subst (λ (q : Float). In i (found (Within q (getD (ysOf t) i nan) r) size (length (xsOf t)) (s .ids) (s .co))) ex a))

@@ -1,0 +1,101 @@
+-- Of every such build: in each table but the last, an entry has no parent, and then the next table has it too; or its parent is a cluster that the zoom made at a
+-- place of the same table, and then the next table has an entry with this id. In the last table no entry has a parent. Assumes nothing.
+use mathlib.Core.Path.{_≡_, ap, _∙_}
+use mathlib.Core.Logic.{_⊎_, inl, inr}
+use mathlib.Core.List.{List}
+use Prim.Native.Nat.{ℕ, suc, _≤_, _<_}
+use native.Mathlib.Omega.{arith}
+use native.Mathlib.Nat.{le-refl}
+use lib.ListN.{length}
+use lib.Ieee.{Float}
+use Rattle.tables.specs.Bounds.{options-are}
+use Rattle.tables.specs.declared.Entry.{Entry}
+use Rattle.tables.specs.declared.Options.{Options}
+use Rattle.tables.specs.Entries.{Table, entry, unset}
+use Rattle.tables.specs.Ids.{clusterId, id-small}
+use Rattle.zoom.specs.Keeps.{all-at}
+use Rattle.supercluster.specs.Build.{planOf}
+use Rattle.supercluster.specs.Ready.{Accepted}
+use Rattle.builds.specs.Came.{came, tableAt, table-last}
+use Rattle.builds.specs.Fitting.{Fitting}
+use Rattle.builds.specs.GroupsOfBuild.{groupsBy, came-coming}
+use Rattle.builds.specs.Places.{Went}
+use Rattle.builds.specs.Same.{Same, Alike, same-trans, same-sym, same-marked, went-by, table-same}
+use Rattle.builds.specs.Steps.{Coming, Lone}
+
+-- T is table z + 1 and U table z, of a build of n points
+
+-- the entry at i has no parent, and U has it too
+pub record Alone (T U : Table) (i : ℕ) : Type 0 where
+  pub parent : entry T i .parent ≡ unset
+  pub place : ℕ
+  pub there : place < length U
+  pub same : Same (entry U place) (entry T i)
+
+-- its parent is the cluster made at the place `origin` of T, whose parent it is too, and U has this cluster. The id is not the unset parent
+pub record Under (n z : ℕ) (T U : Table) (i : ℕ) : Type 0 where
+  pub origin : ℕ
+  pub inside : origin < length T
+  pub parent : entry T i .parent ≡ clusterId n z origin
+  pub origin-parent : entry T origin .parent ≡ clusterId n z origin
+  pub small : clusterId n z origin < unset
+  pub place : ℕ
+  pub there : place < length U
+  pub id : entry U place .id ≡ clusterId n z origin
+
+module _ (o : Options) (xs ys : List Float) (a : Accepted o xs ys) (f : Fitting (o .«coordinate_system») xs ys) where
+  -- table z + 1
+  pub parents : (z : ℕ) → o .«min_zoom» ≤ z → z ≤ o .«max_zoom» → (i : ℕ) → i < length (tableAt o xs ys (suc z)) →
+      Alone (tableAt o xs ys (suc z)) (tableAt o xs ys z) i ⊎ Under (length xs) z (tableAt o xs ys (suc z)) (tableAt o xs ys z) i
+  parents z h l i k = by (went-by o xs ys a f z h l i here)
+    where
+      fine : Alike (tableAt o xs ys (suc z)) (came o xs ys (suc z))
+      fine = table-same o xs ys a f (suc z) (omega arith) (omega arith)
+
+      next : Alike (tableAt o xs ys z) (came o xs ys z)
+      next = table-same o xs ys a f z h (omega arith)
+
+      here : i < length (came o xs ys (suc z))
+      here = let w = fine .long in omega arith
+
+      c : Coming (planOf o (length xs)) (suc z) (came o xs ys (suc z))
+      c = came-coming o xs ys a f (suc z) (omega arith) (omega arith)
+
+      by : Went (length xs) z (came o xs ys (suc z)) (tableAt o xs ys (suc z)) (came o xs ys z) (groupsBy o xs ys z) i →
+          Alone (tableAt o xs ys (suc z)) (tableAt o xs ys z) i ⊎ Under (length xs) z (tableAt o xs ys (suc z)) (tableAt o xs ys z) i
+      by (inl (j, s)) =
+          let w = next .long in
+          let p = s .to in
+          inl (record {
+            parent = ap (λ (e : Entry). e .parent) (s .finer) ∙ all-at Lone (came o xs ys (suc z)) i (c .lone) here;
+            place = j;
+            there = omega arith;
+            same = same-trans _ _ _ (next .each j p) (same-trans _ _ _ (same-marked z _ _ (s .copy)) (same-sym _ _ (fine .each i here)));
+          })
+      by (inr (x, j, s)) =
+          let w = next .long in
+          let v = fine .long in
+          let p = s .to in
+          let q = s .origin in
+          let few = c .few in
+          let most = a .few in
+          let top = options-are o (a .options) .zoom-to in
+          inr (record {
+            origin = x;
+            inside = omega arith;
+            parent = ap (λ (e : Entry). e .parent) (s .finer);
+            origin-parent = ap (λ (e : Entry). e .parent) (s .origin-finer);
+            small = id-small (length xs) z x (omega arith) most (omega arith);
+            place = j;
+            there = omega arith;
+            id = next .each j p .id ∙ s .id;
+          })
+
+  -- the last table
+  pub parents-last : (i : ℕ) → i < length (tableAt o xs ys (o .«min_zoom»)) → entry (tableAt o xs ys (o .«min_zoom»)) i .parent ≡ unset
+  parents-last i k =
+      let m = o .«min_zoom» in
+      let w = options-are o (a .options) .zooms in
+      let e = table-last o xs ys w in
+      let v = ap length e in
+      ap (λ (t : Table). entry t i .parent) e ∙ all-at Lone (came o xs ys m) i (came-coming o xs ys a f m (le-refl m) (omega arith) .lone) (omega arith)

@@ -1,0 +1,1 @@
+// Every table of an accepted build: definitions and laws only, in specs.

@@ -1,0 +1,146 @@
+-- `exports::supercluster_load` meets its contract: it is the public function, its options made from numbers, its reply and its state as numbers.
+-- Assumes nothing.
+use mathlib.Core.Path.{_≡_, ap, _∙_}
+use Prim.Native.Nat.{ℕ}
+use denote.Ref.{now}
+use borrow.Author.Needs.{needs}
+use Rattle.range.specs.declared.Setting.{Setting}
+use Rattle.range.specs.declared.CoordinateSystem.{CoordinateSystem}
+use Rattle.kdbush.specs.Reply.{buildNumber, buildCarried}
+use Rattle.kdbush.specs.Run.{filled}
+use Rattle.supercluster.specs.Build.{Outcome, outcome, Lent, lent, loaded}
+use Rattle.exports.specs.Given.{settingOf, systemOf, optionsOf}
+use Rattle.exports.proofs.supercluster_load.Statement.{statement}
+use Rattle.exports.proofs.supercluster_load.Tie as tie
+
+abbrev start-of : tie.After-system → tie.Start
+start-of y = y .before .before .before .before .before .before .before .before .before .before .before .before .before .before .before .before
+
+abbrev system-of : tie.After-load → tie.After-system
+system-of w = w .before .before .before .before .before .before .before .before .before .before
+
+abbrev load-of : tie.After-store → tie.After-load
+load-of s = s .before .before .before .before .before .before .before .before .before .before .before .before .before .before .before .before .before .before .before .before .before .before
+
+abbrev first-store : tie.After-store2 → tie.After-store
+first-store s = s .before .before .before .before .before
+
+-- the coordinate system that is passed on
+system-is : (y : tie.After-system)
+    → y .system .result ≡ (let a = start-of y .args in systemOf (a .cartesian) (a .min-x) (a .min-y) (a .max-x) (a .max-y) (settingOf (a .offset-given) (a .offset)) (settingOf (a .scale-given) (a .scale)))
+system-is y =
+    let a = start-of y .args in
+    y .system .ensures
+    ∙ ap (λ (s : Setting). systemOf (a .cartesian) (a .min-x) (a .min-y) (a .max-x) (a .max-y) s (y .before .setting2 .result)) (y .before .before .setting .ensures)
+    ∙ ap (λ (s : Setting). systemOf (a .cartesian) (a .min-x) (a .min-y) (a .max-x) (a .max-y) (settingOf (a .offset-given) (a .offset)) s) (y .before .setting2 .ensures)
+
+-- the columns as they came
+abbrev columns : tie.Start → Lent
+columns s = let a = s .args in lent (now (a .x)) (now (a .y)) (now (a .seen)) (now (a .id)) (now (a .parent)) (now (a .num)) (now (a .ids)) (now (a .coords)) (now (a .near))
+
+-- what `load` is asked for
+abbrev asked : tie.Start → CoordinateSystem → Outcome
+asked s y =
+    let a = s .args in
+    loaded (optionsOf (a .min-zoom) (a .max-zoom) (a .min-points) (a .radius) (a .extent) (a .node-size) y) (now (a .xs)) (now (a .ys)) (columns s)
+
+setting-requires : tie.Need-setting-requires
+setting-requires c κs = search needs
+
+setting-requires-2 : tie.Need-setting-requires-2
+setting-requires-2 c κs = search needs
+
+system-requires : tie.Need-system-requires
+system-requires c κs = search needs
+
+load-requires : tie.Need-load-requires
+load-requires c κs = search needs
+
+store-requires : tie.Need-store-requires
+store-requires c κs = search needs
+
+store-requires-2 : tie.Need-store-requires-2
+store-requires-2 c κs = search needs
+
+build-carried-requires : tie.Need-build-carried-requires
+build-carried-requires c κs = search needs
+
+build-number-requires : tie.Need-build-number-requires
+build-number-requires c κs = search needs
+
+same-length : tie.Need-same-length
+same-length c = search needs
+
+same-length-2 : tie.Need-same-length-2
+same-length-2 c = search needs
+
+same-length-3 : tie.Need-same-length-3
+same-length-3 c = search needs
+
+same-length-4 : tie.Need-same-length-4
+same-length-4 c = search needs
+
+same-length-5 : tie.Need-same-length-5
+same-length-5 c = search needs
+
+same-length-6 : tie.Need-same-length-6
+same-length-6 c = search needs
+
+same-length-7 : tie.Need-same-length-7
+same-length-7 c = search needs
+
+same-length-8 : tie.Need-same-length-8
+same-length-8 c = search needs
+
+same-length-9 : tie.Need-same-length-9
+same-length-9 c = search needs
+
+same-length-10 : tie.Need-same-length-10
+same-length-10 c = search needs
+
+same-length-11 : tie.Need-same-length-11
+same-length-11 c = search needs
+
+returns : tie.Need-returns
+returns c =
+    let two = c .before .before .before .before in
+    let one = first-store two in
+    let w = load-of one in
+    let y = system-of w in
+    let s = start-of y in
+    let a = s .args in
+    let e = w .load .ensures ∙ ap (asked s) (system-is y) in (
+      c .build-number .ensures ∙ ap (λ (q : Outcome). buildNumber (q .reply .reply)) e,
+      (
+        c .before .build-carried .ensures ∙ ap (λ (q : Outcome). buildCarried (q .reply .reply)) e,
+        (
+          one .store .ensures ∙ ap (λ (q : Outcome). filled (q .reply .state .starts) (now (a .starts))) e,
+          (two .store2 .ensures ∙ ap (λ (q : Outcome). filled (q .reply .state .lens) (now (a .lens))) e, ap (λ (q : Outcome). q .columns) e),
+        ),
+      ),
+    )
+
+pub supercluster-load-spec : {M : Type 1} → statement M
+supercluster-load-spec =
+    tie.close
+    (tie.spec
+    setting-requires
+    setting-requires-2
+    system-requires
+    load-requires
+    store-requires
+    store-requires-2
+    build-carried-requires
+    build-number-requires
+    same-length
+    same-length-2
+    same-length-3
+    same-length-4
+    same-length-5
+    same-length-6
+    same-length-7
+    same-length-8
+    same-length-9
+    same-length-10
+    same-length-11
+    returns)

@@ -1,0 +1,162 @@
+-- What one zoom is, read off its groups: each place is in one group, once; a group is a copy of one entry, or the cluster of its members by 01. And of any such
+-- zoom: the places of the groups are those of the table in another order, and the clusters it made have different ids. Assumes nothing.
+use mathlib.Core.Path.{_≡_, sym, ap, _∙_, subst}
+use mathlib.Core.Logic.{⊎-elim}
+use mathlib.Core.List.{List, [], _∷_, _++_, map, List·Permᴰ}
+use Prim.Native.Nat.{ℕ, zero, suc, _+_, _≤_, _<_}
+use native.Mathlib.Omega.{arith}
+use lib.Dec.{eqb}
+use lib.ListN.{length, getD}
+use Rattle.kdbush.specs.Members.{NotIn, Distinct}
+use Rattle.kdbush.specs.Promise.{AllBelow}
+use Rattle.tables.specs.declared.Entry.{Entry}
+use Rattle.tables.specs.Entries.{Table, entry, never, unset, marked}
+use Rattle.tables.specs.Ids.{clusterId}
+use Rattle.groups.specs.Sums.{one, below, sum, count, count-head, sum-append, keep, range}
+use Rattle.groups.specs.Counts.{count-distinct, count-below, permutes}
+use Rattle.groups.specs.Groups.{Group, copied, joined, from, froms, took, without, meanOf}
+
+-- ---- a property of each group
+
+-- each group has P
+pub data Every (P : Group → Type 0) : List Group → Type 0 where
+  every-nil : Every P []
+  every-cons : {g : Group} {gs : List Group} → P g → Every P gs → Every P (g ∷ gs)
+
+pub every-append : {P : Group → Type 0} {rs qs : List Group} → Every P rs → Every P qs → Every P (rs ++ qs)
+every-append every-nil q = q
+every-append (every-cons p ps) q = every-cons p (every-append ps q)
+
+pub every-map : {P : Group → Type 0} (g : ℕ → Group) (ks : List ℕ) → ((k : ℕ) → 0 < count k ks → P (g k)) → Every P (map g ks)
+every-map g [] h = every-nil
+every-map g (k ∷ ks) h = every-cons (h k (count-head k ks)) (every-map g ks (λ j c. h j (omega arith)))
+
+pub every-at : {P : Group → Type 0} {gs : List Group} (d : Group) → Every P gs → (j : ℕ) → j < length gs → P (getD gs j d)
+every-at d every-nil j h = absurd (omega arith)
+every-at d (every-cons p ps) zero h = p
+every-at d (every-cons p ps) (suc j) h = every-at d ps j (omega arith)
+
+-- ---- what the groups are. n is the number of points, least is min_points, z the zoom, `near i` the places answered around i, T the table, T' the table afterwards
+
+module _ (n least z : ℕ) (near : ℕ → List ℕ) (T : Table) where
+  -- e is the copy of the entry at k, marked; the entry itself is marked too
+  pub record Copied (T' : Table) (k : ℕ) (e : Entry) : Type 0 where
+    pub place : k < length T
+    pub same : e ≡ marked z (entry T k)
+    pub finer : entry T' k ≡ marked z (entry T k)
+
+  -- e is the cluster of the entries at ks, made at i
+  pub record Joined (T' : Table) (i : ℕ) (ks : List ℕ) (e : Entry) : Type 0 where
+    pub place : i < length T
+    -- i is a member, and each member is in the table
+    pub has : count i ks ≡ 1
+    pub member : (k : ℕ) → 0 < count k ks → k < length T
+    -- the fields of the entry
+    pub made-id : e .id ≡ clusterId n z i
+    pub made-num : e .num ≡ sum (λ k. entry T k .num) ks
+    pub made-x : e .x ≡ meanOf (λ e. e .x) T i (without i ks) (e .num)
+    pub made-y : e .y ≡ meanOf (λ e. e .y) T i (without i ks) (e .num)
+    pub made-seen : e .seen ≡ never
+    pub made-parent : e .parent ≡ unset
+    -- more than the origin's own num, and at least min_points
+    pub beyond : entry T i .num < e .num
+    pub plenty : least ≤ e .num
+    -- each member is marked, and under the cluster
+    pub finer : (k : ℕ) → 0 < count k ks → entry T' k ≡ took z (clusterId n z i) (entry T k)
+    -- the members are the answers around the origin whose parent it is
+    pub kids : ks ≡ keep (λ k. eqb (entry T' k .parent) (clusterId n z i)) (near i)
+
+  -- what a group is
+  abbrev pub Fits : Table → Group → Type 0
+  Fits T' (copied k e) = Copied T' k e
+  Fits T' (joined i ks e) = Joined T' i ks e
+
+  -- one zoom, whole
+  pub record OneZoom (T' : Table) (gs : List Group) : Type 0 where
+    pub long : length T' ≡ length T
+    pub once : (k : ℕ) → k < length T → count k (froms gs) ≡ 1
+    pub none : (k : ℕ) → length T ≤ k → count k (froms gs) ≡ 0
+    pub fit : Every (Fits T') gs
+
+-- the ids of the clusters that were made
+abbrev pub madeIds : List Group → List ℕ
+madeIds [] = []
+madeIds (copied k e ∷ gs) = madeIds gs
+madeIds (joined i ks e ∷ gs) = e .id ∷ madeIds gs
+
+-- a place that is in two of the groups is in them twice
+from-count : (k : ℕ) (g : Group) (gs : List Group) (a : ℕ) → a < length gs → count k (from (getD gs a g)) ≤ count k (froms gs)
+from-count k g [] a h = absurd (omega arith)
+from-count k g (r ∷ gs) zero h = let a = sum-append (λ x. one (eqb k x)) (from r) (froms gs) in omega arith
+from-count k g (r ∷ gs) (suc a) h = let b = sum-append (λ x. one (eqb k x)) (from r) (froms gs) in let c = from-count k g gs a (omega arith) in omega arith
+
+pair-count : (k : ℕ) (g : Group) (gs : List Group) (a b : ℕ) → a < b → b < length gs → count k (from (getD gs a g)) + count k (from (getD gs b g)) ≤ count k (froms gs)
+pair-count k g [] a b h l = absurd (omega arith)
+pair-count k g (r ∷ gs) a zero h l = absurd (omega arith)
+pair-count k g (r ∷ gs) zero (suc b) h l = let a = sum-append (λ x. one (eqb k x)) (from r) (froms gs) in let c = from-count k g gs b (omega arith) in omega arith
+pair-count k g (r ∷ gs) (suc a) (suc b) h l =
+    let c = sum-append (λ x. one (eqb k x)) (from r) (froms gs) in let d = pair-count k g gs a b (omega arith) (omega arith) in omega arith
+
+-- clusters of different origins have different ids
+origin-of : (n z i j : ℕ) → clusterId n z i ≡ clusterId n z j → i ≡ j
+origin-of n z i j h = omega arith
+
+module _ (n least z : ℕ) (near : ℕ → List ℕ) (T T' : Table) where
+  -- an id of a cluster whose origin is in none of the groups is not theirs
+  id-new : (i : ℕ) (gs : List Group) → count i (froms gs) ≡ 0 → Every (Fits n least z near T T') gs → NotIn (clusterId n z i) (madeIds gs)
+  id-new i [] c every-nil = tt
+  id-new i (copied k e ∷ gs) c (every-cons p ps) = id-new i gs (omega arith) ps
+  id-new i (joined j ks e ∷ gs) c (every-cons p ps) =
+      let a = sum-append (λ x. one (eqb i x)) ks (froms gs) in
+      (other, id-new i gs (omega arith) ps)
+    where
+      other : clusterId n z i ≡ e .id → ⊥
+      other h =
+          let a = sum-append (λ x. one (eqb i x)) ks (froms gs) in
+          let b : count i ks ≡ count j ks = ap (λ (k : ℕ). count k ks) (origin-of n z i j (h ∙ p .made-id)) in
+          let d = p .has in
+          omega arith
+
+  ids-apart : (gs : List Group) → ((k : ℕ) → count k (froms gs) ≤ 1) → Every (Fits n least z near T T') gs → Distinct (madeIds gs)
+  ids-apart [] c every-nil = tt
+  ids-apart (copied k e ∷ gs) c (every-cons p ps) = ids-apart gs (λ j. let a = c j in omega arith) ps
+  ids-apart (joined i ks e ∷ gs) c (every-cons p ps) =
+      let a = sum-append (λ x. one (eqb i x)) ks (froms gs) in
+      let b = c i in
+      let d = p .has in (
+        rw (p .made-id) (id-new i gs (omega arith) ps),
+        ids-apart gs (λ j. let a = c j in let b = sum-append (λ x. one (eqb j x)) ks (froms gs) in omega arith) ps,
+      )
+
+  module _ (gs : List Group) (Z : OneZoom n least z near T T' gs) where
+    at-most-once : (k : ℕ) → count k (froms gs) ≤ 1
+    at-most-once k = ⊎-elim (λ h. let a = Z .once k h in omega arith) (λ h. let a = Z .none k h in omega arith) (below k (length T))
+
+    -- no place is in two groups, or in one twice, and each is below the table's length
+    pub places-distinct : Distinct (froms gs)
+    places-distinct = count-distinct (froms gs) at-most-once
+
+    pub places-below : AllBelow (length T) (froms gs)
+    places-below = count-below (length T) (froms gs) (Z .none)
+
+    -- the places of the groups are those of the table, in another order
+    pub places-permute : List·Permᴰ (froms gs) (range 0 (length T))
+    places-permute = permutes (length T) (froms gs) (Z .once) (Z .none)
+
+    -- no two clusters that were made have the same id
+    pub made-distinct : Distinct (madeIds gs)
+    made-distinct = ids-apart gs at-most-once (Z .fit)
+
+    -- the same by place: clusters at two places of the next table have different ids. g is what getD answers past the end
+    pub made-apart : (g : Group) (a b i j : ℕ) (ks ls : List ℕ) (e f : Entry) → a < b → b < length gs → getD gs a g ≡ joined i ks e → getD gs b g ≡ joined j ls f → e .id ≡ f .id → ⊥
+    made-apart g a b i j ks ls e f h k p q s =
+        let u : Joined n least z near T T' i ks e = subst (λ (r : Group). Fits n least z near T T' r) p (every-at g (Z .fit) a (omega arith)) in
+        let v : Joined n least z near T T' j ls f = subst (λ (r : Group). Fits n least z near T T' r) q (every-at g (Z .fit) b k) in
+        let o : j ≡ i = origin-of n z j i (sym (v .made-id) ∙ sym s ∙ u .made-id) in
+        let c = pair-count i g gs a b h k in
+        let d : count i (from (getD gs a g)) ≡ count i ks = ap (λ (r : Group). count i (from r)) p in
+        let w : count i (from (getD gs b g)) ≡ count j ls = ap (λ (r : Group). count i (from r)) q ∙ ap (λ (m : ℕ). count m ls) (sym o) in
+        let x = u .has in
+        let y = v .has in
+        let m = at-most-once i in
+        omega arith

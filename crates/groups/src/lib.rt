@@ -1,0 +1,1 @@
+// The groups of one zoom: definitions and laws only, in specs.

@@ -1,0 +1,217 @@
+-- `supercluster::build_all` meets its contract: the fronts of the columns just hold the build, and what `build_in` leaves in them, with what follows them, are
+-- the definition's columns. Assumes nothing.
+use mathlib.Core.Path.{_≡_, ap, sym, _∙_, subst}
+use Prim.Native.Nat.{ℕ, _*_, _≤_}
+use native.Mathlib.Omega.{arith}
+use lib.ListN.{length}
+use lib.Seq.{length-take-le}
+use denote.Ref.{now}
+use borrow.Author.Needs.{needs}
+use Rattle.tables.specs.Bounds.{InBounds, options-are}
+use Rattle.tables.specs.Rows.{even-kept}
+use Rattle.supercluster.specs.Build.{Lent, lent, need}
+use Rattle.supercluster.specs.Ready.{Accepted, need-few, need-some}
+use Rattle.supercluster.specs.Load.{Holds, EvenIn, fronts, fronts-even, whole}
+use Rattle.supercluster.proofs.build_all.Statement.{statement}
+use Rattle.supercluster.proofs.build_all.Tie as tie
+
+-- ---- what is known at the start
+
+abbrev count : tie.Start → ℕ
+count s = length (now (s .args .xs))
+
+abbrev old : tie.Start → Lent
+old s = let a = s .args in lent (now (a .x)) (now (a .y)) (now (a .seen)) (now (a .id)) (now (a .parent)) (now (a .num)) (now (a .ids)) (now (a .coords)) (now (a .near))
+
+accepted : (s : tie.Start) → Accepted (s .args .o) (now (s .args .xs)) (now (s .args .ys))
+accepted s = s .pre .0
+
+bounds : (s : tie.Start) → InBounds (s .args .o)
+bounds s = options-are (s .args .o) (accepted s .options)
+
+near-held : (s : tie.Start) → count s ≤ length (now (s .args .near))
+near-held s = omega (arith, need-some (s .args .o) (count s) (bounds s .zooms), s .pre .1 .hr)
+
+-- ---- once the tables are counted
+
+abbrev start-of : tie.After-table-count → tie.Start
+start-of w = w .before .before .before .before .before .before .before .before .before .before .before .before
+
+abbrev size : tie.After-table-count → ℕ
+size w = w .table-count .result * count (start-of w)
+
+size-is : (w : tie.After-table-count) → size w ≡ need (start-of w .args .o) (count (start-of w))
+size-is w = ap (λ (q : ℕ). q * count (start-of w)) (w .table-count .ensures)
+
+few : (w : tie.After-table-count) → size w ≤ 33554432
+few w = let s = start-of w in rw (size-is w) (need-few (s .args .o) (now (s .args .xs)) (now (s .args .ys)) (accepted s))
+
+held : (w : tie.After-table-count) → Holds (size w) (old (start-of w))
+held w = subst (λ (q : ℕ). Holds q (old (start-of w))) (sym (size-is w)) (start-of w .pre .1)
+
+even : (w : tie.After-table-count) → EvenIn (fronts (size w) (count (start-of w)) (old (start-of w)))
+even w = fronts-even (size w) (count (start-of w)) (old (start-of w)) (held w)
+
+-- ---- the parts
+
+table-count-requires : tie.Need-table-count-requires
+table-count-requires c κs = bounds (c .before .before .before .before .before .before .before .before .before .before .before) .zooms
+
+mul-m : tie.Need-mul-m
+mul-m c = omega (arith, few c)
+
+mul-c : tie.Need-mul-c
+mul-c c = omega (arith, few c)
+
+slice-relend-prefix-build-in : tie.Need-slice-relend-prefix-build-in
+slice-relend-prefix-build-in c = held c .hx
+
+slice-aggregate-build-in : tie.Need-slice-aggregate-build-in
+slice-aggregate-build-in c = let w = c .before in sym (length-take-le (size w) (now (start-of w .args .x)) (held w .hx))
+
+slice-relend-prefix-build-in-2 : tie.Need-slice-relend-prefix-build-in-2
+slice-relend-prefix-build-in-2 c = held (c .before) .hy
+
+slice-aggregate-build-in-2 : tie.Need-slice-aggregate-build-in-2
+slice-aggregate-build-in-2 c = let w = c .before .before in sym (length-take-le (size w) (now (start-of w .args .y)) (held w .hy))
+
+slice-relend-prefix-build-in-3 : tie.Need-slice-relend-prefix-build-in-3
+slice-relend-prefix-build-in-3 c = held (c .before .before) .hs
+
+slice-aggregate-build-in-3 : tie.Need-slice-aggregate-build-in-3
+slice-aggregate-build-in-3 c = let w = c .before .before .before in sym (length-take-le (size w) (now (start-of w .args .seen)) (held w .hs))
+
+slice-relend-prefix-build-in-4 : tie.Need-slice-relend-prefix-build-in-4
+slice-relend-prefix-build-in-4 c = held (c .before .before .before) .hi
+
+slice-aggregate-build-in-4 : tie.Need-slice-aggregate-build-in-4
+slice-aggregate-build-in-4 c = let w = c .before .before .before .before in sym (length-take-le (size w) (now (start-of w .args .id)) (held w .hi))
+
+slice-relend-prefix-build-in-5 : tie.Need-slice-relend-prefix-build-in-5
+slice-relend-prefix-build-in-5 c = held (c .before .before .before .before) .hp
+
+slice-aggregate-build-in-5 : tie.Need-slice-aggregate-build-in-5
+slice-aggregate-build-in-5 c = let w = c .before .before .before .before .before in sym (length-take-le (size w) (now (start-of w .args .parent)) (held w .hp))
+
+slice-relend-prefix-build-in-6 : tie.Need-slice-relend-prefix-build-in-6
+slice-relend-prefix-build-in-6 c = held (c .before .before .before .before .before) .hn
+
+slice-aggregate-build-in-6 : tie.Need-slice-aggregate-build-in-6
+slice-aggregate-build-in-6 c = let w = c .before .before .before .before .before .before in sym (length-take-le (size w) (now (start-of w .args .num)) (held w .hn))
+
+slice-relend-prefix-build-in-7 : tie.Need-slice-relend-prefix-build-in-7
+slice-relend-prefix-build-in-7 c = held (c .before .before .before .before .before .before) .hd
+
+slice-aggregate-build-in-7 : tie.Need-slice-aggregate-build-in-7
+slice-aggregate-build-in-7 c = let w = c .before .before .before .before .before .before .before in sym (length-take-le (size w) (now (start-of w .args .ids)) (held w .hd))
+
+slice-relend-prefix-build-in-8 : tie.Need-slice-relend-prefix-build-in-8
+slice-relend-prefix-build-in-8 c = held (c .before .before .before .before .before .before .before) .hc
+
+slice-aggregate-build-in-8 : tie.Need-slice-aggregate-build-in-8
+slice-aggregate-build-in-8 c = let w = c .before .before .before .before .before .before .before .before in sym (length-take-le (size w * 2) (now (start-of w .args .coords)) (held w .hc))
+
+slice-relend-prefix-build-in-9 : tie.Need-slice-relend-prefix-build-in-9
+slice-relend-prefix-build-in-9 c = near-held (start-of (c .before .before .before .before .before .before .before .before))
+
+slice-aggregate-build-in-9 : tie.Need-slice-aggregate-build-in-9
+slice-aggregate-build-in-9 c = let w = c .before .before .before .before .before .before .before .before .before in sym (length-take-le (count (start-of w)) (now (start-of w .args .near)) (near-held (start-of w)))
+
+build-in-requires : tie.Need-build-in-requires
+build-in-requires c κs =
+    let w = c .before .before .before .before .before .before .before .before .before in
+    let s = start-of w in
+    let a = s .args in
+    let h = held w in
+    let m = size-is w in (
+      even w,
+      (
+        accepted s,
+        (
+          length-take-le (size w) (now (a .x)) (h .hx) ∙ m,
+          length-take-le (size w) (now (a .ids)) (h .hd) ∙ m,
+          length-take-le (size w * 2) (now (a .coords)) (h .hc) ∙ ap (λ (q : ℕ). q * 2) m,
+          length-take-le (count s) (now (a .near)) (near-held s),
+        ),
+      ),
+    )
+
+same-length : tie.Need-same-length
+same-length c = search needs
+
+same-length-2 : tie.Need-same-length-2
+same-length-2 c = search needs
+
+same-length-3 : tie.Need-same-length-3
+same-length-3 c = search needs
+
+same-length-4 : tie.Need-same-length-4
+same-length-4 c = search needs
+
+same-length-5 : tie.Need-same-length-5
+same-length-5 c = search needs
+
+same-length-6 : tie.Need-same-length-6
+same-length-6 c = search needs
+
+same-length-7 : tie.Need-same-length-7
+same-length-7 c = search needs
+
+same-length-8 : tie.Need-same-length-8
+same-length-8 c = search needs
+
+same-length-9 : tie.Need-same-length-9
+same-length-9 c = search needs
+
+returns : tie.Need-returns
+returns c =
+    let b = c .before .before .before .before .before .before .before .before .before .before .before .before .before .before .before .before .before .before in
+    let w = b .before .before .before .before .before .before .before .before .before .before in
+    let s = start-of w in
+    let a = s .args in
+    let h = held w in
+    let l = b .build-in .last .1 .1 .1 in
+    let k = b .build-in .kept .1 .1 .1 in
+    let new = lent (l .0) (l .1 .0) (l .1 .1 .0) (l .1 .1 .1 .0) (l .1 .1 .1 .1 .0) (l .1 .1 .1 .1 .1 .0) (l .1 .1 .1 .1 .1 .1 .0) (l .1 .1 .1 .1 .1 .1 .1 .0) (l .1 .1 .1 .1 .1 .1 .1 .1 .0) in
+    let v : EvenIn new = even-kept (even w) (k .0) (k .1 .0) (k .1 .1 .0) (k .1 .1 .1 .0) (k .1 .1 .1 .1 .0) (k .1 .1 .1 .1 .1 .0) in (
+      b .build-in .ensures .of-state,
+      whole (a .o) (now (a .xs)) (now (a .ys)) (size w) (old s) new (b .build-in .result) h (even w) v (k .0 ∙ length-take-le (size w) (now (a .x)) (h .hx))
+          (k .1 .1 .1 .1 .1 .1 .0 ∙ length-take-le (size w) (now (a .ids)) (h .hd)) (k .1 .1 .1 .1 .1 .1 .1 .0 ∙ length-take-le (size w * 2) (now (a .coords)) (h .hc)) (b .build-in .ensures),
+    )
+
+pub build-all-spec : {M : Type 1} → statement M
+build-all-spec =
+    tie.close
+    (tie.spec
+    table-count-requires
+    mul-m
+    mul-c
+    slice-relend-prefix-build-in
+    slice-aggregate-build-in
+    slice-relend-prefix-build-in-2
+    slice-aggregate-build-in-2
+    slice-relend-prefix-build-in-3
+    slice-aggregate-build-in-3
+    slice-relend-prefix-build-in-4
+    slice-aggregate-build-in-4
+    slice-relend-prefix-build-in-5
+    slice-aggregate-build-in-5
+    slice-relend-prefix-build-in-6
+    slice-aggregate-build-in-6
+    slice-relend-prefix-build-in-7
+    slice-aggregate-build-in-7
+    slice-relend-prefix-build-in-8
+    slice-aggregate-build-in-8
+    slice-relend-prefix-build-in-9
+    slice-aggregate-build-in-9
+    build-in-requires
+    same-length
+    same-length-2
+    same-length-3
+    same-length-4
+    same-length-5
+    same-length-6
+    same-length-7
+    same-length-8
+    same-length-9
+    returns)

@@ -1,0 +1,173 @@
+-- `supercluster::load` meets its contract: what `check` lets pass, `build_all` builds; and each of its refusals is handed on, with no tables and no column
+-- written. Assumes nothing.
+use mathlib.Core.Path.{_≡_, sym, _∙_}
+use lib.ListN.{length}
+use denote.Ref.{now}
+use borrow.Author.Needs.{needs}
+use Rattle.kdbush.specs.declared.BuildReply.{BuildReply}
+use Rattle.kdbush.specs.declared.BuildReply.the-variants.{Done, Options as No·Options, Count, Point, Tables}
+use Rattle.tables.specs.declared.Options.{Options}
+use Rattle.tables.specs.State.{newState}
+use Rattle.supercluster.specs.declared.Loaded.{Loaded}
+use Rattle.supercluster.specs.Build.{Lent, lent, need, checked, Outcome, outcome, refused, byReply, loaded}
+use Rattle.supercluster.specs.Load.{accepted, holds, by-reply}
+use Rattle.supercluster.proofs.load.Statement.{statement}
+use Rattle.supercluster.proofs.load.Tie as tie
+
+-- what stands beside a refusal
+no-tables : (o : Options) (r : Loaded) (b : BuildReply) (l : Lent) → r .reply ≡ b → r .state ≡ newState o 0 → outcome r l ≡ refused o b l
+no-tables o r b l e f = λ i. record { reply = record { reply = e i; state = f i }; columns = l }
+
+abbrev old : tie.Start → Lent
+old s = let a = s .args in lent (now (a .x)) (now (a .y)) (now (a .seen)) (now (a .id)) (now (a .parent)) (now (a .num)) (now (a .ids)) (now (a .coords)) (now (a .near))
+
+-- ---- what the check tells
+
+abbrev start-of : tie.After-check → tie.Start
+start-of k = k .before .before .before .before .before .before .before .before .before .before .before .before
+
+reply : (k : tie.After-check) → let a = start-of k .args in k .check .result ≡ checked (a .o) (now (a .xs)) (now (a .ys)) (old (start-of k))
+unfolding checked
+reply k = k .check .ensures
+
+told : (k : tie.After-check) (b : BuildReply) → k .check .result ≡ b
+    → let a = start-of k .args in loaded (a .o) (now (a .xs)) (now (a .ys)) (old (start-of k)) ≡ byReply (a .o) (now (a .xs)) (now (a .ys)) (old (start-of k)) b
+told k b e = let a = start-of k .args in by-reply (a .o) (now (a .xs)) (now (a .ys)) (old (start-of k)) (k .check .result) b (reply k) e
+
+-- ---- the parts
+
+check-requires : tie.Need-check-requires
+check-requires c κs = search needs
+
+enum-told : tie.Need-enum-told
+enum-told c = search needs
+
+build-all-requires : tie.Need-build-all-requires
+build-all-requires c κs =
+    let e = c .before .before .before .before .before .before .before .before .before in
+    let k = e .before .before in
+    let s = start-of k in
+    let a = s .args in
+    let w = accepted (a .o) (now (a .xs)) (now (a .ys)) (old s) (sym (reply k) ∙ e .enum-told .given .1) in
+    (w .0, holds (need (a .o) (length (now (a .xs)))) (old s) (w .1))
+
+enum-told-2 : tie.Need-enum-told-2
+enum-told-2 c = search needs
+
+refused-requires : tie.Need-refused-requires
+refused-requires c κs = search needs
+
+enum-told-3 : tie.Need-enum-told-3
+enum-told-3 c = search needs
+
+refused-requires-2 : tie.Need-refused-requires-2
+refused-requires-2 c κs = search needs
+
+enum-known-i : tie.Need-enum-known-i
+enum-known-i c = search needs
+
+refused-requires-3 : tie.Need-refused-requires-3
+refused-requires-3 c κs = search needs
+
+enum-told-4 : tie.Need-enum-told-4
+enum-told-4 c = search needs
+
+refused-requires-4 : tie.Need-refused-requires-4
+refused-requires-4 c κs = search needs
+
+same-length : tie.Need-same-length
+same-length c = search needs
+
+same-length-2 : tie.Need-same-length-2
+same-length-2 c = search needs
+
+same-length-3 : tie.Need-same-length-3
+same-length-3 c = search needs
+
+same-length-4 : tie.Need-same-length-4
+same-length-4 c = search needs
+
+same-length-5 : tie.Need-same-length-5
+same-length-5 c = search needs
+
+same-length-6 : tie.Need-same-length-6
+same-length-6 c = search needs
+
+same-length-7 : tie.Need-same-length-7
+same-length-7 c = search needs
+
+same-length-8 : tie.Need-same-length-8
+same-length-8 c = search needs
+
+same-length-9 : tie.Need-same-length-9
+same-length-9 c = search needs
+
+returns : tie.Need-returns
+returns c =
+    let b = c .before .before .before .before .before .before .before .before .before .before .before .before .before .before .before .before .before .before in
+    let e = b .before .before .before .before .before .before .before .before .before .before in
+    let w = b .build-all in
+    let l = w .last .1 .1 .1 in
+    let left : Outcome = outcome (record { reply = Done; state = w .result })
+    (lent (l .0) (l .1 .0) (l .1 .1 .0) (l .1 .1 .1 .0) (l .1 .1 .1 .1 .0) (l .1 .1 .1 .1 .1 .0) (l .1 .1 .1 .1 .1 .1 .0) (l .1 .1 .1 .1 .1 .1 .1 .0) (l .1 .1 .1 .1 .1 .1 .1 .1 .0)) in
+    let built : left ≡ _ = λ i. record { reply = record { reply = Done; state = w .ensures .0 i }; columns = w .ensures .1 i } in
+    built ∙ sym (told (e .before .before) Done (e .enum-told .given .1))
+
+returns-2 : tie.Need-returns-2
+returns-2 c =
+    let k = c .before .before .before in
+    let s = start-of k in
+    let w = c .refused in
+    no-tables (s .args .o) (w .result) No·Options (old s) (w .ensures .0) (w .ensures .1) ∙ sym (told k No·Options (c .before .enum-told2 .given .1))
+
+returns-3 : tie.Need-returns-3
+returns-3 c =
+    let k = c .before .before .before in
+    let s = start-of k in
+    let w = c .refused2 in
+    no-tables (s .args .o) (w .result) Count (old s) (w .ensures .0) (w .ensures .1) ∙ sym (told k Count (c .before .enum-told3 .given .1))
+
+returns-4 : tie.Need-returns-4
+returns-4 c =
+    let k = c .before .before .before .before in
+    let s = start-of k in
+    let w = c .refused3 in
+    let i = c .before .before .i in
+    no-tables (s .args .o) (w .result) (Point (i .given .0 .0)) (old s) (w .ensures .0) (w .ensures .1) ∙ sym (told k (Point (i .given .0 .0)) (i .given .1))
+
+returns-5 : tie.Need-returns-5
+returns-5 c =
+    let k = c .before .before .before in
+    let s = start-of k in
+    let w = c .refused4 in
+    no-tables (s .args .o) (w .result) Tables (old s) (w .ensures .0) (w .ensures .1) ∙ sym (told k Tables (c .before .enum-told4 .given .1))
+
+pub load-spec : {M : Type 1} → statement M
+load-spec =
+    tie.close
+    (tie.spec
+    check-requires
+    enum-told
+    build-all-requires
+    enum-told-2
+    refused-requires
+    enum-told-3
+    refused-requires-2
+    enum-known-i
+    refused-requires-3
+    enum-told-4
+    refused-requires-4
+    same-length
+    same-length-2
+    same-length-3
+    same-length-4
+    same-length-5
+    same-length-6
+    same-length-7
+    same-length-8
+    same-length-9
+    returns
+    returns-2
+    returns-3
+    returns-4
+    returns-5)

@@ -1,0 +1,187 @@
+-- The build, by 01's 'Tables' and the Rust's `load`: the refusals in order; otherwise the finest table, and each zoom from max_zoom down to min_zoom, every table
+-- with its index, packed from position 0. Definitions only.
+use mathlib.Core.Bool.{Bool, _&&_}
+use mathlib.Core.List.{List, [], _∷_, _++_, map}
+use Prim.Native.Nat.{ℕ, zero, suc, _+_, _-_, _*_}
+use lib.Dec.{leb}
+use lib.ListN.{length, set, drop, replicate}
+use lib.Ieee.{Float}
+use Rattle.range.specs.declared.CoordinateSystem.{CoordinateSystem}
+use Rattle.range.specs.declared.Point.{Point}
+use Rattle.range.specs.Range.{converted}
+use Rattle.kdsort.specs.Cols.{Cols}
+use Rattle.kdsort.specs.Sort.{indexed}
+use Rattle.kdsort.specs.Indexes.{blank}
+use Rattle.kdbush.specs.declared.BuildReply.{BuildReply}
+use Rattle.kdbush.specs.declared.BuildReply.the-variants.{Done, Options as No·Options, Count, Point as No·Point, Tables}
+use Rattle.kdbush.specs.Reply.{pairOk, firstOutside, inOrder}
+use Rattle.tables.specs.declared.Options.{Options}
+use Rattle.tables.specs.declared.State.{State}
+use Rattle.tables.specs.declared.Entry.{Entry}
+use Rattle.tables.specs.Options.{optionsOk, tableCount}
+use Rattle.tables.specs.State.{newState}
+use Rattle.tables.specs.Entries.{Table, never, unset, xsOf, ysOf, seenOf, idsOf, parentsOf, numsOf}
+use Rattle.tables.specs.Radius.{radiusAt}
+use Rattle.zoom.specs.Zoom.{Scan, cluster}
+use Rattle.zoom.specs.Near.{nearOf}
+use Rattle.supercluster.specs.declared.Loaded.{Loaded}
+
+-- ---- the tables
+
+-- the index of points, in columns that just hold it; and of a table
+unfoldable pub indexOf : ℕ → List Float → List Float → Cols
+indexOf size xs ys = indexed size xs ys (blank (length xs))
+
+unfoldable pub slotsOf : ℕ → Table → Cols
+slotsOf size t = indexOf size (xsOf t) (ysOf t)
+
+-- what `within` answers of it
+abbrev pub nearIn : ℕ → Float → Table → Float → Float → List ℕ
+nearIn size r t = nearOf size (length t) (slotsOf size t .ids) (slotsOf size t .co) r
+
+-- what a build goes by: the options, and the number of points
+pub record Plan : Type 0 where
+  pub options : Options
+  pub count : ℕ
+
+abbrev pub planOf : Options → ℕ → Plan
+planOf o n = record { options = o; count = n }
+
+-- zoom z on the table t: t, marked, and the next table
+abbrev pub zoomed : Plan → ℕ → Table → Scan
+zoomed p z t =
+    cluster (p .count) (p .options .«min_points») z (nearIn (p .options .«node_size») (radiusAt (p .options .radius) (p .options .extent) z) t) t
+
+-- the tables from t down to that of min_zoom, k zooms being left
+unfoldable pub run : Plan → ℕ → Table → List Table
+run p zero t = t ∷ []
+run p (suc k) t = zoomed p (p .options .«min_zoom» + k) t .table ∷ run p k (zoomed p (p .options .«min_zoom» + k) t .next)
+
+-- the converted points
+unfoldable pub convertedAll : CoordinateSystem → List Float → List Float → List Point
+convertedAll c [] ys = []
+convertedAll c (x ∷ xs) [] = []
+convertedAll c (x ∷ xs) (y ∷ ys) = converted c (record { x = x; y = y }) ∷ convertedAll c xs ys
+
+-- the finest table: the points in order, id = position, num 1, seen and parent unset
+abbrev pub lamp : Point → ℕ → Entry
+lamp p i = record { x = p .x; y = p .y; seen = never; id = i; parent = unset; num = 1 }
+
+unfoldable pub finest : List Point → ℕ → Table
+finest [] i = []
+finest (p ∷ ps) i = lamp p i ∷ finest ps (suc i)
+
+-- how many zooms there are
+abbrev pub zoomsOf : Options → ℕ
+zoomsOf o = o .«max_zoom» + 1 - o .«min_zoom»
+
+-- every table of a build, the finest first
+unfoldable pub tablesOf : Options → List Float → List Float → List Table
+tablesOf o xs ys = run (planOf o (length xs)) (zoomsOf o) (finest (convertedAll (o .«coordinate_system») xs ys) 0)
+
+-- ---- the columns and the state that hold them
+
+-- tables, and their indexes' columns, one after the other
+unfoldable pub joined : List Table → Table
+joined [] = []
+joined (t ∷ ts) = t ++ joined ts
+
+unfoldable pub joinedIds : ℕ → List Table → List ℕ
+joinedIds size [] = []
+joinedIds size (t ∷ ts) = slotsOf size t .ids ++ joinedIds size ts
+
+unfoldable pub joinedCo : ℕ → List Table → List Float
+joinedCo size [] = []
+joinedCo size (t ∷ ts) = slotsOf size t .co ++ joinedCo size ts
+
+-- a column that holds l, and past it what it held
+abbrev pub over : {A : Type 0} → List A → List A → List A
+over l d = l ++ drop (length l) d
+
+-- the lent columns
+pub record Lent : Type 0 where
+  pub x : List Float
+  pub y : List Float
+  pub seen : List ℕ
+  pub id : List ℕ
+  pub parent : List ℕ
+  pub num : List ℕ
+  pub ids : List ℕ
+  pub coords : List Float
+  pub near : List ℕ
+
+abbrev pub lent : List Float → List Float → List ℕ → List ℕ → List ℕ → List ℕ → List ℕ → List Float → List ℕ → Lent
+lent x y s i p n d c r = record { x = x; y = y; seen = s; id = i; parent = p; num = n; ids = d; coords = c; near = r }
+
+-- the columns after a build of n points: the packed tables, their indexes, zeros in the first n of `near`, and past them the old contents
+unfoldable pub written : ℕ → ℕ → List Table → Lent → Lent
+written size n ts l =
+    let t = joined ts in
+    record {
+      x = over (xsOf t) (l .x);
+      y = over (ysOf t) (l .y);
+      seen = over (seenOf t) (l .seen);
+      id = over (idsOf t) (l .id);
+      parent = over (parentsOf t) (l .parent);
+      num = over (numsOf t) (l .num);
+      ids = over (joinedIds size ts) (l .ids);
+      coords = over (joinedCo size ts) (l .coords);
+      near = over (replicate n 0) (l .near);
+    }
+
+-- starts and lengths, from the table of zoom z on, which starts at `at`
+unfoldable pub starts : ℕ → ℕ → List Table → List ℕ → List ℕ
+starts z at [] l = l
+starts z at (t ∷ ts) l = starts (z - 1) (at + length t) ts (set l z at)
+
+unfoldable pub lens : ℕ → List Table → List ℕ → List ℕ
+lens z [] l = l
+lens z (t ∷ ts) l = lens (z - 1) ts (set l z (length t))
+
+abbrev pub stateOf : Options → ℕ → List Table → State
+stateOf o n ts =
+    record { options = o; count = n; starts = starts (o .«max_zoom» + 1) 0 ts (replicate 32 0); lens = lens (o .«max_zoom» + 1) ts (replicate 32 0) }
+
+-- ---- the replies
+
+-- how many entries each lent column has to hold
+abbrev pub need : Options → ℕ → ℕ
+need o n = tableCount o * n
+
+-- columns of these lengths hold m entries each, and the index coordinates twice that
+abbrev pub roomyBy : ℕ → ℕ → ℕ → ℕ → ℕ → ℕ → ℕ → ℕ → ℕ → ℕ → Bool
+roomyBy m x y seen id parent num ids coords near = leb m x && leb m y && leb m seen && leb m id && leb m parent && leb m num && leb m ids && leb (2 * m) coords && leb m near
+
+abbrev pub roomy : ℕ → Lent → Bool
+roomy m l =
+    roomyBy m (length (l .x)) (length (l .y)) (length (l .seen)) (length (l .id)) (length (l .parent)) (length (l .num)) (length (l .ids)) (length (l .coords)) (length (l .near))
+
+-- refusals 1, 2, 3, 4, in this order
+unfoldable pub checked : Options → List Float → List Float → Lent → BuildReply
+checked o xs ys l =
+    let ps = convertedAll (o .«coordinate_system») xs ys in
+    inOrder (optionsOk o) (pairOk xs ys) (firstOutside (map (λ p. p .x) ps) (map (λ p. p .y) ps) 0) (roomy (need o (length xs)) l)
+
+-- a reply beside its state, and what it leaves in the columns
+pub record Outcome : Type 0 where
+  pub reply : Loaded
+  pub columns : Lent
+
+abbrev pub outcome : Loaded → Lent → Outcome
+outcome b l = record { reply = b; columns = l }
+
+-- beside a refusal stand the options as given and no tables, and no column is written
+abbrev pub refused : Options → BuildReply → Lent → Outcome
+refused o r l = outcome (record { reply = r; state = newState o 0 }) l
+
+abbrev pub byReply : Options → List Float → List Float → Lent → BuildReply → Outcome
+byReply o xs ys l Done =
+    outcome (record { reply = Done; state = stateOf o (length xs) (tablesOf o xs ys) }) (written (o .«node_size») (length xs) (tablesOf o xs ys) l)
+byReply o xs ys l No·Options = refused o No·Options l
+byReply o xs ys l Count = refused o Count l
+byReply o xs ys l (No·Point i) = refused o (No·Point i) l
+byReply o xs ys l Tables = refused o Tables l
+
+-- what `load` replies and leaves, for every input
+unfoldable pub loaded : Options → List Float → List Float → Lent → Outcome
+loaded o xs ys l = byReply o xs ys l (checked o xs ys l)

@@ -1,0 +1,134 @@
+-- A build that is not refused: its points lie within [0,1] and its columns are long enough; and what it leaves in columns that were cut from longer ones.
+-- Assumes nothing.
+use mathlib.Core.Path.{_≡_, refl, ap, sym, _∙_}
+use mathlib.Core.Bool.{true}
+use mathlib.Core.List.{List, _++_, map}
+use Prim.Native.Nat.{ℕ, _*_, _≤_}
+use native.Mathlib.Omega.{arith}
+use borrow.Author.Tests.{leb-true, eqb-true}
+use lib.Dec.{leb, eqb}
+use lib.ListN.{length, take, drop, length-map, replicate, length-replicate}
+use lib.Seq.{length-take-le}
+use lib.Ieee.{Float}
+use Rattle.kdbush.specs.Bounds.{and-both, count-is}
+use Rattle.kdbush.specs.Built.{done-tests, none-outside}
+use Rattle.kdbush.specs.Reply.{pairOk, countOk, firstOutside}
+use Rattle.kdbush.specs.declared.BuildReply.{BuildReply}
+use Rattle.kdbush.specs.declared.BuildReply.the-variants.{Done}
+use Rattle.tables.specs.Columns.{xs-rows, ys-rows, seen-rows, id-rows, parent-rows, num-rows}
+use Rattle.tables.specs.Entries.{Table}
+use Rattle.tables.specs.Options.{optionsOk}
+use Rattle.tables.specs.Rows.{rows, Even}
+use Rattle.tables.specs.declared.Entry.{Entry}
+use Rattle.tables.specs.declared.Options.{Options}
+use Rattle.tables.specs.declared.State.{State}
+use Rattle.supercluster.specs.Build.{convertedAll, tablesOf, joined, joinedIds, joinedCo, over, Lent, lent, written, need, roomy, checked, byReply, loaded}
+use Rattle.supercluster.specs.Fill.{pxs, pys}
+use Rattle.supercluster.specs.Over.{over-map, cut-over}
+use Rattle.supercluster.specs.Ready.{Accepted, Made}
+
+-- the points of an accepted build, and that its columns are long enough
+pub accepted : (o : Options) (xs ys : List Float) (l : Lent) → checked o xs ys l ≡ Done → Accepted o xs ys × (roomy (need o (length xs)) l ≡ true)
+unfolding checked
+accepted o xs ys l e =
+    let ps = convertedAll (o .«coordinate_system») xs ys in
+    let w = done-tests (optionsOk o) (pairOk xs ys) (firstOutside (pxs ps) (pys ps) 0) (roomy (need o (length xs)) l) e in
+    let v = and-both (countOk (length xs)) (eqb (length ys) (length xs)) (w .1) in
+    let c = count-is (length xs) (v .0) in
+    let q = eqb-true (length ys) (length xs) (v .1) in
+    let both : length (pys ps) ≡ length (pxs ps) = length-map ps (λ p. p .y) ∙ sym (length-map ps (λ p. p .x)) in
+    (record { options = w .0; same = q; some = c .0; few = c .1; inside = none-outside (pxs ps) (pys ps) 0 (w .2) both }, w .3)
+
+-- each column holds that much
+pub record Holds (m : ℕ) (l : Lent) : Type 0 where
+  pub hx : m ≤ length (l .x)
+  pub hy : m ≤ length (l .y)
+  pub hs : m ≤ length (l .seen)
+  pub hi : m ≤ length (l .id)
+  pub hp : m ≤ length (l .parent)
+  pub hn : m ≤ length (l .num)
+  pub hd : m ≤ length (l .ids)
+  pub hc : m * 2 ≤ length (l .coords)
+  pub hr : m ≤ length (l .near)
+
+pub holds : (m : ℕ) (l : Lent) → roomy m l ≡ true → Holds m l
+holds m l e =
+    let b9 = and-both _ (leb m (length (l .near))) e in
+    let b8 = and-both _ (leb (2 * m) (length (l .coords))) (b9 .0) in
+    let b7 = and-both _ (leb m (length (l .ids))) (b8 .0) in
+    let b6 = and-both _ (leb m (length (l .num))) (b7 .0) in
+    let b5 = and-both _ (leb m (length (l .parent))) (b6 .0) in
+    let b4 = and-both _ (leb m (length (l .id))) (b5 .0) in
+    let b3 = and-both _ (leb m (length (l .seen))) (b4 .0) in
+    let b2 = and-both (leb m (length (l .x))) (leb m (length (l .y))) (b3 .0) in
+    let c = leb-true (2 * m) (length (l .coords)) (b8 .1) in
+    record {
+      hx = leb-true m (length (l .x)) (b2 .0);
+      hy = leb-true m (length (l .y)) (b2 .1);
+      hs = leb-true m (length (l .seen)) (b3 .1);
+      hi = leb-true m (length (l .id)) (b4 .1);
+      hp = leb-true m (length (l .parent)) (b5 .1);
+      hn = leb-true m (length (l .num)) (b6 .1);
+      hd = leb-true m (length (l .ids)) (b7 .1);
+      hc = omega (arith, c);
+      hr = leb-true m (length (l .near)) (b9 .1);
+    }
+
+-- one column, from the rows
+col : {B : Type 0} (f : Entry → B) (T R R′ : Table) (c c′ d : List B) (m : ℕ) → R′ ≡ over T R → map f R′ ≡ c′ → map f R ≡ c → c ≡ take m d → m ≤ length d → length c′ ≡ m
+    → c′ ++ drop m d ≡ over (map f T) d
+col f T R R′ c c′ d m e a b k h l =
+    cut-over (map f T) d c′ m h (sym a ∙ ap (map f) e ∙ over-map f T R ∙ ap (over (map f T)) (b ∙ k)) l
+
+abbrev pub fronts : ℕ → ℕ → Lent → Lent
+fronts m n l =
+    lent (take m (l .x)) (take m (l .y)) (take m (l .seen)) (take m (l .id)) (take m (l .parent)) (take m (l .num)) (take m (l .ids)) (take (m * 2) (l .coords)) (take n (l .near))
+
+abbrev pub rowsIn : Lent → Table
+rowsIn l = rows (l .x) (l .y) (l .seen) (l .id) (l .parent) (l .num)
+
+-- the fronts of the columns as they came back, and what follows them
+abbrev pub rejoined : ℕ → ℕ → Lent → Lent → Lent
+rejoined m n l′ l =
+    lent (l′ .x ++ drop m (l .x)) (l′ .y ++ drop m (l .y)) (l′ .seen ++ drop m (l .seen)) (l′ .id ++ drop m (l .id)) (l′ .parent ++ drop m (l .parent)) (l′ .num ++ drop m (l .num))
+    (l′ .ids ++ drop m (l .ids)) (l′ .coords ++ drop (m * 2) (l .coords)) (l′ .near ++ drop n (l .near))
+
+abbrev pub EvenIn : Lent → Type 0
+EvenIn l = Even (l .x) (l .y) (l .seen) (l .id) (l .parent) (l .num)
+
+pub fronts-even : (m n : ℕ) (l : Lent) → Holds m l → EvenIn (fronts m n l)
+fronts-even m n l h =
+    let e = sym (length-take-le m (l .x) (h .hx)) in
+    record {
+      ey = length-take-le m (l .y) (h .hy) ∙ e;
+      es = length-take-le m (l .seen) (h .hs) ∙ e;
+      ei = length-take-le m (l .id) (h .hi) ∙ e;
+      ep = length-take-le m (l .parent) (h .hp) ∙ e;
+      en = length-take-le m (l .num) (h .hn) ∙ e;
+    }
+
+module _ (o : Options) (xs ys : List Float) (m : ℕ) (l l′ : Lent) (s : State) (h : Holds m l)
+    (v : EvenIn (fronts m (length xs) l)) (v′ : EvenIn l′) (k : length (l′ .x) ≡ m) (kd : length (l′ .ids) ≡ m) (kc : length (l′ .coords) ≡ m * 2)
+    (g : Made o xs ys s (rowsIn (fronts m (length xs) l)) (rowsIn l′) (take m (l .ids)) (l′ .ids) (take (m * 2) (l .coords)) (l′ .coords) (l′ .near)) where
+  pub whole : rejoined m (length xs) l′ l ≡ written (o .«node_size») (length xs) (tablesOf o xs ys) l
+  unfolding written
+  whole =
+      let f = fronts m (length xs) l in
+      let T = joined (tablesOf o xs ys) in
+      let ex = col (λ e. e .x) T (rowsIn f) (rowsIn l′) (f .x) (l′ .x) (l .x) m (g .of-rows) (xs-rows (l′ .x) (l′ .y) (l′ .seen) (l′ .id) (l′ .parent) (l′ .num)) (xs-rows (f .x) (f .y) (f .seen) (f .id) (f .parent) (f .num)) refl (h .hx) k in
+      let ey = col (λ e. e .y) T (rowsIn f) (rowsIn l′) (f .y) (l′ .y) (l .y) m (g .of-rows) (ys-rows (l′ .x) (l′ .y) (l′ .seen) (l′ .id) (l′ .parent) (l′ .num) (v′ .ey)) (ys-rows (f .x) (f .y) (f .seen) (f .id) (f .parent) (f .num) (v .ey)) refl (h .hy) (v′ .ey ∙ k) in
+      let es = col (λ e. e .seen) T (rowsIn f) (rowsIn l′) (f .seen) (l′ .seen) (l .seen) m (g .of-rows) (seen-rows (l′ .x) (l′ .y) (l′ .seen) (l′ .id) (l′ .parent) (l′ .num) (v′ .es)) (seen-rows (f .x) (f .y) (f .seen) (f .id) (f .parent) (f .num) (v .es)) refl (h .hs) (v′ .es ∙ k) in
+      let ei = col (λ e. e .id) T (rowsIn f) (rowsIn l′) (f .id) (l′ .id) (l .id) m (g .of-rows) (id-rows (l′ .x) (l′ .y) (l′ .seen) (l′ .id) (l′ .parent) (l′ .num) (v′ .ei)) (id-rows (f .x) (f .y) (f .seen) (f .id) (f .parent) (f .num) (v .ei)) refl (h .hi) (v′ .ei ∙ k) in
+      let ep = col (λ e. e .parent) T (rowsIn f) (rowsIn l′) (f .parent) (l′ .parent) (l .parent) m (g .of-rows) (parent-rows (l′ .x) (l′ .y) (l′ .seen) (l′ .id) (l′ .parent) (l′ .num) (v′ .ep)) (parent-rows (f .x) (f .y) (f .seen) (f .id) (f .parent) (f .num) (v .ep)) refl (h .hp) (v′ .ep ∙ k) in
+      let en = col (λ e. e .num) T (rowsIn f) (rowsIn l′) (f .num) (l′ .num) (l .num) m (g .of-rows) (num-rows (l′ .x) (l′ .y) (l′ .seen) (l′ .id) (l′ .parent) (l′ .num) (v′ .en)) (num-rows (f .x) (f .y) (f .seen) (f .id) (f .parent) (f .num) (v .en)) refl (h .hn) (v′ .en ∙ k) in
+      let ed = cut-over (joinedIds (o .«node_size») (tablesOf o xs ys)) (l .ids) (l′ .ids) m (h .hd) (g .of-ids) kd in
+      let ec = cut-over (joinedCo (o .«node_size») (tablesOf o xs ys)) (l .coords) (l′ .coords) (m * 2) (h .hc) (g .of-co) kc in
+      let er : l′ .near ++ drop (length xs) (l .near) ≡ over (replicate (length xs) 0) (l .near) =
+      ap (λ (q : List ℕ). q ++ drop (length xs) (l .near)) (g .of-near) ∙ ap (λ (q : ℕ). replicate (length xs) 0 ++ drop q (l .near)) (sym (length-replicate {A = ℕ} (length xs) 0)) in
+      λ i. record { x = ex i; y = ey i; seen = es i; id = ei i; parent = ep i; num = en i; ids = ed i; coords = ec i; near = er i }
+
+-- ---- what `load` leaves, by its reply
+
+pub by-reply : (o : Options) (xs ys : List Float) (l : Lent) (r r′ : BuildReply) → r ≡ checked o xs ys l → r ≡ r′ → loaded o xs ys l ≡ byReply o xs ys l r′
+unfolding loaded
+by-reply o xs ys l r r′ e f = ap (byReply o xs ys l) (sym e ∙ f)

@@ -1,0 +1,500 @@
+// The public build, `load` of the Rust: the finest table of the converted points, then each zoom from max_zoom down to min_zoom, every table with its index.
+// Nothing is asked of the caller: what 01 does not take is refused with its number, and then no column is written.
+use kdbush::BuildReply;
+use kdbush::Outside;
+use range::CoordinateSystem;
+use range::Point;
+use tables::Entry;
+use tables::Options;
+use tables::State;
+ghost use mathlib.Core.Path.{_≡_};
+ghost use mathlib.Core.List.{map};
+ghost use Prim.Native.Nat.{suc, _+_, _-_, _*_, _^_, _<_, _≤_};
+ghost use lib.ListN.{length, set, take, drop, replicate};
+ghost use Rattle.kdbush.specs.Promise.{Promised};
+ghost use Rattle.kdbush.specs.Reply.{pairOk, firstOutside, inOrder};
+ghost use Rattle.tables.specs.Rows.{rows, Even};
+ghost use Rattle.tables.specs.Columns.{part};
+ghost use Rattle.tables.specs.Options.{optionsOk};
+ghost use Rattle.tables.specs.State.{newState};
+ghost use Rattle.zoom.specs.Zoom.{cluster};
+ghost use Rattle.zoom.specs.Scanned.{unseenNum};
+ghost use Rattle.zoom.specs.Near.{nearOf, Placed, Radius};
+ghost use Rattle.zoom.specs.Keeps.{All};
+ghost use Rattle.supercluster.specs.Build.{indexOf, planOf, zoomsOf, convertedAll, finest, over, lent, written, stateOf, tablesOf, need, roomyBy, outcome, loaded};
+ghost use Rattle.supercluster.specs.Parts.{Inside, putAt};
+ghost use Rattle.supercluster.specs.Step.{Stepped};
+ghost use Rattle.supercluster.specs.Running.{Running, Advanced};
+ghost use Rattle.supercluster.specs.Progress.{Finished};
+ghost use Rattle.supercluster.specs.Ready.{Accepted, Made};
+ghost use Rattle.supercluster.specs.Load.{Holds};
+
+// The reply of a build, and beside it its state: of no tables, where it is refused.
+pub struct Loaded {
+    pub reply: BuildReply,
+    pub state: State,
+}
+
+// Zoom z of the table at `start`, of `len` entries: the next table is made right after it. How many entries that has.
+fn zoom_step(
+    x: &mut [f64],
+    y: &mut [f64],
+    seen: &mut [u8],
+    id: &mut [u32],
+    parent: &mut [u32],
+    num: &mut [u32],
+    ids: &[u32],
+    coords: &[f64],
+    near: &mut [u32],
+    o: Options,
+    r: f64,
+    start: usize,
+    len: usize,
+    z: u8,
+    n: u32,
+) -> usize
+    requires { ⌜ Even (now x) (now y) (now seen) (now id) (now parent) (now num) ⌝ }
+    requires { ⌜ Promised (o .«node_size») len (part start len (now ids)) (part (start * 2) (len * 2) (now coords)) × Radius r ⌝ }
+    requires { ⌜ All Placed (take len (drop start (rows (now x) (now y) (now seen) (now id) (now parent) (now num)))) ⌝ }
+    requires { ⌜ (start + len ≤ length (now ids)) × ((start + len) * 2 ≤ length (now coords)) × (len ≤ length (now near)) × (start + len + len ≤ length (now x)) ⌝ }
+    requires { ⌜ unseenNum z (take len (drop start (rows (now x) (now y) (now seen) (now id) (now parent) (now num)))) < 2 ^ 32 ⌝ }
+    requires { ⌜ (start ≤ 67108864) × (len ≤ 1048576) × (n ≤ 1048576) × (z ≤ 30) ⌝ }
+    ensures { λ d. ⌜ Stepped start len
+        (cluster n (o .«min_points») z (nearOf (o .«node_size») len (part start len (now (ids .entry))) (part (start * 2) (len * 2) (now (coords .entry))) r)
+        (take len (drop start (rows (now (x .entry)) (now (y .entry)) (now (seen .entry)) (now (id .entry)) (now (parent .entry)) (now (num .entry))))))
+        (rows (now (x .entry)) (now (y .entry)) (now (seen .entry)) (now (id .entry)) (now (parent .entry)) (now (num .entry)))
+        (rows (now (x .exit)) (now (y .exit)) (now (seen .exit)) (now (id .exit)) (now (parent .exit)) (now (num .exit))) d ⌝ }
+{
+    let end = start + len;
+    let c0 = start * 2;
+    let c1 = end * 2;
+    let size = o.node_size;
+    let least = o.min_points;
+    zoom::cluster(
+        &mut x[start..],
+        &mut y[start..],
+        &mut seen[start..],
+        &mut id[start..],
+        &mut parent[start..],
+        &mut num[start..],
+        &ids[start..end],
+        &coords[c0..c1],
+        near,
+        size,
+        r,
+        len,
+        z,
+        n,
+        least,
+    )
+}
+
+// Indexes the table at `start`, of `len` entries, in its own part of the index's columns.
+fn index_part(
+    x: &[f64],
+    y: &[f64],
+    ids: &mut [u32],
+    coords: &mut [f64],
+    size: usize,
+    start: usize,
+    len: usize,
+)
+    requires { ⌜ (1 ≤ len) × (len ≤ 1048576) × (start ≤ 67108864) × (1 ≤ size) × (size ≤ 65535) ⌝ }
+    requires { ⌜ (length (now y) ≡ length (now x)) × (start + len ≤ length (now x)) × (start + len ≤ length (now ids)) × ((start + len) * 2 ≤ length (now coords)) ⌝ }
+    requires { ⌜ Inside (part start len (now x)) (part start len (now y)) ⌝ }
+    ensures { λ _. ⌜ (now (ids .exit) ≡ putAt start len (indexOf size (part start len (now (x .entry))) (part start len (now (y .entry))) .ids) (now (ids .entry)))
+        × (now (coords .exit) ≡ putAt (start * 2) (len * 2) (indexOf size (part start len (now (x .entry))) (part start len (now (y .entry))) .co) (now (coords .entry))) ⌝ }
+{
+    let end = start + len;
+    let c0 = start * 2;
+    let c1 = end * 2;
+    kdbush::build(
+        size,
+        &x[start..end],
+        &y[start..end],
+        &mut ids[start..end],
+        &mut coords[c0..c1],
+    );
+}
+
+// One zoom: the table at `start` is marked, the next one is made after it, and indexed. How many entries it has.
+fn one_zoom(
+    x: &mut [f64],
+    y: &mut [f64],
+    seen: &mut [u8],
+    id: &mut [u32],
+    parent: &mut [u32],
+    num: &mut [u32],
+    ids: &mut [u32],
+    coords: &mut [f64],
+    near: &mut [u32],
+    o: Options,
+    start: usize,
+    len: usize,
+    z: u8,
+    n: u32,
+) -> usize
+    requires { ⌜ Even (now x) (now y) (now seen) (now id) (now parent) (now num) ⌝ }
+    requires { ⌜ (n ≤ length (now near)) × (o .«min_zoom» ≤ z) ⌝ }
+    requires { ⌜ Running (planOf o n) (length (now x)) (suc (z - o .«min_zoom»)) start len (rows (now x) (now y) (now seen) (now id) (now parent) (now num)) (now ids) (now coords) ⌝ }
+    ensures { λ d. ⌜ Advanced (planOf o n) z start len d
+        (rows (now (x .entry)) (now (y .entry)) (now (seen .entry)) (now (id .entry)) (now (parent .entry)) (now (num .entry)))
+        (rows (now (x .exit)) (now (y .exit)) (now (seen .exit)) (now (id .exit)) (now (parent .exit)) (now (num .exit)))
+        (now (ids .entry)) (now (ids .exit)) (now (coords .entry)) (now (coords .exit)) ⌝ }
+{
+    let r = tables::radius_at(o.radius, o.extent, z);
+    let d = zoom_step(
+        x,
+        y,
+        seen,
+        id,
+        parent,
+        num,
+        ids,
+        coords,
+        near,
+        o,
+        r,
+        start,
+        len,
+        z,
+        n,
+    );
+    let next = start + len;
+    let size = o.node_size;
+    index_part(x, y, ids, coords, size, next, d);
+    d
+}
+
+// The zooms from that below the table at 0, of n entries, down to min_zoom.
+fn run_zooms(
+    x: &mut [f64],
+    y: &mut [f64],
+    seen: &mut [u8],
+    id: &mut [u32],
+    parent: &mut [u32],
+    num: &mut [u32],
+    ids: &mut [u32],
+    coords: &mut [f64],
+    near: &mut [u32],
+    s: State,
+    n: u32,
+) -> State
+    requires { ⌜ Even (now x) (now y) (now seen) (now id) (now parent) (now num) ⌝ }
+    requires { ⌜ (n ≤ length (now near)) × (s .options .«min_zoom» ≤ s .options .«max_zoom» + 1) ⌝ }
+    requires { ⌜ Running (planOf (s .options) n) (length (now x)) (zoomsOf (s .options)) 0 n (rows (now x) (now y) (now seen) (now id) (now parent) (now num)) (now ids) (now coords) ⌝ }
+    requires { ⌜ (set (s .starts) (s .options .«max_zoom» + 1) 0 ≡ s .starts) × (set (s .lens) (s .options .«max_zoom» + 1) n ≡ s .lens) ⌝ }
+    ensures { λ r. ⌜ Finished (planOf (s .options) n) (zoomsOf (s .options)) s r
+        (part 0 n (rows (now (x .entry)) (now (y .entry)) (now (seen .entry)) (now (id .entry)) (now (parent .entry)) (now (num .entry))))
+        (rows (now (x .entry)) (now (y .entry)) (now (seen .entry)) (now (id .entry)) (now (parent .entry)) (now (num .entry)))
+        (rows (now (x .exit)) (now (y .exit)) (now (seen .exit)) (now (id .exit)) (now (parent .exit)) (now (num .exit)))
+        (now (ids .entry)) (now (ids .exit)) (now (coords .entry)) (now (coords .exit)) ⌝ }
+{
+    let o = s.options;
+    let low = o.min_zoom;
+    let mut st = s;
+    let mut z = o.max_zoom + 1;
+    let mut start: usize = 0;
+    let mut len = n as usize;
+    while low < z {
+        z = z - 1;
+        let d = one_zoom(
+            x,
+            y,
+            seen,
+            id,
+            parent,
+            num,
+            ids,
+            coords,
+            near,
+            o,
+            start,
+            len,
+            z,
+            n,
+        );
+        start = start + len;
+        len = d;
+        st = tables::with_table(st, z as usize, start as u32, len as u32);
+    }
+    st
+}
+
+// The finest table: the converted points in order.
+fn fill(
+    c: CoordinateSystem,
+    xs: &[f64],
+    ys: &[f64],
+    x: &mut [f64],
+    y: &mut [f64],
+    seen: &mut [u8],
+    id: &mut [u32],
+    parent: &mut [u32],
+    num: &mut [u32],
+)
+    requires { ⌜ Even (now x) (now y) (now seen) (now id) (now parent) (now num) ⌝ }
+    requires { ⌜ (length (now ys) ≡ length (now xs)) × (length (now xs) ≤ length (now x)) × (length (now xs) ≤ 1048576) ⌝ }
+    ensures { λ _. ⌜ rows (now (x .exit)) (now (y .exit)) (now (seen .exit)) (now (id .exit)) (now (parent .exit)) (now (num .exit))
+        ≡ over (finest (convertedAll c (now (xs .entry)) (now (ys .entry))) 0) (rows (now (x .entry)) (now (y .entry)) (now (seen .entry)) (now (id .entry)) (now (parent .entry)) (now (num .entry))) ⌝ }
+{
+    let mut i = 0;
+    while i < xs.len() {
+        let p = c.convert(Point { x: xs[i], y: ys[i] });
+        let e = Entry {
+            x: p.x,
+            y: p.y,
+            seen: 255,
+            id: i as u32,
+            parent: 4294967295,
+            num: 1,
+        };
+        tables::put_entry(x, y, seen, id, parent, num, i, e);
+        i += 1;
+    }
+}
+
+// Zeros.
+fn clear(a: &mut [u32])
+    ensures { λ _. ⌜ now (a .exit) ≡ replicate (length (now (a .entry))) 0 ⌝ }
+{
+    let mut i = 0;
+    while i < a.len() {
+        a[i] = 0;
+        i += 1;
+    }
+}
+
+// The build, in columns that just hold it.
+fn build_in(
+    o: Options,
+    xs: &[f64],
+    ys: &[f64],
+    x: &mut [f64],
+    y: &mut [f64],
+    seen: &mut [u8],
+    id: &mut [u32],
+    parent: &mut [u32],
+    num: &mut [u32],
+    ids: &mut [u32],
+    coords: &mut [f64],
+    near: &mut [u32],
+) -> State
+    requires { ⌜ Even (now x) (now y) (now seen) (now id) (now parent) (now num) ⌝ }
+    requires { ⌜ Accepted o (now xs) (now ys) ⌝ }
+    requires { ⌜ (length (now x) ≡ need o (length (now xs))) × (length (now ids) ≡ need o (length (now xs))) × (length (now coords) ≡ need o (length (now xs)) * 2) × (length (now near) ≡ length (now xs)) ⌝ }
+    ensures { λ s. ⌜ Made o (now (xs .entry)) (now (ys .entry)) s
+        (rows (now (x .entry)) (now (y .entry)) (now (seen .entry)) (now (id .entry)) (now (parent .entry)) (now (num .entry)))
+        (rows (now (x .exit)) (now (y .exit)) (now (seen .exit)) (now (id .exit)) (now (parent .exit)) (now (num .exit)))
+        (now (ids .entry)) (now (ids .exit)) (now (coords .entry)) (now (coords .exit)) (now (near .exit)) ⌝ }
+{
+    let n = xs.len();
+    let c = o.coordinate_system;
+    let size = o.node_size;
+    fill(c, xs, ys, x, y, seen, id, parent, num);
+    index_part(x, y, ids, coords, size, 0, n);
+    let e = tables::new_state(o, n as u32);
+    let s = tables::with_table(e, o.max_zoom as usize + 1, 0, n as u32);
+    let st = run_zooms(x, y, seen, id, parent, num, ids, coords, near, s, n as u32);
+    clear(near);
+    st
+}
+
+// The build, in the fronts of the columns.
+fn build_all(
+    o: Options,
+    xs: &[f64],
+    ys: &[f64],
+    x: &mut [f64],
+    y: &mut [f64],
+    seen: &mut [u8],
+    id: &mut [u32],
+    parent: &mut [u32],
+    num: &mut [u32],
+    ids: &mut [u32],
+    coords: &mut [f64],
+    near: &mut [u32],
+) -> State
+    requires { ⌜ Accepted o (now xs) (now ys) ⌝ }
+    requires { ⌜ Holds (need o (length (now xs))) (lent (now x) (now y) (now seen) (now id) (now parent) (now num) (now ids) (now coords) (now near)) ⌝ }
+    ensures { λ s. ⌜ (s ≡ stateOf o (length (now (xs .entry))) (tablesOf o (now (xs .entry)) (now (ys .entry))))
+        × (lent (now (x .exit)) (now (y .exit)) (now (seen .exit)) (now (id .exit)) (now (parent .exit)) (now (num .exit)) (now (ids .exit)) (now (coords .exit)) (now (near .exit))
+        ≡ written (o .«node_size») (length (now (xs .entry))) (tablesOf o (now (xs .entry)) (now (ys .entry))) (lent (now (x .entry)) (now (y .entry)) (now (seen .entry)) (now (id .entry)) (now (parent .entry)) (now (num .entry)) (now (ids .entry)) (now (coords .entry)) (now (near .entry)))) ⌝ }
+{
+    let n = xs.len();
+    let m = o.table_count() * n;
+    let c = m * 2;
+    build_in(
+        o,
+        xs,
+        ys,
+        &mut x[..m],
+        &mut y[..m],
+        &mut seen[..m],
+        &mut id[..m],
+        &mut parent[..m],
+        &mut num[..m],
+        &mut ids[..m],
+        &mut coords[..c],
+        &mut near[..n],
+    )
+}
+
+// The first point that is outside [0,1], or no number, once it is converted.
+fn first_outside(c: CoordinateSystem, xs: &[f64], ys: &[f64]) -> Outside
+    requires { ⌜ length (now ys) ≡ length (now xs) ⌝ }
+    ensures { λ r. ⌜ r ≡ firstOutside (map (λ p. p .x) (convertedAll c (now (xs .entry)) (now (ys .entry)))) (map (λ p. p .y) (convertedAll c (now (xs .entry)) (now (ys .entry)))) 0 ⌝ }
+{
+    let mut i = 0;
+    while i < xs.len() {
+        let p = c.convert(Point { x: xs[i], y: ys[i] });
+        if !floats::in_unit(p.x) {
+            return Outside::At(i);
+        }
+        if !floats::in_unit(p.y) {
+            return Outside::At(i);
+        }
+        i += 1;
+    }
+    Outside::Nothing
+}
+
+// Whether columns of these lengths hold m entries each, and the index coordinates twice that.
+fn is_roomy(
+    m: usize,
+    x: usize,
+    y: usize,
+    seen: usize,
+    id: usize,
+    parent: usize,
+    num: usize,
+    ids: usize,
+    coords: usize,
+    near: usize,
+) -> bool
+    requires { ⌜ m ≤ 33554432 ⌝ }
+    ensures { λ r. ⌜ r ≡ roomyBy m x y seen id parent num ids coords near ⌝ }
+{
+    if x < m {
+        return false;
+    }
+    if y < m {
+        return false;
+    }
+    if seen < m {
+        return false;
+    }
+    if id < m {
+        return false;
+    }
+    if parent < m {
+        return false;
+    }
+    if num < m {
+        return false;
+    }
+    if ids < m {
+        return false;
+    }
+    if coords < 2 * m {
+        return false;
+    }
+    m <= near
+}
+
+// The refusal of a build, if there is one, for columns of these lengths.
+fn check(
+    o: Options,
+    xs: &[f64],
+    ys: &[f64],
+    x: usize,
+    y: usize,
+    seen: usize,
+    id: usize,
+    parent: usize,
+    num: usize,
+    ids: usize,
+    coords: usize,
+    near: usize,
+) -> BuildReply
+    ensures { λ r. ⌜ r ≡ inOrder (optionsOk o) (pairOk (now (xs .entry)) (now (ys .entry)))
+        (firstOutside (map (λ p. p .x) (convertedAll (o .«coordinate_system») (now (xs .entry)) (now (ys .entry)))) (map (λ p. p .y) (convertedAll (o .«coordinate_system») (now (xs .entry)) (now (ys .entry)))) 0)
+        (roomyBy (need o (length (now (xs .entry)))) x y seen id parent num ids coords near) ⌝ }
+{
+    if !o.is_in_bounds() {
+        return BuildReply::Options;
+    }
+    let n = xs.len();
+    if n < 1 {
+        return BuildReply::Count;
+    }
+    if 1048576 < n {
+        return BuildReply::Count;
+    }
+    if ys.len() != n {
+        return BuildReply::Count;
+    }
+    let c = o.coordinate_system;
+    if let Outside::At(i) = first_outside(c, xs, ys) {
+        return BuildReply::Point(i);
+    }
+    let m = o.table_count() * n;
+    if !is_roomy(m, x, y, seen, id, parent, num, ids, coords, near) {
+        return BuildReply::Tables;
+    }
+    BuildReply::Done
+}
+
+// What stands beside a refusal: no tables.
+fn refused(o: Options, reply: BuildReply) -> Loaded
+    ensures { λ r. ⌜ (r .reply ≡ reply) × (r .state ≡ newState o 0) ⌝ }
+{
+    let state = tables::new_state(o, 0);
+    Loaded { reply, state }
+}
+
+// Builds the tables of the points (xs[i], ys[i]) and their indexes in the lent columns, or refuses.
+pub fn load(
+    o: Options,
+    xs: &[f64],
+    ys: &[f64],
+    x: &mut [f64],
+    y: &mut [f64],
+    seen: &mut [u8],
+    id: &mut [u32],
+    parent: &mut [u32],
+    num: &mut [u32],
+    ids: &mut [u32],
+    coords: &mut [f64],
+    near: &mut [u32],
+) -> Loaded
+    ensures { λ r. ⌜ outcome r (lent (now (x .exit)) (now (y .exit)) (now (seen .exit)) (now (id .exit)) (now (parent .exit)) (now (num .exit)) (now (ids .exit)) (now (coords .exit)) (now (near .exit)))
+        ≡ loaded o (now (xs .entry)) (now (ys .entry)) (lent (now (x .entry)) (now (y .entry)) (now (seen .entry)) (now (id .entry)) (now (parent .entry)) (now (num .entry)) (now (ids .entry)) (now (coords .entry)) (now (near .entry))) ⌝ }
+{
+    match check(
+        o,
+        xs,
+        ys,
+        x.len(),
+        y.len(),
+        seen.len(),
+        id.len(),
+        parent.len(),
+        num.len(),
+        ids.len(),
+        coords.len(),
+        near.len(),
+    ) {
+        BuildReply::Done => {
+            let state = build_all(o, xs, ys, x, y, seen, id, parent, num, ids, coords, near);
+            Loaded {
+                reply: BuildReply::Done,
+                state,
+            }
+        }
+        BuildReply::Options => refused(o, BuildReply::Options),
+        BuildReply::Count => refused(o, BuildReply::Count),
+        BuildReply::Point(i) => refused(o, BuildReply::Point(i)),
+        BuildReply::Tables => refused(o, BuildReply::Tables),
+    }
+}

@@ -1,0 +1,67 @@
+-- `Options::is_in_bounds` meets its contract: each test is one of `optionsOk`, in its order. Assumes nothing.
+use mathlib.Core.Path.{_≡_, sym, _∙_}
+use mathlib.Core.Bool.{Bool, true, false, not}
+use borrow.Author.Tests.{le-leb, lt-leb, not-true, not-false}
+use borrow.Author.Needs.{needs}
+use Rattle.tables.specs.Options.{optionsOk}
+use Rattle.tables.proofs.Options.is_in_bounds.Statement.{statement}
+use Rattle.tables.proofs.Options.is_in_bounds.Tie as tie
+
+-- a test that was made by a function, from the branch that was taken
+yes : {r b : Bool} → r ≡ b → not r ≡ false → b ≡ true
+yes e h = sym e ∙ not-false _ h
+
+no : {r b : Bool} → r ≡ b → not r ≡ true → b ≡ false
+no e h = sym e ∙ not-true _ h
+
+zooms-ok-requires : tie.Need-zooms-ok-requires
+zooms-ok-requires c κs = search needs
+
+returns : tie.Need-returns
+unfolding optionsOk
+returns c = simp (no (c .before .zooms-ok .ensures) (c .if1 .taken))
+
+radius-ok-requires : tie.Need-radius-ok-requires
+radius-ok-requires c κs = search needs
+
+returns-2 : tie.Need-returns-2
+unfolding optionsOk
+returns-2 c = simp (yes (c .before .before .before .zooms-ok .ensures) (c .before .before .if1 .left), no (c .before .radius-ok .ensures) (c .if2 .taken))
+
+extent-ok-requires : tie.Need-extent-ok-requires
+extent-ok-requires c κs = search needs
+
+returns-3 : tie.Need-returns-3
+unfolding optionsOk
+returns-3 c = simp (yes (c .before .before .before .before .before .zooms-ok .ensures) (c .before .before .before .before .if1 .left), yes (c .before .before .before .radius-ok .ensures) (c .before .before .if2 .left), no (c .before .extent-ok .ensures) (c .if3 .taken))
+
+returns-4 : tie.Need-returns-4
+unfolding optionsOk
+returns-4 c = simp (yes (c .before .before .before .before .before .before .before .zooms-ok .ensures) (c .before .before .before .before .before .before .if1 .left), yes (c .before .before .before .before .before .radius-ok .ensures) (c .before .before .before .before .if2 .left), yes (c .before .before .before .extent-ok .ensures) (c .before .before .if3 .left), lt-leb _ _ (c .if4 .taken))
+
+returns-5 : tie.Need-returns-5
+unfolding optionsOk
+returns-5 c = simp (yes (c .before .before .before .before .before .before .before .before .before .zooms-ok .ensures) (c .before .before .before .before .before .before .before .before .if1 .left), yes (c .before .before .before .before .before .before .before .radius-ok .ensures) (c .before .before .before .before .before .before .if2 .left), yes (c .before .before .before .before .before .extent-ok .ensures) (c .before .before .before .before .if3 .left), le-leb _ _ (c .before .before .if4 .left), lt-leb _ _ (c .if5 .taken))
+
+is-in-bounds-requires : tie.Need-is-in-bounds-requires
+is-in-bounds-requires c κs = search needs
+
+returns-6 : tie.Need-returns-6
+unfolding optionsOk
+returns-6 c =
+    simp (yes (c .before .before .before .before .before .before .before .before .before .before .zooms-ok .ensures) (c .before .before .before .before .before .before .before .before .before .if1 .left), yes (c .before .before .before .before .before .before .before .before .radius-ok .ensures) (c .before .before .before .before .before .before .before .if2 .left), yes (c .before .before .before .before .before .before .extent-ok .ensures) (c .before .before .before .before .before .if3 .left), le-leb _ _ (c .before .before .before .if4 .left), le-leb _ _ (c .before .if5 .left), c .is-in-bounds .ensures)
+
+pub is-in-bounds-spec : {M : Type 1} → statement M
+is-in-bounds-spec =
+    tie.close
+    (tie.spec
+    zooms-ok-requires
+    returns
+    radius-ok-requires
+    returns-2
+    extent-ok-requires
+    returns-3
+    returns-4
+    returns-5
+    is-in-bounds-requires
+    returns-6)

@@ -1,0 +1,13 @@
+-- The state of a build: a value of its options, its number of points, and where each table starts and how long it is. Definitions only.
+use Prim.Native.Nat.{ℕ}
+use lib.ListN.{set, replicate}
+use Rattle.tables.specs.declared.Options.{Options}
+use Rattle.tables.specs.declared.State.{State}
+
+-- no tables yet: zeros
+abbrev pub newState : Options → ℕ → State
+newState o n = record { options = o; count = n; starts = replicate 32 0; lens = replicate 32 0 }
+
+-- the table of zoom z starts at `at` and has `len` entries
+abbrev pub withTable : State → ℕ → ℕ → ℕ → State
+withTable s z at len = record { options = s .options; count = s .count; starts = set (s .starts) z at; lens = set (s .lens) z len }

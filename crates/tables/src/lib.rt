@@ -1,0 +1,212 @@
+// What a build is given and what it leaves: the options, the state, an entry of a table, the ids of clusters and the radius of a zoom.
+// The tables stand in six lent columns; an entry is read and written as one record of these six.
+use range::CoordinateSystem;
+ghost use mathlib.Core.Path.{_≡_};
+ghost use Prim.Native.Nat.{_+_, _*_, _^_, _<_, _≤_};
+ghost use lib.ListN.{length, set};
+ghost use Rattle.tables.specs.Options.{optionsOk, zoomsOk, radiusOk, extentOk, tableCount, zoomUsed};
+ghost use Rattle.tables.specs.State.{newState, withTable};
+ghost use Rattle.tables.specs.Entries.{entry};
+ghost use Rattle.tables.specs.Rows.{rows, Even};
+ghost use Rattle.tables.specs.Ids.{clusterId, originOf, tableOf};
+ghost use Rattle.tables.specs.Radius.{radiusAt};
+
+// What a build goes by.
+pub struct Options {
+    pub min_zoom: u8,
+    pub max_zoom: u8,
+    pub min_points: u8,
+    pub radius: f64,
+    pub extent: f64,
+    pub node_size: usize,
+    pub coordinate_system: CoordinateSystem,
+}
+
+// A build, as a value: its options, its number of points, and where the table of each zoom starts and how long it is.
+pub struct State {
+    pub options: Options,
+    pub count: u32,
+    pub starts: [u32; 32],
+    pub lens: [u32; 32],
+}
+
+// An entry of a table. seen 255 stands for the Rust's infinity, parent 4,294,967,295 for its -1: unset.
+pub struct Entry {
+    pub x: f64,
+    pub y: f64,
+    pub seen: u8,
+    pub id: u32,
+    pub parent: u32,
+    pub num: u32,
+}
+
+impl Options {
+    // Whether each option is within 01's bounds.
+    pub fn is_in_bounds(self) -> bool
+        ensures { λ r. ⌜ r ≡ optionsOk self ⌝ }
+    {
+        if !self.zooms_ok() {
+            return false;
+        }
+        if !self.radius_ok() {
+            return false;
+        }
+        if !self.extent_ok() {
+            return false;
+        }
+        if self.node_size < 1 {
+            return false;
+        }
+        if 65535 < self.node_size {
+            return false;
+        }
+        let system = self.coordinate_system;
+        system.is_in_bounds()
+    }
+
+    fn zooms_ok(self) -> bool
+        ensures { λ r. ⌜ r ≡ zoomsOk self ⌝ }
+    {
+        if self.min_zoom <= self.max_zoom {
+            return self.max_zoom <= 30;
+        }
+        false
+    }
+
+    fn radius_ok(self) -> bool
+        ensures { λ r. ⌜ r ≡ radiusOk self ⌝ }
+    {
+        0.0 <= self.radius && self.radius <= 65536.0
+    }
+
+    fn extent_ok(self) -> bool
+        ensures { λ r. ⌜ r ≡ extentOk self ⌝ }
+    {
+        1.0 <= self.extent && self.extent <= 65536.0
+    }
+
+    // How many tables a build has.
+    pub fn table_count(self) -> usize
+        requires { ⌜ self .«min_zoom» ≤ self .«max_zoom» ⌝ }
+        ensures { λ r. ⌜ r ≡ tableCount self ⌝ }
+    {
+        (self.max_zoom - self.min_zoom) as usize + 2
+    }
+
+    // The zoom whose table a question at this zoom goes to.
+    pub fn zoom_used(self, zoom: u8) -> u8
+        requires { ⌜ (self .«min_zoom» ≤ self .«max_zoom») × (self .«max_zoom» ≤ 30) ⌝ }
+        ensures { λ r. ⌜ r ≡ zoomUsed self zoom ⌝ }
+    {
+        if zoom < self.min_zoom {
+            return self.min_zoom;
+        }
+        if self.max_zoom + 1 < zoom {
+            return self.max_zoom + 1;
+        }
+        zoom
+    }
+}
+
+// A build of no tables yet.
+pub fn new_state(options: Options, count: u32) -> State
+    ensures { λ s. ⌜ s ≡ newState options count ⌝ }
+{
+    State {
+        options,
+        count,
+        starts: [0u32; 32],
+        lens: [0u32; 32],
+    }
+}
+
+// With the table of one more zoom.
+pub fn with_table(s: State, zoom: usize, start: u32, len: u32) -> State
+    requires { ⌜ zoom < 32 ⌝ }
+    ensures { λ r. ⌜ r ≡ withTable s zoom start len ⌝ }
+{
+    let mut t = s;
+    t.starts[zoom] = start;
+    t.lens[zoom] = len;
+    t
+}
+
+// The entry at i of the columns.
+pub fn entry_at(
+    x: &[f64],
+    y: &[f64],
+    seen: &[u8],
+    id: &[u32],
+    parent: &[u32],
+    num: &[u32],
+    i: usize,
+) -> Entry
+    requires { ⌜ Even (now x) (now y) (now seen) (now id) (now parent) (now num) ⌝ }
+    requires { ⌜ i < length (now x) ⌝ }
+    ensures { λ r. ⌜ r ≡ entry (rows (now (x .entry)) (now (y .entry)) (now (seen .entry)) (now (id .entry)) (now (parent .entry)) (now (num .entry))) i ⌝ }
+{
+    Entry {
+        x: x[i],
+        y: y[i],
+        seen: seen[i],
+        id: id[i],
+        parent: parent[i],
+        num: num[i],
+    }
+}
+
+// Writes the entry e at i of the columns.
+pub fn put_entry(
+    x: &mut [f64],
+    y: &mut [f64],
+    seen: &mut [u8],
+    id: &mut [u32],
+    parent: &mut [u32],
+    num: &mut [u32],
+    i: usize,
+    e: Entry,
+)
+    requires { ⌜ Even (now x) (now y) (now seen) (now id) (now parent) (now num) ⌝ }
+    requires { ⌜ i < length (now x) ⌝ }
+    ensures { λ _. ⌜ rows (now (x .exit)) (now (y .exit)) (now (seen .exit)) (now (id .exit)) (now (parent .exit)) (now (num .exit))
+        ≡ set (rows (now (x .entry)) (now (y .entry)) (now (seen .entry)) (now (id .entry)) (now (parent .entry)) (now (num .entry))) i e ⌝ }
+{
+    x[i] = e.x;
+    y[i] = e.y;
+    seen[i] = e.seen;
+    id[i] = e.id;
+    parent[i] = e.parent;
+    num[i] = e.num;
+}
+
+// The id of the cluster made at the place `origin` of the table zoom + 1, in a build of n points.
+pub fn cluster_id(origin: usize, zoom: u8, n: u32) -> u32
+    requires { ⌜ (origin < 1048576) × (zoom ≤ 30) × (n ≤ 1048576) ⌝ }
+    ensures { λ r. ⌜ r ≡ clusterId n zoom origin ⌝ }
+{
+    origin as u32 * 32 + (zoom as u32 + 1) + n
+}
+
+// The place of the entry that a cluster was made at.
+pub fn origin_of(id: u32, n: u32) -> usize
+    requires { ⌜ n ≤ id ⌝ }
+    ensures { λ r. ⌜ r ≡ originOf n id ⌝ }
+{
+    ((id - n) / 32) as usize
+}
+
+// The table of the entry that a cluster was made at.
+pub fn table_of(id: u32, n: u32) -> usize
+    requires { ⌜ n ≤ id ⌝ }
+    ensures { λ r. ⌜ r ≡ tableOf n id ⌝ }
+{
+    ((id - n) % 32) as usize
+}
+
+// The radius of a zoom, in the tables' units: radius / (extent * 2^zoom).
+pub fn radius_at(radius: f64, extent: f64, zoom: u8) -> f64
+    requires { ⌜ zoom < 32 ⌝ }
+    ensures { λ r. ⌜ r ≡ radiusAt radius extent zoom ⌝ }
+{
+    radius / (extent * floats::power(zoom as u32))
+}

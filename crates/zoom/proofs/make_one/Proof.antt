@@ -1,0 +1,136 @@
+-- `zoom::make_one` meets its contract: what absorbing gives, the origin's parent, and the new entry after the table are a cluster made. Assumes nothing.
+use mathlib.Core.Path.{_≡_, ap, sym, _∙_}
+use Prim.Native.Nat.{ℕ, _+_, _<_}
+use native.Mathlib.Omega.{arith}
+use lib.ListN.{length, length-set}
+use lib.Ieee.{Float, ofBits}
+use borrow.Author.Needs.{needs}
+use Rattle.tables.specs.Rows.{rows, Even, rows-entry, rows-length, rows-parent}
+use Rattle.zoom.specs.Laws.{made-with, begun}
+use Rattle.zoom.specs.Zoom.{absorbed, absorb}
+use Rattle.zoom.proofs.make_one.Statement.{statement}
+use Rattle.zoom.proofs.make_one.Tie as tie
+
+-- the start and the calls, seen from later places
+abbrev begin : tie.After-absorb-near-arg6 → tie.Start
+begin c = c .before .before .before .before .before .before .before .before .before .before .before .before .before .before .before .before .before .before
+
+abbrev absorbing : tie.After-put-entry-arg6 → tie.After-absorb-near
+absorbing c = c .before .before .before .before .before .before .before .before .before .before .before .before .before
+
+abbrev putting : tie.After-slice-known17 → tie.After-put-entry
+putting c = c .before .before .before .before .before .before .before .before .before .before .before .before
+
+cluster-id-requires : tie.Need-cluster-id-requires
+cluster-id-requires c κs = let h = c .before .before .before .before .before .before .before .pre in (omega arith, omega arith, omega arith)
+
+mul-own : tie.Need-mul-own
+mul-own c = search needs
+
+slice-read-own : tie.Need-slice-read-own
+slice-read-own c = search needs
+
+int-to-float-own : tie.Need-int-to-float-own
+int-to-float-own c = search needs
+
+mul-t20 : tie.Need-mul-t20
+mul-t20 c = search needs
+
+slice-read-t24 : tie.Need-slice-read-t24
+slice-read-t24 c = search needs
+
+mul-t26 : tie.Need-mul-t26
+mul-t26 c = search needs
+
+slice-read-t28 : tie.Need-slice-read-t28
+slice-read-t28 c = search needs
+
+absorb-near-requires : tie.Need-absorb-near-requires
+absorb-near-requires c κs =
+    let s = begin c in
+    (s .pre .0, λ k h. let q = s .pre .1 .0 k h in omega (arith, q, s .pre .1 .1 .0, s .pre .1 .1 .1))
+
+mul-parent : tie.Need-mul-parent
+mul-parent c = search needs
+
+slice-write-parent : tie.Need-slice-write-parent
+slice-write-parent c = search needs
+
+int-to-float-t : tie.Need-int-to-float-t
+int-to-float-t c = search needs
+
+add-put-entry : tie.Need-add-put-entry
+add-put-entry c = let s = begin (absorbing c .before) in omega (arith, s .pre .1 .1 .1, s .good .0 .0)
+
+put-entry-requires : tie.Need-put-entry-requires
+put-entry-requires c κs =
+    let s = begin (absorbing c .before) in
+    let k = absorbing c .absorb-near .kept in
+    (record { ey = s .pre .0 .ey; es = k .1 .1 .0 ∙ s .pre .0 .es; ei = s .pre .0 .ei; ep = simp length-set (k .1 .1 .1 .1 .0 ∙ s .pre .0 .ep); en = s .pre .0 .en }, s .pre .1 .1 .1)
+
+same-length : tie.Need-same-length
+same-length c = search needs
+
+same-length-2 : tie.Need-same-length-2
+same-length-2 c = search needs
+
+same-length-3 : tie.Need-same-length-3
+same-length-3 c = search needs
+
+same-length-4 : tie.Need-same-length-4
+same-length-4 c = search needs
+
+same-length-5 : tie.Need-same-length-5
+same-length-5 c = putting c .put-entry .kept .1 .1 .1 .1 .0 ∙ simp length-set (absorbing (putting c .before) .absorb-near .kept .1 .1 .1 .1 .0)
+
+same-length-6 : tie.Need-same-length-6
+same-length-6 c = search needs
+
+returns : tie.Need-returns
+returns c =
+    let put = putting c .put-entry in
+    let w = absorbing (putting c .before) in
+    let ab = w .absorb-near in
+    let s = begin (w .before) in
+    let a = s .args in
+    let id = w .before .before .before .before .before .before .before .before .before .before .before .cluster-id in
+    let k = ab .kept in
+    let t = rows (a .x .now) (a .y .now) (a .seen .now) (a .id .now) (a .parent .now) (a .num .now) in
+    let n = rows-length (a .x .now) (a .y .now) (a .seen .now) (a .id .now) (a .parent .now) (a .num .now) in
+    let room : a .len + a .done < length (a .x .now) = s .pre .1 .1 .1 in
+    let hi : a .i < a .len = s .pre .1 .1 .0 in
+    let hx : a .i < length (a .x .now) = omega (arith, room, hi) in
+    let v : Even (a .x .now) (a .y .now) (ab .last .1 .1 .0) (a .id .now) (ab .last .1 .1 .1 .1 .0) (a .num .now)
+    = record { ey = s .pre .0 .ey; es = k .1 .1 .0 ∙ s .pre .0 .es; ei = s .pre .0 .ei; ep = k .1 .1 .1 .1 .0 ∙ s .pre .0 .ep; en = s .pre .0 .en } in
+    let e : absorbed (rows (a .x .now) (a .y .now) (ab .last .1 .1 .0) (a .id .now) (ab .last .1 .1 .1 .1 .0) (a .num .now)) (ab .result .x) (ab .result .y)
+    ≡ absorb (a .z) (id .result) (begun t (a .len) (a .done) (a .i) (a .z) (a .n) (a .total) (a .near .now) hi (rw n room) (s .pre .1 .0) t) (a .near .now)
+    = ab .ensures ∙ simp (rows-entry (a .x .now) (a .y .now) (a .seen .now) (a .id .now) (a .parent .now) (a .num .now) (a .i) hx) in
+    rw (put .ensures)
+    (rw (rows-parent (a .x .now) (a .y .now) (ab .last .1 .1 .0) (a .id .now) (ab .last .1 .1 .1 .1 .0) (a .num .now) (a .i) v hx (id .result))
+    (made-with t (a .len) (a .done) (a .i) (a .z) (a .n) (a .total) (a .near .now) hi (rw n room) (s .pre .1 .0) (id .result) (id .ensures) _ e))
+
+pub make-one-spec : {M : Type 1} → statement M
+make-one-spec =
+    tie.close
+    (tie.spec
+    cluster-id-requires
+    mul-own
+    slice-read-own
+    int-to-float-own
+    mul-t20
+    slice-read-t24
+    mul-t26
+    slice-read-t28
+    absorb-near-requires
+    mul-parent
+    slice-write-parent
+    int-to-float-t
+    add-put-entry
+    put-entry-requires
+    same-length
+    same-length-2
+    same-length-3
+    same-length-4
+    same-length-5
+    same-length-6
+    returns)

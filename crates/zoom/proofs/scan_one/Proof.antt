@@ -1,0 +1,200 @@
+-- `zoom::scan_one` meets its contract: an entry that was seen leaves the scan as it is; another is marked, its neighbours are listed, and the visit is the
+-- definition's. Assumes nothing.
+use mathlib.Core.Path.{_≡_, refl, ap, sym, _∙_, subst}
+use mathlib.Core.List.{List}
+use Prim.Native.Nat.{ℕ, _^_, _<_, _≤_}
+use native.Mathlib.Omega.{arith}
+use lib.Dec.{T}
+use lib.ListN.{length, getD, set, take, length-set}
+use lib.Seq.{length-take-le, getD-take}
+use lib.Ieee.{Float, nan}
+use lib.Ieee.Scale.{finite}
+use denote.Ref.{now}
+use borrow.Author.Needs.{needs}
+use Rattle.kdbush.specs.declared.Query.the-variants.{Within}
+use Rattle.kdbush.specs.Members.{Distinct}
+use Rattle.tables.specs.declared.Entry.{Entry}
+use Rattle.tables.specs.Entries.{Table, entry, none, marked}
+use Rattle.tables.specs.Rows.{rows, row, even-mark, rows-entry, rows-length, rows-mark}
+use Rattle.zoom.specs.Scanned.{Below}
+use Rattle.zoom.specs.Near.{nearOf, Placed, Answered, all-below}
+use Rattle.zoom.specs.Keeps.{all-at}
+use Rattle.zoom.specs.Visit.{marked-room, marked-unseenNum, scanned, passed}
+use Rattle.zoom.proofs.scan_one.Statement.{statement}
+use Rattle.zoom.proofs.scan_one.Tie as tie
+
+-- ---- what is known at the start
+
+abbrev table : tie.Start → Table
+table s = let a = s .args in rows (now (a .x)) (now (a .y)) (now (a .seen)) (now (a .id)) (now (a .parent)) (now (a .num))
+
+abbrev near-of : tie.Start → Float → Float → List ℕ
+near-of s = let a = s .args in nearOf (a .node-size) (a .len) (now (a .ids)) (now (a .coords)) (a .r)
+
+abbrev places : tie.Start → List ℕ
+places s = let a = s .args in near-of s (getD (now (a .x)) (a .i) nan) (getD (now (a .y)) (a .i) nan)
+
+long : (s : tie.Start) → length (table s) ≡ length (now (s .args .x))
+long s = let a = s .args in rows-length (now (a .x)) (now (a .y)) (now (a .seen)) (now (a .id)) (now (a .parent)) (now (a .num))
+
+here : (s : tie.Start) → s .args .i < s .args .len
+here s = s .pre .1 .0 .3
+
+len-in : (s : tie.Start) → s .args .len ≤ length (table s)
+len-in s = let room = s .pre .1 .1 .1 .0 .0 in omega (arith, room, long s)
+
+inside : (s : tie.Start) → s .args .i < length (now (s .args .x))
+inside s = omega (arith, here s, len-in s, long s)
+
+at-i : (s : tie.Start) → entry (table s) (s .args .i) ≡ row (now (s .args .x)) (now (s .args .y)) (now (s .args .seen)) (now (s .args .id)) (now (s .args .parent)) (now (s .args .num)) (s .args .i)
+at-i s = let a = s .args in rows-entry (now (a .x)) (now (a .y)) (now (a .seen)) (now (a .id)) (now (a .parent)) (now (a .num)) (a .i) (inside s)
+
+mark-i : (s : tie.Start) → rows (now (s .args .x)) (now (s .args .y)) (set (now (s .args .seen)) (s .args .i) (s .args .z)) (now (s .args .id)) (now (s .args .parent)) (now (s .args .num))
+    ≡ set (table s) (s .args .i) (marked (s .args .z) (entry (table s) (s .args .i)))
+mark-i s = let a = s .args in rows-mark (now (a .x)) (now (a .y)) (now (a .seen)) (now (a .id)) (now (a .parent)) (now (a .num)) (a .i) (s .pre .0) (inside s) (a .z)
+
+placed-i : (s : tie.Start) → Placed (entry (table s) (s .args .i))
+placed-i s =
+    let a = s .args in
+    subst (λ (e : Entry). Placed e) (getD-take (a .len) (table s) (a .i) none (here s))
+    (all-at Placed (take (a .len) (table s)) (a .i) (s .pre .1 .1 .0) (omega (arith, length-take-le (a .len) (table s) (len-in s), here s)))
+
+below-of : (s : tie.Start) → Below (places s) (s .args .len)
+below-of s = let a = s .args in all-below (places s) (a .len) (s .pre .1 .0 .0 .below (Within (getD (now (a .x)) (a .i) nan) (getD (now (a .y)) (a .i) nan) (a .r)))
+
+few : (s : tie.Start) → length (places s) ≤ s .args .len
+few s = let a = s .args in s .pre .1 .0 .0 .short (Within (getD (now (a .x)) (a .i) nan) (getD (now (a .y)) (a .i) nan) (a .r))
+
+-- ---- and at the branch of an entry that is not passed by
+
+abbrev start-of : tie.Else1 → tie.Start
+start-of e = e .before .before .before .before .before .before .before .before .before .before .before
+
+abbrev else-of : tie.After-neighbours → tie.Else1
+else-of w = w .before .before .before .before
+
+unseen-i : (e : tie.Else1) → start-of e .args .z < entry (table (start-of e)) (start-of e .args .i) .seen
+unseen-i e = rw (at-i (start-of e)) (e .if1 .left)
+
+-- ---- the parts
+
+slice-read-if1 : tie.Need-slice-read-if1
+slice-read-if1 c = search needs
+
+returns : tie.Need-returns
+returns c =
+    let s = c .before .before .before .before .before .before .before .before .before .before .before in
+    let a = s .args in
+    passed (a .n) (a .least) (a .z) (near-of s) (table s) (a .len) (a .done) (a .i) (here s) (rw (at-i s) (c .if1 .taken)) (omega (arith, s .pre .1 .1 .1 .0 .0, long s))
+
+slice-write-seen : tie.Need-slice-write-seen
+slice-write-seen c = search needs
+
+mul-qx : tie.Need-mul-qx
+mul-qx c = search needs
+
+slice-read-qx : tie.Need-slice-read-qx
+slice-read-qx c = search needs
+
+mul-qy : tie.Need-mul-qy
+mul-qy c = search needs
+
+slice-read-qy : tie.Need-slice-read-qy
+slice-read-qy c = search needs
+
+neighbours-requires : tie.Need-neighbours-requires
+neighbours-requires c κs =
+    let s = c .before .before .before .before .before .before .before .before .before .before .before .before .before .before in
+    let p = s .pre .1 .0 in
+    let f = placed-i s in
+    ((p .0, p .1, p .2), (rw (at-i s) at (f .0), rw (at-i s) at (f .1)))
+
+slice-reshare-prefix-visit-one : tie.Need-slice-reshare-prefix-visit-one
+slice-reshare-prefix-visit-one c =
+    let w = c .before .before .before .before .before .before .before .before in
+    let s = start-of (else-of w) in
+    omega (arith, w .neighbours .ensures .count, few s, s .pre .1 .0 .2, w .neighbours .kept .1 .1 .0)
+
+slice-aggregate-visit-one : tie.Need-slice-aggregate-visit-one
+slice-aggregate-visit-one c =
+    let w = c .before .before .before .before .before .before .before .before .before in
+    let s = start-of (else-of w) in
+    sym (length-take-le (w .neighbours .result) (w .neighbours .last .1 .1 .0) (omega (arith, w .neighbours .ensures .count, few s, s .pre .1 .0 .2, w .neighbours .kept .1 .1 .0)))
+
+visit-one-requires : tie.Need-visit-one-requires
+visit-one-requires c κs =
+    let w = c .before .before .before .before .before .before .before .before .before in
+    let e = else-of w in
+    let s = start-of e in
+    let a = s .args in
+    let l = places s in
+    let fr : take (w .neighbours .result) (w .neighbours .last .1 .1 .0) ≡ l = w .neighbours .ensures .front in
+    let o : Distinct l = s .pre .1 .0 .0 .once (Within (getD (now (a .x)) (a .i) nan) (getD (now (a .y)) (a .i) nan) (a .r)) in
+    let q : entry (table s) (a .i) .num ≡ getD (now (a .num)) (a .i) 0 = ap (λ (v : Entry). v .num) (at-i s) in (
+      even-mark (a .i) (a .z) (s .pre .0),
+      (
+        rw fr (below-of s),
+        (
+          (here s, rw (mark-i s) (marked-room (table s) (a .len) (a .done) (a .z) (a .i) (here s) (len-in s) (unseen-i e) (length (now (a .x))) (s .pre .1 .1 .1 .0 .0))),
+          (rw (mark-i s, fr, ← q) (marked-unseenNum (table s) (a .len) (a .done) (a .z) (a .i) (here s) (len-in s) (unseen-i e) (2 ^ 32) l (below-of s) o (s .pre .1 .1 .1 .0 .1)), s .pre .1 .1 .1 .1),
+        ),
+      ),
+    )
+
+same-length : tie.Need-same-length
+same-length c = search needs
+
+same-length-2 : tie.Need-same-length-2
+same-length-2 c = search needs
+
+same-length-3 : tie.Need-same-length-3
+same-length-3 c = c .before .before .before .before .before .before .before .before .before .before .before .before .visit-one .kept .1 .1 .0 ∙ simp length-set
+
+same-length-4 : tie.Need-same-length-4
+same-length-4 c = search needs
+
+same-length-5 : tie.Need-same-length-5
+same-length-5 c = search needs
+
+same-length-6 : tie.Need-same-length-6
+same-length-6 c = search needs
+
+same-length-7 : tie.Need-same-length-7
+same-length-7 c = search needs
+
+returns-2 : tie.Need-returns-2
+returns-2 c =
+    let v = c .before .before .before .before .before .before .before .before .before .before .before .before in
+    let w = v .before .before .before .before .before .before .before .before .before .before in
+    let e = else-of w in
+    let s = start-of e in
+    let a = s .args in
+    let l = places s in
+    let fr : take (w .neighbours .result) (w .neighbours .last .1 .1 .0) ≡ l = w .neighbours .ensures .front in
+    let le : near-of s (entry (table s) (a .i) .x) (entry (table s) (a .i) .y) ≡ l = rw (at-i s) in
+    scanned (a .n) (a .least) (a .z) (near-of s) (table s) (a .len) (a .done) (a .i) (here s) (unseen-i e) _ _
+    (rw le (rw (mark-i s, fr) at (v .visit-one .ensures)))
+
+pub scan-one-spec : {M : Type 1} → statement M
+scan-one-spec =
+    tie.close
+    (tie.spec
+    slice-read-if1
+    returns
+    slice-write-seen
+    mul-qx
+    slice-read-qx
+    mul-qy
+    slice-read-qy
+    neighbours-requires
+    slice-reshare-prefix-visit-one
+    slice-aggregate-visit-one
+    visit-one-requires
+    same-length
+    same-length-2
+    same-length-3
+    same-length-4
+    same-length-5
+    same-length-6
+    same-length-7
+    returns-2)

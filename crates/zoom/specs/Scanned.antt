@@ -1,0 +1,38 @@
+-- What the six columns hold while a table is scanned: its entries, and right after them the next table's, as far as it is made. And what is counted on the way.
+-- Definitions only.
+use mathlib.Core.Path.{_≡_}
+use mathlib.Core.Bool.{cond}
+use mathlib.Core.List.{List, [], _∷_}
+use Prim.Native.Nat.{ℕ, _+_, _<_, _≤_}
+use lib.ListN.{length, getD, set, take, drop}
+use Rattle.tables.specs.Entries.{Table, entry, unseen, marked}
+use Rattle.zoom.specs.Zoom.{Scan}
+
+-- the scan that the columns hold: the table is the first len rows, and the next one the d rows after them
+abbrev pub scanOf : ℕ → ℕ → Table → Scan
+scanOf len d t = record { table = take len t; next = take d (drop len t) }
+
+-- what a step of a scan leaves of the columns: the scan's two tables, and the old rows past them
+pub record Scanned (len d₀ : ℕ) (s : Scan) (old new : Table) (d : ℕ) : Type 0 where
+  pub scan : scanOf len d new ≡ s
+  pub rest : drop (len + d) new ≡ drop (len + d) old
+  pub grown : d₀ ≤ d
+  pub fits : len + d ≤ length new
+
+-- row k is marked, and then copied to row `at`
+abbrev pub copiedTo : Table → ℕ → ℕ → ℕ → Table
+copiedTo t k at z = set (set t k (marked z (entry t k))) at (entry (set t k (marked z (entry t k))) k)
+
+-- each number is below n
+abbrev pub Below : List ℕ → ℕ → Type 0
+Below l n = (k : ℕ) → k < length l → getD l k 0 < n
+
+-- how many entries are unseen: there is room for no more in the next table
+unfoldable pub unseenCount : ℕ → Table → ℕ
+unseenCount z [] = 0
+unseenCount z (e ∷ t) = cond (unseen z e) 1 0 + unseenCount z t
+
+-- the num of the unseen entries, added up: no total is more
+unfoldable pub unseenNum : ℕ → Table → ℕ
+unseenNum z [] = 0
+unseenNum z (e ∷ t) = cond (unseen z e) (e .num) 0 + unseenNum z t

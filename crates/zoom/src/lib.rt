@@ -1,0 +1,390 @@
+// One zoom, `cluster` of the Rust: the entries of a table in order, each passed by, or made a cluster with its unseen neighbours, or copied with them.
+// The table stands in the first `len` rows of the lent columns, and the next one, `done` entries so far, right after it.
+use kdbush::SearchReply;
+use tables::Entry;
+ghost use mathlib.Core.Path.{_≡_};
+ghost use Prim.Native.Nat.{_+_, _*_, _^_, _<_, _≤_};
+ghost use lib.Dec.{T};
+ghost use lib.ListN.{length, getD, take};
+ghost use lib.Ieee.Scale.{finite};
+ghost use Rattle.kdbush.specs.Promise.{Promised};
+ghost use Rattle.tables.specs.Rows.{rows, Even};
+ghost use Rattle.tables.specs.Ids.{clusterId};
+ghost use Rattle.zoom.specs.Zoom.{absorb, absorbed, copyAll, more, madeAt, leftAt, enough, visit, scanOne, cluster};
+ghost use Rattle.zoom.specs.Scanned.{Scanned, scanOf, copiedTo, Below, unseenCount, unseenNum};
+ghost use Rattle.zoom.specs.Near.{nearOf, Answered, Placed, Radius};
+ghost use Rattle.zoom.specs.Keeps.{All};
+
+// The running sums of a cluster: coordinates times nums.
+struct Sums {
+    x: f64,
+    y: f64,
+}
+
+// Each unseen neighbour, in answer order, is marked, gets the parent p, and adds its products.
+fn absorb_near(
+    x: &[f64],
+    y: &[f64],
+    seen: &mut [u8],
+    id: &[u32],
+    parent: &mut [u32],
+    num: &[u32],
+    near: &[u32],
+    z: u8,
+    p: u32,
+    sums: Sums,
+) -> Sums
+    requires { ⌜ Even (now x) (now y) (now seen) (now id) (now parent) (now num) ⌝ }
+    requires { ⌜ Below (now near) (length (now x)) ⌝ }
+    ensures { λ r. ⌜ absorbed (rows (now (x .entry)) (now (y .entry)) (now (seen .exit)) (now (id .entry)) (now (parent .exit)) (now (num .entry))) (r .x) (r .y)
+        ≡ absorb z p (absorbed (rows (now (x .entry)) (now (y .entry)) (now (seen .entry)) (now (id .entry)) (now (parent .entry)) (now (num .entry))) (sums .x) (sums .y)) (now (near .entry)) ⌝ }
+{
+    let mut wx = sums.x;
+    let mut wy = sums.y;
+    let mut j = 0;
+    while j < near.len() {
+        let k = near[j] as usize;
+        if z < seen[k] {
+            seen[k] = z;
+            parent[k] = p;
+            let w = num[k] as f64;
+            wx = wx + x[k] * w;
+            wy = wy + y[k] * w;
+        }
+        j += 1;
+    }
+    Sums { x: wx, y: wy }
+}
+
+// The entry k is marked, and then copied to row `at`.
+fn copy_one(
+    x: &mut [f64],
+    y: &mut [f64],
+    seen: &mut [u8],
+    id: &mut [u32],
+    parent: &mut [u32],
+    num: &mut [u32],
+    k: usize,
+    at: usize,
+    z: u8,
+)
+    requires { ⌜ Even (now x) (now y) (now seen) (now id) (now parent) (now num) ⌝ }
+    requires { ⌜ (k < length (now x)) × (at < length (now x)) ⌝ }
+    ensures { λ _. ⌜ rows (now (x .exit)) (now (y .exit)) (now (seen .exit)) (now (id .exit)) (now (parent .exit)) (now (num .exit))
+        ≡ copiedTo (rows (now (x .entry)) (now (y .entry)) (now (seen .entry)) (now (id .entry)) (now (parent .entry)) (now (num .entry))) k at z ⌝ }
+{
+    seen[k] = z;
+    let e = tables::entry_at(x, y, seen, id, parent, num, k);
+    tables::put_entry(x, y, seen, id, parent, num, at, e);
+}
+
+// Each unseen neighbour, in answer order, is marked and copied.
+fn copy_near(
+    x: &mut [f64],
+    y: &mut [f64],
+    seen: &mut [u8],
+    id: &mut [u32],
+    parent: &mut [u32],
+    num: &mut [u32],
+    near: &[u32],
+    len: usize,
+    done: usize,
+    z: u8,
+) -> usize
+    requires { ⌜ Even (now x) (now y) (now seen) (now id) (now parent) (now num) ⌝ }
+    requires { ⌜ Below (now near) len ⌝ }
+    requires { ⌜ len + done + unseenCount z (take len (rows (now x) (now y) (now seen) (now id) (now parent) (now num))) ≤ length (now x) ⌝ }
+    ensures { λ r. ⌜ Scanned len done
+        (copyAll z (scanOf len done (rows (now (x .entry)) (now (y .entry)) (now (seen .entry)) (now (id .entry)) (now (parent .entry)) (now (num .entry)))) (now (near .entry)))
+        (rows (now (x .entry)) (now (y .entry)) (now (seen .entry)) (now (id .entry)) (now (parent .entry)) (now (num .entry)))
+        (rows (now (x .exit)) (now (y .exit)) (now (seen .exit)) (now (id .exit)) (now (parent .exit)) (now (num .exit))) r ⌝ }
+{
+    let mut d = done;
+    let mut j = 0;
+    while j < near.len() {
+        let k = near[j] as usize;
+        if z < seen[k] {
+            copy_one(x, y, seen, id, parent, num, k, len + d, z);
+            d += 1;
+        }
+        j += 1;
+    }
+    d
+}
+
+// The entry's own num and that of each unseen neighbour.
+fn total_near(
+    x: &[f64],
+    y: &[f64],
+    seen: &[u8],
+    id: &[u32],
+    parent: &[u32],
+    num: &[u32],
+    near: &[u32],
+    z: u8,
+    own: u32,
+) -> u32
+    requires { ⌜ Even (now x) (now y) (now seen) (now id) (now parent) (now num) ⌝ }
+    requires { ⌜ Below (now near) (length (now x)) ⌝ }
+    requires { ⌜ own + more z (rows (now x) (now y) (now seen) (now id) (now parent) (now num)) (now near) < 2 ^ 32 ⌝ }
+    ensures { λ r. ⌜ r ≡ own + more z (rows (now (x .entry)) (now (y .entry)) (now (seen .entry)) (now (id .entry)) (now (parent .entry)) (now (num .entry))) (now (near .entry)) ⌝ }
+{
+    let mut total = own;
+    let mut j = 0;
+    while j < near.len() {
+        let k = near[j] as usize;
+        if z < seen[k] {
+            total += num[k];
+        }
+        j += 1;
+    }
+    total
+}
+
+// The entry i is made a cluster of `total` lamps with its unseen neighbours.
+fn make_one(
+    x: &mut [f64],
+    y: &mut [f64],
+    seen: &mut [u8],
+    id: &mut [u32],
+    parent: &mut [u32],
+    num: &mut [u32],
+    near: &[u32],
+    len: usize,
+    done: usize,
+    i: usize,
+    z: u8,
+    n: u32,
+    total: u32,
+)
+    requires { ⌜ Even (now x) (now y) (now seen) (now id) (now parent) (now num) ⌝ }
+    requires { ⌜ Below (now near) len ⌝ }
+    requires { ⌜ (i < len) × (len + done < length (now x)) × (len ≤ 1048576) × (n ≤ 1048576) × (z ≤ 30) ⌝ }
+    ensures { λ _. ⌜ Scanned len done
+        (madeAt n z i total (now (near .entry)) (scanOf len done (rows (now (x .entry)) (now (y .entry)) (now (seen .entry)) (now (id .entry)) (now (parent .entry)) (now (num .entry)))))
+        (rows (now (x .entry)) (now (y .entry)) (now (seen .entry)) (now (id .entry)) (now (parent .entry)) (now (num .entry)))
+        (rows (now (x .exit)) (now (y .exit)) (now (seen .exit)) (now (id .exit)) (now (parent .exit)) (now (num .exit))) (done + 1) ⌝ }
+{
+    let cluster = tables::cluster_id(i, z, n);
+    let own = num[i] as f64;
+    let from = Sums {
+        x: x[i] * own,
+        y: y[i] * own,
+    };
+    let s = absorb_near(x, y, seen, id, parent, num, near, z, cluster, from);
+    parent[i] = cluster;
+    let t = total as f64;
+    let e = Entry {
+        x: s.x / t,
+        y: s.y / t,
+        seen: 255,
+        id: cluster,
+        parent: 4294967295,
+        num: total,
+    };
+    tables::put_entry(x, y, seen, id, parent, num, len + done, e);
+}
+
+// The entry i is copied, and then its unseen neighbours.
+fn leave_one(
+    x: &mut [f64],
+    y: &mut [f64],
+    seen: &mut [u8],
+    id: &mut [u32],
+    parent: &mut [u32],
+    num: &mut [u32],
+    near: &[u32],
+    len: usize,
+    done: usize,
+    i: usize,
+    z: u8,
+) -> usize
+    requires { ⌜ Even (now x) (now y) (now seen) (now id) (now parent) (now num) ⌝ }
+    requires { ⌜ Below (now near) len ⌝ }
+    requires { ⌜ (i < len) × (len + done + 1 + unseenCount z (take len (rows (now x) (now y) (now seen) (now id) (now parent) (now num))) ≤ length (now x)) ⌝ }
+    ensures { λ r. ⌜ Scanned len done
+        (leftAt z i (now (near .entry)) (scanOf len done (rows (now (x .entry)) (now (y .entry)) (now (seen .entry)) (now (id .entry)) (now (parent .entry)) (now (num .entry)))))
+        (rows (now (x .entry)) (now (y .entry)) (now (seen .entry)) (now (id .entry)) (now (parent .entry)) (now (num .entry)))
+        (rows (now (x .exit)) (now (y .exit)) (now (seen .exit)) (now (id .exit)) (now (parent .exit)) (now (num .exit))) r ⌝ }
+{
+    let e = tables::entry_at(x, y, seen, id, parent, num, i);
+    tables::put_entry(x, y, seen, id, parent, num, len + done, e);
+    copy_near(x, y, seen, id, parent, num, near, len, done + 1, z)
+}
+
+// Whether the total exceeds the entry's own num and is at least min_points.
+fn is_enough(own: u32, total: u32, least: u8) -> bool
+    ensures { λ r. ⌜ r ≡ enough own total least ⌝ }
+{
+    if own < total {
+        return least as u32 <= total;
+    }
+    false
+}
+
+// The entry i, which is marked.
+fn visit_one(
+    x: &mut [f64],
+    y: &mut [f64],
+    seen: &mut [u8],
+    id: &mut [u32],
+    parent: &mut [u32],
+    num: &mut [u32],
+    near: &[u32],
+    len: usize,
+    done: usize,
+    i: usize,
+    z: u8,
+    n: u32,
+    least: u8,
+) -> usize
+    requires { ⌜ Even (now x) (now y) (now seen) (now id) (now parent) (now num) ⌝ }
+    requires { ⌜ Below (now near) len ⌝ }
+    requires { ⌜ (i < len) × (len + done + 1 + unseenCount z (take len (rows (now x) (now y) (now seen) (now id) (now parent) (now num))) ≤ length (now x)) ⌝ }
+    requires { ⌜ getD (now num) i 0 + more z (take len (rows (now x) (now y) (now seen) (now id) (now parent) (now num))) (now near) < 2 ^ 32 ⌝ }
+    requires { ⌜ (len ≤ 1048576) × (n ≤ 1048576) × (z ≤ 30) ⌝ }
+    ensures { λ r. ⌜ Scanned len done
+        (visit n least z (now (near .entry)) i (scanOf len done (rows (now (x .entry)) (now (y .entry)) (now (seen .entry)) (now (id .entry)) (now (parent .entry)) (now (num .entry)))))
+        (rows (now (x .entry)) (now (y .entry)) (now (seen .entry)) (now (id .entry)) (now (parent .entry)) (now (num .entry)))
+        (rows (now (x .exit)) (now (y .exit)) (now (seen .exit)) (now (id .exit)) (now (parent .exit)) (now (num .exit))) r ⌝ }
+{
+    let own = num[i];
+    let total = total_near(x, y, seen, id, parent, num, near, z, own);
+    if is_enough(own, total, least) {
+        make_one(x, y, seen, id, parent, num, near, len, done, i, z, n, total);
+        return done + 1;
+    }
+    leave_one(x, y, seen, id, parent, num, near, len, done, i, z)
+}
+
+// Lists the neighbours of (qx, qy) at the front of `near`: how many there are.
+fn neighbours(
+    ids: &[u32],
+    coords: &[f64],
+    near: &mut [u32],
+    node_size: usize,
+    r: f64,
+    len: usize,
+    qx: f64,
+    qy: f64,
+) -> usize
+    requires { ⌜ Promised «node_size» len (now ids) (now coords) × Radius r × (len ≤ length (now near)) ⌝ }
+    requires { ⌜ T (finite qx) × T (finite qy) ⌝ }
+    ensures { λ k. ⌜ Answered (nearOf «node_size» len (now (ids .entry)) (now (coords .entry)) r qx qy) (now (near .exit)) k ⌝ }
+{
+    match kdbush::within(node_size, len, ids, coords, qx, qy, r, near) {
+        SearchReply::Found(k) => k,
+        SearchReply::Box => 0,
+        SearchReply::NoRoom(_) => 0,
+        SearchReply::Spoiled => 0,
+    }
+}
+
+// The entry i: passed by, or marked and visited.
+fn scan_one(
+    x: &mut [f64],
+    y: &mut [f64],
+    seen: &mut [u8],
+    id: &mut [u32],
+    parent: &mut [u32],
+    num: &mut [u32],
+    ids: &[u32],
+    coords: &[f64],
+    near: &mut [u32],
+    node_size: usize,
+    r: f64,
+    len: usize,
+    done: usize,
+    i: usize,
+    z: u8,
+    n: u32,
+    least: u8,
+) -> usize
+    requires { ⌜ Even (now x) (now y) (now seen) (now id) (now parent) (now num) ⌝ }
+    requires { ⌜ Promised «node_size» len (now ids) (now coords) × Radius r × (len ≤ length (now near)) × (i < len) ⌝ }
+    requires { ⌜ All Placed (take len (rows (now x) (now y) (now seen) (now id) (now parent) (now num))) ⌝ }
+    requires { ⌜ (len + done + unseenCount z (take len (rows (now x) (now y) (now seen) (now id) (now parent) (now num))) ≤ length (now x)) × (unseenNum z (take len (rows (now x) (now y) (now seen) (now id) (now parent) (now num))) < 2 ^ 32) ⌝ }
+    requires { ⌜ (len ≤ 1048576) × (n ≤ 1048576) × (z ≤ 30) ⌝ }
+    ensures { λ d. ⌜ Scanned len done
+        (scanOne n least z (nearOf «node_size» len (now (ids .entry)) (now (coords .entry)) r) (scanOf len done (rows (now (x .entry)) (now (y .entry)) (now (seen .entry)) (now (id .entry)) (now (parent .entry)) (now (num .entry)))) i)
+        (rows (now (x .entry)) (now (y .entry)) (now (seen .entry)) (now (id .entry)) (now (parent .entry)) (now (num .entry)))
+        (rows (now (x .exit)) (now (y .exit)) (now (seen .exit)) (now (id .exit)) (now (parent .exit)) (now (num .exit))) d ⌝ }
+{
+    if seen[i] <= z {
+        return done;
+    }
+    seen[i] = z;
+    let qx = x[i];
+    let qy = y[i];
+    let found = neighbours(ids, coords, near, node_size, r, len, qx, qy);
+    visit_one(
+        x,
+        y,
+        seen,
+        id,
+        parent,
+        num,
+        &near[..found],
+        len,
+        done,
+        i,
+        z,
+        n,
+        least,
+    )
+}
+
+// Zoom z of the table of `len` entries, whose index stands in ids and coords: how many entries the next table has.
+pub fn cluster(
+    x: &mut [f64],
+    y: &mut [f64],
+    seen: &mut [u8],
+    id: &mut [u32],
+    parent: &mut [u32],
+    num: &mut [u32],
+    ids: &[u32],
+    coords: &[f64],
+    near: &mut [u32],
+    node_size: usize,
+    r: f64,
+    len: usize,
+    z: u8,
+    n: u32,
+    least: u8,
+) -> usize
+    requires { ⌜ Even (now x) (now y) (now seen) (now id) (now parent) (now num) ⌝ }
+    requires { ⌜ Promised «node_size» len (now ids) (now coords) × Radius r × (len ≤ length (now near)) × (len + len ≤ length (now x)) ⌝ }
+    requires { ⌜ All Placed (take len (rows (now x) (now y) (now seen) (now id) (now parent) (now num))) ⌝ }
+    requires { ⌜ unseenNum z (take len (rows (now x) (now y) (now seen) (now id) (now parent) (now num))) < 2 ^ 32 ⌝ }
+    requires { ⌜ (len ≤ 1048576) × (n ≤ 1048576) × (z ≤ 30) ⌝ }
+    ensures { λ d. ⌜ Scanned len 0
+        (cluster n least z (nearOf «node_size» len (now (ids .entry)) (now (coords .entry)) r) (take len (rows (now (x .entry)) (now (y .entry)) (now (seen .entry)) (now (id .entry)) (now (parent .entry)) (now (num .entry)))))
+        (rows (now (x .entry)) (now (y .entry)) (now (seen .entry)) (now (id .entry)) (now (parent .entry)) (now (num .entry)))
+        (rows (now (x .exit)) (now (y .exit)) (now (seen .exit)) (now (id .exit)) (now (parent .exit)) (now (num .exit))) d ⌝ }
+{
+    let mut d = 0;
+    let mut i = 0;
+    while i < len {
+        d = scan_one(
+            x,
+            y,
+            seen,
+            id,
+            parent,
+            num,
+            ids,
+            coords,
+            near,
+            node_size,
+            r,
+            len,
+            d,
+            i,
+            z,
+            n,
+            least,
+        );
+        i += 1;
+    }
+    d
+}

@@ -1,0 +1,84 @@
+//! Both builds of the Rust, asked to load: the Rust's own values from plain ones, and its tables as the
+//! port packs them.
+
+mod tables;
+
+pub use tables::{Row, Table, Tables};
+
+use geojson::{Feature, Geometry, JsonObject, Value};
+
+/// A point with an empty properties object.
+pub fn feature([x, y]: [f64; 2]) -> Feature {
+    Feature {
+        geometry: Some(Geometry::new(Value::Point(vec![x, y]))),
+        properties: Some(JsonObject::new()),
+        ..Feature::default()
+    }
+}
+
+/// The points of two columns as features.
+pub fn features(xs: &[f64], ys: &[f64]) -> Vec<Feature> {
+    xs.iter().zip(ys).map(|(x, y)| feature([*x, *y])).collect()
+}
+
+macro_rules! build {
+    ($module:ident, $rust:ident) => {
+        pub mod $module {
+            //! This build of the Rust.
+
+            use crate::{features, tables::Table, Tables};
+            use options::{Options, Plane, Range};
+            pub use $rust::Supercluster;
+            use $rust::{CoordinateSystem, DataRange, KDBush, SuperclusterOptions};
+
+            /// A range as this build has it.
+            pub fn data_range(range: &Range) -> DataRange {
+                DataRange {
+                    min_x: range.min_x,
+                    min_y: range.min_y,
+                    max_x: range.max_x,
+                    max_y: range.max_y,
+                    offset: range.offset,
+                    scale: range.scale,
+                }
+            }
+
+            /// An instance with these options, nothing loaded yet.
+            pub fn unloaded(options: &Options) -> Supercluster {
+                Supercluster::new(SuperclusterOptions {
+                    min_zoom: options.min_zoom,
+                    max_zoom: options.max_zoom,
+                    min_points: options.min_points,
+                    radius: options.radius,
+                    extent: options.extent,
+                    node_size: options.node_size,
+                    coordinate_system: match &options.plane {
+                        Plane::Globe => CoordinateSystem::LatLng,
+                        Plane::Cartesian(range) => {
+                            CoordinateSystem::Cartesian { range: data_range(range) }
+                        }
+                    },
+                })
+            }
+
+            /// The tables of a loaded instance, the finest first.
+            pub fn tables_of(rust: &Supercluster) -> impl Iterator<Item = Table<'_>> {
+                let zooms = rust.options.min_zoom..=rust.options.max_zoom + 1;
+                zooms.rev().map(|zoom| {
+                    let KDBush { ids, coords, data, .. } = &rust.trees[&usize::from(zoom)];
+                    Table { zoom: usize::from(zoom), data, ids, coords }
+                })
+            }
+
+            /// Loads these points; the tables.
+            pub fn tables(options: &Options, xs: &[f64], ys: &[f64]) -> Tables {
+                let mut rust = unloaded(options);
+                rust.load(features(xs, ys)).expect("points that are loaded");
+                Tables::packed(tables_of(&rust))
+            }
+        }
+    };
+}
+
+build!(untouched, oracle_untouched);
+build!(patched, oracle_patched);

@@ -1,0 +1,104 @@
+//! The builds that are compared: options at 01's bounds crossed, and every number of points up to 700.
+
+use crate::Form;
+use options::{corners, Options};
+use points::{Drawn, Shape, SHAPES};
+use splitmix::Splitmix;
+
+/// One build: options, and the points as a caller of the Rust has them.
+pub struct Case {
+    pub options: Options,
+    pub shape: Shape,
+    pub drawn: Drawn,
+    pub xs: Vec<f64>,
+    pub ys: Vec<f64>,
+}
+
+const DRAWN: [Drawn; 6] =
+    [Drawn::Not, Drawn::Each, Drawn::By(8), Drawn::Not, Drawn::Each, Drawn::By(22)];
+
+impl Case {
+    /// So many points of a shape, drawn together, in the coordinate system of the options.
+    pub fn made(
+        options: Options,
+        shape: Shape,
+        drawn: Drawn,
+        count: usize,
+        source: &mut Splitmix,
+    ) -> Case {
+        let points = points::made(shape, count, source).drawn(drawn, source);
+        let [xs, ys] = points.placed(&options.plane);
+        Case { options, shape, drawn, xs, ys }
+    }
+
+    /// In words.
+    pub fn name(&self) -> String {
+        let Case { options, shape, drawn, xs, .. } = self;
+        format!("{} points, {shape:?}, drawn {drawn:?}, {options:?}", xs.len())
+    }
+}
+
+/// Every combination of options at the bounds, with a few points of each shape, the coordinate systems in
+/// turn.
+pub fn corners(form: Form, source: &mut Splitmix, mut compare: impl FnMut(&Case, &mut Splitmix)) {
+    let most = match form {
+        Form::Short => 40,
+        Form::Full => 160,
+    };
+    let mut number = 0;
+    for min_points in [0, 1, 2, 3, 255] {
+        for radius in [0.0, 40.0, 512.0, 65_536.0] {
+            for extent in [1.0, 512.0, 65_536.0] {
+                for node_size in [1, 2, 3, 64, 65_535] {
+                    for [min_zoom, max_zoom] in [[0, 0], [0, 16], [16, 16], [0, 30], [30, 30]] {
+                        for shape in SHAPES {
+                            let plane = corners::plane(number, source);
+                            let options = Options {
+                                min_zoom,
+                                max_zoom,
+                                min_points,
+                                radius,
+                                extent,
+                                node_size,
+                                plane,
+                            };
+                            let drawn = DRAWN[number % DRAWN.len()];
+                            let count = 1 + source.below(most) as usize;
+                            compare(&Case::made(options, shape, drawn, count, source), source);
+                            number += 1;
+                        }
+                        // The coordinate systems move on against the shapes.
+                        number += 1;
+                    }
+                }
+            }
+        }
+    }
+}
+
+/// Numbers of points, and how many builds each has in the short form and in the full one.
+fn sizes() -> [(Vec<usize>, [usize; 2]); 4] {
+    [
+        ((1..=64).collect(), [160, 1_200]),
+        ((65..=200).collect(), [24, 200]),
+        ((201..=700).collect(), [4, 40]),
+        ((597..=606).collect(), [24, 200]),
+    ]
+}
+
+/// Every number of points, with shapes, coordinate systems and options by chance: ordinary ones, and any.
+pub fn counts(form: Form, source: &mut Splitmix, mut compare: impl FnMut(&Case, &mut Splitmix)) {
+    for (counts, [short, full]) in sizes() {
+        let builds = if form == Form::Full { full } else { short };
+        for count in counts {
+            for build in 0..builds {
+                let options = match build % 2 {
+                    0 => corners::ordinary(source),
+                    _ => corners::any(source),
+                };
+                let (shape, drawn) = (source.pick(&SHAPES), source.pick(&DRAWN));
+                compare(&Case::made(options, shape, drawn, count, source), source);
+            }
+        }
+    }
+}

@@ -1,0 +1,62 @@
+//! An independent reference for what a build refuses, written from 01's text: 'Numbers that bound a build'
+//! and 'Numbered replies'.
+
+use super::{needed, outcome::Request};
+use options::{Options, Plane, Range};
+use ported::Reply;
+
+/// The most points of a build.
+pub const MOST_POINTS: usize = 1_048_576;
+
+/// The refusal of a build: 1, 2, 3, 4, whichever holds first.
+pub fn refusal(request: &Request) -> Option<Reply> {
+    let Request { options, xs, ys, lengths, .. } = request;
+    let plain = |number| Some(Reply { number, carried: 0 });
+    if !options_in_bounds(options) {
+        return plain(1);
+    }
+    if xs.len() != ys.len() || xs.is_empty() || xs.len() > MOST_POINTS {
+        return plain(2);
+    }
+    let outside = |(x, y): (&f64, &f64)| !in_unit(&converted(&options.plane, *x, *y));
+    if let Some(carried) = xs.iter().zip(*ys).position(outside) {
+        return Some(Reply { number: 3, carried });
+    }
+    let short = lengths.iter().zip(needed(options, xs.len())).any(|(length, need)| *length < need);
+    if short {
+        return plain(4);
+    }
+    None
+}
+
+fn options_in_bounds(options: &Options) -> bool {
+    options.min_zoom <= options.max_zoom
+        && options.max_zoom <= 30
+        && (1..=65_535).contains(&options.node_size)
+        && (0.0..=65_536.0).contains(&options.radius)
+        && (1.0..=65_536.0).contains(&options.extent)
+        && match &options.plane {
+            Plane::Globe => true,
+            Plane::Cartesian(range) => range_in_bounds(range),
+        }
+}
+
+fn range_in_bounds(range: &Range) -> bool {
+    let Range { min_x, min_y, max_x, max_y, .. } = *range;
+    let offset = range.offset.unwrap_or(if min_y < min_x { min_y } else { min_x });
+    let scale = range.scale.unwrap_or(if max_x < max_y { max_y } else { max_x } - offset);
+    let all_finite = [min_x, min_y, max_x, max_y, offset, scale].iter().all(|v| v.is_finite());
+    all_finite && scale > 0.0
+}
+
+/// A point in table units.
+fn converted(plane: &Plane, x: f64, y: f64) -> [f64; 2] {
+    match plane {
+        Plane::Globe => [x / 360.0 + 0.5, y],
+        Plane::Cartesian(range) => [range.normalize(x), range.normalize(y)],
+    }
+}
+
+fn in_unit(point: &[f64; 2]) -> bool {
+    point.iter().all(|v| (0.0..=1.0).contains(v))
+}

@@ -1,0 +1,210 @@
+//! What a build refuses: every refusal alone and before every other, with columns that must keep their
+//! contents; and the cases beside them that are not refused, built as the Rust does.
+
+use super::{
+    needed,
+    outcome::Request,
+    reference::{self, MOST_POINTS},
+};
+use crate::report::Group;
+use options::{Options, Plane, Range, UNIT, USUAL};
+use ported::{Lengths, COLUMNS, ZOOMS};
+
+const NAN: f64 = f64::NAN;
+const INF: f64 = f64::INFINITY;
+const TINY: f64 = f64::from_bits(1);
+const ABOVE_1: f64 = f64::from_bits(0x3ff0_0000_0000_0001);
+
+/// What a build is asked for, y in [0,1] on the globe too.
+pub struct Asked {
+    pub options: Options,
+    pub xs: Vec<f64>,
+    pub ys: Vec<f64>,
+    pub lengths: Lengths,
+}
+
+/// Coordinates changed at once: axis, place, and what stands there.
+type Changes = &'static [(usize, usize, f64)];
+
+/// One build, refused by the reference or built as the patched Rust does.
+pub fn judge(asked: &Asked, group: &mut Group) {
+    judge_state(asked, ZOOMS, group);
+}
+
+/// The same, with room for so much of the state.
+fn judge_state(asked: &Asked, zooms: usize, group: &mut Group) {
+    let Asked { options, xs, ys, lengths } = asked;
+    let request = Request { options, xs, ys, lengths: *lengths, zooms };
+    let outcome = request.made();
+    let difference = match reference::refusal(&request) {
+        Some(reply) => outcome.is_not_refused(reply),
+        None => outcome.is_not(&rust_tables(asked)),
+    };
+    let about = || {
+        let counts = [xs.len(), ys.len()];
+        format!("{counts:?} xs and ys, columns of {lengths:?}, state of {zooms}, {options:?}")
+    };
+    group.compare(about, difference);
+}
+
+/// The patched Rust's tables. On the globe it would ask for latitudes: it is given the converted points.
+fn rust_tables(asked: &Asked) -> builds::Tables {
+    let Asked { options, xs, ys, .. } = asked;
+    match options.plane {
+        Plane::Cartesian(_) => builds::patched::tables(options, xs, ys),
+        Plane::Globe => {
+            let xs: Vec<f64> = xs.iter().map(|x| x / 360.0 + 0.5).collect();
+            let options = Options { plane: Plane::Cartesian(UNIT), ..*options };
+            builds::patched::tables(&options, &xs, ys)
+        }
+    }
+}
+
+/// Points spread over the unit square; some are close to each other.
+pub fn spread(count: usize) -> [Vec<f64>; 2] {
+    let steps = [0.6180339887498949, 0.7548776662466927];
+    steps.map(|step| (0..count).map(|i| ((i / 2) as f64 * step).fract()).collect())
+}
+
+/// Lengths with room for a build of so many points, and some more.
+pub fn roomy(options: &Options, count: usize) -> Lengths {
+    needed(options, count).map(|length| length + 3)
+}
+
+/// 1, 2, 3 and 4 in every combination.
+pub fn run() -> Group {
+    let mut group = Group::new("tables, refusals, alone and together");
+    for options in some_options() {
+        for counts in [[5, 5], [1, 1], [0, 0], [5, 4], [4, 5], [5, 0], [0, 5]] {
+            for changes in CHANGES {
+                let [xs, ys] = changed(counts, changes);
+                for lengths in some_lengths(&options, counts[0]) {
+                    let (xs, ys) = (xs.clone(), ys.clone());
+                    judge(&Asked { options, xs, ys, lengths }, &mut group);
+                }
+            }
+        }
+    }
+    too_many(&mut group);
+    group
+}
+
+/// Options out of bounds each in another way, and some in bounds.
+fn some_options() -> Vec<Options> {
+    let usual = Options { max_zoom: 2, ..USUAL };
+    let cartesian = |range| Options { plane: Plane::Cartesian(range), ..usual };
+    vec![
+        usual,
+        Options { plane: Plane::Globe, ..usual },
+        Options { min_zoom: 30, max_zoom: 30, node_size: 1, ..usual },
+        Options { min_zoom: 3, ..usual },
+        Options { max_zoom: 31, ..usual },
+        Options { node_size: 0, ..usual },
+        Options { node_size: 65_536, ..usual },
+        Options { radius: -1.0, ..usual },
+        Options { radius: NAN, ..usual },
+        Options { extent: 0.5, ..usual },
+        Options { extent: INF, ..usual },
+        cartesian(Range { min_x: INF, ..UNIT }),
+        cartesian(Range { max_y: NAN, ..UNIT }),
+        cartesian(Range { offset: Some(-INF), ..UNIT }),
+        cartesian(Range { scale: Some(0.0), ..UNIT }),
+        cartesian(Range { scale: Some(-1.0), ..UNIT }),
+        cartesian(Range { max_x: 0.0, max_y: 0.0, scale: None, ..UNIT }),
+    ]
+}
+
+/// None; one outside [0,1] on either axis, first, last and between; several, of which the first counts.
+const CHANGES: [Changes; 12] = [
+    &[],
+    &[(0, 0, NAN)],
+    &[(1, 0, NAN)],
+    &[(0, 4, 1e9)],
+    &[(1, 4, ABOVE_1)],
+    &[(0, 2, -1e9)],
+    &[(1, 2, -TINY)],
+    &[(0, 3, INF)],
+    &[(1, 3, -INF)],
+    &[(0, 3, NAN), (1, 1, 2.0)],
+    &[(0, 1, -INF), (1, 3, NAN)],
+    &[(0, 4, NAN), (1, 4, NAN), (0, 2, INF)],
+];
+
+/// Spread points, with the changes that fall into them.
+fn changed([xs, ys]: [usize; 2], changes: Changes) -> [Vec<f64>; 2] {
+    let [mut x, mut y] = spread(xs.max(ys));
+    x.truncate(xs);
+    y.truncate(ys);
+    let mut columns = [x, y];
+    for (axis, place, value) in changes {
+        if let Some(coordinate) = columns[*axis].get_mut(*place) {
+            *coordinate = *value;
+        }
+    }
+    columns
+}
+
+/// Lengths: with room, just enough, nothing at all; each column one too short, and none of it.
+fn some_lengths(options: &Options, count: usize) -> Vec<Lengths> {
+    let enough = needed(options, count);
+    let mut all = vec![roomy(options, count), enough, [0; COLUMNS.len()]];
+    for column in 0..COLUMNS.len() {
+        for length in [enough[column].saturating_sub(1), 0] {
+            let mut lengths = enough;
+            lengths[column] = length;
+            all.push(lengths);
+        }
+    }
+    all
+}
+
+/// One point more than a build can have, and the last one outside; as many as it can have, in columns that
+/// are too short.
+fn too_many(group: &mut Group) {
+    for count in [MOST_POINTS, MOST_POINTS + 1] {
+        for last in [0.5, NAN] {
+            for node_size in [0, 64] {
+                let (mut xs, ys) = (vec![0.5; count], vec![0.25; count]);
+                xs[count - 1] = last;
+                let options = Options { node_size, ..USUAL };
+                judge(&Asked { options, xs, ys, lengths: [0; COLUMNS.len()] }, group);
+            }
+        }
+    }
+}
+
+/// Each column one too short, for several numbers of points and of tables.
+pub fn of_short_columns() -> Group {
+    let mut group = Group::new("tables, refusals of short columns");
+    for [min_zoom, max_zoom] in [[0, 0], [0, 1], [0, 16], [16, 16], [0, 30], [30, 30]] {
+        for plane in [USUAL.plane, Plane::Globe] {
+            let options = Options { min_zoom, max_zoom, plane, ..USUAL };
+            for count in [1, 2, 3, 40] {
+                let [xs, ys] = spread(count);
+                let mut all = some_lengths(&options, count);
+                // As many neighbours as points, and no more: that is too short.
+                let mut few_neighbours = needed(&options, count);
+                few_neighbours[COLUMNS.len() - 1] = count;
+                all.push(few_neighbours);
+                for lengths in all {
+                    let (xs, ys) = (xs.clone(), ys.clone());
+                    judge(&Asked { options, xs, ys, lengths }, &mut group);
+                }
+            }
+        }
+    }
+    group
+}
+
+/// Room for none of the state, for a part of it, for all, and for more; accepted and refused.
+pub fn of_short_states() -> Group {
+    let mut group = Group::new("tables, room for the state");
+    for zooms in 0..=40 {
+        for options in some_options() {
+            let [xs, ys] = spread(9);
+            let lengths = roomy(&options, xs.len());
+            judge_state(&Asked { options, xs, ys, lengths }, zooms, &mut group);
+        }
+    }
+    group
+}
