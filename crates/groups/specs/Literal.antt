@@ -16,7 +16,7 @@ use Rattle.kdbush.specs.Members.{In, Distinct}
 use Rattle.tables.specs.declared.Entry.{Entry}
 use Rattle.tables.specs.Entries.{Table, entry, none, marked, under}
 use Rattle.tables.specs.Ids.{clusterId}
-use Rattle.zoom.specs.Visit.{totalOf, visit-made, visit-left, scan-seen, scan-visit}
+use Rattle.zoom.specs.Steps.{totalOf, visit-made, visit-left, scan-seen, scan-visit}
 use Rattle.zoom.specs.Zoom.{absorbed, absorb, started, centre, Scan, made, enough, visit, scanOne, scanFrom, cluster}
 use Rattle.groups.specs.Sums.{hit, sum, sum-ext, range}
 use Rattle.groups.specs.Counts.{distinct-count, in-count}

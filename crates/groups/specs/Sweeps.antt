@@ -13,7 +13,7 @@ use lib.ListN.{length, length-set}
 use lib.Seq.{getD-set-same, getD-set-other}
 use Rattle.tables.specs.declared.Entry.{Entry}
 use Rattle.tables.specs.Entries.{Table, entry, none}
-use Rattle.zoom.specs.Lamps.{unseen-in}
+use Rattle.zoom.specs.Unseen.{unseen-in}
 use Rattle.groups.specs.Sums.{pick, one, eqb-same, Hit, hit, below, count}
 use Rattle.groups.specs.Groups.{unseenAt, turn, change, sweep}
 

@@ -2,7 +2,7 @@
 // The tables stand in six lent columns; an entry is read and written as one record of these six.
 use range::CoordinateSystem;
 ghost use mathlib.Core.Path.{_≡_};
-ghost use Prim.Native.Nat.{_+_, _*_, _^_, _<_, _≤_};
+ghost use Prim.Native.Nat.{_<_, _≤_};
 ghost use lib.ListN.{length, set};
 ghost use Rattle.tables.specs.Options.{optionsOk, zoomsOk, radiusOk, extentOk, tableCount, zoomUsed};
 ghost use Rattle.tables.specs.State.{newState, withTable};

@@ -1,26 +1,25 @@
--- A property of tables that each store of a scan keeps is kept by the scan. So are every field but seen and parent, the length, and what is seen; and an
--- entry that was scanned is seen. Assumes nothing.
-use mathlib.Core.Path.{_≡_, refl, ap, sym, _∙_, subst}
-use mathlib.Core.Bool.{Bool, true, false, cond, _&&_}
-use mathlib.Core.Logic.{_⊎_, inl, inr, ⊎-elim}
+-- A property of tables that each store of a scan keeps is kept by the scan. So are every field but seen and parent, the length, and what is seen; what is
+-- unseen does not grow; and an entry that was scanned is seen. Assumes nothing.
+use mathlib.Core.Path.{_≡_, refl, sym, _∙_, subst}
+use mathlib.Core.Bool.{Bool, true, false}
+use mathlib.Core.Logic.{⊎-elim}
 use mathlib.Core.List.{List, [], _∷_, _++_, map}
-use Prim.Native.Nat.{ℕ, zero, suc, _+_, _-_, _*_, _^_, _<_, _≤_}
+use Prim.Native.Nat.{ℕ, zero, suc, _+_, _<_, _≤_}
 use native.Mathlib.Omega.{arith}
-use native.Mathlib.Nat.{le-refl, le-trans, add-zero, eq-or-lt-of-le}
-use borrow.Author.Tests.{ltb-true, ltb-false, lt-ltb, le-ltb}
-use lib.ListN.{length, getD, set, length-set, length-append}
-use lib.Seq.{getD-set-other, getD-set-same, map-set-same}
-use lib.Dec.{ltb}
-use lib.Ieee.{Float, binary64, add, mul, div}
-use Rattle.floats.specs.Numbers.{float}
-use Rattle.tables.specs.Entries.{Table, entry, none, marked, under}
-use Rattle.tables.specs.Ids.{clusterId}
+use native.Mathlib.Nat.{le-refl, le-trans, eq-or-lt-of-le}
+use borrow.Author.Tests.{ltb-true, ltb-false}
+use lib.ListN.{length, set, length-set}
+use lib.Seq.{map-set-same}
+use lib.Ieee.{Float}
 use Rattle.tables.specs.declared.Entry.{Entry}
-use Rattle.zoom.specs.Count.{scan-fewer}
-use Rattle.zoom.specs.Scanned.{unseenCount}
-use Rattle.zoom.specs.Visit.{visit-made, visit-left, scan-seen, scan-visit, totalOf}
-use Rattle.zoom.specs.Zoom.{Scan, Absorbed, more, visit, enough, scanOne, scanFrom, cluster, markAt, absorbOne, absorb, copyOne, copyAll, started}
+use Rattle.tables.specs.Entries.{Table, entry, none, unseen, marked, under}
+use Rattle.tables.specs.Ids.{clusterId}
+use Rattle.zoom.specs.Scanned.{unseenCount, unseenNum}
+use Rattle.zoom.specs.Zoom.{Absorbed, absorbOne, absorb, started, Scan, copyOne, copyAll, enough, visit, markAt, scanOne, scanFrom, cluster}
+use Rattle.zoom.specs.Steps.{absorbOne-yes, absorbOne-no, copyOne-yes, copyOne-no, totalOf, visit-made, visit-left, scan-seen, scan-visit}
+use Rattle.zoom.specs.Unseen.{unseenCount-le, unseenNum-le, unseenCount-under, unseenNum-under}
 
+-- each entry of the table has the property
 unfoldable pub All : (Entry → Type 0) → Table → Type 0
 All P [] = Unit
 All P (e ∷ t) = P e × All P t
@@ -41,62 +40,23 @@ unfolding All
 all-map P Q f [] a = tt
 all-map P Q f (e ∷ t) a = (f e (a .0), all-map P Q f t (a .1))
 
--- a property that looks at neither seen nor parent is kept in a table by each store
+-- a stored entry that has the property if the one before it has
 all-set : (P : Entry → Type 0) (t : Table) (k : ℕ) (e : Entry) → (P (entry t k) → P e) → All P t → All P (set t k e)
 unfolding All
 all-set P [] k e f a = tt
 all-set P (b ∷ t) zero e f a = (f (a .0), a .1)
 all-set P (b ∷ t) (suc k) e f a = (a .0, all-set P t k e f (a .1))
 
--- ---- one neighbour
+-- ---- what a scan keeps
 
-abbrev pub joined : ℕ → ℕ → Absorbed → ℕ → Absorbed
-joined z p s k =
-    record {
-      table = set (s .table) k (under p (marked z (entry (s .table) k)));
-      sx = add binary64 (s .sx) (mul binary64 (entry (s .table) k .x) (float (entry (s .table) k .num)));
-      sy = add binary64 (s .sy) (mul binary64 (entry (s .table) k .y) (float (entry (s .table) k .num)));
-    }
-
-pub absorbOne-yes : (z p : ℕ) (s : Absorbed) (k : ℕ) → ltb z (entry (s .table) k .seen) ≡ true → absorbOne z p s k ≡ joined z p s k
-unfolding absorbOne
-absorbOne-yes z p s k e = rw e
-
-pub absorbOne-no : (z p : ℕ) (s : Absorbed) (k : ℕ) → ltb z (entry (s .table) k .seen) ≡ false → absorbOne z p s k ≡ s
-unfolding absorbOne
-absorbOne-no z p s k e = rw e
-
-abbrev pub copiedOne : ℕ → Scan → ℕ → Scan
-copiedOne z s k = record { table = set (s .table) k (marked z (entry (s .table) k)); next = s .next ++ (marked z (entry (s .table) k) ∷ []) }
-
-pub copyOne-yes : (z : ℕ) (s : Scan) (k : ℕ) → ltb z (entry (s .table) k .seen) ≡ true → copyOne z s k ≡ copiedOne z s k
-unfolding copyOne
-copyOne-yes z s k e = rw e
-
-pub copyOne-no : (z : ℕ) (s : Scan) (k : ℕ) → ltb z (entry (s .table) k .seen) ≡ false → copyOne z s k ≡ s
-unfolding copyOne
-copyOne-no z s k e = rw e
-
-pub more-yes : (z : ℕ) (t : Table) (k : ℕ) (ks : List ℕ) → ltb z (entry t k .seen) ≡ true → more z t (k ∷ ks) ≡ entry t k .num + more z t ks
-unfolding more
-more-yes z t k ks e = rw e
-
-pub more-no : (z : ℕ) (t : Table) (k : ℕ) (ks : List ℕ) → ltb z (entry t k .seen) ≡ false → more z t (k ∷ ks) ≡ more z t ks
-unfolding more
-more-no z t k ks e = rw e (omega arith)
-
-pub more-nil : (z : ℕ) (t : Table) → more z t [] ≡ 0
-unfolding more
-more-nil z t = refl
-
--- a property of tables that each of the three stores keeps is kept by a scan
+-- its three stores keep the property: of a neighbour of a cluster, of an entry that is marked, of the origin of a cluster
 pub record Keeps (z : ℕ) (R : Table → Type 0) : Type 0 where
   pub join : (t : Table) (k p : ℕ) → R t → R (set t k (under p (marked z (entry t k))))
   pub mark : (t : Table) (k : ℕ) → R t → R (set t k (marked z (entry t k)))
   pub hang : (t : Table) (k p : ℕ) → R t → R (set t k (under p (entry t k)))
 
 module _ (z : ℕ) (R : Table → Type 0) (K : Keeps z R) where
-  keep-absorbOne : (p : ℕ) (s : Absorbed) (k : ℕ) (b : Bool) → ltb z (entry (s .table) k .seen) ≡ b → R (s .table) → R (absorbOne z p s k .table)
+  pub keep-absorbOne : (p : ℕ) (s : Absorbed) (k : ℕ) (b : Bool) → unseen z (entry (s .table) k) ≡ b → R (s .table) → R (absorbOne z p s k .table)
   keep-absorbOne p s k true e r = rw (absorbOne-yes z p s k e) (K .join (s .table) k p r)
   keep-absorbOne p s k false e r = rw (absorbOne-no z p s k e) r
 
@@ -105,7 +65,7 @@ module _ (z : ℕ) (R : Table → Type 0) (K : Keeps z R) where
   keep-absorb p s [] r = r
   keep-absorb p s (k ∷ ks) r = keep-absorb p (absorbOne z p s k) ks (keep-absorbOne p s k _ refl r)
 
-  pub keep-copy : (s : Scan) (k : ℕ) (b : Bool) → ltb z (entry (s .table) k .seen) ≡ b → R (s .table) → R (copyOne z s k .table)
+  pub keep-copy : (s : Scan) (k : ℕ) (b : Bool) → unseen z (entry (s .table) k) ≡ b → R (s .table) → R (copyOne z s k .table)
   keep-copy s k true e r = rw (copyOne-yes z s k e) (K .mark (s .table) k r)
   keep-copy s k false e r = rw (copyOne-no z s k e) r
 
@@ -123,7 +83,7 @@ module _ (z : ℕ) (R : Table → Type 0) (K : Keeps z R) where
     keep-visit near i s false e r =
         rw (visit-left n least z near i s e) (keep-copyAll (record { table = s .table; next = s .next ++ (entry (s .table) i ∷ []) }) near r)
 
-    pub keep-one : (near : Float → Float → List ℕ) (s : Scan) (i : ℕ) (b : Bool) → ltb z (entry (s .table) i .seen) ≡ b → R (s .table) → R (scanOne n least z near s i .table)
+    pub keep-one : (near : Float → Float → List ℕ) (s : Scan) (i : ℕ) (b : Bool) → unseen z (entry (s .table) i) ≡ b → R (s .table) → R (scanOne n least z near s i .table)
     keep-one near s i true e r =
         rw (scan-visit n least z near s i (ltb-true z (entry (s .table) i .seen) e))
         (keep-visit (near (entry (s .table) i .x) (entry (s .table) i .y)) i (markAt z i s) _ refl (K .mark (s .table) i r))
@@ -134,7 +94,9 @@ module _ (z : ℕ) (R : Table → Type 0) (K : Keeps z R) where
     keep-scan near s i zero r = r
     keep-scan near s i (suc k) r = keep-scan near (scanOne n least z near s i) (suc i) k (keep-one near s i _ refl r)
 
--- what no mark changes: a field other than seen and parent
+-- ---- what is kept
+
+-- a field other than seen and parent
 pub kept-field : {B : Type 0} (f : Entry → B) (z : ℕ) (t₀ : Table) → ((e : Entry) (q : ℕ) → f (marked q e) ≡ f e) → ((e : Entry) (q : ℕ) → f (under q e) ≡ f e)
     → Keeps z (λ t. map f t ≡ map f t₀)
 kept-field f z t₀ a b =
@@ -144,12 +106,38 @@ kept-field f z t₀ a b =
       hang = λ t k p r. map-set-same f t k (under p (entry t k)) none (b (entry t k) p) ∙ r;
     }
 
+-- a property of each entry that looks at neither seen nor parent
 pub kept-all : (P : Entry → Type 0) (z : ℕ) → ((e : Entry) (q : ℕ) → P e → P (marked q e)) → ((e : Entry) (q : ℕ) → P e → P (under q e)) → Keeps z (λ t. All P t)
 kept-all P z f g =
     record {
       join = λ t k p a. all-set P t k (under p (marked z (entry t k))) (λ w. g (marked z (entry t k)) p (f (entry t k) z w)) a;
       mark = λ t k a. all-set P t k (marked z (entry t k)) (f (entry t k) z) a;
       hang = λ t k p a. all-set P t k (under p (entry t k)) (g (entry t k) p) a;
+    }
+
+pub kept-length : (z n : ℕ) → Keeps z (λ t. length t ≡ n)
+kept-length z n =
+    record {
+      join = λ t k p r. length-set t k (under p (marked z (entry t k))) ∙ r;
+      mark = λ t k r. length-set t k (marked z (entry t k)) ∙ r;
+      hang = λ t k p r. length-set t k (under p (entry t k)) ∙ r;
+    }
+
+-- no store adds to what is unseen
+pub kept-unseenCount : (z m : ℕ) → Keeps z (λ t. unseenCount z t ≤ m)
+kept-unseenCount z m =
+    record {
+      join = λ t k p r. le-trans (unseenCount-le z t k (under p (marked z (entry t k))) (le-refl z)) r;
+      mark = λ t k r. le-trans (unseenCount-le z t k (marked z (entry t k)) (le-refl z)) r;
+      hang = λ t k p r. rw (unseenCount-under z t k p) r;
+    }
+
+pub kept-unseenNum : (z m : ℕ) → Keeps z (λ t. unseenNum z t ≤ m)
+kept-unseenNum z m =
+    record {
+      join = λ t k p r. le-trans (unseenNum-le z t k (under p (marked z (entry t k))) (le-refl z)) r;
+      mark = λ t k r. le-trans (unseenNum-le z t k (marked z (entry t k)) (le-refl z)) r;
+      hang = λ t k p r. rw (unseenNum-under z t k p) r;
     }
 
 -- an entry that is seen stays seen
@@ -160,6 +148,7 @@ seen-set z (a ∷ t) zero e (suc j) h m = m
 seen-set z (a ∷ t) (suc k) e zero h m = m
 seen-set z (a ∷ t) (suc k) e (suc j) h m = seen-set z t k e j h m
 
+-- a parent changes no mark
 seen-under : (z : ℕ) (t : Table) (k p j : ℕ) → entry t j .seen ≤ z → entry (set t k (under p (entry t k))) j .seen ≤ z
 seen-under z [] k p j m = m
 seen-under z (a ∷ t) zero p zero m = m
@@ -180,13 +169,17 @@ kept-seen z j =
       hang = λ t k p r. seen-under z t k p j r;
     }
 
+-- ---- what was scanned is seen
+
 module _ (n least z : ℕ) (near : Float → Float → List ℕ) where
-  one-sees : (s : Scan) (i : ℕ) (b : Bool) → ltb z (entry (s .table) i .seen) ≡ b → entry (scanOne n least z near s i .table) i .seen ≤ z
+  -- the entry i, whichever way it goes
+  one-sees : (s : Scan) (i : ℕ) (b : Bool) → unseen z (entry (s .table) i) ≡ b → entry (scanOne n least z near s i .table) i .seen ≤ z
   one-sees s i true e =
       rw (scan-visit n least z near s i (ltb-true z (entry (s .table) i .seen) e))
       (keep-visit z (λ t. entry t i .seen ≤ z) (kept-seen z i) n least (near (entry (s .table) i .x) (entry (s .table) i .y)) i (markAt z i s) _ refl (seen-mark z (s .table) i))
   one-sees s i false e = let h = ltb-false z (entry (s .table) i .seen) e in rw (scan-seen n least z near s i h) h
 
+  -- after k entries from i on
   pub scan-sees : (s : Scan) (i k j : ℕ) → (j < i → entry (s .table) j .seen ≤ z) → j < i + k → entry (scanFrom n least z near s i k .table) j .seen ≤ z
   unfolding scanFrom
   scan-sees s i zero j f h = f (omega arith)
@@ -198,19 +191,7 @@ module _ (n least z : ℕ) (near : Float → Float → List ℕ) where
           (λ g. keep-one z (λ t. entry t j .seen ≤ z) (kept-seen z j) n least near s i _ refl (f g))
           (eq-or-lt-of-le (let q : j ≤ i = omega arith in q))
 
-  pub scan-length : (s : Scan) (i k : ℕ) → length (scanFrom n least z near s i k .next) + unseenCount z (scanFrom n least z near s i k .table) ≤ length (s .next) + unseenCount z (s .table)
-  unfolding scanFrom
-  scan-length s i zero = le-refl _
-  scan-length s i (suc k) = le-trans (scan-length (scanOne n least z near s i) (suc i) k) (scan-fewer n least z near s i .both)
-
-pub kept-length : (z n : ℕ) → Keeps z (λ t. length t ≡ n)
-kept-length z n =
-    record {
-      join = λ t k p r. length-set t k (under p (marked z (entry t k))) ∙ r;
-      mark = λ t k r. length-set t k (marked z (entry t k)) ∙ r;
-      hang = λ t k p r. length-set t k (under p (entry t k)) ∙ r;
-    }
-
+-- a zoom keeps the length of its table
 pub cluster-long : (n least z : ℕ) (near : Float → Float → List ℕ) (t : Table) → length (cluster n least z near t .table) ≡ length t
 unfolding cluster
 cluster-long n least z near t = keep-scan z (λ q. length q ≡ length t) (kept-length z (length t)) n least near (record { table = t; next = [] }) 0 (length t) refl

@@ -1,28 +1,30 @@
--- No lamp is lost or counted twice: what is unseen and what is made weigh the same at each step.
-use mathlib.Core.Path.{_≡_, refl, ap, sym, _∙_}
-use mathlib.Core.Bool.{Bool, true, false, cond, _&&_}
+-- No lamp is lost or counted twice: at each step of a scan what is unseen and what is made count the same lamps. So the next table counts no more lamps than
+-- the table. Assumes nothing.
+use mathlib.Core.Path.{_≡_, refl, ap, _∙_}
+use mathlib.Core.Bool.{Bool, true, false, cond}
 use mathlib.Core.List.{List, [], _∷_, _++_}
-use Prim.Native.Nat.{ℕ, zero, suc, _+_, _-_, _*_, _<_, _≤_}
+use Prim.Native.Nat.{ℕ, zero, suc, _+_, _<_, _≤_}
 use native.Mathlib.Omega.{arith}
 use native.Mathlib.Nat.{le-refl}
 use borrow.Author.Tests.{ltb-true, ltb-false}
-use lib.ListN.{length, getD, set, length-set}
-use lib.Seq.{getD-set-other, getD-set-same}
-use lib.Dec.{ltb}
+use lib.ListN.{length, set}
+use lib.Seq.{getD-set-same}
 use lib.Ieee.{Float}
 use Rattle.kdbush.specs.Members.{Distinct, NotIn}
+use Rattle.tables.specs.declared.Entry.{Entry}
 use Rattle.tables.specs.Entries.{Table, entry, none, unseen, marked, under}
 use Rattle.tables.specs.Ids.{clusterId}
-use Rattle.tables.specs.declared.Entry.{Entry}
 use Rattle.zoom.specs.Scanned.{unseenNum}
-use Rattle.zoom.specs.Visit.{unseenNum-mark, visit-made, visit-left, scan-seen, scan-visit, totalOf}
-use Rattle.zoom.specs.Zoom.{Scan, Absorbed, more, visit, enough, scanOne, scanFrom, cluster, markAt, absorbOne, absorb, copyOne, copyAll, started, centre}
+use Rattle.zoom.specs.Zoom.{more, Absorbed, absorbOne, absorb, started, centre, Scan, copyOne, copyAll, enough, visit, markAt, scanOne, scanFrom, cluster}
+use Rattle.zoom.specs.Steps.{absorbOne-yes, absorbOne-no, copyOne-yes, copyOne-no, more-nil, more-yes, more-no, totalOf, visit-made, visit-left, scan-seen, scan-visit}
+use Rattle.zoom.specs.Unseen.{unseen-in, unseenNum-mark, unseenNum-under, more-same}
 
+-- the lamps that a table counts
 unfoldable pub total : Table → ℕ
 total [] = 0
 total (e ∷ t) = e .num + total t
 
-pub total-snoc : (t : Table) (e : Entry) → total (t ++ (e ∷ [])) ≡ total t + e .num
+total-snoc : (t : Table) (e : Entry) → total (t ++ (e ∷ [])) ≡ total t + e .num
 unfolding total
 total-snoc [] e = omega arith
 total-snoc (a ∷ t) e = let r = total-snoc t e in omega (arith, r)
@@ -36,59 +38,40 @@ unseenNum-total z (a ∷ t) = by (unseen z a) (unseenNum-total z t)
     by true h = omega (arith, h)
     by false h = omega (arith, h)
 
-pub unseen-in : (z : ℕ) (t : Table) (k : ℕ) → z < entry t k .seen → k < length t
-unseen-in z [] k h = let q : ⊥ = omega arith in absurd q
-unseen-in z (a ∷ t) zero h = omega arith
-unseen-in z (a ∷ t) (suc k) h = let r = unseen-in z t k h in omega (arith, r)
-
-unseenNum-under : (z : ℕ) (t : Table) (k p : ℕ) → unseenNum z (set t k (under p (entry t k))) ≡ unseenNum z t
-unfolding unseenNum
-unseenNum-under z [] k p = refl
-unseenNum-under z (a ∷ t) zero p = refl
-unseenNum-under z (a ∷ t) (suc k) p = let r = unseenNum-under z t k p in omega (arith, r)
-
-pub more-same : (z : ℕ) (t : Table) (k : ℕ) (e : Entry) (l : List ℕ) → NotIn k l → more z (set t k e) l ≡ more z t l
-unfolding more
-more-same z t k e [] h = refl
-more-same z t k e (j ∷ js) h =
-    rw (getD-set-other t k j e none (λ q. h .0 (sym q))) (ap (λ (q : ℕ). cond (unseen z (entry t j)) (entry t j .num) 0 + q) (more-same z t k e js (h .1)))
-
 -- one neighbour, the others being other entries
-absorbOne-weighs : (z p : ℕ) (s : Absorbed) (k : ℕ) (ks : List ℕ) → NotIn k ks → (b : Bool) → ltb z (entry (s .table) k .seen) ≡ b
+absorbOne-weighs : (z p : ℕ) (s : Absorbed) (k : ℕ) (ks : List ℕ) → NotIn k ks → (b : Bool) → unseen z (entry (s .table) k) ≡ b
     → unseenNum z (absorbOne z p s k .table) + more z (s .table) (k ∷ ks) ≡ unseenNum z (s .table) + more z (absorbOne z p s k .table) ks
-unfolding absorbOne more
 absorbOne-weighs z p s k ks o true e =
-    let u : z < entry (s .table) k .seen = ltb-true z (entry (s .table) k .seen) e in
-    let m = under p (marked z (entry (s .table) k)) in
-    rw e (omega (arith, unseenNum-mark z (s .table) k m (unseen-in z (s .table) k u) u (le-refl z), more-same z (s .table) k m ks o))
-absorbOne-weighs z p s k ks o false e = rw e (omega arith)
+    let t = s .table in
+    let u : z < entry t k .seen = ltb-true z (entry t k .seen) e in
+    let m = under p (marked z (entry t k)) in
+    rw (absorbOne-yes z p s k e) (omega (arith, more-yes z t k ks e, unseenNum-mark z t k m (unseen-in z t k u) u (le-refl z), more-same z t k m ks o))
+absorbOne-weighs z p s k ks o false e = rw (absorbOne-no z p s k e) (omega (arith, more-no z (s .table) k ks e))
 
-more-none : (z : ℕ) (t : Table) → unseenNum z t + more z t [] ≡ unseenNum z t
-unfolding more
-more-none z t = omega arith
-
+-- the neighbours of a cluster: what they count is no longer unseen
 pub absorb-weighs : (z p : ℕ) (s : Absorbed) (l : List ℕ) → Distinct l → unseenNum z (absorb z p s l .table) + more z (s .table) l ≡ unseenNum z (s .table)
 unfolding absorb
-absorb-weighs z p s [] o = more-none z (s .table)
+absorb-weighs z p s [] o = omega (arith, more-nil z (s .table))
 absorb-weighs z p s (k ∷ ks) o =
     let h = absorb-weighs z p (absorbOne z p s k) ks (o .1) in
     let w = absorbOne-weighs z p s k ks (o .0) _ refl in
     omega (arith, h, w)
 
-copyOne-weighs-by : (z : ℕ) (s : Scan) (k : ℕ) (b : Bool) → ltb z (entry (s .table) k .seen) ≡ b
+-- copies: what is no longer unseen is in the next table
+copyOne-weighs-by : (z : ℕ) (s : Scan) (k : ℕ) (b : Bool) → unseen z (entry (s .table) k) ≡ b
     → unseenNum z (copyOne z s k .table) + total (copyOne z s k .next) ≡ unseenNum z (s .table) + total (s .next)
-unfolding copyOne
 copyOne-weighs-by z s k true e =
     let u : z < entry (s .table) k .seen = ltb-true z (entry (s .table) k .seen) e in
     let m = marked z (entry (s .table) k) in
-    rw e (omega (arith, unseenNum-mark z (s .table) k m (unseen-in z (s .table) k u) u (le-refl z), total-snoc (s .next) m))
-copyOne-weighs-by z s k false e = rw e
+    rw (copyOne-yes z s k e) (omega (arith, unseenNum-mark z (s .table) k m (unseen-in z (s .table) k u) u (le-refl z), total-snoc (s .next) m))
+copyOne-weighs-by z s k false e = rw (copyOne-no z s k e)
 
 copyAll-weighs : (z : ℕ) (s : Scan) (l : List ℕ) → unseenNum z (copyAll z s l .table) + total (copyAll z s l .next) ≡ unseenNum z (s .table) + total (s .next)
 unfolding copyAll
 copyAll-weighs z s [] = refl
 copyAll-weighs z s (k ∷ ks) = copyAll-weighs z (copyOne z s k) ks ∙ copyOne-weighs-by z s k _ refl
 
+-- the entry i was marked before: its num is in neither
 visit-weighs-by : (n least z : ℕ) (near : List ℕ) (i : ℕ) (s : Scan) → Distinct near → (b : Bool)
     → enough (entry (s .table) i .num) (totalOf z near i (s .table)) least ≡ b
     → unseenNum z (visit n least z near i s .table) + total (visit n least z near i s .next) ≡ entry (s .table) i .num + unseenNum z (s .table) + total (s .next)
@@ -103,7 +86,7 @@ visit-weighs-by n least z near i s o false e =
     (omega (arith, copyAll-weighs z (record { table = s .table; next = s .next ++ (entry (s .table) i ∷ []) }) near, total-snoc (s .next) (entry (s .table) i)))
 
 module _ (n least z : ℕ) (near : Float → Float → List ℕ) (o : (qx qy : Float) → Distinct (near qx qy)) where
-  pub scan-weighs-by : (s : Scan) (i : ℕ) (b : Bool) → ltb z (entry (s .table) i .seen) ≡ b
+  pub scan-weighs-by : (s : Scan) (i : ℕ) (b : Bool) → unseen z (entry (s .table) i) ≡ b
       → unseenNum z (scanOne n least z near s i .table) + total (scanOne n least z near s i .next) ≡ unseenNum z (s .table) + total (s .next)
   scan-weighs-by s i true e =
       let u : z < entry (s .table) i .seen = ltb-true z (entry (s .table) i .seen) e in

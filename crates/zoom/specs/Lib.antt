@@ -2,9 +2,13 @@
 pub mod Zoom
 pub mod Scanned
 pub mod Near
-pub mod Laws
-pub mod Visit
-pub mod Count
-pub mod Lamps
+pub mod Steps
+pub mod Unseen
 pub mod Keeps
+pub mod Turns
+pub mod Stored
+pub mod Visit
+pub mod Fewer
+pub mod Scanning
+pub mod Lamps
 pub mod Sound

@@ -1,29 +1,28 @@
 -- One zoom on a table whose entries lie from 0 to 1 and count one lamp or more: so do those of the next table, which counts the same lamps.
 -- Assumes nothing.
 use mathlib.Core.Path.{_≡_, refl, ap, sym, _∙_, subst}
-use mathlib.Core.Bool.{Bool, true, false, cond, _&&_}
-use mathlib.Core.Logic.{_⊎_, inl, inr, ⊎-elim}
+use mathlib.Core.Bool.{Bool, true, false}
 use mathlib.Core.List.{List, [], _∷_, _++_, map}
-use Prim.Native.Nat.{ℕ, zero, suc, _+_, _-_, _*_, _^_, _<_, _≤_}
+use Prim.Native.Nat.{ℕ, zero, suc, _+_, _^_, _<_, _≤_}
 use native.Mathlib.Omega.{arith}
-use native.Mathlib.Nat.{le-refl, le-trans, add-zero, eq-or-lt-of-le}
-use borrow.Author.Tests.{ltb-true, ltb-false, lt-ltb, le-ltb}
-use lib.ListN.{length, getD, set, length-set, length-append}
-use lib.Seq.{getD-set-other, getD-set-same, map-set-same}
-use lib.Dec.{ltb}
-use lib.Ieee.{Float, binary64, add, mul, div}
+use native.Mathlib.Nat.{le-refl, le-trans, add-zero}
+use borrow.Author.Tests.{ltb-true, ltb-false, lt-ltb}
+use lib.ListN.{length, set, length-set}
+use lib.Seq.{getD-set-same}
+use lib.Ieee.{Float}
 use Rattle.floats.specs.Centre.{Weighted, weigh-one, weigh-more, weigh-mean}
 use Rattle.floats.specs.Unit.{In01}
 use Rattle.kdbush.specs.Members.{Distinct, NotIn}
+use Rattle.tables.specs.declared.Entry.{Entry}
 use Rattle.tables.specs.Entries.{Table, entry, none, unseen, marked, under}
 use Rattle.tables.specs.Ids.{clusterId}
-use Rattle.tables.specs.declared.Entry.{Entry}
-use Rattle.zoom.specs.Count.{unseenCount-length}
-use Rattle.zoom.specs.Keeps.{All, all-at, all-snoc, all-map, Keeps, kept-all, keep-copy, keep-one, keep-scan, kept-field, kept-length, scan-sees, scan-length, more-yes, more-no, more-nil, absorbOne-yes, absorbOne-no, copyOne-yes, copyOne-no, joined, copiedOne}
-use Rattle.zoom.specs.Lamps.{total, more-same, unseen-in, absorb-weighs, scan-weighs-by, from-weighs}
 use Rattle.zoom.specs.Scanned.{unseenNum}
-use Rattle.zoom.specs.Visit.{unseenNum-mark, visit-made, visit-left, scan-seen, scan-visit, totalOf}
-use Rattle.zoom.specs.Zoom.{Scan, Absorbed, more, visit, enough, scanOne, scanFrom, cluster, markAt, absorbOne, absorb, copyOne, copyAll, started, centre}
+use Rattle.zoom.specs.Zoom.{more, Absorbed, absorbOne, absorb, started, centre, Scan, copyOne, copyAll, enough, visit, markAt, scanOne, scanFrom, cluster}
+use Rattle.zoom.specs.Steps.{joined, absorbOne-yes, absorbOne-no, copyOne-yes, copyOne-no, more-nil, more-yes, more-no, totalOf, visit-made, visit-left, scan-seen, scan-visit}
+use Rattle.zoom.specs.Unseen.{unseen-in, unseenCount-length, unseenNum-mark, unseenNum-none, more-same}
+use Rattle.zoom.specs.Keeps.{All, all-at, all-snoc, all-map, Keeps, kept-all, keep-copy, keep-one, keep-scan, kept-field, kept-length, scan-sees}
+use Rattle.zoom.specs.Fewer.{from-fewer}
+use Rattle.zoom.specs.Lamps.{total, absorb-weighs, scan-weighs-by, from-weighs}
 
 -- a place from 0 to 1, and one lamp or more
 abbrev pub Body : Entry → Type 0
@@ -36,26 +35,23 @@ Next z e = Body e × (z ≤ e .seen)
 kept-body : (z : ℕ) → Keeps z (λ t. All Body t)
 kept-body z = kept-all Body z (λ e q b. b) (λ e q b. b)
 
-unseenNum-none : (z : ℕ) (t : Table) → ((j : ℕ) → j < length t → entry t j .seen ≤ z) → unseenNum z t ≡ 0
-unfolding unseenNum
-unseenNum-none z [] f = refl
-unseenNum-none z (e ∷ t) f = rw (le-ltb z (e .seen) (f 0 (omega arith))) (let r = unseenNum-none z t (λ j h. f (suc j) (omega arith)) in omega (arith, r))
-
+-- all entries are unseen
 pub unseenNum-all : (z : ℕ) (t : Table) → All (Next (suc z)) t → unseenNum z t ≡ total t
 unfolding unseenNum total All
 unseenNum-all z [] a = refl
 unseenNum-all z (e ∷ t) a = rw (lt-ltb z (e .seen) (let q : z < e .seen = omega (arith, a .0 .1) in q)) (let r = unseenNum-all z t (a .1) in omega (arith, r))
 
--- ---- the centres
+-- ---- the centres: sums of what counts at most B lamps
 
 module _ (z p B : ℕ) (few : B ≤ 2 ^ 53) where
   both-weighted : (s : Absorbed) (S : ℕ) → Type 0
   both-weighted s S = Weighted (s .sx) S × Weighted (s .sy) S
 
+  -- one neighbour, once what is said holds of the others
   absorb-by : (s : Absorbed) (k : ℕ) (ks : List ℕ) (S : ℕ)
       → ((s′ : Absorbed) (S′ : ℕ) → All Body (s′ .table) → both-weighted s′ S′ → S′ + more z (s′ .table) ks ≤ B → both-weighted (absorb z p s′ ks) (S′ + more z (s′ .table) ks))
       → NotIn k ks → All Body (s .table) → both-weighted s S → S + more z (s .table) (k ∷ ks) ≤ B
-      → (b : Bool) → ltb z (entry (s .table) k .seen) ≡ b → both-weighted (absorb z p (absorbOne z p s k) ks) (S + more z (s .table) (k ∷ ks))
+      → (b : Bool) → unseen z (entry (s .table) k) ≡ b → both-weighted (absorb z p (absorbOne z p s k) ks) (S + more z (s .table) (k ∷ ks))
   unfolding both-weighted
   absorb-by s k ks S ih d a w h true e =
       let t = s .table in
@@ -103,7 +99,9 @@ module _ (n least z B : ℕ) (few : B ≤ 2 ^ 53) (zs : z ≤ 255) (near : List 
         zs,
       )
 
-copyOne-next : (z : ℕ) (s : Scan) (k : ℕ) (b : Bool) → ltb z (entry (s .table) k .seen) ≡ b → All Body (s .table) → All (Next z) (s .next) → All (Next z) (copyOne z s k .next)
+-- ---- the entries of the next table
+
+copyOne-next : (z : ℕ) (s : Scan) (k : ℕ) (b : Bool) → unseen z (entry (s .table) k) ≡ b → All Body (s .table) → All (Next z) (s .next) → All (Next z) (copyOne z s k .next)
 copyOne-next z s k true e a x =
     let u = unseen-in z (s .table) k (ltb-true z (entry (s .table) k .seen) e) in
     rw (copyOne-yes z s k e) (all-snoc (Next z) (s .next) (marked z (entry (s .table) k)) x (all-at Body (s .table) k a u, le-refl z))
@@ -126,7 +124,7 @@ module _ (n least z B : ℕ) (few : B ≤ 2 ^ 53) (zs : z ≤ 255) where
 
   module _ (near : Float → Float → List ℕ) (o : (qx qy : Float) → Distinct (near qx qy)) where
     one-next : (s : Scan) (i : ℕ) → All Body (s .table) → unseenNum z (s .table) ≤ B → All (Next z) (s .next)
-        → (b : Bool) → ltb z (entry (s .table) i .seen) ≡ b → All (Next z) (scanOne n least z near s i .next)
+        → (b : Bool) → unseen z (entry (s .table) i) ≡ b → All (Next z) (scanOne n least z near s i .next)
     one-next s i a light x true e =
         let t = s .table in
         let u : z < entry t i .seen = ltb-true z (entry t i .seen) e in
@@ -150,6 +148,7 @@ module _ (n least z B : ℕ) (few : B ≤ 2 ^ 53) (zs : z ≤ 255) where
         scan-next (scanOne n least z near s i) (suc i) k (keep-one z (λ t. All Body t) (kept-body z) n least near s i _ refl a) (omega (arith, w, light))
         (one-next s i a (omega (arith, light)) x _ refl)
 
+-- the same nums give the same total
 sum : List ℕ → ℕ
 sum [] = 0
 sum (a ∷ l) = a + sum l
@@ -189,6 +188,6 @@ module _ (n least z : ℕ) (near : Float → Float → List ℕ) (o : (qx qy : F
         lamps-kept = total-sum (s .table) ∙ ap sum nums ∙ sym (total-sum t);
         xs = keep-scan z (λ q. map (λ e. e .x) q ≡ map (λ e. e .x) t) (kept-field (λ e. e .x) z t (λ e q. refl) (λ e q. refl)) n least near s₀ 0 (length t) refl;
         ys = keep-scan z (λ q. map (λ e. e .y) q ≡ map (λ e. e .y) t) (kept-field (λ e. e .y) z t (λ e q. refl) (λ e q. refl)) n least near s₀ 0 (length t) refl;
-        shorter = omega (arith, scan-length n least z near s₀ 0 (length t), unseenCount-length z t);
+        shorter = omega (arith, from-fewer n least z near s₀ 0 (length t), unseenCount-length z t);
         long = len;
       }

@@ -3,13 +3,12 @@
 use kdbush::SearchReply;
 use tables::Entry;
 ghost use mathlib.Core.Path.{_≡_};
-ghost use Prim.Native.Nat.{_+_, _*_, _^_, _<_, _≤_};
+ghost use Prim.Native.Nat.{_+_, _^_, _<_, _≤_};
 ghost use lib.Dec.{T};
 ghost use lib.ListN.{length, getD, take};
 ghost use lib.Ieee.Scale.{finite};
 ghost use Rattle.kdbush.specs.Promise.{Promised};
 ghost use Rattle.tables.specs.Rows.{rows, Even};
-ghost use Rattle.tables.specs.Ids.{clusterId};
 ghost use Rattle.zoom.specs.Zoom.{absorb, absorbed, copyAll, more, madeAt, leftAt, enough, visit, scanOne, cluster};
 ghost use Rattle.zoom.specs.Scanned.{Scanned, scanOf, copiedTo, Below, unseenCount, unseenNum};
 ghost use Rattle.zoom.specs.Near.{nearOf, Answered, Placed, Radius};

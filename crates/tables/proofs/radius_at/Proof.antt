@@ -1,8 +1,8 @@
 -- `tables::radius_at` meets its contract: the table's power is 2 ^ zoom. Assumes nothing.
 use mathlib.Core.Path.{ap}
 use lib.Ieee.{Float, binary64, mul, div}
-use Rattle.tables.specs.Radius.{radiusAt}
 use borrow.Author.Needs.{needs}
+use Rattle.tables.specs.Radius.{radiusAt}
 use Rattle.tables.proofs.radius_at.Statement.{statement}
 use Rattle.tables.proofs.radius_at.Tie as tie
 

@@ -1,136 +1,134 @@
-use mathlib.Core.Path.{_≡_, refl, ap, sym, _∙_}
+-- `zoom::absorb_near` meets its contract: at the head of the loop the columns and the sums so far absorb the remaining neighbours to what the first ones
+-- absorb all to. Assumes nothing.
+use mathlib.Core.Path.{_≡_, refl, sym, _∙_}
 use mathlib.Core.Logic.{⊎-elim}
-use Prim.Native.Nat.{ℕ, _+_, _-_, _*_, _<_, _≤_}
+use Prim.Native.Nat.{ℕ, _-_, _<_}
 use native.Mathlib.Omega.{arith}
-use lib.ListN.{length, getD, set, drop, length-set}
-use lib.Seq.{drop-length, getD-set-same}
-use lib.ListN.{drop-of-length-le}
-use borrow.Author.Needs.{needs, scaled-fits}
+use lib.ListN.{length, getD, drop}
+use denote.Ref.{now}
+use borrow.Author.Needs.{needs}
 use Rattle.tables.specs.Rows.{rows, Even, even-marks}
-use Rattle.zoom.specs.Laws.{absorb-step, absorbOne-yes, absorbOne-no}
-use Rattle.zoom.specs.Zoom.{Absorbed, absorbed, absorb}
+use Rattle.zoom.specs.Zoom.{absorbed, absorb}
+use Rattle.zoom.specs.Turns.{absorb-turn-yes, absorb-turn-no, absorb-end}
 use Rattle.zoom.proofs.absorb_near.Statement.{statement}
 use Rattle.zoom.proofs.absorb_near.Tie as tie
-use Rattle.zoom.proofs.absorb_near.Reads as reads
-use Rattle.zoom.proofs.absorb_near.Lts as lts
 
 abbrev Inv-loop : tie.InvT-loop
 Inv-loop x y seen₀ id parent₀ num near z p wx₀ wy₀ j₀ seen parent wx wy j =
     Even x y seen id parent num ×
-    (absorb z p (absorbed (rows x y seen id parent num) wx wy) (drop j near)
-    ≡ absorb z p (absorbed (rows x y seen₀ id parent₀ num) wx₀ wy₀) near)
+    (absorb z p (absorbed (rows x y seen id parent num) wx wy) (drop j near) ≡ absorb z p (absorbed (rows x y seen₀ id parent₀ num) wx₀ wy₀) near)
 
 abbrev μ-loop : tie.MeasureT-loop
 μ-loop x y seen₀ id parent₀ num near z p wx₀ wy₀ j₀ seen parent wx wy j = length near - j
 
-place : (c : tie.In-loop Inv-loop μ-loop) → getD (c .before .before .args .near .now) (c .before .loop .j) 0 < length (c .before .before .args .x .now)
-place c = c .before .before .pre .1 (c .before .loop .j) (c .loop-test .taken)
+-- ---- a turn
 
--- src/rt:66:5
+abbrev start-of : tie.In-loop Inv-loop μ-loop → tie.Start Inv-loop μ-loop
+start-of i = i .before .before
+
+-- the neighbour
+abbrev place : tie.In-loop Inv-loop μ-loop → ℕ
+place i = getD (now (start-of i .args .near)) (i .before .loop .j) 0
+
+place-in : (i : tie.In-loop Inv-loop μ-loop) → place i < length (now (start-of i .args .x))
+place-in i = start-of i .pre .1 (i .before .loop .j) (i .loop-test .taken)
+
+-- the turn, seen from its test, from the branch of an unseen neighbour, from two of that branch's reads, and from its end
+abbrev of-test : tie.After-slice-known Inv-loop μ-loop → tie.In-loop Inv-loop μ-loop
+of-test c = c .before .before
+
+abbrev of-then : tie.Then1 Inv-loop μ-loop → tie.In-loop Inv-loop μ-loop
+of-then c = of-test (c .before)
+
+abbrev of-read : tie.After-row-known Inv-loop μ-loop → tie.In-loop Inv-loop μ-loop
+of-read c = of-then (c .before .before)
+
+abbrev of-end : tie.Joined1 Inv-loop μ-loop → tie.In-loop Inv-loop μ-loop
+of-end c = of-test (c .before)
+
+-- ---- the parts
+
 loop-holds : tie.Need-loop-holds Inv-loop μ-loop
 loop-holds c = (c .pre .0, refl)
 
--- src/rt:67:17
 mul-k : tie.Need-mul-k Inv-loop μ-loop
 mul-k c = search needs
 
--- src/rt:67:17
 shared-slice-read-k : tie.Need-shared-slice-read-k Inv-loop μ-loop
 shared-slice-read-k c = search needs
 
--- src/rt:67:17
 cast-k : tie.Need-cast-k Inv-loop μ-loop
-cast-k c = omega (arith, place (c .before), c .before .before .before .good)
+cast-k c = omega (arith, place-in (c .before), start-of (c .before) .good)
 
--- src/rt:68:16
 slice-read-if1 : tie.Need-slice-read-if1 Inv-loop μ-loop
-slice-read-if1 c = omega (arith, place (c .before .before))
+slice-read-if1 c = omega (arith, place-in (of-test c))
 
--- src/rt:69:13
 slice-write-seen : tie.Need-slice-write-seen Inv-loop μ-loop
-slice-write-seen c = omega (arith, place (c .before .before .before))
+slice-write-seen c = omega (arith, place-in (of-then c))
 
--- src/rt:70:13
 mul-parent : tie.Need-mul-parent Inv-loop μ-loop
-mul-parent c = omega (arith, place (c .before .before .before))
+mul-parent c = omega (arith, place-in (of-then c))
 
--- src/rt:70:13
 slice-write-parent : tie.Need-slice-write-parent Inv-loop μ-loop
-slice-write-parent c = omega (arith, place (c .before .before .before))
+slice-write-parent c = omega (arith, place-in (of-then c))
 
--- src/rt:71:21
 mul-w : tie.Need-mul-w Inv-loop μ-loop
-mul-w c = omega (arith, place (c .before .before .before))
+mul-w c = omega (arith, place-in (of-then c))
 
--- src/rt:71:21
 shared-slice-read-w : tie.Need-shared-slice-read-w Inv-loop μ-loop
-shared-slice-read-w c = omega (arith, place (c .before .before .before .before))
+shared-slice-read-w c = omega (arith, place-in (of-then (c .before)))
 
--- src/rt:71:21
 int-to-float-w : tie.Need-int-to-float-w Inv-loop μ-loop
 int-to-float-w c = search needs
 
--- src/rt:72:23
 mul-wx : tie.Need-mul-wx Inv-loop μ-loop
-mul-wx c = omega (arith, place (c .before .before .before .before .before))
+mul-wx c = omega (arith, place-in (of-read c))
 
--- src/rt:72:23
 shared-slice-read-wx : tie.Need-shared-slice-read-wx Inv-loop μ-loop
-shared-slice-read-wx c = place (c .before .before .before .before .before .before)
+shared-slice-read-wx c = place-in (of-read (c .before))
 
--- src/rt:73:23
 mul-wy : tie.Need-mul-wy Inv-loop μ-loop
-mul-wy c = omega (arith, place (c .before .before .before .before .before .before))
+mul-wy c = omega (arith, place-in (of-read (c .before)))
 
--- src/rt:73:23
 shared-slice-read-wy : tie.Need-shared-slice-read-wy Inv-loop μ-loop
-shared-slice-read-wy c = omega (arith, place (c .before .before .before .before .before .before .before))
+shared-slice-read-wy c = omega (arith, place-in (of-read (c .before .before)))
 
--- src/rt:75:9
 add-j : tie.Need-add-j Inv-loop μ-loop
 add-j c = omega arith
 
--- src/rt:66:5
 loop-less : tie.Need-loop-less Inv-loop μ-loop
 loop-less c = omega arith
 
--- src/rt:66:5
 loop-again : tie.Need-loop-again Inv-loop μ-loop
 loop-again c =
-    let a = c .before .before .before .before .before .args in
-    let l = c .before .before .before .before .loop in
-    let near = a .near .now in
-    let k = getD near (l .j) 0 in
-    let h = place (c .before .before .before) in
-    let t = c .before .before .before .loop-test .taken in
+    let i = of-end c in
+    let a = start-of i .args in
+    let l = i .before .loop in
+    let v = l .inv .0 in
     ⊎-elim
     (λ w. rw (w .5, w .6, w .7, w .8) (
-      even-marks k (a .z) (a .p) (l .inv .0),
-      ap (λ (s : Absorbed). absorb (a .z) (a .p) s (drop (l .j + 1) near)) (sym (absorbOne-yes _ _ _ _ _ _ k (l .inv .0) h (a .z) (a .p) (l .wx) (l .wy) (w .0 .taken)))
-          ∙ sym (absorb-step (a .z) (a .p) _ near (l .j) t) ∙ l .inv .1,
+      even-marks (place i) (a .z) (a .p) v,
+      absorb-turn-yes (now (a .x)) (now (a .y)) (l .seen) (now (a .id)) (l .parent) (now (a .num)) (a .z) (a .p) (l .wx) (l .wy) v (now (a .near)) (l .j) (i .loop-test .taken) (place-in i) (w .0 .taken)
+          ∙ l .inv .1,
     ))
     (λ w. rw (w .1, w .2, w .3, w .4) (
-      l .inv .0,
-      ap (λ (s : Absorbed). absorb (a .z) (a .p) s (drop (l .j + 1) near)) (sym (absorbOne-no _ _ _ _ _ _ k (l .inv .0) h (a .z) (a .p) (l .wx) (l .wy) (w .0 .left)))
-          ∙ sym (absorb-step (a .z) (a .p) _ near (l .j) t) ∙ l .inv .1,
+      v,
+      absorb-turn-no (now (a .x)) (now (a .y)) (l .seen) (now (a .id)) (l .parent) (now (a .num)) (a .z) (a .p) (l .wx) (l .wy) v (now (a .near)) (l .j) (i .loop-test .taken) (place-in i) (w .0 .left)
+          ∙ l .inv .1,
     ))
     (c .if1 .came)
 
--- src/rt:56:1
 same-length : tie.Need-same-length Inv-loop μ-loop
 same-length c = search needs
 
--- src/rt:56:1
 same-length-2 : tie.Need-same-length-2 Inv-loop μ-loop
 same-length-2 c = search needs
 
--- src/rt:56:1
 returns : tie.Need-returns Inv-loop μ-loop
-unfolding absorb
 returns c =
     let a = c .before .before .args in
     let l = c .before .loop in
-    ap (absorb (a .z) (a .p) _) (sym (drop-of-length-le (a .near .now) (c .loop-test .left))) ∙ l .inv .1
+    sym (absorb-end (a .z) (a .p) _ (now (a .near)) (l .j) (c .loop-test .left)) ∙ l .inv .1
 
 pub absorb-near-spec : {M : Type 1} → statement M
 absorb-near-spec =

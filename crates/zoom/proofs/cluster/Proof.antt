@@ -14,7 +14,7 @@ use Rattle.zoom.specs.Zoom.{Scan}
 use Rattle.zoom.specs.Scanned.{scanOf}
 use Rattle.zoom.specs.Near.{nearOf, Placed}
 use Rattle.zoom.specs.Keeps.{All, kept-all, keep-one}
-use Rattle.zoom.specs.Count.{Scanning, scanning-start, scanning-step, scanning-end}
+use Rattle.zoom.specs.Scanning.{Scanning, scanning-start, scanning-step, scanning-end}
 use Rattle.zoom.proofs.cluster.Statement.{statement}
 use Rattle.zoom.proofs.cluster.Tie as tie
 

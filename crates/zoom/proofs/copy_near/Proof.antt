@@ -1,20 +1,18 @@
-use mathlib.Core.Path.{_≡_, refl, ap, sym, _∙_}
+-- `zoom::copy_near` meets its contract: at the head of the loop the copies so far and those that remain are the definition's, and there is room for what
+-- can yet be copied. Assumes nothing.
+use mathlib.Core.Path.{_≡_, refl, ap, _∙_}
 use mathlib.Core.Logic.{⊎-elim}
-use Prim.Native.Nat.{ℕ, _+_, _-_, _*_, _<_, _≤_}
+use Prim.Native.Nat.{ℕ, _+_, _-_, _<_, _≤_}
 use native.Mathlib.Omega.{arith}
-use native.Mathlib.Nat.{le-refl}
-use lib.ListN.{length, getD, set, drop, length-set, drop-of-length-le}
+use lib.ListN.{length, getD}
+use denote.Ref.{now}
 use borrow.Author.Needs.{needs}
-use Rattle.tables.specs.Entries.{entry}
-use Rattle.tables.specs.Rows.{rows, Even, even-kept, rows-entry, rows-length}
 use Rattle.tables.specs.declared.Entry.{Entry}
-use Rattle.zoom.specs.Laws.{Copying, copying-yes, copying-no, has-room}
-use Rattle.zoom.specs.Zoom.{copyAll}
+use Rattle.tables.specs.Entries.{Table, entry}
+use Rattle.tables.specs.Rows.{rows, Even, even-kept, rows-entry, rows-length}
+use Rattle.zoom.specs.Turns.{Copying, copying-start, copying-yes, copying-no, copying-end, has-room}
 use Rattle.zoom.proofs.copy_near.Statement.{statement}
 use Rattle.zoom.proofs.copy_near.Tie as tie
-use Rattle.zoom.proofs.copy_near.Reads as reads
-use Rattle.zoom.proofs.copy_near.Lts as lts
-use Rattle.zoom.proofs.copy_one.Reads as copy-one-reads
 
 abbrev Inv-loop : tie.InvT-loop
 Inv-loop x₀ y₀ seen₀ id₀ parent₀ num₀ near len done z d₀ j₀ x y seen id parent num d j =
@@ -24,38 +22,69 @@ Inv-loop x₀ y₀ seen₀ id₀ parent₀ num₀ near len done z d₀ j₀ x y 
 abbrev μ-loop : tie.MeasureT-loop
 μ-loop x₀ y₀ seen₀ id₀ parent₀ num₀ near len done z d₀ j₀ x y seen id parent num d j = length near - j
 
-abbrev start : tie.In-loop Inv-loop μ-loop → tie.Start Inv-loop μ-loop
-start c = c .before .before .before .before .before .before .before .before .before
+-- ---- the start and the head of the loop
 
-place : (c : tie.In-loop Inv-loop μ-loop) → getD (start c .args .near .now) (c .before .loop .j) 0 < start c .args .len
-place c = start c .pre .1 .0 (c .before .loop .j) (c .loop-test .taken)
+abbrev start-of : tie.At-loop Inv-loop μ-loop → tie.Start Inv-loop μ-loop
+start-of h = h .before .before .before .before .before .before .before .before
 
--- the table is within the columns
-within : (c : tie.In-loop Inv-loop μ-loop) → start c .args .len + c .before .loop .d ≤ length (c .before .loop .x)
-within c =
-    let l = c .before .loop in
-    omega (arith, l .inv .2 .room, rows-length (l .x) (l .y) (l .seen) (l .id) (l .parent) (l .num))
+abbrev first : tie.Start Inv-loop μ-loop → Table
+first s = let a = s .args in rows (now (a .x)) (now (a .y)) (now (a .seen)) (now (a .id)) (now (a .parent)) (now (a .num))
 
--- what the test says, of the rows
-seen-at : (c : tie.In-loop Inv-loop μ-loop) →
-    entry (rows (c .before .loop .x) (c .before .loop .y) (c .before .loop .seen) (c .before .loop .id) (c .before .loop .parent) (c .before .loop .num)) (getD (start c .args .near .now) (c .before .loop .j) 0) .seen
-    ≡ getD (c .before .loop .seen) (getD (start c .args .near .now) (c .before .loop .j) 0) 0
-seen-at c =
-    let l = c .before .loop in
-    ap (λ (e : Entry). e .seen) (rows-entry (l .x) (l .y) (l .seen) (l .id) (l .parent) (l .num) _ (omega (arith, place c, within c)))
+abbrev table : tie.At-loop Inv-loop μ-loop → Table
+table h = let l = h .loop in rows (l .x) (l .y) (l .seen) (l .id) (l .parent) (l .num)
 
-room-at : (c : tie.In-loop Inv-loop μ-loop) → start c .args .z < getD (c .before .loop .seen) (getD (start c .args .near .now) (c .before .loop .j) 0) 0
-    → start c .args .len + c .before .loop .d < length (c .before .loop .x)
-room-at c u =
-    let l = c .before .loop in
-    rw (rows-length (l .x) (l .y) (l .seen) (l .id) (l .parent) (l .num)) at
-    (has-room (start c .args .len) (start c .args .z) (start c .args .near .now) _ (start c .args .done) _ (l .d) (l .j) (l .inv .2) (c .loop-test .taken) (place c) (rw (seen-at c) u))
+long : (h : tie.At-loop Inv-loop μ-loop) → length (table h) ≡ length (h .loop .x)
+long h = let l = h .loop in rows-length (l .x) (l .y) (l .seen) (l .id) (l .parent) (l .num)
+
+-- the two tables stand within the columns
+within : (h : tie.At-loop Inv-loop μ-loop) → start-of h .args .len + h .loop .d ≤ length (h .loop .x)
+within h = omega (arith, h .loop .inv .2 .room, long h)
+
+-- ---- a turn
+
+abbrev place : tie.In-loop Inv-loop μ-loop → ℕ
+place i = getD (now (start-of (i .before) .args .near)) (i .before .loop .j) 0
+
+place-in : (i : tie.In-loop Inv-loop μ-loop) → place i < start-of (i .before) .args .len
+place-in i = start-of (i .before) .pre .1 .0 (i .before .loop .j) (i .loop-test .taken)
+
+-- what the test reads, of the rows
+seen-at : (i : tie.In-loop Inv-loop μ-loop) → entry (table (i .before)) (place i) .seen ≡ getD (i .before .loop .seen) (place i) 0
+seen-at i =
+    let l = i .before .loop in
+    ap (λ (e : Entry). e .seen) (rows-entry (l .x) (l .y) (l .seen) (l .id) (l .parent) (l .num) (place i) (omega (arith, place-in i, within (i .before))))
+
+-- there is room for the copy of an unseen neighbour
+room-at : (i : tie.In-loop Inv-loop μ-loop) → start-of (i .before) .args .z < getD (i .before .loop .seen) (place i) 0
+    → start-of (i .before) .args .len + i .before .loop .d < length (i .before .loop .x)
+room-at i u =
+    let l = i .before .loop in
+    let s = start-of (i .before) in
+    let a = s .args in
+    rw (long (i .before)) at
+    (has-room (a .len) (a .z) (now (a .near)) (first s) (a .done) (table (i .before)) (l .d) (l .j) (l .inv .2) (i .loop-test .taken) (place-in i) (rw (seen-at i) u))
+
+-- the turn, seen from its test, from its call, and from its end
+abbrev of-test : tie.After-slice-known7 Inv-loop μ-loop → tie.In-loop Inv-loop μ-loop
+of-test c = c .before .before
+
+abbrev then-of : tie.After-copy-one-arg6 Inv-loop μ-loop → tie.Then1 Inv-loop μ-loop
+then-of c = c .before .before .before .before .before .before
+
+abbrev calling : tie.After-slice-known13 Inv-loop μ-loop → tie.After-copy-one-arg6 Inv-loop μ-loop
+calling c = c .before .before .before .before .before .before .before .before .before .before .before .before .before
+
+abbrev of-end : tie.Joined1 Inv-loop μ-loop → tie.In-loop Inv-loop μ-loop
+of-end c = of-test (c .before)
+
+-- ---- the parts
 
 loop-holds : tie.Need-loop-holds Inv-loop μ-loop
 loop-holds c =
     let s = c .before .before .before .before .before .before .before in
     let a = s .args in
-    (s .pre .0, refl, record { scan = refl; rest = refl; grown = le-refl (a .done); room = rw (rows-length (a .x .now) (a .y .now) (a .seen .now) (a .id .now) (a .parent .now) (a .num .now)) (s .pre .1 .1) })
+    let n = rows-length (now (a .x)) (now (a .y)) (now (a .seen)) (now (a .id)) (now (a .parent)) (now (a .num)) in
+    (s .pre .0, refl, copying-start (a .len) (a .z) (now (a .near)) (first s) (a .done) (rw n (s .pre .1 .1)))
 
 mul-k : tie.Need-mul-k Inv-loop μ-loop
 mul-k c = search needs
@@ -64,48 +93,54 @@ shared-slice-read-k : tie.Need-shared-slice-read-k Inv-loop μ-loop
 shared-slice-read-k c = search needs
 
 cast-k : tie.Need-cast-k Inv-loop μ-loop
-cast-k c = omega (arith, place (c .before), (start (c .before)) .fits)
+cast-k c = omega (arith, place-in (c .before), start-of (c .before .before) .fits)
 
 slice-read-if1 : tie.Need-slice-read-if1 Inv-loop μ-loop
-slice-read-if1 c = omega (arith, place (c .before .before), within (c .before .before))
+slice-read-if1 c = let i = of-test c in omega (arith, place-in i, within (i .before))
 
 add-copy-one : tie.Need-add-copy-one Inv-loop μ-loop
-add-copy-one c = let i = c .before .before .before .before .before .before .before .before .before in omega (arith, within i, i .before .loop .inv .1, start i .good .0 .0)
+add-copy-one c =
+    let h = of-test (then-of c .before) .before in
+    omega (arith, within h, h .loop .inv .1, start-of h .good .0 .0)
 
 copy-one-requires : tie.Need-copy-one-requires Inv-loop μ-loop
 copy-one-requires c κs =
-    let i = c .before .before .before .before .before .before .before .before .before in
-    (i .before .loop .inv .0, (omega (arith, place i, within i), room-at i (c .before .before .before .before .before .before .if1 .taken)))
+    let t = then-of c in
+    let i = of-test (t .before) in
+    (i .before .loop .inv .0, (omega (arith, place-in i, within (i .before)), room-at i (t .if1 .taken)))
 
 add-d : tie.Need-add-d Inv-loop μ-loop
-add-d c = let i = c .before .before .before .before .before .before .before .before .before .before .before .before .before .before .before .before .before .before .before .before .before .before in omega (arith, within i, i .before .loop .inv .1, start i .good .0 .0, room-at i (c .before .before .before .before .before .before .before .before .before .before .before .before .before .before .before .before .before .before .before .if1 .taken))
+add-d c =
+    let t = then-of (calling c) in
+    let i = of-test (t .before) in
+    omega (arith, i .before .loop .inv .1, start-of (i .before) .good .0 .0, room-at i (t .if1 .taken))
 
 add-j : tie.Need-add-j Inv-loop μ-loop
-add-j c = let i = c .before .before .before in omega (arith, i .loop-test .taken, start i .good .1 .1 .1 .1 .1 .1 .0 .0)
+add-j c = let i = of-end c in omega (arith, i .loop-test .taken, start-of (i .before) .good .1 .1 .1 .1 .1 .1 .0 .0)
 
 loop-less : tie.Need-loop-less Inv-loop μ-loop
 loop-less c = omega arith
 
 loop-again : tie.Need-loop-again Inv-loop μ-loop
 loop-again c =
-    let i = c .before .before .before in
-    let l = c .before .before .before .before .loop in
-    let a = start i .args in
-    let t = i .loop-test .taken in
+    let i = of-end c in
+    let l = i .before .loop in
+    let s = start-of (i .before) in
+    let a = s .args in
     ⊎-elim
     (λ w.
-    let kept = w .7 .kept in
+    let k = w .7 .kept in
     rw (w .20, w .21, w .22, w .23, w .24, w .25, w .26) (
-      even-kept (l .inv .0) (kept .0) (kept .1 .0) (kept .1 .1 .0) (kept .1 .1 .1 .0) (kept .1 .1 .1 .1 .0) (kept .1 .1 .1 .1 .1 .0),
-      kept .0 ∙ l .inv .1,
+      even-kept (l .inv .0) (k .0) (k .1 .0) (k .1 .1 .0) (k .1 .1 .1 .0) (k .1 .1 .1 .1 .0) (k .1 .1 .1 .1 .1 .0),
+      k .0 ∙ l .inv .1,
       rw (w .7 .ensures)
-          (copying-yes (a .len) (a .z) (a .near .now) _ (a .done) _ (l .d) (l .j) (l .inv .2) t (place i) (rw (seen-at i) (w .0 .taken))),
+          (copying-yes (a .len) (a .z) (now (a .near)) (first s) (a .done) (table (i .before)) (l .d) (l .j) (l .inv .2) (i .loop-test .taken) (place-in i) (rw (seen-at i) (w .0 .taken))),
     ))
     (λ w.
     rw (w .1, w .2, w .3, w .4, w .5, w .6, w .7) (
       l .inv .0,
       l .inv .1,
-      copying-no (a .len) (a .z) (a .near .now) _ (a .done) _ (l .d) (l .j) (l .inv .2) t (place i) (rw (seen-at i) (w .0 .left)),
+      copying-no (a .len) (a .z) (now (a .near)) (first s) (a .done) (table (i .before)) (l .d) (l .j) (l .inv .2) (i .loop-test .taken) (place-in i) (rw (seen-at i) (w .0 .left)),
     ))
     (c .if1 .came)
 
@@ -128,16 +163,12 @@ same-length-6 : tie.Need-same-length-6 Inv-loop μ-loop
 same-length-6 c = search needs
 
 returns : tie.Need-returns Inv-loop μ-loop
-unfolding copyAll
 returns c =
-    let l = c .before .loop in
-    let a = c .before .before .before .before .before .before .before .before .before .args in
-    record {
-      scan = ap (copyAll (a .z) _) (sym (drop-of-length-le (a .near .now) (c .loop-test .left))) ∙ l .inv .2 .scan;
-      rest = l .inv .2 .rest;
-      grown = l .inv .2 .grown;
-      fits = omega (arith, l .inv .2 .room);
-    }
+    let h = c .before in
+    let l = h .loop in
+    let s = start-of h in
+    let a = s .args in
+    copying-end (a .len) (a .z) (now (a .near)) (first s) (a .done) (table h) (l .d) (l .j) (l .inv .2) (c .loop-test .left)
 
 pub copy-near-spec : {M : Type 1} → statement M
 copy-near-spec =

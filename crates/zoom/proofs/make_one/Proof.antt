@@ -1,12 +1,11 @@
 -- `zoom::make_one` meets its contract: what absorbing gives, the origin's parent, and the new entry after the table are a cluster made. Assumes nothing.
-use mathlib.Core.Path.{_≡_, ap, sym, _∙_}
-use Prim.Native.Nat.{ℕ, _+_, _<_}
+use mathlib.Core.Path.{_≡_, _∙_}
+use Prim.Native.Nat.{_+_, _<_}
 use native.Mathlib.Omega.{arith}
 use lib.ListN.{length, length-set}
-use lib.Ieee.{Float, ofBits}
 use borrow.Author.Needs.{needs}
 use Rattle.tables.specs.Rows.{rows, Even, rows-entry, rows-length, rows-parent}
-use Rattle.zoom.specs.Laws.{made-with, begun}
+use Rattle.zoom.specs.Stored.{made-with, begun}
 use Rattle.zoom.specs.Zoom.{absorbed, absorb}
 use Rattle.zoom.proofs.make_one.Statement.{statement}
 use Rattle.zoom.proofs.make_one.Tie as tie
@@ -69,22 +68,22 @@ put-entry-requires c κs =
     (record { ey = s .pre .0 .ey; es = k .1 .1 .0 ∙ s .pre .0 .es; ei = s .pre .0 .ei; ep = simp length-set (k .1 .1 .1 .1 .0 ∙ s .pre .0 .ep); en = s .pre .0 .en }, s .pre .1 .1 .1)
 
 same-length : tie.Need-same-length
-same-length c = search needs
+same-length c = putting c .put-entry .kept .0
 
 same-length-2 : tie.Need-same-length-2
-same-length-2 c = search needs
+same-length-2 c = putting c .put-entry .kept .1 .0
 
 same-length-3 : tie.Need-same-length-3
-same-length-3 c = search needs
+same-length-3 c = putting c .put-entry .kept .1 .1 .0 ∙ absorbing (putting c .before) .absorb-near .kept .1 .1 .0
 
 same-length-4 : tie.Need-same-length-4
-same-length-4 c = search needs
+same-length-4 c = putting c .put-entry .kept .1 .1 .1 .0
 
 same-length-5 : tie.Need-same-length-5
 same-length-5 c = putting c .put-entry .kept .1 .1 .1 .1 .0 ∙ simp length-set (absorbing (putting c .before) .absorb-near .kept .1 .1 .1 .1 .0)
 
 same-length-6 : tie.Need-same-length-6
-same-length-6 c = search needs
+same-length-6 c = putting c .put-entry .kept .1 .1 .1 .1 .1 .0
 
 returns : tie.Need-returns
 returns c =

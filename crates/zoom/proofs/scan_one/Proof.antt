@@ -1,14 +1,12 @@
 -- `zoom::scan_one` meets its contract: an entry that was seen leaves the scan as it is; another is marked, its neighbours are listed, and the visit is the
 -- definition's. Assumes nothing.
-use mathlib.Core.Path.{_≡_, refl, ap, sym, _∙_, subst}
+use mathlib.Core.Path.{_≡_, ap, sym, _∙_, subst}
 use mathlib.Core.List.{List}
 use Prim.Native.Nat.{ℕ, _^_, _<_, _≤_}
 use native.Mathlib.Omega.{arith}
-use lib.Dec.{T}
 use lib.ListN.{length, getD, set, take, length-set}
 use lib.Seq.{length-take-le, getD-take}
 use lib.Ieee.{Float, nan}
-use lib.Ieee.Scale.{finite}
 use denote.Ref.{now}
 use borrow.Author.Needs.{needs}
 use Rattle.kdbush.specs.declared.Query.the-variants.{Within}
@@ -17,7 +15,7 @@ use Rattle.tables.specs.declared.Entry.{Entry}
 use Rattle.tables.specs.Entries.{Table, entry, none, marked}
 use Rattle.tables.specs.Rows.{rows, row, even-mark, rows-entry, rows-length, rows-mark}
 use Rattle.zoom.specs.Scanned.{Below}
-use Rattle.zoom.specs.Near.{nearOf, Placed, Answered, all-below}
+use Rattle.zoom.specs.Near.{nearOf, Placed, all-below}
 use Rattle.zoom.specs.Keeps.{all-at}
 use Rattle.zoom.specs.Visit.{marked-room, marked-unseenNum, scanned, passed}
 use Rattle.zoom.proofs.scan_one.Statement.{statement}
@@ -65,13 +63,19 @@ below-of s = let a = s .args in all-below (places s) (a .len) (s .pre .1 .0 .0 .
 few : (s : tie.Start) → length (places s) ≤ s .args .len
 few s = let a = s .args in s .pre .1 .0 .0 .short (Within (getD (now (a .x)) (a .i) nan) (getD (now (a .y)) (a .i) nan) (a .r))
 
--- ---- and at the branch of an entry that is not passed by
+-- ---- and at the branch of an entry that is not passed by; the calls, seen from later places
 
 abbrev start-of : tie.Else1 → tie.Start
 start-of e = e .before .before .before .before .before .before .before .before .before .before .before
 
 abbrev else-of : tie.After-neighbours → tie.Else1
 else-of w = w .before .before .before .before
+
+abbrev listing : tie.After-visit-one → tie.After-neighbours
+listing v = v .before .before .before .before .before .before .before .before .before .before
+
+abbrev visiting : tie.After-slice-known17 → tie.After-visit-one
+visiting c = c .before .before .before .before .before .before .before .before .before .before .before .before
 
 unseen-i : (e : tie.Else1) → start-of e .args .z < entry (table (start-of e)) (start-of e .args .i) .seen
 unseen-i e = rw (at-i (start-of e)) (e .if1 .left)
@@ -142,30 +146,30 @@ visit-one-requires c κs =
     )
 
 same-length : tie.Need-same-length
-same-length c = search needs
+same-length c = visiting c .visit-one .kept .0
 
 same-length-2 : tie.Need-same-length-2
-same-length-2 c = search needs
+same-length-2 c = visiting c .visit-one .kept .1 .0
 
 same-length-3 : tie.Need-same-length-3
-same-length-3 c = c .before .before .before .before .before .before .before .before .before .before .before .before .visit-one .kept .1 .1 .0 ∙ simp length-set
+same-length-3 c = visiting c .visit-one .kept .1 .1 .0 ∙ simp length-set
 
 same-length-4 : tie.Need-same-length-4
-same-length-4 c = search needs
+same-length-4 c = visiting c .visit-one .kept .1 .1 .1 .0
 
 same-length-5 : tie.Need-same-length-5
-same-length-5 c = search needs
+same-length-5 c = visiting c .visit-one .kept .1 .1 .1 .1 .0
 
 same-length-6 : tie.Need-same-length-6
-same-length-6 c = search needs
+same-length-6 c = visiting c .visit-one .kept .1 .1 .1 .1 .1 .0
 
 same-length-7 : tie.Need-same-length-7
-same-length-7 c = search needs
+same-length-7 c = listing (visiting c) .neighbours .kept .1 .1 .0
 
 returns-2 : tie.Need-returns-2
 returns-2 c =
-    let v = c .before .before .before .before .before .before .before .before .before .before .before .before in
-    let w = v .before .before .before .before .before .before .before .before .before .before in
+    let v = visiting c in
+    let w = listing v in
     let e = else-of w in
     let s = start-of e in
     let a = s .args in

@@ -5,8 +5,6 @@ use lib.Ieee.{le, ofBits}
 use Rattle.floats.specs.Numbers.{pow16}
 use Rattle.tables.proofs.Options.extent_ok.Statement.{statement}
 use Rattle.tables.proofs.Options.extent_ok.Tie as tie
-use Rattle.tables.proofs.Options.extent_ok.Reads as reads
-use Rattle.tables.proofs.Options.extent_ok.Lts as lts
 
 returns : tie.Need-returns
 unfolding ofBits

@@ -3,7 +3,7 @@ use mathlib.Core.Path.{_≡_, sym, _∙_}
 use mathlib.Core.Bool.{Bool, true, false, not}
 use borrow.Author.Tests.{le-leb, lt-leb, not-true, not-false}
 use borrow.Author.Needs.{needs}
-use Rattle.tables.specs.Options.{optionsOk}
+use Rattle.tables.specs.Options.{optionsOk, zoomsOk, radiusOk, extentOk}
 use Rattle.tables.proofs.Options.is_in_bounds.Statement.{statement}
 use Rattle.tables.proofs.Options.is_in_bounds.Tie as tie
 
@@ -13,6 +13,29 @@ yes e h = sym e ∙ not-false _ h
 
 no : {r b : Bool} → r ≡ b → not r ≡ true → b ≡ false
 no e h = sym e ∙ not-true _ h
+
+-- ---- what is known past each of the three
+
+zooms : (e : tie.Else1) → zoomsOk (e .before .before .args .self) ≡ true
+zooms e = yes (e .before .zooms-ok .ensures) (e .if1 .left)
+
+radius : (e : tie.Else2) → radiusOk (e .before .before .before .before .args .self) ≡ true
+radius e = yes (e .before .radius-ok .ensures) (e .if2 .left)
+
+extent : (e : tie.Else3) → extentOk (e .before .before .before .before .before .before .args .self) ≡ true
+extent e = yes (e .before .extent-ok .ensures) (e .if3 .left)
+
+-- the branches past them, from the later ones
+abbrev first : tie.Else2 → tie.Else1
+first e = e .before .before
+
+abbrev second : tie.Else3 → tie.Else2
+second e = e .before .before
+
+abbrev third : tie.Else4 → tie.Else3
+third e = e .before .before
+
+-- ---- the parts
 
 zooms-ok-requires : tie.Need-zooms-ok-requires
 zooms-ok-requires c κs = search needs
@@ -26,22 +49,29 @@ radius-ok-requires c κs = search needs
 
 returns-2 : tie.Need-returns-2
 unfolding optionsOk
-returns-2 c = simp (yes (c .before .before .before .zooms-ok .ensures) (c .before .before .if1 .left), no (c .before .radius-ok .ensures) (c .if2 .taken))
+returns-2 c = simp (zooms (c .before .before), no (c .before .radius-ok .ensures) (c .if2 .taken))
 
 extent-ok-requires : tie.Need-extent-ok-requires
 extent-ok-requires c κs = search needs
 
 returns-3 : tie.Need-returns-3
 unfolding optionsOk
-returns-3 c = simp (yes (c .before .before .before .before .before .zooms-ok .ensures) (c .before .before .before .before .if1 .left), yes (c .before .before .before .radius-ok .ensures) (c .before .before .if2 .left), no (c .before .extent-ok .ensures) (c .if3 .taken))
+returns-3 c = let b = c .before .before in simp (zooms (first b), radius b, no (c .before .extent-ok .ensures) (c .if3 .taken))
 
 returns-4 : tie.Need-returns-4
 unfolding optionsOk
-returns-4 c = simp (yes (c .before .before .before .before .before .before .before .zooms-ok .ensures) (c .before .before .before .before .before .before .if1 .left), yes (c .before .before .before .before .before .radius-ok .ensures) (c .before .before .before .before .if2 .left), yes (c .before .before .before .extent-ok .ensures) (c .before .before .if3 .left), lt-leb _ _ (c .if4 .taken))
+returns-4 c =
+    let e = c .before .before in
+    let b = second e in
+    simp (zooms (first b), radius b, extent e, lt-leb _ _ (c .if4 .taken))
 
 returns-5 : tie.Need-returns-5
 unfolding optionsOk
-returns-5 c = simp (yes (c .before .before .before .before .before .before .before .before .before .zooms-ok .ensures) (c .before .before .before .before .before .before .before .before .if1 .left), yes (c .before .before .before .before .before .before .before .radius-ok .ensures) (c .before .before .before .before .before .before .if2 .left), yes (c .before .before .before .before .before .extent-ok .ensures) (c .before .before .before .before .if3 .left), le-leb _ _ (c .before .before .if4 .left), lt-leb _ _ (c .if5 .taken))
+returns-5 c =
+    let f = c .before .before in
+    let e = third f in
+    let b = second e in
+    simp (zooms (first b), radius b, extent e, le-leb _ _ (f .if4 .left), lt-leb _ _ (c .if5 .taken))
 
 is-in-bounds-requires : tie.Need-is-in-bounds-requires
 is-in-bounds-requires c κs = search needs
@@ -49,7 +79,10 @@ is-in-bounds-requires c κs = search needs
 returns-6 : tie.Need-returns-6
 unfolding optionsOk
 returns-6 c =
-    simp (yes (c .before .before .before .before .before .before .before .before .before .before .zooms-ok .ensures) (c .before .before .before .before .before .before .before .before .before .if1 .left), yes (c .before .before .before .before .before .before .before .before .radius-ok .ensures) (c .before .before .before .before .before .before .before .if2 .left), yes (c .before .before .before .before .before .before .extent-ok .ensures) (c .before .before .before .before .before .if3 .left), le-leb _ _ (c .before .before .before .if4 .left), le-leb _ _ (c .before .if5 .left), c .is-in-bounds .ensures)
+    let f = c .before .before .before in
+    let e = third f in
+    let b = second e in
+    simp (zooms (first b), radius b, extent e, le-leb _ _ (f .if4 .left), le-leb _ _ (c .before .if5 .left), c .is-in-bounds .ensures)
 
 pub is-in-bounds-spec : {M : Type 1} → statement M
 is-in-bounds-spec =

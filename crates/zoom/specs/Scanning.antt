@@ -1,0 +1,67 @@
+-- The loop over a table in the columns: what holds at its head, at its start, after a step and at its end, where the columns hold the definition's scan.
+-- Assumes nothing.
+use mathlib.Core.Path.{_≡_, refl, ap, sym, _∙_, subst}
+use mathlib.Core.List.{List}
+use Prim.Native.Nat.{ℕ, suc, _+_, _-_, _<_, _≤_}
+use native.Mathlib.Omega.{arith}
+use native.Mathlib.Nat.{le-refl, le-trans}
+use native.Mathlib.Numerals.{add-one}
+use lib.ListN.{length, drop, take, length-drop}
+use lib.Seq.{length-take-le, drop-drop}
+use lib.Ieee.{Float}
+use Rattle.tables.specs.Entries.{Table}
+use Rattle.zoom.specs.Scanned.{scanOf, Scanned, unseenCount, unseenNum}
+use Rattle.zoom.specs.Zoom.{Scan, scanOne, scanFrom, cluster}
+use Rattle.zoom.specs.Unseen.{unseenCount-length}
+use Rattle.zoom.specs.Keeps.{keep-one, kept-unseenNum}
+use Rattle.zoom.specs.Fewer.{needed, scan-fewer}
+
+-- the i-th entry is next: what is still to be scanned leads to the whole scan, the rows past the two tables are old, there is room for each unseen entry, and
+-- what is unseen counts no more lamps than at the start
+pub record Scanning (n least z : ℕ) (near : Float → Float → List ℕ) (len : ℕ) (t₀ t : Table) (d i : ℕ) : Type 0 where
+  pub scan : scanFrom n least z near (scanOf len d t) i (len - i) ≡ cluster n least z near (take len t₀)
+  pub rest : drop (len + d) t ≡ drop (len + d) t₀
+  pub room : len + d + unseenCount z (take len t) ≤ length t
+  pub light : unseenNum z (take len t) ≤ unseenNum z (take len t₀)
+
+module _ (n least z : ℕ) (near : Float → Float → List ℕ) (len : ℕ) (t₀ : Table) where
+  pub scanning-start : len + len ≤ length t₀ → Scanning n least z near len t₀ t₀ 0 0
+  unfolding cluster
+  scanning-start h =
+      let lt : length (take len t₀) ≡ len = length-take-le len t₀ (omega arith) in
+      let f = unseenCount-length z (take len t₀) in
+      let q : len - 0 ≡ len = omega arith in
+      record {
+        scan = rw (lt, q);
+        rest = refl;
+        room = omega (arith, f, lt, h);
+        light = le-refl _;
+      }
+
+  pub scanning-step : (t t′ : Table) (d d′ i : ℕ) → Scanning n least z near len t₀ t d i → i < len
+      → Scanned len d (scanOne n least z near (scanOf len d t) i) t t′ d′ → length t′ ≡ length t → Scanning n least z near len t₀ t′ d′ (i + 1)
+  unfolding scanFrom
+  scanning-step t t′ d d′ i v hi l e =
+      let s = scanOf len d t in
+      let k : len - i ≡ suc (len - (i + 1)) = omega arith in
+      let step : scanFrom n least z near s i (len - i) ≡ scanFrom n least z near (scanOne n least z near s i) (i + 1) (len - (i + 1))
+      = rw (k, add-one i) in
+      let c : needed z (scanOf len d′ t′) ≤ needed z s = subst (λ (q : Scan). needed z q ≤ needed z s) (sym (l .scan)) (scan-fewer n least z near s i) in
+      let w : unseenNum z (scanOf len d′ t′ .table) ≤ unseenNum z (s .table)
+      = subst (λ (q : Scan). unseenNum z (q .table) ≤ unseenNum z (s .table)) (sym (l .scan))
+      (keep-one z (λ t. unseenNum z t ≤ unseenNum z (s .table)) (kept-unseenNum z (unseenNum z (s .table))) n least near s i _ refl (le-refl _)) in
+      let q : len + d + (d′ - d) ≡ len + d′ = omega (arith, l .grown) in
+      let nx : length (take d (drop len t)) ≡ d = length-take-le d (drop len t) (rw (length-drop len t) (omega (arith, v .room))) in
+      let ny : length (take d′ (drop len t′)) ≡ d′ = length-take-le d′ (drop len t′) (rw (length-drop len t′) (omega (arith, l .fits))) in
+      record {
+        scan = rw (l .scan) (sym step ∙ v .scan);
+        rest = l .rest ∙ simp (drop-drop, q) at (ap (drop (d′ - d)) (v .rest));
+        room = omega (arith, c, nx, ny, v .room, e);
+        light = le-trans w (v .light);
+      }
+
+  pub scanning-end : (t : Table) (d i : ℕ) → Scanning n least z near len t₀ t d i → len ≤ i → Scanned len 0 (cluster n least z near (take len t₀)) t₀ t d
+  unfolding scanFrom
+  scanning-end t d i v h =
+      let q : len - i ≡ 0 = omega arith in
+      record { scan = rw q at (v .scan); rest = v .rest; grown = omega arith; fits = omega (arith, v .room) }

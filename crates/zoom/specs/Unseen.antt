@@ -1,0 +1,126 @@
+-- What is unseen in a table: how many entries, and how many lamps they count. A store that marks an unseen entry takes it from both numbers, no mark adds to
+-- them, and a parent changes neither. The unseen among distinct neighbours count no more lamps than all that are unseen. Assumes nothing.
+use mathlib.Core.Path.{_≡_, refl, ap, sym, _∙_}
+use mathlib.Core.Bool.{Bool, true, false, cond}
+use mathlib.Core.List.{List, [], _∷_, _++_}
+use Prim.Native.Nat.{ℕ, zero, suc, _+_, _<_, _≤_}
+use native.Mathlib.Omega.{arith}
+use native.Mathlib.Nat.{le-refl}
+use borrow.Author.Tests.{lt-ltb, le-ltb, ltb-true}
+use lib.ListN.{length, set, drop, take, List·getD-append, take-append-drop, length-set}
+use lib.Seq.{getD-set-other, length-take-le}
+use Rattle.kdbush.specs.Members.{Distinct, NotIn}
+use Rattle.tables.specs.declared.Entry.{Entry}
+use Rattle.tables.specs.Entries.{Table, entry, none, unseen, marked, under}
+use Rattle.zoom.specs.Scanned.{Below, unseenCount, unseenNum}
+use Rattle.zoom.specs.Zoom.{more}
+use Rattle.zoom.specs.Steps.{more-yes, more-no, more-nil}
+
+-- what stands past a table's end is seen
+pub unseen-in : (z : ℕ) (t : Table) (k : ℕ) → z < entry t k .seen → k < length t
+unseen-in z [] k h = let q : ⊥ = omega arith in absurd q
+unseen-in z (a ∷ t) zero h = omega arith
+unseen-in z (a ∷ t) (suc k) h = let r = unseen-in z t k h in omega (arith, r)
+
+-- ---- an unseen entry is marked
+
+pub unseenCount-mark : (z : ℕ) (t : Table) (k : ℕ) (e : Entry) → k < length t → z < entry t k .seen → e .seen ≤ z
+    → unseenCount z t ≡ suc (unseenCount z (set t k e))
+unfolding unseenCount
+unseenCount-mark z [] k e h u v = let q : ⊥ = omega arith in absurd q
+unseenCount-mark z (a ∷ t) zero e h u v = simp (lt-ltb z (a .seen) u, le-ltb z (e .seen) v) (omega arith)
+unseenCount-mark z (a ∷ t) (suc k) e h u v =
+    let r = unseenCount-mark z t k e (omega arith) u v in omega (arith, r)
+
+pub unseenNum-mark : (z : ℕ) (t : Table) (k : ℕ) (e : Entry) → k < length t → z < entry t k .seen → e .seen ≤ z
+    → unseenNum z t ≡ entry t k .num + unseenNum z (set t k e)
+unfolding unseenNum
+unseenNum-mark z [] k e h u v = let q : ⊥ = omega arith in absurd q
+unseenNum-mark z (a ∷ t) zero e h u v = simp (lt-ltb z (a .seen) u, le-ltb z (e .seen) v) (omega arith)
+unseenNum-mark z (a ∷ t) (suc k) e h u v =
+    let r = unseenNum-mark z t k e (omega arith) u v in omega (arith, r)
+
+-- ---- an entry that is seen is stored, whatever stood there
+
+pub unseenCount-le : (z : ℕ) (t : Table) (k : ℕ) (e : Entry) → e .seen ≤ z → unseenCount z (set t k e) ≤ unseenCount z t
+unfolding unseenCount
+unseenCount-le z [] k e h = le-refl 0
+unseenCount-le z (a ∷ t) zero e h = rw (le-ltb z (e .seen) h) (omega arith)
+unseenCount-le z (a ∷ t) (suc k) e h = let r = unseenCount-le z t k e h in omega (arith, r)
+
+pub unseenNum-le : (z : ℕ) (t : Table) (k : ℕ) (e : Entry) → e .seen ≤ z → unseenNum z (set t k e) ≤ unseenNum z t
+unfolding unseenNum
+unseenNum-le z [] k e h = le-refl 0
+unseenNum-le z (a ∷ t) zero e h = rw (le-ltb z (e .seen) h) (omega arith)
+unseenNum-le z (a ∷ t) (suc k) e h = let r = unseenNum-le z t k e h in omega (arith, r)
+
+-- ---- a parent is stored
+
+pub unseenCount-under : (z : ℕ) (t : Table) (k p : ℕ) → unseenCount z (set t k (under p (entry t k))) ≡ unseenCount z t
+unfolding unseenCount
+unseenCount-under z [] k p = refl
+unseenCount-under z (a ∷ t) zero p = refl
+unseenCount-under z (a ∷ t) (suc k) p = let r = unseenCount-under z t k p in omega (arith, r)
+
+pub unseenNum-under : (z : ℕ) (t : Table) (k p : ℕ) → unseenNum z (set t k (under p (entry t k))) ≡ unseenNum z t
+unfolding unseenNum
+unseenNum-under z [] k p = refl
+unseenNum-under z (a ∷ t) zero p = refl
+unseenNum-under z (a ∷ t) (suc k) p = let r = unseenNum-under z t k p in omega (arith, r)
+
+-- ---- how many at most, and none
+
+pub unseenCount-length : (z : ℕ) (t : Table) → unseenCount z t ≤ length t
+unfolding unseenCount
+unseenCount-length z [] = le-refl 0
+unseenCount-length z (a ∷ t) = by (unseen z a) (unseenCount-length z t)
+  where
+    by : (b : Bool) → unseenCount z t ≤ length t → cond b 1 0 + unseenCount z t ≤ suc (length t)
+    by true h = omega (arith, h)
+    by false h = omega (arith, h)
+
+pub unseenNum-none : (z : ℕ) (t : Table) → ((j : ℕ) → j < length t → entry t j .seen ≤ z) → unseenNum z t ≡ 0
+unfolding unseenNum
+unseenNum-none z [] f = refl
+unseenNum-none z (e ∷ t) f = rw (le-ltb z (e .seen) (f 0 (omega arith))) (let r = unseenNum-none z t (λ j h. f (suc j) (omega arith)) in omega (arith, r))
+
+-- ---- the neighbours
+
+pub below-tail : (k : ℕ) (ks : List ℕ) (n : ℕ) → Below (k ∷ ks) n → Below ks n
+below-tail k ks n b i h = b (suc i) (omega arith)
+
+-- a store at a place that is no neighbour's
+pub more-same : (z : ℕ) (t : Table) (k : ℕ) (e : Entry) (l : List ℕ) → NotIn k l → more z (set t k e) l ≡ more z t l
+unfolding more
+more-same z t k e [] h = refl
+more-same z t k e (j ∷ js) h =
+    rw (getD-set-other t k j e none (λ q. h .0 (sym q))) (ap (λ (q : ℕ). cond (unseen z (entry t j)) (entry t j .num) 0 + q) (more-same z t k e js (h .1)))
+
+-- rows past the neighbours change nothing
+more-grow : (z : ℕ) (t r : Table) (l : List ℕ) → Below l (length t) → more z (t ++ r) l ≡ more z t l
+unfolding more
+more-grow z t r [] b = refl
+more-grow z t r (k ∷ ks) b =
+    rw (List·getD-append t r none k (b 0 (omega arith))) (ap (λ (q : ℕ). cond (unseen z (entry t k)) (entry t k .num) 0 + q) (more-grow z t r ks (below-tail k ks _ b)))
+
+pub more-take : (z len : ℕ) (t : Table) (near : List ℕ) → Below near len → len ≤ length t → more z t near ≡ more z (take len t) near
+more-take z len t near b h =
+    ap (λ (q : Table). more z q near) (sym (take-append-drop len t))
+    ∙ more-grow z (take len t) (drop len t) near (rw (length-take-le len t h) b)
+
+-- one neighbour, once what is said holds of the others in every table as long
+more-le-by : (z : ℕ) (t : Table) (k : ℕ) (ks : List ℕ) → k < length t → NotIn k ks
+    → ((t′ : Table) → length t′ ≡ length t → more z t′ ks ≤ unseenNum z t′) → (b : Bool) → unseen z (entry t k) ≡ b → more z t (k ∷ ks) ≤ unseenNum z t
+more-le-by z t k ks h o f true e =
+    let u : z < entry t k .seen = ltb-true z (entry t k .seen) e in
+    let m = marked z (entry t k) in
+    let g = f (set t k m) (length-set t k m) in
+    omega (arith, more-yes z t k ks e, unseenNum-mark z t k m h u (le-refl z), more-same z t k m ks o, g)
+more-le-by z t k ks h o f false e = omega (arith, more-no z t k ks e, f t refl)
+
+-- distinct neighbours: each lamp counts once
+pub more-le : (z : ℕ) (t : Table) (l : List ℕ) → Below l (length t) → Distinct l → more z t l ≤ unseenNum z t
+more-le z t [] b o = omega (arith, more-nil z t)
+more-le z t (k ∷ ks) b o =
+    more-le-by z t k ks (b 0 (omega arith)) (o .0)
+    (λ t′ e. more-le z t′ ks (rw e (below-tail k ks (length t) b)) (o .1)) _ refl
