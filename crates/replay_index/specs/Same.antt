@@ -1,11 +1,11 @@
--- What the comparisons are: of columns, of a build, of a query's list and of the cursor's walk with what is expected. Definitions only.
+-- What the comparisons are: of a build, of a query's list and of the cursor's walk with what is expected. Definitions only.
 use Prim.Native.Nat.{ℕ, zero, suc, _+_}
 use mathlib.Core.Bool.{Bool, true, false, _&&_}
 use mathlib.Core.List.{List}
 use lib.Dec.{eqb, ltb}
 use lib.ListN.{length, getD}
-use lib.Ieee.{Float, nan}
-use Rattle.vectors.specs.Words.{agreeing}
+use lib.Ieee.{Float}
+use Rattle.vectors.specs.Same.{samePlaces, sameFloats, doneIs}
 use Rattle.vectors.specs.declared.Function.{Function}
 use Rattle.vectors.specs.declared.Function.the-variants.{Range as Function·Range, Within as Function·Within}
 use Rattle.vectors.specs.declared.Verdict.{Verdict}
@@ -13,40 +13,13 @@ use Rattle.vectors.specs.declared.Verdict.the-variants.{Agrees, Differs, Malfor
 use Rattle.kdsort.specs.Cols.{cols}
 use Rattle.kdbush.specs.declared.Query.{Query}
 use Rattle.kdbush.specs.declared.Query.the-variants.{Range, Within}
-use Rattle.kdbush.specs.declared.BuildReply.{BuildReply}
-use Rattle.kdbush.specs.declared.BuildReply.the-variants.{Done as Build·Done, Options, Count, Point, Tables}
 use Rattle.kdbush.specs.declared.SearchReply.{SearchReply}
 use Rattle.kdbush.specs.declared.SearchReply.the-variants.{Found, Box as Search·Box, NoRoom, Spoiled as Search·Spoiled}
 use Rattle.kdbush.specs.declared.Step.{Step}
 use Rattle.kdbush.specs.declared.Step.the-variants.{Slot, Done, Box, Spoiled}
 use Rattle.kdbush.specs.Reply.{checked, built, searched, columnAfter, firstStep, afterStep}
 
--- each number below k passes
-unfoldable pub upto : ℕ → (ℕ → Bool) → Bool
-upto zero f = true
-upto (suc k) f = upto k f && f k
-
-abbrev pub placeAt : List ℕ → List ℕ → ℕ → Bool
-placeAt want got i = eqb (getD want i 0) (getD got i 0)
-
-abbrev pub floatAt : List Float → List Float → ℕ → Bool
-floatAt want got i = agreeing (getD want i nan) (getD got i nan)
-
--- columns of one length, the same at each position
-unfoldable pub samePlaces : List ℕ → List ℕ → Bool
-samePlaces want got = eqb (length want) (length got) && upto (length want) (placeAt want got)
-
-unfoldable pub sameFloats : List Float → List Float → Bool
-sameFloats want got = eqb (length want) (length got) && upto (length want) (floatAt want got)
-
 -- a build that is not refused, and comes out as the columns expected
-abbrev pub doneIs : BuildReply → Bool
-doneIs Build·Done = true
-doneIs Options = false
-doneIs Count = false
-doneIs (Point i) = false
-doneIs Tables = false
-
 unfoldable pub buildsTo : ℕ → List Float → List Float → List ℕ → List Float → List ℕ → List Float → Bool
 buildsTo size xs ys wantIds wantCo ids co =
     doneIs (checked size xs ys (cols ids co)) &&

@@ -6,44 +6,24 @@
 // Each query is asked once as a list and once by the cursor. n and m go to 1024, k to 64; a case beyond is not of the form.
 // Proved: nothing here reads or writes outside its columns, each comparison is the equation of its definition in specs/, and the tally is right.
 // Assumed: what standard input gives is not modelled, so that the loops that read are only proved to be safe.
-use kdbush::BuildReply;
 use kdbush::Query;
 use kdbush::SearchReply;
 use kdbush::Step;
-use libc::STDIN_FILENO;
+use vectors::Count;
 use vectors::Ending;
 use vectors::First;
 use vectors::Function;
 use vectors::Pattern;
 use vectors::Tally;
 use vectors::Verdict;
+use vectors::Word;
 ghost use mathlib.Core.Path.{_≡_};
-ghost use Prim.Native.Nat.{_*_, _≤_, _<_};
+ghost use Prim.Native.Nat.{_*_, _≤_};
 ghost use lib.ListN.{length};
 ghost use Rattle.vectors.specs.Tallies.{endingIs};
 ghost use Rattle.kdbush.specs.Reply.{searched, columnAfter};
-ghost use Rattle.replay_index.specs.Read.{wordIs, countIs, queryOf};
-ghost use Rattle.replay_index.specs.Same.{samePlaces, sameFloats, doneIs, buildsTo, foundIs, listsTo, slotOf, overIs, walksTo, functionOf, earlierOf};
-
-// The next word: one with a space after it, one that ends its line, bytes that are neither, or the end of the input.
-enum Word {
-    Inner(u64),
-    Last(u64),
-    Bad,
-    End,
-}
-
-// A count within its limit, or a word that is none.
-enum Count {
-    Is(usize),
-    Bad,
-}
-
-// A place, or a word that is none.
-enum Place {
-    Is(u32),
-    Bad,
-}
+ghost use Rattle.replay_index.specs.Read.{queryOf};
+ghost use Rattle.replay_index.specs.Same.{buildsTo, foundIs, listsTo, slotOf, overIs, walksTo, functionOf, earlierOf};
 
 // A query, or words that are none.
 enum Asked {
@@ -54,169 +34,13 @@ enum Asked {
 // What a column of places holds before it is written.
 const OLD: u32 = 0xffff_ffff;
 
-// The word that 17 bytes hold.
-fn word_of(text: &[u8; 17]) -> Word
-    ensures { λ r. ⌜ wordIs (now (text .entry)) r ⌝ }
-{
-    let Pattern::Bits(bits) = vectors::read_pattern(text, 0) else {
-        return Word::Bad;
-    };
-    if text[16] == b' ' {
-        return Word::Inner(bits);
-    }
-    if text[16] == b'\n' {
-        return Word::Last(bits);
-    }
-    Word::Bad
-}
-
-// The next word of standard input. A read that fails counts as the end of the input.
-fn next_word() -> Word {
-    let mut text = [0u8; 17];
-    let got = io::read_full(STDIN_FILENO, &mut text);
-    if got == 0 {
-        return Word::End;
-    }
-    if got < 17 {
-        return Word::Bad;
-    }
-    word_of(&text)
-}
-
-// The number of the next word, which is to end its line where `last`, and only there.
-fn next_bits(last: bool) -> Pattern {
-    match next_word() {
-        Word::Inner(bits) => {
-            if last {
-                return Pattern::Bad;
-            }
-            Pattern::Bits(bits)
-        }
-        Word::Last(bits) => {
-            if last {
-                return Pattern::Bits(bits);
-            }
-            Pattern::Bad
-        }
-        Word::Bad => Pattern::Bad,
-        Word::End => Pattern::Bad,
-    }
-}
-
-// A number as a count, if it is at most so many.
-fn count_of(bits: u64, most: usize) -> Count
-    ensures { λ r. ⌜ countIs most r ⌝ }
-{
-    let k = bits as usize;
-    if k <= most {
-        return Count::Is(k);
-    }
-    Count::Bad
-}
-
-// The next word as a count. Where `last`, a count of nothing ends the line, and no other does.
-fn next_count(most: usize, last: bool) -> Count
-    ensures { λ r. ⌜ countIs most r ⌝ }
-{
-    match next_word() {
-        Word::Inner(bits) => {
-            if last {
-                if bits == 0 {
-                    return Count::Bad;
-                }
-            }
-            count_of(bits, most)
-        }
-        Word::Last(bits) => {
-            if last {
-                if bits == 0 {
-                    return Count::Is(0);
-                }
-            }
-            Count::Bad
-        }
-        Word::Bad => Count::Bad,
-        Word::End => Count::Bad,
-    }
-}
-
-// The next word as a place.
-fn next_place(last: bool) -> Place {
-    let Pattern::Bits(bits) = next_bits(last) else {
-        return Place::Bad;
-    };
-    if bits < 0x1_0000_0000 {
-        return Place::Is(bits as u32);
-    }
-    Place::Bad
-}
-
-// Reads a float into a column.
-fn read_float(column: &mut [f64], i: usize) -> bool
-    requires { ⌜ i < length (now column) ⌝ }
-{
-    let Pattern::Bits(bits) = next_bits(false) else {
-        return false;
-    };
-    column[i] = vectors::float_of(bits);
-    true
-}
-
-// Reads a place into a column.
-fn read_place(column: &mut [u32], i: usize, last: bool) -> bool
-    requires { ⌜ i < length (now column) ⌝ }
-{
-    let Place::Is(place) = next_place(last) else {
-        return false;
-    };
-    column[i] = place;
-    true
-}
-
-// Reads n points into their columns.
-fn read_points(n: usize, xs: &mut [f64], ys: &mut [f64]) -> bool
-    requires { ⌜ (n ≤ length (now xs)) × (n ≤ length (now ys)) ⌝ }
-{
-    let mut i = 0;
-    while i < n {
-        if !read_float(xs, i) {
-            return false;
-        }
-        if !read_float(ys, i) {
-            return false;
-        }
-        i += 1;
-    }
-    true
-}
-
 // Reads the n slots that an index is expected to have.
 fn read_slots(n: usize, ids: &mut [u32], coords: &mut [f64]) -> bool
     requires { ⌜ (n ≤ length (now ids)) × (2 * n ≤ length (now coords)) ⌝ }
 {
     let mut i = 0;
     while i < n {
-        if !read_place(ids, i, false) {
-            return false;
-        }
-        if !read_float(coords, 2 * i) {
-            return false;
-        }
-        if !read_float(coords, 2 * i + 1) {
-            return false;
-        }
-        i += 1;
-    }
-    true
-}
-
-// Reads m places into their column; the last of them ends its line where `last`.
-fn read_places(m: usize, last: bool, places: &mut [u32]) -> bool
-    requires { ⌜ m ≤ length (now places) ⌝ }
-{
-    let mut i = 0;
-    while i < m {
-        if !read_place(places, i, last & (i + 1 == m)) {
+        if !vectors::read_slot(ids, coords, i) {
             return false;
         }
         i += 1;
@@ -248,69 +72,22 @@ fn query_of(kind: usize, a: u64, b: u64, c: u64, d: u64) -> Query
 
 // Reads a query.
 fn read_query() -> Asked {
-    let Count::Is(kind) = next_count(1, false) else {
+    let Count::Is(kind) = vectors::next_count(1, false) else {
         return Asked::Bad;
     };
-    let Pattern::Bits(a) = next_bits(false) else {
+    let Pattern::Bits(a) = vectors::next_bits(false) else {
         return Asked::Bad;
     };
-    let Pattern::Bits(b) = next_bits(false) else {
+    let Pattern::Bits(b) = vectors::next_bits(false) else {
         return Asked::Bad;
     };
-    let Pattern::Bits(c) = next_bits(false) else {
+    let Pattern::Bits(c) = vectors::next_bits(false) else {
         return Asked::Bad;
     };
-    let Pattern::Bits(d) = next_bits(false) else {
+    let Pattern::Bits(d) = vectors::next_bits(false) else {
         return Asked::Bad;
     };
     Asked::Query(query_of(kind, a, b, c, d))
-}
-
-// Whether two columns of places are the same, to their ends.
-fn same_places(want: &[u32], got: &[u32]) -> bool
-    ensures { λ r. ⌜ r ≡ samePlaces (now (want .entry)) (now (got .entry)) ⌝ }
-{
-    if want.len() != got.len() {
-        return false;
-    }
-    let mut i = 0;
-    while i < want.len() {
-        if want[i] != got[i] {
-            return false;
-        }
-        i += 1;
-    }
-    true
-}
-
-// Whether two columns of floats agree, to their ends.
-fn same_floats(want: &[f64], got: &[f64]) -> bool
-    ensures { λ r. ⌜ r ≡ sameFloats (now (want .entry)) (now (got .entry)) ⌝ }
-{
-    if want.len() != got.len() {
-        return false;
-    }
-    let mut i = 0;
-    while i < want.len() {
-        if !vectors::agree(want[i], got[i]) {
-            return false;
-        }
-        i += 1;
-    }
-    true
-}
-
-// Whether a build was not refused.
-fn is_done(reply: BuildReply) -> bool
-    ensures { λ r. ⌜ r ≡ doneIs reply ⌝ }
-{
-    match reply {
-        BuildReply::Done => true,
-        BuildReply::Options => false,
-        BuildReply::Count => false,
-        BuildReply::Point(i) => false,
-        BuildReply::Tables => false,
-    }
 }
 
 // Builds an index in lent columns, and says whether it comes out as these columns, what lies past its slots included.
@@ -325,13 +102,13 @@ fn builds(
 ) -> bool
     ensures { λ r. ⌜ r ≡ buildsTo «node_size» (now (xs .entry)) (now (ys .entry)) (now («want_ids» .entry)) (now («want_coords» .entry)) (now (ids .entry)) (now (coords .entry)) ⌝ }
 {
-    if !is_done(kdbush::build(node_size, xs, ys, ids, coords)) {
+    if !vectors::is_done(kdbush::build(node_size, xs, ys, ids, coords)) {
         return false;
     }
-    if !same_places(want_ids, ids) {
+    if !vectors::same_places(want_ids, ids) {
         return false;
     }
-    same_floats(want_coords, coords)
+    vectors::same_floats(want_coords, coords)
 }
 
 // Reads the points and the slots of a case, and builds the index of its points in the lent columns.
@@ -340,7 +117,7 @@ fn replay_build(node_size: usize, n: usize, ids: &mut [u32], coords: &mut [f64])
 {
     let mut xs = [0.0; 1024];
     let mut ys = [0.0; 1024];
-    if !read_points(n, &mut xs, &mut ys) {
+    if !vectors::read_points(n, &mut xs, &mut ys) {
         return Verdict::Malformed;
     }
     let mut want_ids = [OLD; 1032];
@@ -415,7 +192,7 @@ fn lists(
     if !is_found(ask(q, node_size, n, ids, coords, out), m) {
         return false;
     }
-    same_places(want, out)
+    vectors::same_places(want, out)
 }
 
 // The slot of a step, or this number where it has none.
@@ -491,11 +268,11 @@ fn replay_query(node_size: usize, n: usize, ids: &[u32], coords: &[f64], last: b
     let Asked::Query(q) = read_query() else {
         return Verdict::Malformed;
     };
-    let Count::Is(m) = next_count(1024, last) else {
+    let Count::Is(m) = vectors::next_count(1024, last) else {
         return Verdict::Malformed;
     };
     let mut want = [OLD; 1032];
-    if !read_places(m, last, &mut want) {
+    if !vectors::read_places(m, last, &mut want) {
         return Verdict::Malformed;
     }
     let mut out = [OLD; 1032];
@@ -545,7 +322,7 @@ fn replay_queries(
 
 // Replays the case that begins with this node size.
 fn replay_case(node_size: usize) -> Verdict {
-    let Count::Is(n) = next_count(1024, false) else {
+    let Count::Is(n) = vectors::next_count(1024, false) else {
         return Verdict::Malformed;
     };
     let mut ids = [OLD; 1032];
@@ -554,7 +331,7 @@ fn replay_case(node_size: usize) -> Verdict {
     if let Verdict::Malformed = built {
         return Verdict::Malformed;
     }
-    let Count::Is(k) = next_count(64, true) else {
+    let Count::Is(k) = vectors::next_count(64, true) else {
         return Verdict::Malformed;
     };
     replay_queries(built, node_size, n, &ids, &coords, k)
@@ -562,7 +339,7 @@ fn replay_case(node_size: usize) -> Verdict {
 
 // Replays the next case of standard input.
 fn next_case() -> Verdict {
-    match next_word() {
+    match vectors::next_word() {
         Word::Inner(bits) => replay_case(bits as usize),
         Word::Last(bits) => Verdict::Malformed,
         Word::Bad => Verdict::Malformed,

@@ -1,3 +1,4 @@
 -- What the contracts of the vectors cite.
 pub mod Words
 pub mod Tallies
+pub mod Same

@@ -1,13 +1,17 @@
 // What the programs share that replay stored vectors: a vector's words are 16 lowercase hexadecimal digits, a number's or the bits of an f64.
 // Proved: a word is read exactly as io::hex would write it, every pattern of a NaN is read as NaN, and two floats agree where they are equal or both NaN.
 // Proved too: the tally of a replay counts each case once, and names the first that differs. What is written is only proved to be safe.
-// Assumed: nothing beyond the contracts of `floats` and `io`.
+// Proved of what is read and compared: a word's number is what its 17 bytes spell, a count is within its limit, two columns are compared to their ends.
+// Assumed: nothing beyond the contracts of `floats`, `kdbush` and `io`. What standard input gives is not modelled: a function that reads it is only proved to be safe.
+use kdbush::BuildReply;
+use libc::STDIN_FILENO;
 use libc::STDOUT_FILENO;
 ghost use mathlib.Core.Path.{_≡_};
-ghost use Prim.Native.Nat.{_+_, _≤_};
+ghost use Prim.Native.Nat.{_+_, _*_, _≤_, _<_};
 ghost use lib.ListN.{length};
 ghost use lib.Ieee.{binary64, nanBits, ofBits};
-ghost use Rattle.vectors.specs.Words.{digitIs, patternIs, agreeing};
+ghost use Rattle.vectors.specs.Words.{digitIs, patternIs, wordIs, countIs, agreeing};
+ghost use Rattle.vectors.specs.Same.{samePlaces, sameFloats, doneIs};
 ghost use Rattle.vectors.specs.Tallies.{firstOf, withAgreed, withDiffered};
 
 // The value of a hexadecimal digit, or a byte that is none.
@@ -22,7 +26,33 @@ pub enum Pattern {
     Bad,
 }
 
-// The functions that vectors have answers of: those of `range`, then those of `kdbush`.
+// The next word: one with a space after it, one that ends its line, bytes that are neither, or the end of the input.
+pub enum Word {
+    Inner(u64),
+    Last(u64),
+    Bad,
+    End,
+}
+
+// A count within its limit, or a word that is none.
+pub enum Count {
+    Is(usize),
+    Bad,
+}
+
+// A place, or a word that is none.
+pub enum Place {
+    Is(u32),
+    Bad,
+}
+
+// A byte, or a word that is none.
+pub enum Byte {
+    Is(u8),
+    Bad,
+}
+
+// The functions that vectors have answers of: those of `range`, those of `kdbush`, and that of `supercluster`.
 pub enum Function {
     Normalize,
     Denormalize,
@@ -31,6 +61,7 @@ pub enum Function {
     Range,
     Within,
     Cursor,
+    Load,
 }
 
 // What became of a case: the answers agree, or this function's is the first that does not; it is not of the form; there is none.
@@ -135,6 +166,244 @@ pub fn agree(a: f64, b: f64) -> bool
     false
 }
 
+// The word that 17 bytes hold.
+fn word_of(text: &[u8; 17]) -> Word
+    ensures { λ r. ⌜ wordIs (now (text .entry)) r ⌝ }
+{
+    let Pattern::Bits(bits) = read_pattern(text, 0) else {
+        return Word::Bad;
+    };
+    if text[16] == b' ' {
+        return Word::Inner(bits);
+    }
+    if text[16] == b'\n' {
+        return Word::Last(bits);
+    }
+    Word::Bad
+}
+
+// The next word of standard input. A read that fails counts as the end of the input.
+pub fn next_word() -> Word {
+    let mut text = [0u8; 17];
+    let got = io::read_full(STDIN_FILENO, &mut text);
+    if got == 0 {
+        return Word::End;
+    }
+    if got < 17 {
+        return Word::Bad;
+    }
+    word_of(&text)
+}
+
+// The number of the next word, which is to end its line where `last`, and only there.
+pub fn next_bits(last: bool) -> Pattern {
+    match next_word() {
+        Word::Inner(bits) => {
+            if last {
+                return Pattern::Bad;
+            }
+            Pattern::Bits(bits)
+        }
+        Word::Last(bits) => {
+            if last {
+                return Pattern::Bits(bits);
+            }
+            Pattern::Bad
+        }
+        Word::Bad => Pattern::Bad,
+        Word::End => Pattern::Bad,
+    }
+}
+
+// A number as a count, if it is at most so many.
+pub fn count_of(bits: u64, most: usize) -> Count
+    ensures { λ r. ⌜ countIs most r ⌝ }
+{
+    let k = bits as usize;
+    if k <= most {
+        return Count::Is(k);
+    }
+    Count::Bad
+}
+
+// The next word as a count. Where `last`, a count of nothing ends the line, and no other does.
+pub fn next_count(most: usize, last: bool) -> Count
+    ensures { λ r. ⌜ countIs most r ⌝ }
+{
+    match next_word() {
+        Word::Inner(bits) => {
+            if last {
+                if bits == 0 {
+                    return Count::Bad;
+                }
+            }
+            count_of(bits, most)
+        }
+        Word::Last(bits) => {
+            if last {
+                if bits == 0 {
+                    return Count::Is(0);
+                }
+            }
+            Count::Bad
+        }
+        Word::Bad => Count::Bad,
+        Word::End => Count::Bad,
+    }
+}
+
+// The next word as a place.
+pub fn next_place(last: bool) -> Place {
+    let Pattern::Bits(bits) = next_bits(last) else {
+        return Place::Bad;
+    };
+    if bits < 0x1_0000_0000 {
+        return Place::Is(bits as u32);
+    }
+    Place::Bad
+}
+
+// The next word as a byte.
+pub fn next_byte(last: bool) -> Byte {
+    let Pattern::Bits(bits) = next_bits(last) else {
+        return Byte::Bad;
+    };
+    if bits < 256 {
+        return Byte::Is(bits as u8);
+    }
+    Byte::Bad
+}
+
+// Reads a float into a column.
+pub fn read_float(column: &mut [f64], i: usize) -> bool
+    requires { ⌜ i < length (now column) ⌝ }
+{
+    let Pattern::Bits(bits) = next_bits(false) else {
+        return false;
+    };
+    column[i] = float_of(bits);
+    true
+}
+
+// Reads a place into a column.
+pub fn read_place(column: &mut [u32], i: usize, last: bool) -> bool
+    requires { ⌜ i < length (now column) ⌝ }
+{
+    let Place::Is(place) = next_place(last) else {
+        return false;
+    };
+    column[i] = place;
+    true
+}
+
+// Reads n points into their columns.
+pub fn read_points(n: usize, xs: &mut [f64], ys: &mut [f64]) -> bool
+    requires { ⌜ (n ≤ length (now xs)) × (n ≤ length (now ys)) ⌝ }
+{
+    let mut i = 0;
+    while i < n {
+        if !read_float(xs, i) {
+            return false;
+        }
+        if !read_float(ys, i) {
+            return false;
+        }
+        i += 1;
+    }
+    true
+}
+
+// Reads the slot i of an index: its id and its two coordinates.
+pub fn read_slot(ids: &mut [u32], coords: &mut [f64], i: usize) -> bool
+    requires { ⌜ (i < length (now ids)) × (2 * i + 1 < length (now coords)) ⌝ }
+{
+    if !read_place(ids, i, false) {
+        return false;
+    }
+    if !read_float(coords, 2 * i) {
+        return false;
+    }
+    read_float(coords, 2 * i + 1)
+}
+
+// Reads m places into their column; the last of them ends its line where `last`.
+pub fn read_places(m: usize, last: bool, places: &mut [u32]) -> bool
+    requires { ⌜ m ≤ length (now places) ⌝ }
+{
+    let mut i = 0;
+    while i < m {
+        if !read_place(places, i, last & (i + 1 == m)) {
+            return false;
+        }
+        i += 1;
+    }
+    true
+}
+
+// Whether two columns of places are the same, to their ends.
+pub fn same_places(want: &[u32], got: &[u32]) -> bool
+    ensures { λ r. ⌜ r ≡ samePlaces (now (want .entry)) (now (got .entry)) ⌝ }
+{
+    if want.len() != got.len() {
+        return false;
+    }
+    let mut i = 0;
+    while i < want.len() {
+        if want[i] != got[i] {
+            return false;
+        }
+        i += 1;
+    }
+    true
+}
+
+// Whether two columns of bytes are the same, to their ends.
+pub fn same_bytes(want: &[u8], got: &[u8]) -> bool
+    ensures { λ r. ⌜ r ≡ samePlaces (now (want .entry)) (now (got .entry)) ⌝ }
+{
+    if want.len() != got.len() {
+        return false;
+    }
+    let mut i = 0;
+    while i < want.len() {
+        if want[i] != got[i] {
+            return false;
+        }
+        i += 1;
+    }
+    true
+}
+
+// Whether two columns of floats agree, to their ends.
+pub fn same_floats(want: &[f64], got: &[f64]) -> bool
+    ensures { λ r. ⌜ r ≡ sameFloats (now (want .entry)) (now (got .entry)) ⌝ }
+{
+    if want.len() != got.len() {
+        return false;
+    }
+    let mut i = 0;
+    while i < want.len() {
+        if !agree(want[i], got[i]) {
+            return false;
+        }
+        i += 1;
+    }
+    true
+}
+
+// Whether a build was not refused.
+pub fn is_done(reply: BuildReply) -> bool
+    ensures { λ r. ⌜ r ≡ doneIs reply ⌝ }
+{
+    match reply {
+        BuildReply::Done => true,
+        BuildReply::Options => false,
+        BuildReply::Count => false,
+        BuildReply::Point(i) => false,
+        BuildReply::Tables => false,
+    }
+}
+
 impl First {
     // The first difference once one more is found, in this case and function.
     fn or_at(self, case: u64, function: Function) -> First
@@ -205,6 +474,9 @@ fn say_function(function: Function) {
         }
         Function::Cursor => {
             io::write_all(STDOUT_FILENO, b"cursor");
+        }
+        Function::Load => {
+            io::write_all(STDOUT_FILENO, b"load");
         }
     }
 }

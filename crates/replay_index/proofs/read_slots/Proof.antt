@@ -16,8 +16,8 @@ abbrev μ-loop : tie.MeasureT-loop
 loop-holds : tie.Need-loop-holds Inv-loop μ-loop
 loop-holds c = (refl, refl, omega arith)
 
-read-place-requires : tie.Need-read-place-requires Inv-loop μ-loop
-read-place-requires c κs = search needs
+read-slot-requires : tie.Need-read-slot-requires Inv-loop μ-loop
+read-slot-requires c κs = search needs
 
 same-length : tie.Need-same-length Inv-loop μ-loop
 same-length c = search needs
@@ -28,11 +28,14 @@ same-length-2 c = search needs
 returns : tie.Need-returns Inv-loop μ-loop
 returns c = search needs
 
-mul-read-float : tie.Need-mul-read-float Inv-loop μ-loop
-mul-read-float c = search needs
+add-i : tie.Need-add-i Inv-loop μ-loop
+add-i c = search needs
 
-read-float-requires : tie.Need-read-float-requires Inv-loop μ-loop
-read-float-requires c κs = search needs
+loop-less : tie.Need-loop-less Inv-loop μ-loop
+loop-less c = search needs
+
+loop-again : tie.Need-loop-again Inv-loop μ-loop
+loop-again c = search needs
 
 same-length-3 : tie.Need-same-length-3 Inv-loop μ-loop
 same-length-3 c = search needs
@@ -43,42 +46,6 @@ same-length-4 c = search needs
 returns-2 : tie.Need-returns-2 Inv-loop μ-loop
 returns-2 c = search needs
 
-mul-read-float-2 : tie.Need-mul-read-float-2 Inv-loop μ-loop
-mul-read-float-2 c = search needs
-
-add-read-float : tie.Need-add-read-float Inv-loop μ-loop
-add-read-float c = search needs
-
-read-float-requires-2 : tie.Need-read-float-requires-2 Inv-loop μ-loop
-read-float-requires-2 c κs = search needs
-
-same-length-5 : tie.Need-same-length-5 Inv-loop μ-loop
-same-length-5 c = search needs
-
-same-length-6 : tie.Need-same-length-6 Inv-loop μ-loop
-same-length-6 c = search needs
-
-returns-3 : tie.Need-returns-3 Inv-loop μ-loop
-returns-3 c = search needs
-
-add-i : tie.Need-add-i Inv-loop μ-loop
-add-i c = search needs
-
-loop-less : tie.Need-loop-less Inv-loop μ-loop
-loop-less c = search needs
-
-loop-again : tie.Need-loop-again Inv-loop μ-loop
-loop-again c = search needs
-
-same-length-7 : tie.Need-same-length-7 Inv-loop μ-loop
-same-length-7 c = search needs
-
-same-length-8 : tie.Need-same-length-8 Inv-loop μ-loop
-same-length-8 c = search needs
-
-returns-4 : tie.Need-returns-4 Inv-loop μ-loop
-returns-4 c = search needs
-
 pub read-slots-spec : {M : Type 1} → statement M
 read-slots-spec =
     tie.close
@@ -86,24 +53,13 @@ read-slots-spec =
     Inv-loop
     μ-loop
     loop-holds
-    read-place-requires
+    read-slot-requires
     same-length
     same-length-2
     returns
-    mul-read-float
-    read-float-requires
-    same-length-3
-    same-length-4
-    returns-2
-    mul-read-float-2
-    add-read-float
-    read-float-requires-2
-    same-length-5
-    same-length-6
-    returns-3
     add-i
     loop-less
     loop-again
-    same-length-7
-    same-length-8
-    returns-4)
+    same-length-3
+    same-length-4
+    returns-2)

@@ -1,15 +1,15 @@
--- `replay_index::same_floats` meets its contract. The loop's invariant: each position passed is the same. Assumes nothing.
+-- `vectors::same_floats` meets its contract. The loop's invariant: each position passed is the same. Assumes nothing.
 use Prim.Native.Nat.{_-_, _≤_}
 use native.Mathlib.Omega.{arith}
 use mathlib.Core.Path.{_≡_, sym, _∙_}
 use mathlib.Core.Bool.{true}
 use borrow.Author.Tests.{not-true, not-false}
 use lib.ListN.{length}
-use Rattle.replay_index.specs.Same.{upto, floatAt}
-use Rattle.replay_index.proofs.Laws.{none-yet, upto-more, floats-none, floats-fail, floats-all}
+use Rattle.vectors.specs.Same.{upto, floatAt}
+use Rattle.vectors.proofs.Same.{none-yet, upto-more, floats-none, floats-fail, floats-all}
 use borrow.Author.Needs.{needs}
-use Rattle.replay_index.proofs.same_floats.Statement.{statement}
-use Rattle.replay_index.proofs.same_floats.Tie as tie
+use Rattle.vectors.proofs.same_floats.Statement.{statement}
+use Rattle.vectors.proofs.same_floats.Tie as tie
 
 abbrev Inv-loop : tie.InvT-loop
 Inv-loop want got i₀ i = (i ≤ length want) × (upto i (floatAt want got) ≡ true)

@@ -1,9 +1,9 @@
--- `replay_index::word_of` meets its contract: the digits are what was read, and the test is that of the byte after them. Assumes nothing.
+-- `vectors::word_of` meets its contract: the digits are what was read, and the test is that of the byte after them. Assumes nothing.
 use mathlib.Core.Path.{subst}
 use Rattle.vectors.specs.Words.{patternIs}
 use borrow.Author.Needs.{needs}
-use Rattle.replay_index.proofs.word_of.Statement.{statement}
-use Rattle.replay_index.proofs.word_of.Tie as tie
+use Rattle.vectors.proofs.word_of.Statement.{statement}
+use Rattle.vectors.proofs.word_of.Tie as tie
 
 read-pattern-requires : tie.Need-read-pattern-requires
 read-pattern-requires c κs = search needs

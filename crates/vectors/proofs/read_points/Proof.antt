@@ -1,11 +1,11 @@
--- `replay_index::read_points` is safe, and ends. Assumes nothing.
+-- `vectors::read_points` is safe, and ends. Assumes nothing.
 use Prim.Native.Nat.{_-_, _≤_}
 use native.Mathlib.Omega.{arith}
 use mathlib.Core.Path.{_≡_, refl}
 use lib.ListN.{length}
 use borrow.Author.Needs.{needs}
-use Rattle.replay_index.proofs.read_points.Statement.{statement}
-use Rattle.replay_index.proofs.read_points.Tie as tie
+use Rattle.vectors.proofs.read_points.Statement.{statement}
+use Rattle.vectors.proofs.read_points.Tie as tie
 
 abbrev Inv-loop : tie.InvT-loop
 Inv-loop n xs₀ ys₀ i₀ xs ys i = (length xs ≡ length xs₀) × (length ys ≡ length ys₀) × (i ≤ n)

@@ -1,14 +1,14 @@
--- `replay_index::same_places` meets its contract. The loop's invariant: each position passed is the same. Assumes nothing.
+-- `vectors::same_bytes` meets its contract. The loop's invariant: each position passed is the same. Assumes nothing.
 use Prim.Native.Nat.{_-_, _≤_}
 use native.Mathlib.Omega.{arith}
 use mathlib.Core.Path.{_≡_, sym}
 use mathlib.Core.Bool.{true}
 use borrow.Author.Tests.{eq-eqb, ne-eqb}
 use lib.ListN.{length}
-use Rattle.replay_index.specs.Same.{upto, placeAt}
-use Rattle.replay_index.proofs.Laws.{none-yet, upto-more, places-none, places-fail, places-all}
-use Rattle.replay_index.proofs.same_places.Statement.{statement}
-use Rattle.replay_index.proofs.same_places.Tie as tie
+use Rattle.vectors.specs.Same.{upto, placeAt}
+use Rattle.vectors.proofs.Same.{none-yet, upto-more, places-none, places-fail, places-all}
+use Rattle.vectors.proofs.same_bytes.Statement.{statement}
+use Rattle.vectors.proofs.same_bytes.Tie as tie
 
 abbrev Inv-loop : tie.InvT-loop
 Inv-loop want got i₀ i = (i ≤ length want) × (upto i (placeAt want got) ≡ true)
@@ -22,14 +22,8 @@ returns c = sym (places-none _ _ (c .if1 .taken))
 loop-holds : tie.Need-loop-holds Inv-loop μ-loop
 loop-holds c = (omega arith, none-yet _)
 
-mul-if2 : tie.Need-mul-if2 Inv-loop μ-loop
-mul-if2 c = omega arith
-
 shared-slice-read-if2 : tie.Need-shared-slice-read-if2 Inv-loop μ-loop
 shared-slice-read-if2 c = omega arith
-
-mul-if2-2 : tie.Need-mul-if2-2 Inv-loop μ-loop
-mul-if2-2 c = omega arith
 
 shared-slice-read-if2-2 : tie.Need-shared-slice-read-if2-2 Inv-loop μ-loop
 shared-slice-read-if2-2 c = omega arith
@@ -49,17 +43,15 @@ loop-again c = (omega arith, upto-more (placeAt (c .before .before .before .befo
 returns-3 : tie.Need-returns-3 Inv-loop μ-loop
 returns-3 c = sym (places-all _ _ _ (c .before .before .if1 .left) (c .loop-test .left) (c .before .loop .inv .0) (c .before .loop .inv .1))
 
-pub same-places-spec : {M : Type 1} → statement M
-same-places-spec =
+pub same-bytes-spec : {M : Type 1} → statement M
+same-bytes-spec =
     tie.close
     (tie.spec
     Inv-loop
     μ-loop
     returns
     loop-holds
-    mul-if2
     shared-slice-read-if2
-    mul-if2-2
     shared-slice-read-if2-2
     returns-2
     add-i

@@ -1,11 +1,11 @@
--- `replay_index::read_places` is safe, and ends. Assumes nothing.
+-- `vectors::read_places` is safe, and ends. Assumes nothing.
 use Prim.Native.Nat.{_-_, _≤_}
 use native.Mathlib.Omega.{arith}
 use mathlib.Core.Path.{_≡_, refl}
 use lib.ListN.{length}
 use borrow.Author.Needs.{needs}
-use Rattle.replay_index.proofs.read_places.Statement.{statement}
-use Rattle.replay_index.proofs.read_places.Tie as tie
+use Rattle.vectors.proofs.read_places.Statement.{statement}
+use Rattle.vectors.proofs.read_places.Tie as tie
 
 abbrev Inv-loop : tie.InvT-loop
 Inv-loop m last places₀ i₀ places i = (length places ≡ length places₀) × (i ≤ m)

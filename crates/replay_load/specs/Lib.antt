@@ -1,0 +1,3 @@
+-- What the contracts of the replay cite.
+pub mod Read
+pub mod Same

@@ -1,0 +1,603 @@
+// Replays test vectors on the crate `supercluster`, and says whether its builds are those that the vectors expect.
+// A vector is a line of standard input: words of 16 lowercase hexadecimal digits, a space after each, and a line end after the last.
+//     min_zoom max_zoom min_points radius extent node_size cartesian min_x min_y max_x max_y offset_given offset scale_given scale
+//     n, n times `x y`, m, m times `x y seen id parent num slot_id slot_x slot_y`, `start len` for each zoom from min_zoom to max_zoom + 1
+// The n points are built in columns that are filled with old contents. Expected are the m entries of all tables, the slots of their indexes
+// at the same positions, zeros in the first n of `near`, the old contents past all of these, and zeros as start and length of the other zooms.
+// n goes to 64, and the tables to 1152 entries in all; a case beyond is not of the form, nor is one with a max_zoom that is past 30 or below min_zoom.
+// Proved: nothing here reads or writes outside its columns, the verdict of a case is the equation `loadsTo` of specs/, and the tally is right.
+// Assumed: what standard input gives is not modelled, so that the loops that read are only proved to be safe.
+use range::CoordinateSystem;
+use range::DataRange;
+use range::Setting;
+use supercluster::Loaded;
+use tables::Entry;
+use tables::Options;
+use tables::State;
+use vectors::Byte;
+use vectors::Count;
+use vectors::Ending;
+use vectors::First;
+use vectors::Function;
+use vectors::Pattern;
+use vectors::Place;
+use vectors::Tally;
+use vectors::Verdict;
+use vectors::Word;
+ghost use mathlib.Core.Path.{_≡_};
+ghost use Prim.Native.Nat.{_*_, _≤_};
+ghost use lib.ListN.{length};
+ghost use Rattle.vectors.specs.Tallies.{endingIs};
+ghost use Rattle.tables.specs.Rows.{Even};
+ghost use Rattle.supercluster.specs.Build.{lent, outcome};
+ghost use Rattle.replay_load.specs.Read.{settingOf, systemOf};
+ghost use Rattle.replay_load.specs.Same.{sameState, sameTables, sameIndexes, agreesWith, loadsTo, zerosIn};
+
+// An offset or a scale, or words that are none.
+enum Settled {
+    Setting(Setting),
+    Bad,
+}
+
+// The range of a case, or words that are none.
+enum Ranged {
+    Range(DataRange),
+    Bad,
+}
+
+// The options of a case, or words that are none.
+enum Chosen {
+    Options(Options),
+    Bad,
+}
+
+// An entry, or words that are none.
+enum Given {
+    Entry(Entry),
+    Bad,
+}
+
+// What the columns hold before they are written: nothing that a build writes there.
+const OLD: u32 = 0xa5a5_a5a5;
+
+const OLD_BYTE: u8 = 0xa5;
+
+// A number that is given, where `given` is not 0, or else derived.
+fn setting_of(given: usize, v: f64) -> Setting
+    ensures { λ r. ⌜ r ≡ settingOf given v ⌝ }
+{
+    if given == 0 {
+        return Setting::Derived;
+    }
+    Setting::Given(v)
+}
+
+// Reads an offset or a scale.
+fn read_setting() -> Settled {
+    let Count::Is(given) = vectors::next_count(1, false) else {
+        return Settled::Bad;
+    };
+    let Pattern::Bits(bits) = vectors::next_bits(false) else {
+        return Settled::Bad;
+    };
+    Settled::Setting(setting_of(given, vectors::float_of(bits)))
+}
+
+// Reads a range.
+fn read_range() -> Ranged {
+    let Pattern::Bits(a) = vectors::next_bits(false) else {
+        return Ranged::Bad;
+    };
+    let Pattern::Bits(b) = vectors::next_bits(false) else {
+        return Ranged::Bad;
+    };
+    let Pattern::Bits(c) = vectors::next_bits(false) else {
+        return Ranged::Bad;
+    };
+    let Pattern::Bits(d) = vectors::next_bits(false) else {
+        return Ranged::Bad;
+    };
+    let Settled::Setting(offset) = read_setting() else {
+        return Ranged::Bad;
+    };
+    let Settled::Setting(scale) = read_setting() else {
+        return Ranged::Bad;
+    };
+    Ranged::Range(DataRange {
+        min_x: vectors::float_of(a),
+        min_y: vectors::float_of(b),
+        max_x: vectors::float_of(c),
+        max_y: vectors::float_of(d),
+        offset,
+        scale,
+    })
+}
+
+// Cartesian with this range, where `cartesian` is not 0, or else longitude.
+fn system_of(cartesian: usize, range: DataRange) -> CoordinateSystem
+    ensures { λ r. ⌜ r ≡ systemOf cartesian range ⌝ }
+{
+    if cartesian == 0 {
+        return CoordinateSystem::LatLng;
+    }
+    CoordinateSystem::Cartesian { range }
+}
+
+// Reads the options after the two zooms.
+fn read_options(min_zoom: u8, max_zoom: u8) -> Chosen {
+    let Byte::Is(min_points) = vectors::next_byte(false) else {
+        return Chosen::Bad;
+    };
+    let Pattern::Bits(radius) = vectors::next_bits(false) else {
+        return Chosen::Bad;
+    };
+    let Pattern::Bits(extent) = vectors::next_bits(false) else {
+        return Chosen::Bad;
+    };
+    let Pattern::Bits(node_size) = vectors::next_bits(false) else {
+        return Chosen::Bad;
+    };
+    let Count::Is(cartesian) = vectors::next_count(1, false) else {
+        return Chosen::Bad;
+    };
+    let Ranged::Range(range) = read_range() else {
+        return Chosen::Bad;
+    };
+    Chosen::Options(Options {
+        min_zoom,
+        max_zoom,
+        min_points,
+        radius: vectors::float_of(radius),
+        extent: vectors::float_of(extent),
+        node_size: node_size as usize,
+        coordinate_system: system_of(cartesian, range),
+    })
+}
+
+// Reads an entry.
+fn read_entry() -> Given {
+    let Pattern::Bits(x) = vectors::next_bits(false) else {
+        return Given::Bad;
+    };
+    let Pattern::Bits(y) = vectors::next_bits(false) else {
+        return Given::Bad;
+    };
+    let Byte::Is(seen) = vectors::next_byte(false) else {
+        return Given::Bad;
+    };
+    let Place::Is(id) = vectors::next_place(false) else {
+        return Given::Bad;
+    };
+    let Place::Is(parent) = vectors::next_place(false) else {
+        return Given::Bad;
+    };
+    let Place::Is(num) = vectors::next_place(false) else {
+        return Given::Bad;
+    };
+    Given::Entry(Entry {
+        x: vectors::float_of(x),
+        y: vectors::float_of(y),
+        seen,
+        id,
+        parent,
+        num,
+    })
+}
+
+// Reads the m entries that the tables are expected to have, and the slots of their indexes.
+fn read_entries(
+    m: usize,
+    x: &mut [f64],
+    y: &mut [f64],
+    seen: &mut [u8],
+    id: &mut [u32],
+    parent: &mut [u32],
+    num: &mut [u32],
+    ids: &mut [u32],
+    coords: &mut [f64],
+) -> bool
+    requires { ⌜ Even (now x) (now y) (now seen) (now id) (now parent) (now num) ⌝ }
+    requires { ⌜ (m ≤ length (now x)) × (m ≤ length (now ids)) × (2 * m ≤ length (now coords)) ⌝ }
+{
+    let mut i = 0;
+    while i < m {
+        let Given::Entry(e) = read_entry() else {
+            return false;
+        };
+        tables::put_entry(x, y, seen, id, parent, num, i, e);
+        if !vectors::read_slot(ids, coords, i) {
+            return false;
+        }
+        i += 1;
+    }
+    true
+}
+
+// Reads where the table of each zoom from min_zoom to max_zoom + 1 starts, and how long it is; the last length ends its line.
+fn read_tables(min_zoom: usize, max_zoom: usize, starts: &mut [u32], lens: &mut [u32]) -> bool
+    requires { ⌜ («max_zoom» ≤ 30) × (32 ≤ length (now starts)) × (32 ≤ length (now lens)) ⌝ }
+{
+    let end = max_zoom + 1;
+    let mut z = min_zoom;
+    while z <= end {
+        if !vectors::read_place(starts, z, false) {
+            return false;
+        }
+        if !vectors::read_place(lens, z, z == end) {
+            return false;
+        }
+        z += 1;
+    }
+    true
+}
+
+// Zeros in the first n.
+fn clear(n: usize, near: &mut [u32])
+    requires { ⌜ n ≤ length (now near) ⌝ }
+    ensures { λ _. ⌜ now (near .exit) ≡ zerosIn n (now (near .entry)) ⌝ }
+{
+    let mut i = 0;
+    while i < n {
+        near[i] = 0;
+        i += 1;
+    }
+}
+
+// Whether the tables of a state start where they are expected to, and are as long.
+fn same_state(starts: &[u32], lens: &[u32], s: State) -> bool
+    ensures { λ r. ⌜ r ≡ sameState (now (starts .entry)) (now (lens .entry)) s ⌝ }
+{
+    let a = s.starts;
+    if !vectors::same_places(starts, &a) {
+        return false;
+    }
+    let b = s.lens;
+    vectors::same_places(lens, &b)
+}
+
+// Whether the columns of the tables are those expected, to their ends.
+fn same_tables(
+    want_x: &[f64],
+    want_y: &[f64],
+    want_seen: &[u8],
+    want_id: &[u32],
+    want_parent: &[u32],
+    want_num: &[u32],
+    x: &[f64],
+    y: &[f64],
+    seen: &[u8],
+    id: &[u32],
+    parent: &[u32],
+    num: &[u32],
+) -> bool
+    ensures { λ r. ⌜ r ≡ sameTables
+        (now («want_x» .entry)) (now («want_y» .entry)) (now («want_seen» .entry)) (now («want_id» .entry)) (now («want_parent» .entry)) (now («want_num» .entry))
+        (now (x .entry)) (now (y .entry)) (now (seen .entry)) (now (id .entry)) (now (parent .entry)) (now (num .entry)) ⌝ }
+{
+    if !vectors::same_floats(want_x, x) {
+        return false;
+    }
+    if !vectors::same_floats(want_y, y) {
+        return false;
+    }
+    if !vectors::same_bytes(want_seen, seen) {
+        return false;
+    }
+    if !vectors::same_places(want_id, id) {
+        return false;
+    }
+    if !vectors::same_places(want_parent, parent) {
+        return false;
+    }
+    vectors::same_places(want_num, num)
+}
+
+// Whether the columns of the indexes and `near` are those expected, to their ends.
+fn same_indexes(
+    want_ids: &[u32],
+    want_coords: &[f64],
+    want_near: &[u32],
+    ids: &[u32],
+    coords: &[f64],
+    near: &[u32],
+) -> bool
+    ensures { λ r. ⌜ r ≡ sameIndexes (now («want_ids» .entry)) (now («want_coords» .entry)) (now («want_near» .entry)) (now (ids .entry)) (now (coords .entry)) (now (near .entry)) ⌝ }
+{
+    if !vectors::same_places(want_ids, ids) {
+        return false;
+    }
+    if !vectors::same_floats(want_coords, coords) {
+        return false;
+    }
+    vectors::same_places(want_near, near)
+}
+
+// Whether a build was not refused, and its state and its columns are those expected.
+fn agrees(
+    starts: &[u32],
+    lens: &[u32],
+    want_x: &[f64],
+    want_y: &[f64],
+    want_seen: &[u8],
+    want_id: &[u32],
+    want_parent: &[u32],
+    want_num: &[u32],
+    want_ids: &[u32],
+    want_coords: &[f64],
+    want_near: &[u32],
+    built: Loaded,
+    x: &[f64],
+    y: &[f64],
+    seen: &[u8],
+    id: &[u32],
+    parent: &[u32],
+    num: &[u32],
+    ids: &[u32],
+    coords: &[f64],
+    near: &[u32],
+) -> bool
+    ensures { λ r. ⌜ r ≡ agreesWith (now (starts .entry)) (now (lens .entry))
+        (lent (now («want_x» .entry)) (now («want_y» .entry)) (now («want_seen» .entry)) (now («want_id» .entry)) (now («want_parent» .entry)) (now («want_num» .entry)) (now («want_ids» .entry)) (now («want_coords» .entry)) (now («want_near» .entry)))
+        (outcome built (lent (now (x .entry)) (now (y .entry)) (now (seen .entry)) (now (id .entry)) (now (parent .entry)) (now (num .entry)) (now (ids .entry)) (now (coords .entry)) (now (near .entry)))) ⌝ }
+{
+    let reply = built.reply;
+    if !vectors::is_done(reply) {
+        return false;
+    }
+    let state = built.state;
+    if !same_state(starts, lens, state) {
+        return false;
+    }
+    if !same_tables(
+        want_x,
+        want_y,
+        want_seen,
+        want_id,
+        want_parent,
+        want_num,
+        x,
+        y,
+        seen,
+        id,
+        parent,
+        num,
+    ) {
+        return false;
+    }
+    same_indexes(want_ids, want_coords, want_near, ids, coords, near)
+}
+
+// Builds the tables of points in lent columns, and says whether that comes out as expected.
+fn loads(
+    o: Options,
+    xs: &[f64],
+    ys: &[f64],
+    starts: &[u32],
+    lens: &[u32],
+    want_x: &[f64],
+    want_y: &[f64],
+    want_seen: &[u8],
+    want_id: &[u32],
+    want_parent: &[u32],
+    want_num: &[u32],
+    want_ids: &[u32],
+    want_coords: &[f64],
+    want_near: &[u32],
+    x: &mut [f64],
+    y: &mut [f64],
+    seen: &mut [u8],
+    id: &mut [u32],
+    parent: &mut [u32],
+    num: &mut [u32],
+    ids: &mut [u32],
+    coords: &mut [f64],
+    near: &mut [u32],
+) -> bool
+    ensures { λ r. ⌜ r ≡ loadsTo o (now (xs .entry)) (now (ys .entry)) (now (starts .entry)) (now (lens .entry))
+        (lent (now («want_x» .entry)) (now («want_y» .entry)) (now («want_seen» .entry)) (now («want_id» .entry)) (now («want_parent» .entry)) (now («want_num» .entry)) (now («want_ids» .entry)) (now («want_coords» .entry)) (now («want_near» .entry)))
+        (lent (now (x .entry)) (now (y .entry)) (now (seen .entry)) (now (id .entry)) (now (parent .entry)) (now (num .entry)) (now (ids .entry)) (now (coords .entry)) (now (near .entry))) ⌝ }
+{
+    let built = supercluster::load(o, xs, ys, x, y, seen, id, parent, num, ids, coords, near);
+    agrees(
+        starts,
+        lens,
+        want_x,
+        want_y,
+        want_seen,
+        want_id,
+        want_parent,
+        want_num,
+        want_ids,
+        want_coords,
+        want_near,
+        built,
+        x,
+        y,
+        seen,
+        id,
+        parent,
+        num,
+        ids,
+        coords,
+        near,
+    )
+}
+
+// Builds the tables of points in columns of old contents, and says whether that comes out as expected.
+fn replay_load(
+    o: Options,
+    xs: &[f64],
+    ys: &[f64],
+    starts: &[u32],
+    lens: &[u32],
+    want_x: &[f64],
+    want_y: &[f64],
+    want_seen: &[u8],
+    want_id: &[u32],
+    want_parent: &[u32],
+    want_num: &[u32],
+    want_ids: &[u32],
+    want_coords: &[f64],
+    want_near: &[u32],
+) -> Verdict {
+    let mut x = [-1.5; 1152];
+    let mut y = [-1.5; 1152];
+    let mut seen = [OLD_BYTE; 1152];
+    let mut id = [OLD; 1152];
+    let mut parent = [OLD; 1152];
+    let mut num = [OLD; 1152];
+    let mut ids = [OLD; 1152];
+    let mut coords = [-1.5; 2304];
+    let mut near = [OLD; 1152];
+    if loads(
+        o,
+        xs,
+        ys,
+        starts,
+        lens,
+        want_x,
+        want_y,
+        want_seen,
+        want_id,
+        want_parent,
+        want_num,
+        want_ids,
+        want_coords,
+        want_near,
+        &mut x,
+        &mut y,
+        &mut seen,
+        &mut id,
+        &mut parent,
+        &mut num,
+        &mut ids,
+        &mut coords,
+        &mut near,
+    ) {
+        return Verdict::Agrees;
+    }
+    Verdict::Differs(Function::Load)
+}
+
+// Reads what is expected of a build of points, and builds them.
+fn replay_tables(o: Options, min_zoom: usize, max_zoom: usize, xs: &[f64], ys: &[f64]) -> Verdict
+    requires { ⌜ («max_zoom» ≤ 30) × (length (now xs) ≤ 64) ⌝ }
+{
+    let Count::Is(m) = vectors::next_count(1152, false) else {
+        return Verdict::Malformed;
+    };
+    let mut x = [-1.5; 1152];
+    let mut y = [-1.5; 1152];
+    let mut seen = [OLD_BYTE; 1152];
+    let mut id = [OLD; 1152];
+    let mut parent = [OLD; 1152];
+    let mut num = [OLD; 1152];
+    let mut ids = [OLD; 1152];
+    let mut coords = [-1.5; 2304];
+    let mut near = [OLD; 1152];
+    let mut starts = [0u32; 32];
+    let mut lens = [0u32; 32];
+    if !read_entries(
+        m,
+        &mut x,
+        &mut y,
+        &mut seen,
+        &mut id,
+        &mut parent,
+        &mut num,
+        &mut ids,
+        &mut coords,
+    ) {
+        return Verdict::Malformed;
+    }
+    if !read_tables(min_zoom, max_zoom, &mut starts, &mut lens) {
+        return Verdict::Malformed;
+    }
+    clear(xs.len(), &mut near);
+    replay_load(
+        o,
+        xs,
+        ys,
+        &starts,
+        &lens,
+        &x,
+        &y,
+        &seen,
+        &id,
+        &parent,
+        &num,
+        &ids,
+        &coords,
+        &near,
+    )
+}
+
+// Reads the options, past the two zooms, and the points of a case, and replays it.
+fn replay_points(min_zoom: usize, max_zoom: usize) -> Verdict
+    requires { ⌜ («min_zoom» ≤ «max_zoom») × («max_zoom» ≤ 30) ⌝ }
+{
+    let Chosen::Options(o) = read_options(min_zoom as u8, max_zoom as u8) else {
+        return Verdict::Malformed;
+    };
+    let Count::Is(n) = vectors::next_count(64, false) else {
+        return Verdict::Malformed;
+    };
+    if 1152 < (max_zoom - min_zoom + 2) * n {
+        return Verdict::Malformed;
+    }
+    let mut xs = [0.0; 64];
+    let mut ys = [0.0; 64];
+    if !vectors::read_points(n, &mut xs, &mut ys) {
+        return Verdict::Malformed;
+    }
+    replay_tables(o, min_zoom, max_zoom, &xs[..n], &ys[..n])
+}
+
+// Replays the case that begins with this word.
+fn replay_case(bits: u64) -> Verdict {
+    let Count::Is(min_zoom) = vectors::count_of(bits, 30) else {
+        return Verdict::Malformed;
+    };
+    let Count::Is(max_zoom) = vectors::next_count(30, false) else {
+        return Verdict::Malformed;
+    };
+    if max_zoom < min_zoom {
+        return Verdict::Malformed;
+    }
+    replay_points(min_zoom, max_zoom)
+}
+
+// Replays the next case of standard input.
+fn next_case() -> Verdict {
+    match vectors::next_word() {
+        Word::Inner(bits) => replay_case(bits),
+        Word::Last(bits) => Verdict::Malformed,
+        Word::Bad => Verdict::Malformed,
+        Word::End => Verdict::End,
+    }
+}
+
+// Replays every line of standard input, one past the most at the utmost.
+fn replay_all() -> Ending
+    ensures { λ r. ⌜ endingIs r ⌝ }
+{
+    let mut tally = Tally {
+        cases: 0,
+        differences: 0,
+        first: First::Nothing,
+    };
+    while tally.cases <= vectors::MOST {
+        match next_case() {
+            Verdict::Agrees => tally = tally.agreed(),
+            Verdict::Differs(function) => tally = tally.differed(function),
+            Verdict::Malformed => return Ending::Malformed(tally.cases + 1),
+            Verdict::End => return Ending::Finished(tally),
+        }
+    }
+    Ending::TooMany
+}
+
+// Replays standard input, and writes how that ended.
+fn main() {
+    vectors::say_ending(replay_all());
+}
