@@ -1,0 +1,104 @@
+-- `listing::fill` meets its contract: what is left of the points fills the columns from i on. Assumes nothing.
+use mathlib.Core.Path.{_≡_, refl, sym, _∙_}
+use Prim.Native.Nat.{_+_, _≤_}
+use native.Mathlib.Omega.{arith}
+use borrow.Author.Needs.{needs}
+use Rattle.listing.specs.Form.{fillX, fillY, fillX-step, fillY-step, fillX-end, fillY-end}
+use Rattle.listing.proofs.fill.Statement.{statement}
+use Rattle.listing.proofs.fill.Tie as tie
+
+abbrev Inv-loop : tie.InvT-loop
+Inv-loop s n xs₀ ys₀ at₀ left₀ i₀ xs ys at left i = (fillX left s at i xs ≡ fillX n s at₀ 0 xs₀) × ((fillY left s at i ys ≡ fillY n s at₀ 0 ys₀) × (i + left ≤ 1152))
+
+abbrev μ-loop : tie.MeasureT-loop
+μ-loop s n xs₀ ys₀ at₀ left₀ i₀ xs ys at left i = left
+
+loop-holds : tie.Need-loop-holds Inv-loop μ-loop
+loop-holds c = (refl, (refl, omega arith))
+
+read-point-requires : tie.Need-read-point-requires Inv-loop μ-loop
+read-point-requires c κs = tt
+
+enum-known-x : tie.Need-enum-known-x Inv-loop μ-loop
+enum-known-x c = search needs
+
+enum-told : tie.Need-enum-told Inv-loop μ-loop
+enum-told c = search needs
+
+returns : tie.Need-returns Inv-loop μ-loop
+returns c =
+    let r = c .before .before in
+    let t = r .before in
+    let l = t .before in
+    let f = c .enum-told .given .1 in (
+      sym (fillX-step (l .loop .left) (l .before .before .args .s .now) (l .loop .at) (l .loop .i) (l .loop .xs) (t .loop-test .taken) ∙ simp (sym (r .read-point .ensures) ∙ f)) ∙ l .loop .inv .0,
+      sym (fillY-step (l .loop .left) (l .before .before .args .s .now) (l .loop .at) (l .loop .i) (l .loop .ys) (t .loop-test .taken) ∙ simp (sym (r .read-point .ensures) ∙ f)) ∙ l .loop .inv .1 .0,
+    )
+
+coordinate-requires : tie.Need-coordinate-requires Inv-loop μ-loop
+coordinate-requires c κs = tt
+
+mul-xs : tie.Need-mul-xs Inv-loop μ-loop
+mul-xs c = omega arith
+
+element-write-xs : tie.Need-element-write-xs Inv-loop μ-loop
+element-write-xs c = omega arith
+
+coordinate-requires-2 : tie.Need-coordinate-requires-2 Inv-loop μ-loop
+coordinate-requires-2 c κs = tt
+
+mul-ys : tie.Need-mul-ys Inv-loop μ-loop
+mul-ys c = omega arith
+
+element-write-ys : tie.Need-element-write-ys Inv-loop μ-loop
+element-write-ys c = omega arith
+
+add-i : tie.Need-add-i Inv-loop μ-loop
+add-i c = omega arith
+
+sub-left : tie.Need-sub-left Inv-loop μ-loop
+sub-left c = omega arith
+
+loop-less : tie.Need-loop-less Inv-loop μ-loop
+loop-less c = omega arith
+
+loop-again : tie.Need-loop-again Inv-loop μ-loop
+loop-again c =
+    let x = c .before .before .before in
+    let r = x .before .before in
+    let t = r .before in
+    let l = t .before in
+    let f = x .x .given .1 in (
+      rw (c .before .coordinate .ensures) (sym (fillX-step (l .loop .left) (l .before .before .args .s .now) (l .loop .at) (l .loop .i) (l .loop .xs) (t .loop-test .taken) ∙ simp (sym (r .read-point .ensures) ∙ f)) ∙ l .loop .inv .0),
+      (rw (c .coordinate2 .ensures) (sym (fillY-step (l .loop .left) (l .before .before .args .s .now) (l .loop .at) (l .loop .i) (l .loop .ys) (t .loop-test .taken) ∙ simp (sym (r .read-point .ensures) ∙ f)) ∙ l .loop .inv .1 .0), omega arith),
+    )
+
+returns-2 : tie.Need-returns-2 Inv-loop μ-loop
+returns-2 c =
+    let l = c .before in (
+      sym (fillX-end (l .loop .left) (l .before .before .args .s .now) (l .loop .at) (l .loop .i) (l .loop .xs) (c .loop-test .left)) ∙ l .loop .inv .0,
+      sym (fillY-end (l .loop .left) (l .before .before .args .s .now) (l .loop .at) (l .loop .i) (l .loop .ys) (c .loop-test .left)) ∙ l .loop .inv .1 .0,
+    )
+
+pub fill-spec : {M : Type 1} → statement M
+fill-spec =
+    tie.close
+    (tie.spec
+    Inv-loop
+    μ-loop
+    loop-holds
+    read-point-requires
+    enum-known-x
+    enum-told
+    returns
+    coordinate-requires
+    mul-xs
+    element-write-xs
+    coordinate-requires-2
+    mul-ys
+    element-write-ys
+    add-i
+    sub-left
+    loop-less
+    loop-again
+    returns-2)

@@ -1,0 +1,145 @@
+-- 01's text of the table lister: the writing of an input, key=value line by line, and what it is to read a text. Definitions only.
+use mathlib.Core.List.{List, [], _∷_, _++_, map}
+use mathlib.Core.Path.{_≡_}
+use Prim.Native.Nat.{ℕ, _+_, _≤_}
+use lib.ListN.{length}
+use lib.Seq.{sets}
+use lib.Ieee.{Float}
+use Rattle.listing.specs.declared.Head.{Head}
+use Rattle.listing.specs.declared.Parsed.{Parsed}
+use Rattle.listing.specs.declared.Parsed.the-variants.{Read, Refused}
+use Rattle.listing.specs.Digits.{decimalOf}
+use Rattle.listing.specs.Values.{coordOf}
+
+-- ---- the keys, each with its `=`
+
+-- min_zoom=
+abbrev pub minZoomKey : List ℕ
+minZoomKey = 109 ∷ 105 ∷ 110 ∷ 95 ∷ 122 ∷ 111 ∷ 111 ∷ 109 ∷ 61 ∷ []
+
+-- max_zoom=
+abbrev pub maxZoomKey : List ℕ
+maxZoomKey = 109 ∷ 97 ∷ 120 ∷ 95 ∷ 122 ∷ 111 ∷ 111 ∷ 109 ∷ 61 ∷ []
+
+-- min_points=
+abbrev pub minPointsKey : List ℕ
+minPointsKey = 109 ∷ 105 ∷ 110 ∷ 95 ∷ 112 ∷ 111 ∷ 105 ∷ 110 ∷ 116 ∷ 115 ∷ 61 ∷ []
+
+-- radius=
+abbrev pub radiusKey : List ℕ
+radiusKey = 114 ∷ 97 ∷ 100 ∷ 105 ∷ 117 ∷ 115 ∷ 61 ∷ []
+
+-- extent=
+abbrev pub extentKey : List ℕ
+extentKey = 101 ∷ 120 ∷ 116 ∷ 101 ∷ 110 ∷ 116 ∷ 61 ∷ []
+
+-- node_size=
+abbrev pub nodeSizeKey : List ℕ
+nodeSizeKey = 110 ∷ 111 ∷ 100 ∷ 101 ∷ 95 ∷ 115 ∷ 105 ∷ 122 ∷ 101 ∷ 61 ∷ []
+
+-- count=
+abbrev pub countKey : List ℕ
+countKey = 99 ∷ 111 ∷ 117 ∷ 110 ∷ 116 ∷ 61 ∷ []
+
+-- x=
+abbrev pub xKey : List ℕ
+xKey = 120 ∷ 61 ∷ []
+
+-- y=
+abbrev pub yKey : List ℕ
+yKey = 121 ∷ 61 ∷ []
+
+-- ---- the writing of an input
+
+-- a line: the key with its `=`, the number, the line's end
+unfoldable pub line : List ℕ → ℕ → List ℕ
+line key v = key ++ (decimalOf 7 v ++ (10 ∷ []))
+
+-- a point, in 65,536ths
+pub record Place : Type 0 where
+  pub x : ℕ
+  pub y : ℕ
+
+pub record Input : Type 0 where
+  pub minZoom : ℕ
+  pub maxZoom : ℕ
+  pub minPoints : ℕ
+  pub radius : ℕ
+  pub extent : ℕ
+  pub nodeSize : ℕ
+  pub points : List Place
+
+unfoldable pub pointsText : List Place → List ℕ
+pointsText [] = []
+pointsText (p ∷ ps) = line xKey (p .x) ++ (line yKey (p .y) ++ pointsText ps)
+
+-- the first seven lines, and then t
+abbrev pub headText : ℕ → ℕ → ℕ → ℕ → ℕ → ℕ → ℕ → List ℕ → List ℕ
+headText a b m r e n k t =
+    line minZoomKey a ++
+    (line maxZoomKey b ++ (line minPointsKey m ++ (line radiusKey r ++ (line extentKey e ++ (line nodeSizeKey n ++ (line countKey k ++ t))))))
+
+abbrev pub text : Input → List ℕ
+text i =
+    headText (i .minZoom) (i .maxZoom) (i .minPoints) (i .radius) (i .extent) (i .nodeSize) (length (i .points)) (pointsText (i .points))
+
+-- each coordinate has at most seven digits
+abbrev pub Small : List Place → Type 0
+Small [] = Unit
+Small (p ∷ ps) = ((p .x ≤ 9999999) × (p .y ≤ 9999999)) × Small ps
+
+-- 01's bounds of a text
+pub record Valid (i : Input) : Type 0 where
+  pub minZoom : i .minZoom ≤ 255
+  pub maxZoom : i .maxZoom ≤ 255
+  pub minPoints : i .minPoints ≤ 255
+  pub radius : i .radius ≤ 9999999
+  pub extent : i .extent ≤ 9999999
+  pub nodeSize : i .nodeSize ≤ 9999999
+  pub count : length (i .points) ≤ 1152
+  pub points : Small (i .points)
+  pub short : length (text i) ≤ 65536
+
+-- ---- what it is to read a text
+
+-- these numbers, and the place past them
+abbrev pub headFor : ℕ → ℕ → ℕ → ℕ → ℕ → ℕ → ℕ → ℕ → Head
+headFor a b m r e n k p =
+    record { «min_zoom» = a; «max_zoom» = b; «min_points» = m; radius = r; extent = e; «node_size» = n; count = k; next = record { at = p } }
+
+-- where the first seven lines end
+abbrev pub headEnd : ℕ → ℕ → ℕ → ℕ → ℕ → ℕ → ℕ → ℕ
+headEnd a b m r e n k =
+    0 + length (line minZoomKey a) + length (line maxZoomKey b) + length (line minPointsKey m) + length (line radiusKey r) + length (line extentKey e)
+    + length (line nodeSizeKey n) + length (line countKey k)
+
+-- the head of an input
+abbrev pub headIs : Input → Head
+headIs i =
+    headFor (i .minZoom) (i .maxZoom) (i .minPoints) (i .radius) (i .extent) (i .nodeSize) (length (i .points))
+    (headEnd (i .minZoom) (i .maxZoom) (i .minPoints) (i .radius) (i .extent) (i .nodeSize) (length (i .points)))
+
+abbrev pub xsOf : Input → List Float
+xsOf i = map (λ (p : Place). coordOf (p .x)) (i .points)
+
+abbrev pub ysOf : Input → List Float
+ysOf i = map (λ (p : Place). coordOf (p .y)) (i .points)
+
+-- s is the writing of an input; its head is h, and the columns hold its points and past them what they held
+pub record Reads (s : List ℕ) (xs ys : List Float) (h : Head) (xs′ ys′ : List Float) : Type 0 where
+  pub input : Input
+  pub valid : Valid input
+  pub is : s ≡ text input
+  pub head : h ≡ headIs input
+  pub of-x : xs′ ≡ sets xs 0 (xsOf input)
+  pub of-y : ys′ ≡ sets ys 0 (ysOf input)
+
+-- s is the writing of no input, and the columns are as they were
+pub record Refuses (s : List ℕ) (xs ys xs′ ys′ : List Float) : Type 0 where
+  pub none : (i : Input) → Valid i → s ≡ text i → ⊥
+  pub same-x : xs′ ≡ xs
+  pub same-y : ys′ ≡ ys
+
+abbrev pub Parsing : List ℕ → List Float → List Float → Parsed → List Float → List Float → Type 0
+Parsing s xs ys (Read h) xs′ ys′ = Reads s xs ys h xs′ ys′
+Parsing s xs ys Refused xs′ ys′ = Refuses s xs ys xs′ ys′

@@ -1,0 +1,130 @@
+-- A text is read as these values if and only if it is their writing: `accepts` and `only`. So the contract of `parse` allows just one reply to a text
+-- (`parsing-one`; of the columns this is not proved here), and what `parsedOf` answers meets it (`parsing`). Assumes nothing.
+use mathlib.Core.Bool.{Bool, true, false, cond}
+use mathlib.Core.List.{List}
+use mathlib.Core.Path.{_≡_, refl, ap, sym, subst, _∙_}
+use Prim.Native.Nat.{ℕ, _≤_}
+use native.Mathlib.Omega.{arith}
+use borrow.Author.Tests.{le-ltb, ltb-false}
+use lib.Dec.{ltb}
+use lib.ListN.{length, take}
+use lib.Seq.{length-sets, length-take-le}
+use lib.Ieee.{Float}
+use Rattle.listing.specs.declared.Head.{Head}
+use Rattle.listing.specs.declared.Parsed.{Parsed}
+use Rattle.listing.specs.declared.Parsed.the-variants.{Read, Refused}
+use Rattle.listing.specs.Text.{Input, pointsText, headText, headIs, text, Valid, Reads, Parsing, xsOf, ysOf}
+use Rattle.listing.specs.Form.{headOf, pointsOk, fillX, fillY, withPoints, parsedOf, afterX, afterY}
+use Rattle.listing.specs.Points.{Found, points-read, points-end}
+use Rattle.listing.specs.Heads.{refused-not, read-inj, head-read, head-ends}
+
+-- each text of the form is read, as what it is the text of
+pub accepts : (i : Input) → Valid i → (parsedOf (text i) ≡ Read (headIs i)) × Found (length (i .points)) (text i) (headIs i .next .at) (i .points)
+unfolding parsedOf
+accepts i v =
+    let s = text i in
+    let h = head-read s (i .minZoom) (i .maxZoom) (i .minPoints) (i .radius) (i .extent) (i .nodeSize) (length (i .points)) (pointsText (i .points)) refl (v .minZoom) (v .maxZoom) (v .minPoints) (v .radius) (v .extent) (v .nodeSize) (v .count) in
+    let p = points-read (i .points) s (headIs i .next .at) (h .upto) (v .points) (h .rest) in (
+      ap (λ (b : Bool). cond b Refused (withPoints s (headOf s))) (le-ltb 65536 (length s) (v .short))
+          ∙ ap (λ (x : Parsed). withPoints s x) (h .reads)
+          ∙ ap (λ (b : Bool). cond b (Read (headIs i)) Refused) (p .ok),
+      p,
+    )
+
+-- and nothing else is
+pub record Form (s : List ℕ) (h : Head) : Type 0 where
+  pub input : Input
+  pub valid : Valid input
+  pub is : s ≡ text input
+  pub head : h ≡ headIs input
+
+cond-refused : (b : Bool) (x : Parsed) (h : Head) → cond b Refused x ≡ Read h → (b ≡ false) × (x ≡ Read h)
+cond-refused true x h e = absurd (refused-not e)
+cond-refused false x h e = (refl, e)
+
+cond-read : (b : Bool) (g h : Head) → cond b (Read g) Refused ≡ Read h → (b ≡ true) × (Read g ≡ Read h)
+cond-read true g h e = (refl, e)
+cond-read false g h e = absurd (refused-not e)
+
+points-inv : (s : List ℕ) (x : Parsed) (h : Head) → withPoints s x ≡ Read h → (x ≡ Read h) × (pointsOk (h .count) s (h .next .at) ≡ true)
+points-inv s (Read g) h e =
+    let c = cond-read (pointsOk (g .count) s (g .next .at)) g h e in
+    (c .1, subst (λ (k : Head). pointsOk (k .count) s (k .next .at) ≡ true) (read-inj g h (c .1)) (c .0))
+points-inv s Refused h e = absurd (refused-not e)
+
+pub only : (s : List ℕ) (h : Head) → parsedOf s ≡ Read h → Form s h
+unfolding parsedOf
+only s h e =
+    let a = cond-refused (ltb 65536 (length s)) _ h e in
+    let p = points-inv s (headOf s) h (a .1) in
+    let hd = head-ends s h (p .0) in
+    let pt = points-end (h .count) s (h .next .at) (p .1) in
+    let i : Input =
+    record {
+      minZoom = h .«min_zoom»;
+      maxZoom = h .«max_zoom»;
+      minPoints = h .«min_points»;
+      radius = h .radius;
+      extent = h .extent;
+      nodeSize = h .«node_size»;
+      points = pt .ps;
+    } in
+    let headed : ℕ → List ℕ → List ℕ = headText (h .«min_zoom») (h .«max_zoom») (h .«min_points») (h .radius) (h .extent) (h .«node_size») in
+    let all : s ≡ text i = hd .is ∙ ap (headed (h .count)) (pt .is) ∙ ap (λ (k : ℕ). headed k (pointsText (pt .ps))) (sym (pt .count)) in
+    let v : Valid i =
+    record {
+      minZoom = hd .ha;
+      maxZoom = hd .hb;
+      minPoints = hd .hm;
+      radius = hd .hr;
+      extent = hd .he;
+      nodeSize = hd .hn;
+      count = omega (arith, hd .hk, pt .count);
+      points = pt .small;
+      short = omega (arith, ap length all, ltb-false 65536 (length s) (a .0));
+    } in
+    record { input = i; valid = v; is = all; head = read-inj h (headIs i) (sym e ∙ ap parsedOf all ∙ accepts i v .0) }
+
+-- ---- the contract of `parse`
+
+module _ (s : List ℕ) (xs ys : List Float) where
+  reads-by : (h : Head) (xs′ ys′ : List Float) (f : Form s h) → xs′ ≡ afterX (Read h) s xs → ys′ ≡ afterY (Read h) s ys → Reads s xs ys h xs′ ys′
+  reads-by h xs′ ys′ f ex ey =
+      let i = f .input in
+      let g = accepts i (f .valid) .1 in
+      let same : (q : Head → List ℕ → List Float) → q h s ≡ q (headIs i) (text i) = λ q. ap (λ (k : Head). q k s) (f .head) ∙ ap (q (headIs i)) (f .is) in
+      record {
+        input = i;
+        valid = f .valid;
+        is = f .is;
+        head = f .head;
+        of-x = ex ∙ same (λ k u. fillX (k .count) u (k .next .at) 0 xs) ∙ g .xs 0 xs;
+        of-y = ey ∙ same (λ k u. fillY (k .count) u (k .next .at) 0 ys) ∙ g .ys 0 ys;
+      }
+
+  pub parsing : (r : Parsed) (xs′ ys′ : List Float) → r ≡ parsedOf s → xs′ ≡ afterX r s xs → ys′ ≡ afterY r s ys → Parsing s xs ys r xs′ ys′
+  parsing (Read h) xs′ ys′ e ex ey = reads-by h xs′ ys′ (only s h (sym e)) ex ey
+  parsing Refused xs′ ys′ e ex ey =
+      record { none = λ i v is. refused-not (e ∙ ap parsedOf is ∙ accepts i v .0); same-x = ex; same-y = ey }
+
+  -- the reply that the contract says is the one of `parsedOf`
+  refused-by : (q : Parsed) → parsedOf s ≡ q → ((i : Input) → Valid i → s ≡ text i → ⊥) → Refused ≡ q
+  refused-by (Read h) e no′ = let f = only s h e in absurd (no′ (f .input) (f .valid) (f .is))
+  refused-by Refused e no′ = refl
+
+  parsed : (r : Parsed) (xs′ ys′ : List Float) → Parsing s xs ys r xs′ ys′ → r ≡ parsedOf s
+  parsed (Read h) xs′ ys′ p = ap Read (p .head) ∙ sym (accepts (p .input) (p .valid) .0) ∙ ap parsedOf (sym (p .is))
+  parsed Refused xs′ ys′ p = refused-by (parsedOf s) refl (p .none)
+
+  pub parsing-one : (r q : Parsed) (xs′ ys′ xs″ ys″ : List Float) → Parsing s xs ys r xs′ ys′ → Parsing s xs ys q xs″ ys″ → r ≡ q
+  parsing-one r q xs′ ys′ xs″ ys″ a b = parsed r xs′ ys′ a ∙ sym (parsed q xs″ ys″ b)
+
+  -- a text has at most 1,152 points, and they stand in the columns
+  pub parsing-room : (r : Parsed) (h : Head) (xs′ ys′ : List Float) → r ≡ Read h → Parsing s xs ys r xs′ ys′ → length xs ≡ 1152 → length ys ≡ 1152
+      → ((h .count ≤ length xs′) × (h .count ≡ length (take (h .count) xs′))) × ((h .count ≤ length ys′) × (h .count ≡ length (take (h .count) ys′)))
+  parsing-room r h xs′ ys′ e q lx ly =
+      let p : Reads s xs ys h xs′ ys′ = subst (λ (k : Parsed). Parsing s xs ys k xs′ ys′) e q in
+      let few : h .count ≤ 1152 = omega (arith, ap (λ (k : Head). k .count) (p .head), p .valid .count) in
+      let hx : h .count ≤ length xs′ = omega (arith, ap length (p .of-x) ∙ length-sets xs 0 (xsOf (p .input)), lx) in
+      let hy : h .count ≤ length ys′ = omega (arith, ap length (p .of-y) ∙ length-sets ys 0 (ysOf (p .input)), ly) in
+      ((hx, sym (length-take-le (h .count) xs′ hx)), (hy, sym (length-take-le (h .count) ys′ hy)))

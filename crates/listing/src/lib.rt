@@ -1,0 +1,433 @@
+// The text of the table lister: what it reads, 01's lines of options and points, and what it prints, the line of an entry.
+// Proved: a text is accepted with these values if and only if it is the writing of these values, and every other text is refused and leaves the columns as they
+// were; a line holds 01's eight fields. Nothing is asked of the caller beyond room for the text of a table. Assumed: nothing.
+use range::CoordinateSystem;
+use range::DataRange;
+use range::Setting;
+use tables::Entry;
+use tables::Options;
+ghost use mathlib.Core.Path.{_≡_};
+ghost use mathlib.Core.List.{[], _∷_};
+ghost use Prim.Native.Nat.{_+_, _*_, _<_, _≤_};
+ghost use lib.ListN.{length, drop};
+ghost use Rattle.tables.specs.Rows.{rows, Even};
+ghost use Rattle.listing.specs.Digits.{decimalOf, glyphOf, hexOf};
+ghost use Rattle.listing.specs.Scan.{startsWith, moreOf, numberOf, lineOf, valueIn};
+ghost use Rattle.listing.specs.Form.{headOf, countIn, pointOf, pointsOk, fillX, fillY};
+ghost use Rattle.listing.specs.Values.{coordOf, optionsOf};
+ghost use Rattle.listing.specs.Text.{Parsing};
+ghost use Rattle.listing.specs.Lines.{Put, Counts, orDash, bitsOf, placeText, pointText, marksText, endText, lineText, tableText};
+
+// A place in the text.
+pub struct Cursor {
+    pub at: usize,
+}
+
+// A line's number and the place past the line, or no such line.
+pub enum Value {
+    Number { v: u32, next: Cursor },
+    Bad,
+}
+
+// The numbers of the first seven lines, and the place past these.
+pub struct Head {
+    pub min_zoom: u8,
+    pub max_zoom: u8,
+    pub min_points: u8,
+    pub radius: u32,
+    pub extent: u32,
+    pub node_size: u32,
+    pub count: u32,
+    pub next: Cursor,
+}
+
+// What a text says, or 01's refusal 12.
+pub enum Parsed {
+    Read(Head),
+    Refused,
+}
+
+// A point's two lines and the place past them, or no such lines.
+pub enum Pair {
+    Both { x: u32, y: u32, next: Cursor },
+    Missing,
+}
+
+fn wide(x: u8) -> u32
+    ensures { λ r. ⌜ r ≡ x ⌝ }
+{
+    x as u32
+}
+
+// Whether the key stands at `at`.
+fn starts(s: &[u8], at: usize, key: &[u8]) -> bool
+    ensures { λ r. ⌜ r ≡ startsWith (now (key .entry)) (drop at (now (s .entry))) ⌝ }
+{
+    let mut i = 0;
+    let mut p = at;
+    while i < key.len() {
+        if s.len() <= p {
+            return false;
+        }
+        if s[p] != key[i] {
+            return false;
+        }
+        i += 1;
+        p += 1;
+    }
+    true
+}
+
+// The rest of a number whose first digit is read, up to its line's end: no digit after a 0, at most seven digits.
+fn more(s: &[u8], from: usize, first: u32) -> Value
+    requires { ⌜ first < 10 ⌝ }
+    ensures { λ r. ⌜ r ≡ moreOf first from (drop from (now (s .entry))) ⌝ }
+{
+    let mut at = from;
+    let mut v = first;
+    while at < s.len() {
+        let c = s[at];
+        at += 1;
+        if c == 10 {
+            return Value::Number {
+                v,
+                next: Cursor { at },
+            };
+        }
+        if c < 48 {
+            return Value::Bad;
+        }
+        if 57 < c {
+            return Value::Bad;
+        }
+        if v < 1 {
+            return Value::Bad;
+        }
+        if 999999 < v {
+            return Value::Bad;
+        }
+        v = v * 10 + wide(c - 48);
+    }
+    Value::Bad
+}
+
+// A number and its line's end.
+fn number(s: &[u8], at: usize) -> Value
+    ensures { λ r. ⌜ r ≡ numberOf at (drop at (now (s .entry))) ⌝ }
+{
+    if s.len() <= at {
+        return Value::Bad;
+    }
+    let c = s[at];
+    if c < 48 {
+        return Value::Bad;
+    }
+    if 57 < c {
+        return Value::Bad;
+    }
+    more(s, at + 1, wide(c - 48))
+}
+
+// The line key=value at the cursor, its value at most max.
+fn line(s: &[u8], from: Cursor, key: &[u8], max: u32) -> Value
+    ensures { λ r. ⌜ (r ≡ lineOf (now (s .entry)) (from .at) (now (key .entry)) max) × valueIn max r ⌝ }
+{
+    let at = from.at;
+    if s.len() < at {
+        return Value::Bad;
+    }
+    if !starts(s, at, key) {
+        return Value::Bad;
+    }
+    match number(s, at + key.len()) {
+        Value::Number { v, next } => {
+            if v <= max {
+                Value::Number { v, next }
+            } else {
+                Value::Bad
+            }
+        }
+        Value::Bad => Value::Bad,
+    }
+}
+
+// The first seven lines.
+fn read_head(s: &[u8]) -> Parsed
+    ensures { λ r. ⌜ (r ≡ headOf (now (s .entry))) × countIn r ⌝ }
+{
+    let Value::Number { v: a, next: c1 } = line(s, Cursor { at: 0 }, b"min_zoom=", 255) else {
+        return Parsed::Refused;
+    };
+    let Value::Number { v: b, next: c2 } = line(s, c1, b"max_zoom=", 255) else {
+        return Parsed::Refused;
+    };
+    let Value::Number { v: p, next: c3 } = line(s, c2, b"min_points=", 255) else {
+        return Parsed::Refused;
+    };
+    let Value::Number { v: r, next: c4 } = line(s, c3, b"radius=", 9999999) else {
+        return Parsed::Refused;
+    };
+    let Value::Number { v: e, next: c5 } = line(s, c4, b"extent=", 9999999) else {
+        return Parsed::Refused;
+    };
+    let Value::Number { v: n, next: c6 } = line(s, c5, b"node_size=", 9999999) else {
+        return Parsed::Refused;
+    };
+    let Value::Number { v: k, next: c7 } = line(s, c6, b"count=", 1152) else {
+        return Parsed::Refused;
+    };
+    Parsed::Read(Head {
+        min_zoom: a as u8,
+        max_zoom: b as u8,
+        min_points: p as u8,
+        radius: r,
+        extent: e,
+        node_size: n,
+        count: k,
+        next: c7,
+    })
+}
+
+// The two lines of a point.
+fn read_point(s: &[u8], from: Cursor) -> Pair
+    ensures { λ r. ⌜ r ≡ pointOf (now (s .entry)) (from .at) ⌝ }
+{
+    let Value::Number { v: x, next: c1 } = line(s, from, b"x=", 9999999) else {
+        return Pair::Missing;
+    };
+    let Value::Number { v: y, next: c2 } = line(s, c1, b"y=", 9999999) else {
+        return Pair::Missing;
+    };
+    Pair::Both { x, y, next: c2 }
+}
+
+// Whether n points stand at the cursor, and then nothing.
+fn points_ok(s: &[u8], from: Cursor, n: u32) -> bool
+    ensures { λ r. ⌜ r ≡ pointsOk n (now (s .entry)) (from .at) ⌝ }
+{
+    let mut at = from.at;
+    let mut left = n;
+    while 0 < left {
+        let Pair::Both { x: _, y: _, next } = read_point(s, Cursor { at }) else {
+            return false;
+        };
+        at = next.at;
+        left -= 1;
+    }
+    at == s.len()
+}
+
+// A coordinate: so many 65,536ths.
+pub fn coordinate(k: u32) -> f64
+    ensures { λ r. ⌜ r ≡ coordOf k ⌝ }
+{
+    k as f64 / 65536.0
+}
+
+// Writes the n points at the cursor to the columns.
+fn fill(s: &[u8], from: Cursor, n: u32, xs: &mut [f64; 1152], ys: &mut [f64; 1152])
+    requires { ⌜ n ≤ 1152 ⌝ }
+    ensures { λ _. ⌜ (now (xs .exit) ≡ fillX n (now (s .entry)) (from .at) 0 (now (xs .entry))) × (now (ys .exit) ≡ fillY n (now (s .entry)) (from .at) 0 (now (ys .entry))) ⌝ }
+{
+    let mut at = from.at;
+    let mut left = n;
+    let mut i: usize = 0;
+    while 0 < left {
+        let Pair::Both { x, y, next } = read_point(s, Cursor { at }) else {
+            return;
+        };
+        xs[i] = coordinate(x);
+        ys[i] = coordinate(y);
+        at = next.at;
+        i += 1;
+        left -= 1;
+    }
+}
+
+// Reads a text: its numbers, and its points into the columns; or refuses it, and writes nothing.
+pub fn parse(s: &[u8], xs: &mut [f64; 1152], ys: &mut [f64; 1152]) -> Parsed
+    ensures { λ r. ⌜ Parsing (now (s .entry)) (now (xs .entry)) (now (ys .entry)) r (now (xs .exit)) (now (ys .exit)) ⌝ }
+{
+    if 65536 < s.len() {
+        return Parsed::Refused;
+    }
+    let Parsed::Read(h) = read_head(s) else {
+        return Parsed::Refused;
+    };
+    let c = h.next;
+    let n = h.count;
+    if !points_ok(s, c, n) {
+        return Parsed::Refused;
+    }
+    fill(s, c, n, xs, ys);
+    Parsed::Read(h)
+}
+
+// The options that a text asks for: Cartesian, with offset 0 and scale 1.
+pub fn options(h: Head) -> Options
+    ensures { λ r. ⌜ r ≡ optionsOf h ⌝ }
+{
+    Options {
+        min_zoom: h.min_zoom,
+        max_zoom: h.max_zoom,
+        min_points: h.min_points,
+        radius: h.radius as f64,
+        extent: h.extent as f64,
+        node_size: h.node_size as usize,
+        coordinate_system: CoordinateSystem::Cartesian {
+            range: DataRange {
+                min_x: 0.0,
+                min_y: 0.0,
+                max_x: 1.0,
+                max_y: 1.0,
+                offset: Setting::Given(0.0),
+                scale: Setting::Given(1.0),
+            },
+        },
+    }
+}
+
+fn put_byte(out: &mut [u8], at: usize, b: u8) -> usize
+    requires { ⌜ at < length (now out) ⌝ }
+    ensures { λ r. ⌜ Put (now (out .entry)) (now (out .exit)) at (b ∷ []) 1 r ⌝ }
+{
+    out[at] = b;
+    at + 1
+}
+
+// n's decimal digits at `at`, at most `left` of them. The place past them.
+fn put_decimal(out: &mut [u8], at: usize, n: u32, left: usize) -> usize
+    requires { ⌜ at + left ≤ length (now out) ⌝ }
+    ensures { λ r. ⌜ Put (now (out .entry)) (now (out .exit)) at (decimalOf left n) left r ⌝ }
+{
+    if left < 1 {
+        return at;
+    }
+    if n < 10 {
+        return put_byte(out, at, 48 + n as u8);
+    }
+    let p = put_decimal(out, at, n / 10, left - 1);
+    put_byte(out, p, 48 + (n % 10) as u8)
+}
+
+// A hexadecimal digit.
+fn glyph(d: u8) -> u8
+    requires { ⌜ d < 16 ⌝ }
+    ensures { λ r. ⌜ r ≡ glyphOf d ⌝ }
+{
+    if d < 10 { 48 + d } else { 87 + d }
+}
+
+// n's last `left` hexadecimal digits at `at`. The place past them.
+fn put_hex(out: &mut [u8], at: usize, n: u64, left: usize) -> usize
+    requires { ⌜ at + left ≤ length (now out) ⌝ }
+    ensures { λ r. ⌜ Put (now (out .entry)) (now (out .exit)) at (hexOf left n) left r ⌝ }
+{
+    if left < 1 {
+        return at;
+    }
+    let p = put_hex(out, at, n / 16, left - 1);
+    put_byte(out, p, glyph((n % 16) as u8))
+}
+
+// The bits of a float. A NaN's are those of the Rust's f64::NAN.
+fn bits(x: f64) -> u64
+    ensures { λ r. ⌜ r ≡ bitsOf x ⌝ }
+{
+    if x == x {
+        return f64::to_bits(x);
+    }
+    0x7ff8000000000000
+}
+
+// A number, or `-` where it is the one that stands for unset.
+fn put_or_dash(out: &mut [u8], at: usize, n: u32, unset: u32) -> usize
+    requires { ⌜ at + 10 ≤ length (now out) ⌝ }
+    ensures { λ r. ⌜ Put (now (out .entry)) (now (out .exit)) at (orDash unset n) 10 r ⌝ }
+{
+    if n == unset {
+        return put_byte(out, at, 45);
+    }
+    put_decimal(out, at, n, 10)
+}
+
+// Zoom and place.
+fn put_place(out: &mut [u8], at: usize, zoom: u32, place: u32) -> usize
+    requires { ⌜ at + 34 ≤ length (now out) ⌝ }
+    ensures { λ r. ⌜ Put (now (out .entry)) (now (out .exit)) at (placeText zoom place) 34 r ⌝ }
+{
+    let a = put_decimal(out, at, zoom, 10);
+    let b = put_byte(out, a, 32);
+    let c = put_decimal(out, b, place, 10);
+    put_byte(out, c, 32)
+}
+
+// The bits of x and of y.
+fn put_point(out: &mut [u8], at: usize, x: f64, y: f64) -> usize
+    requires { ⌜ at + 34 ≤ length (now out) ⌝ }
+    ensures { λ r. ⌜ Put (now (out .entry)) (now (out .exit)) at (pointText x y) 34 r ⌝ }
+{
+    let a = put_hex(out, at, bits(x), 16);
+    let b = put_byte(out, a, 32);
+    let c = put_hex(out, b, bits(y), 16);
+    put_byte(out, c, 32)
+}
+
+// Seen and id.
+fn put_marks(out: &mut [u8], at: usize, seen: u32, id: u32) -> usize
+    requires { ⌜ at + 34 ≤ length (now out) ⌝ }
+    ensures { λ r. ⌜ Put (now (out .entry)) (now (out .exit)) at (marksText seen id) 34 r ⌝ }
+{
+    let a = put_or_dash(out, at, seen, 255);
+    let b = put_byte(out, a, 32);
+    let c = put_decimal(out, b, id, 10);
+    put_byte(out, c, 32)
+}
+
+// Parent, num and the line's end.
+fn put_end(out: &mut [u8], at: usize, parent: u32, num: u32) -> usize
+    requires { ⌜ at + 34 ≤ length (now out) ⌝ }
+    ensures { λ r. ⌜ Put (now (out .entry)) (now (out .exit)) at (endText parent num) 34 r ⌝ }
+{
+    let a = put_or_dash(out, at, parent, 4294967295);
+    let b = put_byte(out, a, 32);
+    let c = put_decimal(out, b, num, 10);
+    put_byte(out, c, 10)
+}
+
+// The line of the entry at a place of the table of a zoom, at `at`. The place past it.
+fn put_line(out: &mut [u8], at: usize, zoom: u8, place: u32, e: Entry) -> usize
+    requires { ⌜ at + 136 ≤ length (now out) ⌝ }
+    ensures { λ r. ⌜ Put (now (out .entry)) (now (out .exit)) at (lineText zoom place e) 136 r ⌝ }
+{
+    let a = put_place(out, at, zoom as u32, place);
+    let b = put_point(out, a, e.x, e.y);
+    let c = put_marks(out, b, e.seen as u32, e.id);
+    put_end(out, c, e.parent, e.num)
+}
+
+// The lines of the table of a zoom, which the columns hold, at the start of `out`. How long they are.
+pub fn put_table(
+    out: &mut [u8],
+    zoom: u8,
+    x: &[f64],
+    y: &[f64],
+    seen: &[u8],
+    id: &[u32],
+    parent: &[u32],
+    num: &[u32],
+) -> usize
+    requires { ⌜ Even (now x) (now y) (now seen) (now id) (now parent) (now num) ⌝ }
+    requires { ⌜ (length (now x) ≤ 1152) × (136 * length (now x) ≤ length (now out)) ⌝ }
+    ensures { λ r. ⌜ Put (now (out .entry)) (now (out .exit)) 0 (tableText zoom 0 (rows (now (x .entry)) (now (y .entry)) (now (seen .entry)) (now (id .entry)) (now (parent .entry)) (now (num .entry)))) (136 * length (now (x .entry))) r ⌝ }
+    ensures { λ r. ⌜ Counts r (now (out .exit)) ⌝ }
+{
+    let mut at: usize = 0;
+    let mut i: usize = 0;
+    while i < x.len() {
+        let e = tables::entry_at(x, y, seen, id, parent, num, i);
+        at = put_line(out, at, zoom, i as u32, e);
+        i += 1;
+    }
+    at
+}
