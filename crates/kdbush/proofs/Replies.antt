@@ -30,7 +30,7 @@ use Rattle.kdbush.specs.Query.{queryOk}
 use Rattle.kdbush.specs.Slots.{answers}
 use Rattle.kdbush.specs.Run.{ran, run, reply, pickReply, sound, whole, filled, places}
 use Rattle.kdbush.specs.Cursor.{headOf, restOf}
-use Rattle.kdbush.specs.Reply.{nodeSizeOk, countOk, coordsOk, firstOutside, pointed, checked, builtBy, built, found, told, searched, columnAfter, nextStep, ending, walk, walkAfter, firstStep, afterStep}
+use Rattle.kdbush.specs.Reply.{nodeSizeOk, countOk, coordsOk, firstOutside, pointed, checked, builtBy, built, found, told, indexOk, listed, listedColumn, searched, columnAfter, nextStep, ending, walk, walkAfter, firstStep, afterStep}
 use Rattle.kdbush.proofs.Runs.{ends}
 
 -- ---- tests
@@ -54,35 +54,30 @@ second-false e f = rw (e, f)
 
 module _ (q : Query) (size n : ℕ) (ids : List ℕ) (co : List Float) (out : List ℕ) where
   -- the index is refused
-  pub search-spoiled : (coordsOk size n (length co) && leb n (length ids)) ≡ false → (Spoiled ≡ searched q size n ids co (length out)) × (out ≡ columnAfter q size n ids co out)
-  unfolding searched columnAfter
-  search-spoiled e = (sym (no _ _ _ e), sym (no _ _ _ (first-false (queryOk q) e)))
+  pub search-spoiled : indexOk size n ids co ≡ false → (Spoiled ≡ listed q size n ids co (length out)) × (out ≡ listedColumn q size n ids co out)
+  unfolding listed listedColumn
+  search-spoiled e = (sym (no _ _ _ e), sym (no _ _ _ e))
 
-  -- the query is refused
-  pub search-box : (coordsOk size n (length co) && leb n (length ids)) ≡ true → queryOk q ≡ false → (Box ≡ searched q size n ids co (length out)) × (out ≡ columnAfter q size n ids co out)
-  unfolding searched columnAfter
-  search-box e f = (sym (yes _ _ _ e ∙ no _ _ _ f), sym (no _ _ _ (second-false e f)))
+  module _ (e : indexOk size n ids co ≡ true) where
+    listed-told : (b : Bool) → whole n (found q size n ids co) ≡ b → listed q size n ids co (length out) ≡ told b (length (found q size n ids co)) (length out)
+    unfolding listed
+    listed-told b g = yes _ _ _ e ∙ ap (λ (x : Bool). told x (length (found q size n ids co)) (length out)) g
 
-  module _ (e : (coordsOk size n (length co) && leb n (length ids)) ≡ true) (f : queryOk q ≡ true) where
-    searched-told : (b : Bool) → whole n (found q size n ids co) ≡ b → searched q size n ids co (length out) ≡ told b (length (found q size n ids co)) (length out)
-    unfolding searched
-    searched-told b g = yes _ _ _ e ∙ yes _ _ _ f ∙ ap (λ (x : Bool). told x (length (found q size n ids co)) (length out)) g
-
-    column-is : columnAfter q size n ids co out ≡ filled (sound n (found q size n ids co)) out
-    unfolding columnAfter
-    column-is = yes _ _ _ (both-true e f)
+    column-is : listedColumn q size n ids co out ≡ filled (sound n (found q size n ids co)) out
+    unfolding listedColumn
+    column-is = yes _ _ _ e
 
     -- a slot names a place past the table
-    pub search-past : (o : List ℕ) → ran Came·Spoiled o ≡ run n 0 (found q size n ids co) out → (Spoiled ≡ searched q size n ids co (length out)) × (o ≡ columnAfter q size n ids co out)
+    pub search-past : (o : List ℕ) → ran Came·Spoiled o ≡ run n 0 (found q size n ids co) out → (Spoiled ≡ listed q size n ids co (length out)) × (o ≡ listedColumn q size n ids co out)
     search-past o g =
         let w = ends n (found q size n ids co) out Came·Spoiled o g in
-        (sym (searched-told false (not-whole (whole n (found q size n ids co)) (length (found q size n ids co)) (w .0))), w .1 ∙ sym column-is)
+        (sym (listed-told false (not-whole (whole n (found q size n ids co)) (length (found q size n ids co)) (w .0))), w .1 ∙ sym column-is)
       where
         not-whole : (b : Bool) (k : ℕ) → Came·Spoiled ≡ pickReply b k → b ≡ false
         not-whole true k h = absurd (let z : _≡_ {A = ℕ} 0 1 = cc in omega arith)
         not-whole false k h = refl
 
-    all-found : (k : ℕ) (o : List ℕ) → ran (All k) o ≡ run n 0 (found q size n ids co) out → (whole n (found q size n ids co) ≡ true) × (k ≡ length (found q size n ids co)) × (o ≡ columnAfter q size n ids co out)
+    all-found : (k : ℕ) (o : List ℕ) → ran (All k) o ≡ run n 0 (found q size n ids co) out → (whole n (found q size n ids co) ≡ true) × (k ≡ length (found q size n ids co)) × (o ≡ listedColumn q size n ids co out)
     all-found k o g =
         let w = ends n (found q size n ids co) out (All k) o g in
         let v = is-whole (whole n (found q size n ids co)) k (length (found q size n ids co)) (w .0) in
@@ -93,16 +88,40 @@ module _ (q : Query) (size n : ℕ) (ids : List ℕ) (co : List Float) (out : Li
         is-whole false k j h = absurd (let z : _≡_ {A = ℕ} 0 1 = cc in omega arith)
 
     -- the answer is longer than the column
-    pub search-no-room : (k : ℕ) (o : List ℕ) → ran (All k) o ≡ run n 0 (found q size n ids co) out → length out < k → (NoRoom k ≡ searched q size n ids co (length out)) × (o ≡ columnAfter q size n ids co out)
+    pub search-no-room : (k : ℕ) (o : List ℕ) → ran (All k) o ≡ run n 0 (found q size n ids co) out → length out < k → (NoRoom k ≡ listed q size n ids co (length out)) × (o ≡ listedColumn q size n ids co out)
     search-no-room k o g h =
         let w = all-found k o g in
-        (ap NoRoom (w .1) ∙ sym (searched-told true (w .0) ∙ no _ _ _ (lt-leb (length (found q size n ids co)) (length out) (omega (arith, w .1)))), w .2)
+        (ap NoRoom (w .1) ∙ sym (listed-told true (w .0) ∙ no _ _ _ (lt-leb (length (found q size n ids co)) (length out) (omega (arith, w .1)))), w .2)
 
     -- and where it is not
-    pub search-found : (k : ℕ) (o : List ℕ) → ran (All k) o ≡ run n 0 (found q size n ids co) out → k ≤ length out → (Found k ≡ searched q size n ids co (length out)) × (o ≡ columnAfter q size n ids co out)
+    pub search-found : (k : ℕ) (o : List ℕ) → ran (All k) o ≡ run n 0 (found q size n ids co) out → k ≤ length out → (Found k ≡ listed q size n ids co (length out)) × (o ≡ listedColumn q size n ids co out)
     search-found k o g h =
         let w = all-found k o g in
-        (ap Found (w .1) ∙ sym (searched-told true (w .0) ∙ yes _ _ _ (le-leb (length (found q size n ids co)) (length out) (omega (arith, w .1)))), w .2)
+        (ap Found (w .1) ∙ sym (listed-told true (w .0) ∙ yes _ _ _ (le-leb (length (found q size n ids co)) (length out) (omega (arith, w .1)))), w .2)
+
+  -- ---- by numbers that are looked at
+
+  -- an index that is refused is so by both
+  searched-listed : (b : Bool) → indexOk size n ids co ≡ b → cond b (listed q size n ids co (length out)) Spoiled ≡ listed q size n ids co (length out)
+  searched-listed true e = refl
+  searched-listed false e = search-spoiled e .0
+
+  -- the query is fine
+  pub finite-fine : queryOk q ≡ true → (r : SearchReply) (o : List ℕ) → r ≡ listed q size n ids co (length out) → o ≡ listedColumn q size n ids co out
+      → (r ≡ searched q size n ids co (length out)) × (o ≡ columnAfter q size n ids co out)
+  unfolding searched columnAfter
+  finite-fine f r o g h =
+      (g ∙ sym (ap (λ (x : SearchReply). cond (indexOk size n ids co) x Spoiled) (yes _ _ _ f) ∙ searched-listed (indexOk size n ids co) refl), h ∙ sym (yes _ _ _ f))
+
+  -- it is not, and the index is refused first
+  pub finite-spoiled : queryOk q ≡ false → indexOk size n ids co ≡ false → (Spoiled ≡ searched q size n ids co (length out)) × (out ≡ columnAfter q size n ids co out)
+  unfolding searched columnAfter
+  finite-spoiled f e = (sym (no _ _ _ e), sym (no _ _ _ f))
+
+  -- the query is refused
+  pub finite-box : queryOk q ≡ false → indexOk size n ids co ≡ true → (Box ≡ searched q size n ids co (length out)) × (out ≡ columnAfter q size n ids co out)
+  unfolding searched columnAfter
+  finite-box f e = (sym (yes _ _ _ e ∙ no _ _ _ f), sym (no _ _ _ f))
 
 -- ---- the cursor
 

@@ -24,7 +24,7 @@ use Rattle.kdbush.specs.declared.SearchReply.the-variants.{Found}
 use Rattle.kdbush.specs.Query.{passesQ, least, greatest, queryOk}
 use Rattle.kdbush.specs.Slots.{answers}
 use Rattle.kdbush.specs.Run.{places, sound, whole}
-use Rattle.kdbush.specs.Reply.{coordsOk, found, searched, columnAfter}
+use Rattle.kdbush.specs.Reply.{coordsOk, found, listed, listedColumn, searched, columnAfter}
 use Rattle.kdbush.specs.Walk.{no-nil, answers-length}
 use Rattle.kdbush.specs.Members.{In, NotIn, Distinct, Between}
 use Rattle.kdbush.specs.Sound.{answers-sound, answers-between, answers-distinct}
@@ -169,17 +169,27 @@ pub promised : (size : ℕ) (xs ys : List Float) (s S : Cols) → Index size xs 
 promised size xs ys s S I ok wide = record { ok = ok; wide = wide; below = answered-below size xs ys s S I; once = answered-once size xs ys s S I; short = answered-length size xs ys s S I }
 
 -- a search of it with room for all its places is answered: no refusal, and the places at the front of the column
-module _ (size n : ℕ) (ids : List ℕ) (co : List Float) (P : Promised size n ids co) (q : Query) (fine : queryOk q ≡ true) (out : List ℕ) (room : n ≤ length out) where
-  pub promised-searched : searched q size n ids co (length out) ≡ Found (length (found q size n ids co))
-  unfolding searched
-  promised-searched =
-      rw (P .ok, le-leb n (length ids) (P .wide), fine, all-whole n (found q size n ids co) (P .below q), le-leb (length (found q size n ids co)) (length out) (omega (arith, P .short q)))
+module _ (size n : ℕ) (ids : List ℕ) (co : List Float) (P : Promised size n ids co) (q : Query) where
+  module _ (out : List ℕ) (room : n ≤ length out) where
+    pub promised-listed : listed q size n ids co (length out) ≡ Found (length (found q size n ids co))
+    unfolding listed
+    promised-listed =
+        rw (P .ok, le-leb n (length ids) (P .wide), all-whole n (found q size n ids co) (P .below q), le-leb (length (found q size n ids co)) (length out) (omega (arith, P .short q)))
 
-  pub promised-column : columnAfter q size n ids co out ≡ found q size n ids co ++ drop (length (found q size n ids co)) out
-  unfolding columnAfter
-  promised-column =
-      let h : length (found q size n ids co) ≤ length out = omega (arith, P .short q) in
-      rw (P .ok, le-leb n (length ids) (P .wide), fine, all-sound n (found q size n ids co) (P .below q), take-all (length out) (found q size n ids co) h)
+    pub promised-listed-column : listedColumn q size n ids co out ≡ found q size n ids co ++ drop (length (found q size n ids co)) out
+    unfolding listedColumn
+    promised-listed-column =
+        let h : length (found q size n ids co) ≤ length out = omega (arith, P .short q) in
+        rw (P .ok, le-leb n (length ids) (P .wide), all-sound n (found q size n ids co) (P .below q), take-all (length out) (found q size n ids co) h)
+
+  module _ (fine : queryOk q ≡ true) (out : List ℕ) (room : n ≤ length out) where
+    pub promised-searched : searched q size n ids co (length out) ≡ Found (length (found q size n ids co))
+    unfolding searched
+    promised-searched = rw (P .ok, le-leb n (length ids) (P .wide), fine) (promised-listed out room)
+
+    pub promised-column : columnAfter q size n ids co out ≡ found q size n ids co ++ drop (length (found q size n ids co)) out
+    unfolding columnAfter
+    promised-column = rw fine (promised-listed-column out room)
 
 -- ---- `range`: exactly the points in the box
 

@@ -113,15 +113,26 @@ found q size n ids co = places ids (answers q co size n)
 abbrev pub told : Bool → ℕ → ℕ → SearchReply
 told ok k room = cond ok (cond (leb k room) (Found k) (NoRoom k)) Spoiled
 
--- refusals 11, 9, 11, 10, in this order
-unfoldable pub searched : Query → ℕ → ℕ → List ℕ → List Float → ℕ → SearchReply
-searched q size n ids co room =
-    cond (coordsOk size n (length co) && leb n (length ids)) (cond (queryOk q) (told (whole n (found q size n ids co)) (length (found q size n ids co)) room) Box) Spoiled
+-- an index of n slots that may be searched
+abbrev pub indexOk : ℕ → ℕ → List ℕ → List Float → Bool
+indexOk size n ids co = coordsOk size n (length co) && leb n (length ids)
 
--- the column: the places before the first that is past the table, as many as fit, and then the old contents; as it was, where the index or the query is refused
+-- by any numbers: refusals 11 and 10
+unfoldable pub listed : Query → ℕ → ℕ → List ℕ → List Float → ℕ → SearchReply
+listed q size n ids co room =
+    cond (indexOk size n ids co) (told (whole n (found q size n ids co)) (length (found q size n ids co)) room) Spoiled
+
+-- the column: the places before the first that is past the table, as many as fit, and then the old contents; as it was, where the index is refused
+unfoldable pub listedColumn : Query → ℕ → ℕ → List ℕ → List Float → List ℕ → List ℕ
+listedColumn q size n ids co out = cond (indexOk size n ids co) (filled (sound n (found q size n ids co)) out) out
+
+-- by numbers that are looked at: refusals 11, 9, 11, 10, in this order
+unfoldable pub searched : Query → ℕ → ℕ → List ℕ → List Float → ℕ → SearchReply
+searched q size n ids co room = cond (indexOk size n ids co) (cond (queryOk q) (listed q size n ids co room) Box) Spoiled
+
+-- the column: as it was, where the query is refused
 unfoldable pub columnAfter : Query → ℕ → ℕ → List ℕ → List Float → List ℕ → List ℕ
-columnAfter q size n ids co out =
-    cond (coordsOk size n (length co) && leb n (length ids) && queryOk q) (filled (sound n (found q size n ids co)) out) out
+columnAfter q size n ids co out = cond (queryOk q) (listedColumn q size n ids co out) out
 
 -- ---- the same answers one at a time
 

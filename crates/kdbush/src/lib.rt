@@ -10,7 +10,7 @@ ghost use Rattle.kdbush.specs.Query.{passesQ, queryOk};
 ghost use Rattle.kdbush.specs.Slots.{over, when, scanned, slots, below};
 ghost use Rattle.kdbush.specs.Run.{ran, run, places};
 ghost use Rattle.kdbush.specs.Cursor.{headOf, rest, leafEnd};
-ghost use Rattle.kdbush.specs.Reply.{nodeSizeOk, countOk, coordsOk, firstOutside, checked, built, searched, columnAfter, firstStep, afterStep};
+ghost use Rattle.kdbush.specs.Reply.{nodeSizeOk, countOk, coordsOk, firstOutside, checked, built, listed, listedColumn, searched, columnAfter, firstStep, afterStep};
 
 // What is asked of an index: the entries of a box, or those around a place.
 pub enum Query {
@@ -493,8 +493,36 @@ pub fn build(
     BuildReply::Done
 }
 
-// Writes the places that a query answers over any lent index of n slots: first items, then old contents.
-fn search(
+// Writes the places that a query answers over any lent index of n slots: first items, then old contents. No number of the query is refused.
+pub fn search(
+    q: Query,
+    node_size: usize,
+    n: usize,
+    ids: &[u32],
+    coords: &[f64],
+    out: &mut [u32],
+) -> SearchReply
+    ensures { λ r. ⌜ r ≡ listed q «node_size» n (now (ids .entry)) (now (coords .entry)) (length (now (out .entry))) ⌝ }
+    ensures { λ _. ⌜ now (out .exit) ≡ listedColumn q «node_size» n (now (ids .entry)) (now (coords .entry)) (now (out .entry)) ⌝ }
+{
+    if !coords_ok(node_size, n, coords.len()) {
+        return SearchReply::Spoiled;
+    }
+    if ids.len() < n {
+        return SearchReply::Spoiled;
+    }
+    let v = narrow(q, coords, node_size + 1, n);
+    let Found::All(k) = part(q, ids, coords, n, node_size + 1, v.lo, v.hi, v.axis, 0, out) else {
+        return SearchReply::Spoiled;
+    };
+    if out.len() < k {
+        return SearchReply::NoRoom(k);
+    }
+    SearchReply::Found(k)
+}
+
+// The same, by numbers that are looked at.
+fn search_finite(
     q: Query,
     node_size: usize,
     n: usize,
@@ -505,23 +533,16 @@ fn search(
     ensures { λ r. ⌜ r ≡ searched q «node_size» n (now (ids .entry)) (now (coords .entry)) (length (now (out .entry))) ⌝ }
     ensures { λ _. ⌜ now (out .exit) ≡ columnAfter q «node_size» n (now (ids .entry)) (now (coords .entry)) (now (out .entry)) ⌝ }
 {
+    if query_ok(q) {
+        return search(q, node_size, n, ids, coords, out);
+    }
     if !coords_ok(node_size, n, coords.len()) {
         return SearchReply::Spoiled;
     }
     if ids.len() < n {
         return SearchReply::Spoiled;
     }
-    if !query_ok(q) {
-        return SearchReply::Box;
-    }
-    let v = narrow(q, coords, node_size + 1, n);
-    let Found::All(k) = part(q, ids, coords, n, node_size + 1, v.lo, v.hi, v.axis, 0, out) else {
-        return SearchReply::Spoiled;
-    };
-    if out.len() < k {
-        return SearchReply::NoRoom(k);
-    }
-    SearchReply::Found(k)
+    SearchReply::Box
 }
 
 // The places of the entries in a box.
@@ -545,7 +566,7 @@ pub fn range(
         max_x,
         max_y,
     };
-    search(q, node_size, n, ids, coords, out)
+    search_finite(q, node_size, n, ids, coords, out)
 }
 
 // The places of the entries around (qx, qy).
@@ -563,7 +584,7 @@ pub fn within(
     ensures { λ _. ⌜ now (out .exit) ≡ columnAfter (Query.Within qx qy radius) «node_size» n (now (ids .entry)) (now (coords .entry)) (now (out .entry)) ⌝ }
 {
     let q = Query::Within { qx, qy, radius };
-    search(q, node_size, n, ids, coords, out)
+    search_finite(q, node_size, n, ids, coords, out)
 }
 
 // The first slot that a query answers.

@@ -1,45 +1,40 @@
 -- `kdbush::search` meets its contract, by its ways out: what is narrowed to answers what the whole answers. Assumes nothing.
 use mathlib.Core.Path.{_≡_, sym, ap, _∙_}
-use mathlib.Core.Bool.{_&&_, true}
+use mathlib.Core.Bool.{true}
 use mathlib.Core.List.{List}
 use Prim.Native.Nat.{ℕ, _+_}
 use native.Mathlib.Omega.{arith}
 use borrow.Author.Tests.{not-true, not-false, le-leb, lt-leb}
 use denote.Ref.{now}
 use lib.ListN.{length}
-use lib.Dec.{leb}
 use Rattle.kdsort.specs.Shape.{shape}
 use Rattle.kdbush.specs.declared.Found.{Found}
-use Rattle.kdbush.specs.Query.{queryOk}
 use Rattle.kdbush.specs.Slots.{over, slots}
 use Rattle.kdbush.specs.Run.{ran, run, places}
-use Rattle.kdbush.specs.Reply.{coordsOk}
+use Rattle.kdbush.specs.Reply.{coordsOk, indexOk}
 use Rattle.kdbush.specs.Bounds.{Searchable, coords-is}
-use Rattle.kdbush.proofs.Replies.{both-true, first-false, second-false, search-spoiled, search-box, search-past, search-no-room, search-found}
+use Rattle.kdbush.proofs.Replies.{both-true, first-false, second-false, search-spoiled, search-past, search-no-room, search-found}
 use borrow.Author.Needs.{needs}
 use Rattle.kdbush.proofs.search.Statement.{statement}
 use Rattle.kdbush.proofs.search.Tie as tie
 
 -- ---- what is known where nothing is refused
 
-abbrev start-of : tie.Else3 → tie.Start
-start-of k = k .before .before .before .before .before .before .before .before
+abbrev start-of : tie.Else2 → tie.Start
+start-of k = k .before .before .before .before .before .before
 
-coords-fine : (k : tie.Else3) → let a = start-of k .args in coordsOk (a .node-size) (a .n) (length (now (a .coords))) ≡ true
-coords-fine k = let e = k .before .before .before in sym (e .before .coords-ok .ensures) ∙ not-false _ (e .if1 .left)
+coords-fine : (k : tie.Else2) → let a = start-of k .args in coordsOk (a .node-size) (a .n) (length (now (a .coords))) ≡ true
+coords-fine k = let e = k .before in sym (e .before .coords-ok .ensures) ∙ not-false _ (e .if1 .left)
 
-columns-fine : (k : tie.Else3) → let a = start-of k .args in (coordsOk (a .node-size) (a .n) (length (now (a .coords))) && leb (a .n) (length (now (a .ids)))) ≡ true
-columns-fine k = both-true (coords-fine k) (le-leb _ _ (k .before .before .if2 .left))
+columns-fine : (k : tie.Else2) → let a = start-of k .args in indexOk (a .node-size) (a .n) (now (a .ids)) (now (a .coords)) ≡ true
+columns-fine k = both-true (coords-fine k) (le-leb _ _ (k .if2 .left))
 
-query-fine : (k : tie.Else3) → queryOk (start-of k .args .q) ≡ true
-query-fine k = sym (k .before .query-ok .ensures) ∙ not-false _ (k .if3 .left)
-
-bounds : (k : tie.Else3) → let a = start-of k .args in Searchable (a .node-size) (a .n) (length (now (a .coords)))
+bounds : (k : tie.Else2) → let a = start-of k .args in Searchable (a .node-size) (a .n) (length (now (a .coords)))
 bounds k = let a = start-of k .args in coords-is (a .node-size) (a .n) (length (now (a .coords))) (coords-fine k)
 
 -- ---- what the search leaves
 
-abbrev else-of : tie.After-part → tie.Else3
+abbrev else-of : tie.After-part → tie.Else2
 else-of v = v .before .before .before
 
 abbrev left-in : tie.After-part → List ℕ
@@ -67,16 +62,6 @@ returns-2 c =
     let a = e .before .before .before .before .before .args in
     search-spoiled (a .q) (a .node-size) (a .n) (now (a .ids)) (now (a .coords)) (now (a .out)) (second-false (sym (e .before .coords-ok .ensures) ∙ not-false _ (e .if1 .left)) (lt-leb _ _ (c .if2 .taken)))
 
-query-ok-requires : tie.Need-query-ok-requires
-query-ok-requires c κs = search needs
-
-returns-3 : tie.Need-returns-3
-returns-3 c =
-    let f = c .before .before in
-    let e = f .before in
-    let a = e .before .before .before .before .before .args in
-    search-box (a .q) (a .node-size) (a .n) (now (a .ids)) (now (a .coords)) (now (a .out)) (both-true (sym (e .before .coords-ok .ensures) ∙ not-false _ (e .if1 .left)) (le-leb _ _ (f .if2 .left))) (sym (c .before .query-ok .ensures) ∙ not-true _ (c .if3 .taken))
-
 add-narrow : tie.Need-add-narrow
 add-narrow c = let w = bounds c in omega arith
 
@@ -98,15 +83,26 @@ enum-told c = search needs
 same-length : tie.Need-same-length
 same-length c = search needs
 
-returns-4 : tie.Need-returns-4
-returns-4 c =
+returns-3 : tie.Need-returns-3
+returns-3 c =
     let v = c .before .before .before .before in
     let k = else-of v in
     let a = start-of k .args in
-    search-past (a .q) (a .node-size) (a .n) (now (a .ids)) (now (a .coords)) (now (a .out)) (columns-fine k) (query-fine k) (left-in v) (left v _ (c .enum-told .given .1))
+    search-past (a .q) (a .node-size) (a .n) (now (a .ids)) (now (a .coords)) (now (a .out)) (columns-fine k) (left-in v) (left v _ (c .enum-told .given .1))
 
 same-length-2 : tie.Need-same-length-2
 same-length-2 c = search needs
+
+returns-4 : tie.Need-returns-4
+returns-4 c =
+    let v = c .before .before .before .before .before .before in
+    let k = else-of v in
+    let a = start-of k .args in
+    let g = c .before .before .k .given in
+    search-no-room (a .q) (a .node-size) (a .n) (now (a .ids)) (now (a .coords)) (now (a .out)) (columns-fine k) (g .0 .0) (left-in v) (left v _ (g .1)) (omega arith)
+
+same-length-3 : tie.Need-same-length-3
+same-length-3 c = search needs
 
 returns-5 : tie.Need-returns-5
 returns-5 c =
@@ -114,18 +110,7 @@ returns-5 c =
     let k = else-of v in
     let a = start-of k .args in
     let g = c .before .before .k .given in
-    search-no-room (a .q) (a .node-size) (a .n) (now (a .ids)) (now (a .coords)) (now (a .out)) (columns-fine k) (query-fine k) (g .0 .0) (left-in v) (left v _ (g .1)) (omega arith)
-
-same-length-3 : tie.Need-same-length-3
-same-length-3 c = search needs
-
-returns-6 : tie.Need-returns-6
-returns-6 c =
-    let v = c .before .before .before .before .before .before in
-    let k = else-of v in
-    let a = start-of k .args in
-    let g = c .before .before .k .given in
-    search-found (a .q) (a .node-size) (a .n) (now (a .ids)) (now (a .coords)) (now (a .out)) (columns-fine k) (query-fine k) (g .0 .0) (left-in v) (left v _ (g .1)) (omega arith)
+    search-found (a .q) (a .node-size) (a .n) (now (a .ids)) (now (a .coords)) (now (a .out)) (columns-fine k) (g .0 .0) (left-in v) (left v _ (g .1)) (omega arith)
 
 pub search-spec : {M : Type 1} → statement M
 search-spec =
@@ -134,8 +119,6 @@ search-spec =
     coords-ok-requires
     returns
     returns-2
-    query-ok-requires
-    returns-3
     add-narrow
     narrow-requires
     add-part
@@ -143,8 +126,8 @@ search-spec =
     enum-known-k
     enum-told
     same-length
-    returns-4
+    returns-3
     same-length-2
-    returns-5
+    returns-4
     same-length-3
-    returns-6)
+    returns-5)
