@@ -1,5 +1,5 @@
--- The ring around an entry of a table, in which the children of a cluster made there are: the slots that it answers, and a walk over them by the cursor. A ring
--- around a place that is no finite number answers nothing, since such a place passes no distance test. Assumes nothing.
+-- The ring around an entry of a table, in which the children of a cluster made there are: the slots that it answers, and a walk over them by the cursor. Where
+-- the entry's place is no finite number the search is none that kdbush takes, and `walk` has no slots. Assumes nothing.
 use mathlib.Core.Path.{_≡_, refl}
 use mathlib.Core.List.{List, [], _∷_}
 use Prim.Native.Nat.{ℕ, _+_, _-_, _*_, _<_, _≤_}
