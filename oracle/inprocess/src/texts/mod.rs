@@ -1,0 +1,97 @@
+//! The table lister: what the port prints for a text, beside what the text means by 01's words alone.
+
+#[cfg(test)]
+mod tests;
+
+use crate::{
+    report::{finish, Group},
+    Form,
+};
+use lister::{
+    answer_to,
+    texts::{pairs, Text},
+};
+use std::process::ExitCode;
+
+/// The port's lister: a text, a column for what is printed, and how many bytes that is.
+type Port = fn(&[u8], &mut [u8]) -> usize;
+
+/// How long that column is: a line of 136 bytes for each of 1,152 entries.
+const ROOM: usize = 1_152 * 136;
+
+/// What stands behind it, out of the port's reach.
+const GUARD: [u8; 16] = [0x5e; 16];
+
+const SEED: u64 = 1;
+
+/// A group for each answer by 01's number, 0 where the tables are listed.
+const GROUPS: [(u32, &str); 6] = [
+    (0, "lister, tables listed"),
+    (1, "lister, refused 1"),
+    (2, "lister, refused 2"),
+    (3, "lister, refused 3"),
+    (4, "lister, refused 4"),
+    (12, "lister, refused 12"),
+];
+
+/// The port's lister, where the library has one.
+fn port() -> Option<Port> {
+    #[cfg(feature = "lister")]
+    return Some(ported::report);
+    #[cfg(not(feature = "lister"))]
+    None
+}
+
+/// Compares texts in pairs, each as it was made and damaged.
+pub fn run(form: Form) -> ExitCode {
+    let Some(port) = port() else {
+        eprintln!("lister: not compared, this program was built without the feature `lister`");
+        return ExitCode::from(2);
+    };
+    let more = match form {
+        Form::Short => 50_000,
+        Form::Full => 500_000,
+    };
+    finish("lister", compared(pairs(more, SEED).flatten(), port))
+}
+
+/// Compares these texts, each in the group of its answer.
+fn compared(texts: impl Iterator<Item = Text>, port: Port) -> Vec<Group> {
+    let mut groups = GROUPS.map(|(_, name)| Group::new(name));
+    let mut out = vec![0; ROOM + GUARD.len()];
+    for text in texts {
+        let expected = answer_to(&text.bytes);
+        let group = GROUPS.iter().position(|(number, _)| *number == expected.number);
+        let group = &mut groups[group.expect("a group for every answer")];
+        let difference = differs(&text.bytes, &expected.printed, &mut out, port);
+        group.compare(|| text.what, difference);
+    }
+    groups.into()
+}
+
+/// How the port prints another thing than is expected, if it does. What the column held before stays in it.
+fn differs(text: &[u8], expected: &[u8], out: &mut [u8], port: Port) -> Option<String> {
+    let (lent, guard) = out.split_at_mut(ROOM);
+    guard.copy_from_slice(&GUARD);
+    let length = port(text, lent);
+    if *guard != GUARD {
+        return Some("written past the column".to_string());
+    }
+    match lent.get(..length) {
+        Some(found) if found == expected => None,
+        Some(found) => Some(other_line(expected, found)),
+        None => Some(format!("{length} bytes in a column of {ROOM}")),
+    }
+}
+
+/// The first line in which two prints differ.
+fn other_line(expected: &[u8], found: &[u8]) -> String {
+    let lines = |text: &[u8]| {
+        let lines = text.split_inclusive(|byte| *byte == b'\n');
+        lines.map(|line| String::from_utf8_lossy(line).into_owned()).collect::<Vec<_>>()
+    };
+    let [expected, found] = [expected, found].map(lines);
+    let longer = expected.len().max(found.len());
+    let at = (0..longer).find(|at| expected.get(*at) != found.get(*at)).unwrap_or(longer);
+    format!("line {at}: expected {:?}, found {:?}", expected.get(at), found.get(at))
+}
