@@ -8,7 +8,7 @@ use crate::{
     Form,
 };
 use lister::{
-    answer_to,
+    answer_to, first_difference,
     texts::{pairs, Text},
 };
 use std::process::ExitCode;
@@ -78,20 +78,8 @@ fn differs(text: &[u8], expected: &[u8], out: &mut [u8], port: Port) -> Option<S
         return Some("written past the column".to_string());
     }
     match lent.get(..length) {
-        Some(found) if found == expected => None,
-        Some(found) => Some(other_line(expected, found)),
+        Some(found) => first_difference(expected, found)
+            .map(|[expected, found]| format!("expected {expected}, found {found}")),
         None => Some(format!("{length} bytes in a column of {ROOM}")),
     }
-}
-
-/// The first line in which two prints differ.
-fn other_line(expected: &[u8], found: &[u8]) -> String {
-    let lines = |text: &[u8]| {
-        let lines = text.split_inclusive(|byte| *byte == b'\n');
-        lines.map(|line| String::from_utf8_lossy(line).into_owned()).collect::<Vec<_>>()
-    };
-    let [expected, found] = [expected, found].map(lines);
-    let longer = expected.len().max(found.len());
-    let at = (0..longer).find(|at| expected.get(*at) != found.get(*at)).unwrap_or(longer);
-    format!("line {at}: expected {:?}, found {:?}", expected.get(at), found.get(at))
 }

@@ -5,10 +5,12 @@ mod bounds;
 pub mod damage;
 mod draft;
 mod good;
+mod stored;
 
 pub use bounds::{at_bounds, rooms};
 pub use draft::{example, Draft, KEYS};
 pub use good::{good, spread, KINDS};
+pub use stored::stored;
 
 use damage::DAMAGES;
 use splitmix::Splitmix;
