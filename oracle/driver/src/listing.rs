@@ -2,7 +2,7 @@
 
 use crate::report::Report;
 use lister::{
-    answer_to, first_difference,
+    answer_to, compared,
     texts::{pairs, Text},
 };
 use std::{
@@ -25,11 +25,8 @@ pub fn list(out: &mut impl Write) -> io::Result<()> {
 pub fn judge(program: &str, more: usize) -> ExitCode {
     let mut report = Report::default();
     for Text { what, bytes, .. } in pairs(more, SEED).flatten() {
-        let expected = answer_to(&bytes).printed;
-        let [expected, found] = match printed(program, &bytes) {
-            Ok(found) => first_difference(&expected, &found).unwrap_or_default(),
-            Err(why) => ["an answer".to_string(), why],
-        };
+        let difference = compared(&bytes, |text| printed(program, text)).difference;
+        let [expected, found] = difference.unwrap_or_default();
         report.compare(&what, &expected, &found);
     }
     report.finish("lister-program")

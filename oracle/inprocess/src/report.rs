@@ -29,11 +29,6 @@ impl Group {
         }
     }
 
-    /// How many comparisons found a difference.
-    pub fn differences(&self) -> usize {
-        self.differences
-    }
-
     /// The line of this group. A group in which nothing was compared counts as a difference.
     fn close(&mut self) {
         if self.cases == 0 {
@@ -47,7 +42,7 @@ impl Group {
 pub fn finish(name: &str, mut groups: Vec<Group>) -> ExitCode {
     groups.iter_mut().for_each(Group::close);
     let cases: usize = groups.iter().map(|group| group.cases).sum();
-    let differences: usize = groups.iter().map(Group::differences).sum();
+    let differences: usize = groups.iter().map(|group| group.differences).sum();
     println!("{name}: cases={cases} differences={differences} groups={}", groups.len());
     match differences {
         0 => ExitCode::SUCCESS,

@@ -2,12 +2,12 @@
 //! of its form, and what is printed for it. The tables are the patched Rust's, the refusals 1 to 4 those of
 //! the reference.
 
-mod differ;
+mod compared;
 mod lines;
 mod read;
 pub mod texts;
 
-pub use differ::first_difference;
+pub use compared::{compared, Compared};
 pub use lines::{answer, lines};
 pub use read::{read, Input, NotOfItsForm};
 

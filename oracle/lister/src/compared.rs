@@ -1,19 +1,36 @@
-//! Where two prints differ.
+//! A port of the lister beside what a text means by 01's words alone.
 
-/// The first line that is not the same in both: of the one that is expected, and of the one that is found.
-pub fn first_difference(expected: &[u8], found: &[u8]) -> Option<[String; 2]> {
+use crate::answer_to;
+
+/// How a port's answer to a text compares.
+pub struct Compared {
+    /// 01's number of the answer that is expected, 0 where the tables are listed.
+    pub number: u32,
+    /// The first line that differs, as expected and as found.
+    pub difference: Option<[String; 2]>,
+}
+
+/// Compares what a port prints for a text, or why it prints nothing.
+pub fn compared(text: &[u8], port: impl FnOnce(&[u8]) -> Result<Vec<u8>, String>) -> Compared {
+    let expected = answer_to(text);
+    let difference = match port(text) {
+        Ok(found) => first_difference(&expected.printed, &found),
+        Err(why) => Some(["an answer".to_string(), why]),
+    };
+    Compared { number: expected.number, difference }
+}
+
+/// The first line that is not the same in both prints.
+fn first_difference(expected: &[u8], found: &[u8]) -> Option<[String; 2]> {
     if expected == found {
         return None;
     }
     let [mut expected, mut found] =
         [expected, found].map(|text| text.split_inclusive(|byte| *byte == b'\n'));
-    for number in 0.. {
+    (0..).find_map(|number| {
         let lines = [expected.next(), found.next()];
-        if lines[0] != lines[1] {
-            return Some(lines.map(|line| shown(number, line)));
-        }
-    }
-    None
+        (lines[0] != lines[1]).then(|| lines.map(|line| shown(number, line)))
+    })
 }
 
 /// A line with its number, from 0.

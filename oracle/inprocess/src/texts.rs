@@ -1,14 +1,11 @@
 //! The table lister: what the port prints for a text, beside what the text means by 01's words alone.
 
-#[cfg(test)]
-mod tests;
-
 use crate::{
     report::{finish, Group},
     Form,
 };
 use lister::{
-    answer_to, first_difference,
+    compared,
     texts::{pairs, Text},
 };
 use std::process::ExitCode;
@@ -52,34 +49,28 @@ pub fn run(form: Form) -> ExitCode {
         Form::Short => 50_000,
         Form::Full => 500_000,
     };
-    finish("lister", compared(pairs(more, SEED).flatten(), port))
-}
-
-/// Compares these texts, each in the group of its answer.
-fn compared(texts: impl Iterator<Item = Text>, port: Port) -> Vec<Group> {
     let mut groups = GROUPS.map(|(_, name)| Group::new(name));
     let mut out = vec![0; ROOM + GUARD.len()];
-    for text in texts {
-        let expected = answer_to(&text.bytes);
-        let group = GROUPS.iter().position(|(number, _)| *number == expected.number);
-        let group = &mut groups[group.expect("a group for every answer")];
-        let difference = differs(&text.bytes, &expected.printed, &mut out, port);
-        group.compare(|| text.what, difference);
+    for Text { what, bytes, .. } in pairs(more, SEED).flatten() {
+        let compared = compared(&bytes, |text| printed(text, &mut out, port));
+        let group = GROUPS.iter().position(|(number, _)| *number == compared.number);
+        let difference = compared.difference;
+        groups[group.expect("a group for every answer")].compare(
+            || what,
+            difference.map(|[expected, found]| format!("expected {expected}, found {found}")),
+        );
     }
-    groups.into()
+    finish("lister", groups.into())
 }
 
-/// How the port prints another thing than is expected, if it does. What the column held before stays in it.
-fn differs(text: &[u8], expected: &[u8], out: &mut [u8], port: Port) -> Option<String> {
+/// What the port prints. What the column held before stays in it.
+fn printed(text: &[u8], out: &mut [u8], port: Port) -> Result<Vec<u8>, String> {
     let (lent, guard) = out.split_at_mut(ROOM);
     guard.copy_from_slice(&GUARD);
     let length = port(text, lent);
     if *guard != GUARD {
-        return Some("written past the column".to_string());
+        return Err("bytes written past the column".to_string());
     }
-    match lent.get(..length) {
-        Some(found) => first_difference(expected, found)
-            .map(|[expected, found]| format!("expected {expected}, found {found}")),
-        None => Some(format!("{length} bytes in a column of {ROOM}")),
-    }
+    let printed = lent.get(..length).map(<[u8]>::to_vec);
+    printed.ok_or_else(|| format!("{length} bytes in a column of {ROOM}"))
 }
