@@ -4,11 +4,13 @@
 mod bounds;
 pub mod damage;
 mod draft;
+mod edge;
 mod good;
 mod stored;
 
 pub use bounds::{at_bounds, rooms};
 pub use draft::{example, Draft, KEYS};
+pub use edge::rounded_edge;
 pub use good::{good, spread, KINDS};
 pub use stored::stored;
 
@@ -26,7 +28,8 @@ pub struct Text {
 /// Texts in pairs, one as it was made and a damaged copy of it: those at the bounds, then so many more.
 pub fn pairs(more: usize, seed: u64) -> impl Iterator<Item = [Text; 2]> {
     let mut source = Splitmix(seed);
-    let bounds = at_bounds().into_iter().chain(rooms()).map(Some);
+    let edges = [1, 2, 64].map(rounded_edge);
+    let bounds = at_bounds().into_iter().chain(rooms()).chain(edges).map(Some);
     let numbers = (0..more).map(|_| None);
     bounds.chain(numbers).enumerate().map(move |(number, draft)| {
         let draft = draft.unwrap_or_else(|| good(number, &mut source));

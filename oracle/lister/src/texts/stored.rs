@@ -3,7 +3,7 @@
 use super::{
     at_bounds,
     damage::{Damage, DAMAGES},
-    example, spread, Draft,
+    example, rounded_edge, spread, Draft,
 };
 use splitmix::Splitmix;
 use std::collections::HashSet;
@@ -52,6 +52,7 @@ pub fn stored() -> Vec<Vec<u8>> {
     let mut all = Vec::new();
     all.extend(bounds());
     all.extend(listed(&mut source));
+    all.extend([1, 64].map(|node_size| rounded_edge(node_size).text()));
     all.extend(faults());
     all.extend(damaged(&mut source));
     let mut known = HashSet::new();
