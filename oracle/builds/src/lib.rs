@@ -3,7 +3,7 @@
 
 mod tables;
 
-pub use tables::{Row, Table, Tables};
+pub use tables::{Row, Table, Tables, NO_PARENT, UNSEEN};
 
 use geojson::{Feature, Geometry, JsonObject, Value};
 

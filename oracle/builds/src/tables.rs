@@ -3,10 +3,10 @@
 use options::Plane;
 
 /// What stands for the Rust's infinity, the mark of an entry that no zoom has seen.
-const UNSEEN: u8 = 255;
+pub const UNSEEN: u8 = 255;
 
 /// What stands for the Rust's -1, the parent of an entry that has none.
-const NO_PARENT: u32 = u32::MAX;
+pub const NO_PARENT: u32 = u32::MAX;
 
 /// How many starts and lengths a state has.
 const ZOOMS: usize = 32;

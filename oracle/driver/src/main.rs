@@ -4,6 +4,8 @@ mod attempt;
 mod differences;
 mod index_vectors;
 mod judge;
+mod lister_vectors;
+mod listing;
 mod load_vectors;
 mod plain;
 mod range_vectors;
@@ -20,7 +22,10 @@ const USAGE: &str = "usage: driver worked
        driver differences PAGE
        driver range-vectors [--count N] [--seed S]
        driver index-vectors
-       driver load-vectors";
+       driver load-vectors
+       driver lister-vectors
+       driver lister
+       driver lister-program PROGRAM [--full]";
 
 fn main() -> ExitCode {
     attempt::silence();
@@ -39,11 +44,15 @@ fn main() -> ExitCode {
         },
         ["index-vectors"] => written(|out| index_vectors::write(out)),
         ["load-vectors"] => written(|out| load_vectors::write(out)),
+        ["lister-vectors"] => written(|out| lister_vectors::write(out)),
+        ["lister"] => written(|out| listing::list(out)),
+        ["lister-program", program] => listing::judge(program, 1_000),
+        ["lister-program", program, "--full"] => listing::judge(program, 50_000),
         _ => fail(USAGE),
     }
 }
 
-/// Writes vectors to standard output.
+/// Writes vectors or tables to standard output.
 fn written(write: impl FnOnce(&mut BufWriter<StdoutLock>) -> io::Result<()>) -> ExitCode {
     match write(&mut BufWriter::new(io::stdout().lock())) {
         Ok(()) => ExitCode::SUCCESS,

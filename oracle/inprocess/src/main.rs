@@ -4,10 +4,11 @@
 mod index;
 mod report;
 mod tables;
+mod texts;
 
 use std::{env, process::ExitCode};
 
-const USAGE: &str = "usage: inprocess index|tables [--full]";
+const USAGE: &str = "usage: inprocess index|tables|lister [--full]";
 
 /// How much is compared.
 #[derive(Clone, Copy, PartialEq, Eq)]
@@ -24,6 +25,8 @@ fn main() -> ExitCode {
         ["index", "--full"] => index::run(Form::Full),
         ["tables"] => tables::run(Form::Short),
         ["tables", "--full"] => tables::run(Form::Full),
+        ["lister"] => texts::run(Form::Short),
+        ["lister", "--full"] => texts::run(Form::Full),
         _ => {
             eprintln!("{USAGE}");
             ExitCode::from(2)

@@ -4,6 +4,11 @@
 
 mod linked;
 mod load;
+#[cfg(feature = "lister")]
+mod report;
+
+#[cfg(feature = "lister")]
+pub use report::report;
 
 pub use load::{load, Columns, Lengths, Lent as LentColumns, State, COLUMNS, ZOOMS};
 

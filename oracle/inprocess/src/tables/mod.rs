@@ -4,7 +4,6 @@ mod bounds;
 mod cases;
 mod large;
 mod outcome;
-mod reference;
 mod refusals;
 
 use crate::{
@@ -71,5 +70,19 @@ impl Beside {
 /// The lengths that 01 asks of the columns: the coordinates have two to an entry.
 fn needed(options: &Options, count: usize) -> Lengths {
     let entries = options.tables() * count;
-    COLUMNS.map(|name| if name == "coords" { 2 * entries } else { entries })
+    COLUMNS.map(|name| entries * width(name))
+}
+
+/// How many entries the columns of these lengths all have room for.
+fn room(lengths: &Lengths) -> usize {
+    let entries = COLUMNS.iter().zip(lengths).map(|(name, length)| length / width(name));
+    entries.min().unwrap_or(0)
+}
+
+/// How much of a column is one entry's.
+fn width(name: &str) -> usize {
+    match name {
+        "coords" => 2,
+        _ => 1,
+    }
 }

@@ -1,14 +1,11 @@
 //! What a build refuses: every refusal alone and before every other, with columns that must keep their
 //! contents; and the cases beside them that are not refused, built as the Rust does.
 
-use super::{
-    needed,
-    outcome::Request,
-    reference::{self, MOST_POINTS},
-};
+use super::{needed, outcome::Request, room};
 use crate::report::Group;
 use options::{Options, Plane, Range, UNIT, USUAL};
-use ported::{Lengths, COLUMNS, ZOOMS};
+use ported::{Lengths, Reply, COLUMNS, ZOOMS};
+use refusals::{refusal, Refusal, MOST_POINTS};
 
 const NAN: f64 = f64::NAN;
 const INF: f64 = f64::INFINITY;
@@ -36,8 +33,8 @@ fn judge_state(asked: &Asked, zooms: usize, group: &mut Group) {
     let Asked { options, xs, ys, lengths } = asked;
     let request = Request { options, xs, ys, lengths: *lengths, zooms };
     let outcome = request.made();
-    let difference = match reference::refusal(&request) {
-        Some(reply) => outcome.is_not_refused(reply),
+    let difference = match refusal(options, xs, ys, room(lengths)) {
+        Some(Refusal { number, carried }) => outcome.is_not_refused(Reply { number, carried }),
         None => outcome.is_not(&rust_tables(asked)),
     };
     let about = || {

@@ -1,17 +1,22 @@
 //! An independent reference for what a build refuses, written from 01's text: 'Numbers that bound a build'
 //! and 'Numbered replies'.
 
-use super::{needed, outcome::Request};
 use options::{Options, Plane, Range};
-use ported::Reply;
 
 /// The most points of a build.
 pub const MOST_POINTS: usize = 1_048_576;
 
-/// The refusal of a build: 1, 2, 3, 4, whichever holds first.
-pub fn refusal(request: &Request) -> Option<Reply> {
-    let Request { options, xs, ys, lengths, .. } = request;
-    let plain = |number| Some(Reply { number, carried: 0 });
+/// A refusal: 01's number of it, and for 3 the first point outside, otherwise 0.
+#[derive(Clone, Copy, Debug, PartialEq, Eq)]
+pub struct Refusal {
+    pub number: u32,
+    pub carried: usize,
+}
+
+/// The refusal of a build: 1, 2, 3, 4, whichever holds first. Each lent column has room for at least so many
+/// entries, two coordinates of the index being one, and one of them for no more.
+pub fn refusal(options: &Options, xs: &[f64], ys: &[f64], room: usize) -> Option<Refusal> {
+    let plain = |number| Some(Refusal { number, carried: 0 });
     if !options_in_bounds(options) {
         return plain(1);
     }
@@ -19,11 +24,10 @@ pub fn refusal(request: &Request) -> Option<Reply> {
         return plain(2);
     }
     let outside = |(x, y): (&f64, &f64)| !in_unit(&converted(&options.plane, *x, *y));
-    if let Some(carried) = xs.iter().zip(*ys).position(outside) {
-        return Some(Reply { number: 3, carried });
+    if let Some(carried) = xs.iter().zip(ys).position(outside) {
+        return Some(Refusal { number: 3, carried });
     }
-    let short = lengths.iter().zip(needed(options, xs.len())).any(|(length, need)| *length < need);
-    if short {
+    if room < options.tables() * xs.len() {
         return plain(4);
     }
     None
