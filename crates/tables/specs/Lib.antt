@@ -1,7 +1,8 @@
--- Definitions that contracts cite: Options, State, Entries, Rows (its first), Ids (its first), Radius (its first). All else is laws.
+-- Definitions that contracts cite: Options, State, Sound (its first), Entries, Rows (its first), Ids (its first), Radius (its first). All else is laws.
 pub mod Options
 pub mod Bounds
 pub mod State
+pub mod Sound
 pub mod Entries
 pub mod Rows
 pub mod Columns

@@ -1,6 +1,6 @@
 -- The state of a build: a value of its options, its number of points, and where each table starts and how long it is. Definitions only.
 use Prim.Native.Nat.{ℕ}
-use lib.ListN.{set, replicate}
+use lib.ListN.{getD, set, replicate}
 use Rattle.tables.specs.declared.Options.{Options}
 use Rattle.tables.specs.declared.State.{State}
 
@@ -11,3 +11,10 @@ newState o n = record { options = o; count = n; starts = replicate 32 0; lens = 
 -- the table of zoom z starts at `at` and has `len` entries
 abbrev pub withTable : State → ℕ → ℕ → ℕ → State
 withTable s z at len = record { options = s .options; count = s .count; starts = set (s .starts) z at; lens = set (s .lens) z len }
+
+-- where the table of zoom z starts, and how many entries it has
+abbrev pub startOf : State → ℕ → ℕ
+startOf s z = getD (s .starts) z 0
+
+abbrev pub lenOf : State → ℕ → ℕ
+lenOf s z = getD (s .lens) z 0

@@ -5,7 +5,8 @@ ghost use mathlib.Core.Path.{_≡_};
 ghost use Prim.Native.Nat.{_<_, _≤_};
 ghost use lib.ListN.{length, set};
 ghost use Rattle.tables.specs.Options.{optionsOk, zoomsOk, radiusOk, extentOk, tableCount, zoomUsed};
-ghost use Rattle.tables.specs.State.{newState, withTable};
+ghost use Rattle.tables.specs.State.{newState, withTable, startOf, lenOf};
+ghost use Rattle.tables.specs.Sound.{tableOk, packed, stateOk};
 ghost use Rattle.tables.specs.Entries.{entry};
 ghost use Rattle.tables.specs.Rows.{rows, Even};
 ghost use Rattle.tables.specs.Ids.{clusterId, originOf, tableOf};
@@ -105,6 +106,77 @@ impl Options {
             return self.max_zoom + 1;
         }
         zoom
+    }
+}
+
+impl State {
+    // Where the table of a zoom starts, and how many entries it has.
+    pub fn start_of(self, zoom: usize) -> usize
+        requires { ⌜ zoom < 32 ⌝ }
+        ensures { λ r. ⌜ r ≡ startOf self zoom ⌝ }
+    {
+        self.starts[zoom] as usize
+    }
+
+    pub fn len_of(self, zoom: usize) -> usize
+        requires { ⌜ zoom < 32 ⌝ }
+        ensures { λ r. ⌜ r ≡ lenOf self zoom ⌝ }
+    {
+        self.lens[zoom] as usize
+    }
+
+    // Whether the table of a zoom starts at `at` and has 1 to N entries.
+    fn table_ok(self, zoom: usize, at: usize) -> bool
+        requires { ⌜ zoom < 32 ⌝ }
+        ensures { λ r. ⌜ r ≡ tableOk self zoom at ⌝ }
+    {
+        if self.start_of(zoom) != at {
+            return false;
+        }
+        let n = self.len_of(zoom);
+        if n < 1 {
+            return false;
+        }
+        n <= self.count as usize
+    }
+
+    // Whether the tables are packed from 0 on, the largest zoom first, within columns of cap entries.
+    fn is_packed(self, cap: usize) -> bool
+        requires { ⌜ (self .options .«min_zoom» ≤ self .options .«max_zoom») × (self .options .«max_zoom» ≤ 30) × (self .count ≤ 1048576) ⌝ }
+        ensures { λ r. ⌜ r ≡ packed self cap (tableCount (self .options)) 0 ⌝ }
+    {
+        let o = self.options;
+        let low = o.min_zoom as usize;
+        let mut left = o.table_count();
+        let mut at = 0;
+        while 0 < left {
+            left -= 1;
+            if !self.table_ok(low + left, at) {
+                return false;
+            }
+            at += self.len_of(low + left);
+        }
+        at <= cap
+    }
+
+    // Whether a question may go by this state over columns of cap entries: 01's 11 is for any other.
+    pub fn is_sound(self, cap: usize) -> bool
+        ensures { λ r. ⌜ r ≡ stateOk self cap ⌝ }
+    {
+        let o = self.options;
+        if !o.is_in_bounds() {
+            return false;
+        }
+        if self.count < 1 {
+            return false;
+        }
+        if 1048576 < self.count {
+            return false;
+        }
+        if self.len_of(o.max_zoom as usize + 1) != self.count as usize {
+            return false;
+        }
+        self.is_packed(cap)
     }
 }
 

@@ -1,0 +1,94 @@
+-- `State::is_sound` meets its contract: each test is one of `stateOk`, in its order. Assumes nothing.
+use mathlib.Core.Path.{_≡_, sym, _∙_}
+use mathlib.Core.Bool.{true}
+use native.Mathlib.Omega.{arith}
+use borrow.Author.Tests.{le-leb, lt-leb, eq-eqb, ne-eqb, not-true, not-false}
+use borrow.Author.Needs.{needs}
+use Rattle.tables.specs.Options.{optionsOk}
+use Rattle.tables.specs.Bounds.{InBounds, options-are}
+use Rattle.tables.specs.Sound.{stateOk}
+use Rattle.tables.proofs.State.is_sound.Statement.{statement}
+use Rattle.tables.proofs.State.is_sound.Tie as tie
+
+-- ---- the branches that were not taken, from the later ones
+
+abbrev first : tie.Else2 → tie.Else1
+first e = e .before .before
+
+abbrev second : tie.Else3 → tie.Else2
+second e = e .before .before
+
+-- past the first the options are within bounds
+options : (e : tie.Else1) → optionsOk (e .before .before .before .args .self .options) ≡ true
+options e = sym (e .before .is-in-bounds .ensures) ∙ not-false _ (e .if1 .left)
+
+bounds : (e : tie.Else3) → InBounds (first (second e) .before .before .before .args .self .options)
+bounds e = options-are _ (options (first (second e)))
+
+-- ---- the parts
+
+is-in-bounds-requires : tie.Need-is-in-bounds-requires
+is-in-bounds-requires c κs = search needs
+
+returns : tie.Need-returns
+unfolding stateOk
+returns c = simp (sym (c .before .is-in-bounds .ensures) ∙ not-true _ (c .if1 .taken))
+
+returns-2 : tie.Need-returns-2
+unfolding stateOk
+returns-2 c = simp (options (c .before .before), lt-leb _ _ (c .if2 .taken))
+
+returns-3 : tie.Need-returns-3
+unfolding stateOk
+returns-3 c = let d = c .before .before in simp (options (first d), le-leb _ _ (d .if2 .left), lt-leb _ _ (c .if3 .taken))
+
+cast-len-of : tie.Need-cast-len-of
+cast-len-of c = search needs
+
+add-len-of : tie.Need-add-len-of
+add-len-of c = search needs
+
+len-of-requires : tie.Need-len-of-requires
+len-of-requires c κs = let b = bounds (c .before) in omega (arith, b .zoom-to)
+
+cast-if4 : tie.Need-cast-if4
+cast-if4 c = search needs
+
+returns-4 : tie.Need-returns-4
+unfolding stateOk
+returns-4 c =
+    let l = c .before .before in
+    let e = l .before .before in
+    let d = second e in
+    simp (options (first d), le-leb _ _ (d .if2 .left), le-leb _ _ (e .if3 .left), ne-eqb _ _ (λ q. c .if4 .taken (l .len-of .ensures ∙ q)))
+
+is-packed-requires : tie.Need-is-packed-requires
+is-packed-requires c κs =
+    let e = c .before .before .before .before in
+    let b = bounds e in
+    (b .zooms, b .zoom-to, e .if3 .left)
+
+returns-5 : tie.Need-returns-5
+unfolding stateOk
+returns-5 c =
+    let f = c .before in
+    let l = f .before .before in
+    let e = l .before .before in
+    let d = second e in
+    simp (options (first d), le-leb _ _ (d .if2 .left), le-leb _ _ (e .if3 .left), eq-eqb _ _ (sym (l .len-of .ensures) ∙ f .if4 .left), c .is-packed .ensures)
+
+pub is-sound-spec : {M : Type 1} → statement M
+is-sound-spec =
+    tie.close
+    (tie.spec
+    is-in-bounds-requires
+    returns
+    returns-2
+    returns-3
+    cast-len-of
+    add-len-of
+    len-of-requires
+    cast-if4
+    returns-4
+    is-packed-requires
+    returns-5)
