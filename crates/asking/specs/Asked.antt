@@ -1,0 +1,25 @@
+-- What a question comes to: a refusal before its walk, or the items that the walk finds; the answer and the column afterwards are read from it. Definitions only.
+use mathlib.Core.Bool.{Bool, true, false}
+use mathlib.Core.List.{List}
+use Prim.Native.Nat.{ℕ}
+use lib.ListN.{length}
+use Rattle.kdbush.specs.Run.{filled}
+use Rattle.asking.specs.declared.Answer.{Answer}
+use Rattle.asking.specs.declared.Answer.the-variants.{Spoiled}
+use Rattle.asking.specs.Answers.{fitted}
+
+-- refused, with nothing written; or the items found, and whether the walk went to its end
+pub data Asked : Type 0 where
+  refused : Answer → Asked
+  told : Bool → List ℕ → Asked
+
+-- the answer, for a column of so many: a walk that did not go to its end is 01's 11
+abbrev pub answerOf : Asked → ℕ → Answer
+answerOf (refused a) room = a
+answerOf (told true l) room = fitted (length l) room
+answerOf (told false l) room = Spoiled
+
+-- the column afterwards: the first items, as many as fit, and then the old contents
+abbrev pub columnOf : Asked → List ℕ → List ℕ
+columnOf (refused a) out = out
+columnOf (told b l) out = filled l out

@@ -1,0 +1,289 @@
+// What every question to a build rests on: its answer, the lent columns and the parts of them that hold one table, where a cluster's id leads, and the ring
+// around an entry, in which its children are. A question looks at the state first (`State::is_sound`); what is asked here of a caller follows from that.
+use kdbush::Query;
+use kdbush::Step;
+use tables::Entry;
+use tables::State;
+ghost use mathlib.Core.Path.{_≡_};
+ghost use Prim.Native.Nat.{_+_, _*_, _<_, _≤_, min};
+ghost use lib.ListN.{length, set};
+ghost use Rattle.kdbush.specs.Reply.{firstStep, afterStep};
+ghost use Rattle.tables.specs.Entries.{entry};
+ghost use Rattle.tables.specs.Rows.{rows};
+ghost use Rattle.tables.specs.Columns.{part};
+ghost use Rattle.tables.specs.State.{startOf, lenOf};
+ghost use Rattle.asking.specs.Answers.{answerNumber, answerCarried, fitted};
+ghost use Rattle.asking.specs.Columns.{columns, roomOf, indexRoom, Held};
+ghost use Rattle.asking.specs.Ids.{isBuilt, targetOf, onward};
+ghost use Rattle.asking.specs.Reached.{Reached};
+ghost use Rattle.asking.specs.Around.{ringOf, queryOf, coordsOf, InRing};
+
+// The answer of a question that lists, in 01's words: how many items, or a refusal. `Listed` and `NoRoom` carry the whole length.
+pub enum Answer {
+    Listed(usize),
+    NoTree,
+    NoCluster,
+    Tile,
+    EmptyTile,
+    Box,
+    NoRoom(usize),
+    Spoiled,
+}
+
+impl Answer {
+    // 01's number of the answer, 0 where there is no refusal.
+    pub fn number(self) -> u32
+        ensures { λ r. ⌜ r ≡ answerNumber self ⌝ }
+    {
+        match self {
+            Answer::Listed(_) => 0,
+            Answer::NoTree => 5,
+            Answer::NoCluster => 6,
+            Answer::Tile => 7,
+            Answer::EmptyTile => 8,
+            Answer::Box => 9,
+            Answer::NoRoom(_) => 10,
+            Answer::Spoiled => 11,
+        }
+    }
+
+    // What the answer carries, 0 where it carries nothing.
+    pub fn carried(self) -> usize
+        ensures { λ r. ⌜ r ≡ answerCarried self ⌝ }
+    {
+        match self {
+            Answer::Listed(k) => k,
+            Answer::NoTree => 0,
+            Answer::NoCluster => 0,
+            Answer::Tile => 0,
+            Answer::EmptyTile => 0,
+            Answer::Box => 0,
+            Answer::NoRoom(k) => k,
+            Answer::Spoiled => 0,
+        }
+    }
+}
+
+// The answer of k items for a column of so many.
+pub fn fit(k: usize, room: usize) -> Answer
+    ensures { λ r. ⌜ r ≡ fitted k room ⌝ }
+{
+    if k <= room {
+        return Answer::Listed(k);
+    }
+    Answer::NoRoom(k)
+}
+
+// Stores p at k, if the column reaches so far.
+pub fn put_at(out: &mut [u32], k: usize, p: u32)
+    ensures { λ _. ⌜ now (out .exit) ≡ set (now (out .entry)) k p ⌝ }
+{
+    if k < out.len() {
+        out[k] = p;
+    }
+}
+
+fn less(a: usize, b: usize) -> usize
+    ensures { λ r. ⌜ r ≡ min a b ⌝ }
+{
+    if a <= b {
+        return a;
+    }
+    b
+}
+
+// How many entries the columns of the index hold.
+pub fn index_room(ids: &[u32], coords: &[f64]) -> usize
+    ensures { λ r. ⌜ r ≡ indexRoom (now (ids .entry)) (now (coords .entry)) ⌝ }
+{
+    less(ids.len(), coords.len() / 2)
+}
+
+// How many entries the eight lent columns hold.
+pub fn room(
+    x: &[f64],
+    y: &[f64],
+    seen: &[u8],
+    id: &[u32],
+    parent: &[u32],
+    num: &[u32],
+    ids: &[u32],
+    coords: &[f64],
+) -> usize
+    ensures { λ r. ⌜ r ≡ roomOf (columns (now (x .entry)) (now (y .entry)) (now (seen .entry)) (now (id .entry)) (now (parent .entry)) (now (num .entry)) (now (ids .entry)) (now (coords .entry))) ⌝ }
+{
+    let a = less(x.len(), y.len());
+    let b = less(seen.len(), id.len());
+    let c = less(parent.len(), num.len());
+    let d = less(a, b);
+    let e = less(c, index_room(ids, coords));
+    less(d, e)
+}
+
+// The entry at the place p of the table of len entries that starts at `start` of the columns.
+pub fn entry_in(
+    start: usize,
+    len: usize,
+    x: &[f64],
+    y: &[f64],
+    seen: &[u8],
+    id: &[u32],
+    parent: &[u32],
+    num: &[u32],
+    p: usize,
+) -> Entry
+    requires { ⌜ Held (start + len) (now x) (now y) (now seen) (now id) (now parent) (now num) ⌝ }
+    requires { ⌜ p < len ⌝ }
+    ensures { λ r. ⌜ r ≡ entry (part start len (rows (now (x .entry)) (now (y .entry)) (now (seen .entry)) (now (id .entry)) (now (parent .entry)) (now (num .entry)))) p ⌝ }
+{
+    let end = start + len;
+    tables::entry_at(
+        &x[start..end],
+        &y[start..end],
+        &seen[start..end],
+        &id[start..end],
+        &parent[start..end],
+        &num[start..end],
+        p,
+    )
+}
+
+// Where a cluster's id leads: to the origin in its table, or to a refusal.
+pub enum Target {
+    At { table: usize, origin: usize },
+    Spoiled,
+    NoTree,
+    NoCluster,
+}
+
+// Whether a table is built.
+fn is_built(s: State, table: usize) -> bool
+    ensures { λ r. ⌜ r ≡ isBuilt s table ⌝ }
+{
+    let o = s.options;
+    if table < o.min_zoom as usize {
+        return false;
+    }
+    table <= o.max_zoom as usize + 1
+}
+
+// The origin of the cluster that is asked for, in columns of cap entries.
+pub fn find_target(s: State, cap: usize, id: u32) -> Target
+    ensures { λ r. ⌜ r ≡ targetOf s cap id ⌝ }
+{
+    if !s.is_sound(cap) {
+        return Target::Spoiled;
+    }
+    if id < s.count {
+        return Target::NoCluster;
+    }
+    let table = tables::table_of(id, s.count);
+    let origin = tables::origin_of(id, s.count);
+    if !is_built(s, table) {
+        return Target::NoTree;
+    }
+    let o = s.options;
+    if table == o.min_zoom as usize {
+        return Target::NoCluster;
+    }
+    if s.len_of(table) <= origin {
+        return Target::NoCluster;
+    }
+    Target::At { table, origin }
+}
+
+// The origin of a child cluster that a walk in this table goes on into.
+pub fn go_on(s: State, table: usize, id: u32) -> Target
+    ensures { λ r. ⌜ r ≡ onward s table id ⌝ }
+{
+    if id < s.count {
+        return Target::Spoiled;
+    }
+    let next = tables::table_of(id, s.count);
+    let origin = tables::origin_of(id, s.count);
+    if next <= table {
+        return Target::Spoiled;
+    }
+    if !is_built(s, next) {
+        return Target::Spoiled;
+    }
+    if s.len_of(next) <= origin {
+        return Target::Spoiled;
+    }
+    Target::At {
+        table: next,
+        origin,
+    }
+}
+
+// A table by its part of the columns, and a search in it: around (x, y).
+pub struct Ring {
+    pub start: usize,
+    pub len: usize,
+    pub x: f64,
+    pub y: f64,
+    pub radius: f64,
+    pub node_size: usize,
+}
+
+// The ring around the origin in its table, in which its children are.
+pub fn ring_of(
+    s: State,
+    cap: usize,
+    table: usize,
+    origin: usize,
+    x: &[f64],
+    y: &[f64],
+    seen: &[u8],
+    id: &[u32],
+    parent: &[u32],
+    num: &[u32],
+) -> Ring
+    requires { ⌜ Reached s cap table origin ⌝ }
+    requires { ⌜ Held cap (now x) (now y) (now seen) (now id) (now parent) (now num) ⌝ }
+    ensures { λ r. ⌜ r ≡ ringOf s (part (startOf s table) (lenOf s table) (rows (now (x .entry)) (now (y .entry)) (now (seen .entry)) (now (id .entry)) (now (parent .entry)) (now (num .entry)))) table origin ⌝ }
+{
+    let o = s.options;
+    let start = s.start_of(table);
+    let len = s.len_of(table);
+    let e = entry_in(start, len, x, y, seen, id, parent, num, origin);
+    let radius = tables::radius_at(o.radius, o.extent, (table - 1) as u8);
+    Ring {
+        start,
+        len,
+        x: e.x,
+        y: e.y,
+        radius,
+        node_size: o.node_size,
+    }
+}
+
+// The first slot in a ring.
+pub fn first(g: Ring, coords: &[f64]) -> Step
+    requires { ⌜ InRing g (now coords) ⌝ }
+    ensures { λ r. ⌜ r ≡ firstStep (queryOf g) (g .«node_size») (g .len) (coordsOf g (now (coords .entry))) ⌝ }
+{
+    let from = 2 * g.start;
+    let to = from + 2 * g.len;
+    let q = Query::Within {
+        qx: g.x,
+        qy: g.y,
+        radius: g.radius,
+    };
+    kdbush::first(q, g.node_size, g.len, &coords[from..to])
+}
+
+// The slot in a ring after the slot c.
+pub fn after(g: Ring, coords: &[f64], c: usize) -> Step
+    requires { ⌜ InRing g (now coords) ⌝ }
+    ensures { λ r. ⌜ r ≡ afterStep (queryOf g) (g .«node_size») (g .len) (coordsOf g (now (coords .entry))) c ⌝ }
+{
+    let from = 2 * g.start;
+    let to = from + 2 * g.len;
+    let q = Query::Within {
+        qx: g.x,
+        qy: g.y,
+        radius: g.radius,
+    };
+    kdbush::after(q, g.node_size, g.len, &coords[from..to], c)
+}
