@@ -83,7 +83,8 @@ pub fn put_at(out: &mut [u32], k: usize, p: u32)
     }
 }
 
-fn less(a: usize, b: usize) -> usize
+// The smaller of two numbers.
+pub fn less(a: usize, b: usize) -> usize
     ensures { λ r. ⌜ r ≡ min a b ⌝ }
 {
     if a <= b {

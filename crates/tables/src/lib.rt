@@ -4,7 +4,7 @@ use range::CoordinateSystem;
 ghost use mathlib.Core.Path.{_≡_};
 ghost use Prim.Native.Nat.{_<_, _≤_};
 ghost use lib.ListN.{length, set};
-ghost use Rattle.tables.specs.Options.{optionsOk, zoomsOk, radiusOk, extentOk, tableCount, zoomUsed};
+ghost use Rattle.tables.specs.Options.{optionsOk, zoomsOk, radiusOk, extentOk, tableCount, raised, zoomUsed};
 ghost use Rattle.tables.specs.State.{newState, withTable, startOf, lenOf};
 ghost use Rattle.tables.specs.Sound.{tableOk, packed, stateOk};
 ghost use Rattle.tables.specs.Entries.{entry};
@@ -96,14 +96,21 @@ impl Options {
 
     // The zoom whose table a question at this zoom goes to.
     pub fn zoom_used(self, zoom: u8) -> u8
-        requires { ⌜ (self .«min_zoom» ≤ self .«max_zoom») × (self .«max_zoom» ≤ 30) ⌝ }
         ensures { λ r. ⌜ r ≡ zoomUsed self zoom ⌝ }
+    {
+        let z = self.raise(zoom);
+        if z <= self.max_zoom {
+            return z;
+        }
+        self.max_zoom + 1
+    }
+
+    // The zoom raised to min_zoom.
+    fn raise(self, zoom: u8) -> u8
+        ensures { λ r. ⌜ r ≡ raised self zoom ⌝ }
     {
         if zoom < self.min_zoom {
             return self.min_zoom;
-        }
-        if self.max_zoom + 1 < zoom {
-            return self.max_zoom + 1;
         }
         zoom
     }

@@ -1,0 +1,312 @@
+// Box and ring: the places of a table that a search finds. Nothing is asked of the caller: what 01 does not take is refused with its number.
+use asking::Answer;
+use kdbush::Query;
+use kdbush::SearchReply;
+use range::CoordinateSystem;
+use range::Point;
+use tables::Options;
+use tables::State;
+ghost use mathlib.Core.Path.{_≡_};
+ghost use mathlib.Core.Bool.{true};
+ghost use Prim.Native.Nat.{_+_, _*_, _≤_};
+ghost use lib.ListN.{length};
+ghost use Rattle.kdbush.specs.Query.{queryOk};
+ghost use Rattle.kdbush.specs.Run.{sound, whole, filled};
+ghost use Rattle.kdbush.specs.Reply.{found, indexOk};
+ghost use Rattle.tables.specs.Options.{zoomUsed};
+ghost use Rattle.tables.specs.Columns.{part};
+ghost use Rattle.tables.specs.Sound.{stateOk};
+ghost use Rattle.asking.specs.Columns.{indexRoom};
+ghost use Rattle.asking.specs.Asked.{answerOf, columnOf};
+ghost use Rattle.boxes.specs.Rule.{wrapped, wrappedEast, ruled, boxOf, planOf, boxOk};
+ghost use Rattle.boxes.specs.Lists.{walked, planned, listedAt, ringAsked, boxAsked};
+ghost use Rattle.boxes.specs.Joined.{partOf};
+
+// The edges of a box of longitudes after the rule. split: the new w exceeds the new e.
+struct Edges {
+    w: f64,
+    e: f64,
+    split: bool,
+}
+
+// What is searched: the first, and then the second if there are two.
+struct Plan {
+    first: Query,
+    second: Query,
+    two: bool,
+}
+
+// How one search came out: how many places it found, or that a slot names a place past the table.
+enum Part {
+    All(usize),
+    Past,
+}
+
+// A longitude brought into -180 to 180.
+fn wrap(v: f64) -> f64
+    ensures { λ r. ⌜ r ≡ wrapped v ⌝ }
+{
+    ((v + 180.0) % 360.0 + 360.0) % 360.0 - 180.0
+}
+
+// The same of an eastern edge: 180 stays.
+fn wrap_east(v: f64) -> f64
+    ensures { λ r. ⌜ r ≡ wrappedEast v ⌝ }
+{
+    if v == 180.0 {
+        return 180.0;
+    }
+    wrap(v)
+}
+
+// The rule for the edges of a box of longitudes.
+fn rule(w: f64, e: f64) -> Edges
+    ensures { λ r. ⌜ r ≡ ruled w e ⌝ }
+{
+    if e - w >= 360.0 {
+        return Edges {
+            w: -180.0,
+            e: 180.0,
+            split: false,
+        };
+    }
+    let a = wrap(w);
+    let b = wrap_east(e);
+    Edges {
+        w: a,
+        e: b,
+        split: a > b,
+    }
+}
+
+// The box of two corners, converted.
+fn box_of(c: CoordinateSystem, w: f64, s: f64, e: f64, n: f64) -> Query
+    ensures { λ r. ⌜ r ≡ boxOf c w s e n ⌝ }
+{
+    let a = c.convert(Point { x: w, y: s });
+    let b = c.convert(Point { x: e, y: n });
+    Query::Range {
+        min_x: a.x,
+        min_y: a.y,
+        max_x: b.x,
+        max_y: b.y,
+    }
+}
+
+// What is searched for a box.
+fn plan_box(c: CoordinateSystem, w: f64, s: f64, e: f64, n: f64) -> Plan
+    ensures { λ r. ⌜ r ≡ planOf c w s e n ⌝ }
+{
+    match c {
+        CoordinateSystem::Cartesian { range } => {
+            let q = box_of(c, w, s, e, n);
+            Plan {
+                first: q,
+                second: q,
+                two: false,
+            }
+        }
+        CoordinateSystem::LatLng => {
+            let r = rule(w, e);
+            if r.split {
+                let a = rule(r.w, 180.0);
+                let b = rule(-180.0, r.e);
+                let f = box_of(c, a.w, s, a.e, n);
+                let g = box_of(c, b.w, s, b.e, n);
+                return Plan {
+                    first: f,
+                    second: g,
+                    two: true,
+                };
+            }
+            let q = box_of(c, r.w, s, r.e, n);
+            Plan {
+                first: q,
+                second: q,
+                two: false,
+            }
+        }
+    }
+}
+
+// Whether a box is one that 01 takes.
+fn box_ok(c: CoordinateSystem, w: f64, s: f64, e: f64, n: f64) -> bool
+    ensures { λ r. ⌜ r ≡ boxOk c w s e n ⌝ }
+{
+    if !floats::both_finite(w, s) {
+        return false;
+    }
+    if !floats::both_finite(e, n) {
+        return false;
+    }
+    match c {
+        CoordinateSystem::Cartesian { range } => true,
+        CoordinateSystem::LatLng => {
+            if floats::in_unit(s) {
+                return floats::in_unit(n);
+            }
+            false
+        }
+    }
+}
+
+// Whether a ring is one that 01 takes.
+fn ring_ok(x: f64, y: f64, radius: f64) -> bool
+    ensures { λ r. ⌜ r ≡ queryOk (Query.Within x y radius) ⌝ }
+{
+    if !floats::both_finite(x, y) {
+        return false;
+    }
+    if !floats::is_finite(radius) {
+        return false;
+    }
+    0.0 <= radius
+}
+
+// Lists the places of one search. An index that may be searched is refused for nothing but a place past the table.
+fn list_one(
+    q: Query,
+    node_size: usize,
+    n: usize,
+    ids: &[u32],
+    coords: &[f64],
+    out: &mut [u32],
+) -> Part
+    requires { ⌜ indexOk «node_size» n (now ids) (now coords) ≡ true ⌝ }
+    ensures { λ r. ⌜ r ≡ partOf (whole n (found q «node_size» n (now (ids .entry)) (now (coords .entry)))) (length (found q «node_size» n (now (ids .entry)) (now (coords .entry)))) ⌝ }
+    ensures { λ _. ⌜ now (out .exit) ≡ filled (sound n (found q «node_size» n (now (ids .entry)) (now (coords .entry)))) (now (out .entry)) ⌝ }
+{
+    match kdbush::search(q, node_size, n, ids, coords, out) {
+        SearchReply::Found(k) => Part::All(k),
+        SearchReply::NoRoom(k) => Part::All(k),
+        SearchReply::Box => Part::Past,
+        SearchReply::Spoiled => Part::Past,
+    }
+}
+
+// Lists the places that a plan finds: the second search is lent what the first has left of the column.
+fn list_plan(
+    p: Plan,
+    node_size: usize,
+    n: usize,
+    ids: &[u32],
+    coords: &[f64],
+    out: &mut [u32],
+) -> Answer
+    requires { ⌜ indexOk «node_size» n (now ids) (now coords) ≡ true ⌝ }
+    ensures { λ r. ⌜ r ≡ answerOf (walked n (planned p «node_size» n (now (ids .entry)) (now (coords .entry)))) (length (now (out .entry))) ⌝ }
+    ensures { λ _. ⌜ now (out .exit) ≡ columnOf (walked n (planned p «node_size» n (now (ids .entry)) (now (coords .entry)))) (now (out .entry)) ⌝ }
+{
+    let q = p.first;
+    let Part::All(k) = list_one(q, node_size, n, ids, coords, out) else {
+        return Answer::Spoiled;
+    };
+    if !p.two {
+        return asking::fit(k, out.len());
+    }
+    let from = asking::less(k, out.len());
+    let q2 = p.second;
+    let Part::All(j) = list_one(q2, node_size, n, ids, coords, &mut out[from..]) else {
+        return Answer::Spoiled;
+    };
+    asking::fit(k + j, out.len())
+}
+
+// The same in a table of n entries that starts at a place of the columns.
+fn list_at(
+    p: Plan,
+    node_size: usize,
+    start: usize,
+    n: usize,
+    ids: &[u32],
+    coords: &[f64],
+    out: &mut [u32],
+) -> Answer
+    requires { ⌜ (start + n ≤ length (now ids)) × (2 * (start + n) ≤ length (now coords)) ⌝ }
+    requires { ⌜ indexOk «node_size» n (part start n (now ids)) (part (2 * start) (2 * n) (now coords)) ≡ true ⌝ }
+    ensures { λ r. ⌜ r ≡ answerOf (walked n (planned p «node_size» n (part start n (now (ids .entry))) (part (2 * start) (2 * n) (now (coords .entry))))) (length (now (out .entry))) ⌝ }
+    ensures { λ _. ⌜ now (out .exit) ≡ columnOf (walked n (planned p «node_size» n (part start n (now (ids .entry))) (part (2 * start) (2 * n) (now (coords .entry))))) (now (out .entry)) ⌝ }
+{
+    let end = start + n;
+    let from = 2 * start;
+    let to = from + 2 * n;
+    list_plan(p, node_size, n, &ids[start..end], &coords[from..to], out)
+}
+
+// The same in the table of the zoom used.
+fn list_used(p: Plan, s: State, ids: &[u32], coords: &[f64], zoom: u8, out: &mut [u32]) -> Answer
+    requires { ⌜ stateOk s (indexRoom (now ids) (now coords)) ≡ true ⌝ }
+    ensures { λ r. ⌜ r ≡ answerOf (listedAt s (now (ids .entry)) (now (coords .entry)) (zoomUsed (s .options) zoom) p) (length (now (out .entry))) ⌝ }
+    ensures { λ _. ⌜ now (out .exit) ≡ columnOf (listedAt s (now (ids .entry)) (now (coords .entry)) (zoomUsed (s .options) zoom) p) (now (out .entry)) ⌝ }
+{
+    let o = s.options;
+    let z = o.zoom_used(zoom) as usize;
+    list_at(p, o.node_size, s.start_of(z), s.len_of(z), ids, coords, out)
+}
+
+// The zoom whose table a question at this zoom goes to.
+pub fn zoom_used(o: Options, zoom: u8) -> u8
+    ensures { λ r. ⌜ r ≡ zoomUsed o zoom ⌝ }
+{
+    o.zoom_used(zoom)
+}
+
+// The places of the table of the zoom used within a ring.
+pub fn list_ring(
+    s: State,
+    ids: &[u32],
+    coords: &[f64],
+    zoom: u8,
+    x: f64,
+    y: f64,
+    radius: f64,
+    out: &mut [u32],
+) -> Answer
+    ensures { λ r. ⌜ r ≡ answerOf (ringAsked s (now (ids .entry)) (now (coords .entry)) zoom x y radius) (length (now (out .entry))) ⌝ }
+    ensures { λ _. ⌜ now (out .exit) ≡ columnOf (ringAsked s (now (ids .entry)) (now (coords .entry)) zoom x y radius) (now (out .entry)) ⌝ }
+{
+    if !s.is_sound(asking::index_room(ids, coords)) {
+        return Answer::Spoiled;
+    }
+    if !ring_ok(x, y, radius) {
+        return Answer::Box;
+    }
+    let q = Query::Within {
+        qx: x,
+        qy: y,
+        radius,
+    };
+    let p = Plan {
+        first: q,
+        second: q,
+        two: false,
+    };
+    list_used(p, s, ids, coords, zoom, out)
+}
+
+// The places of the table of the zoom used in the box from (w, south) to (e, n).
+pub fn list_box(
+    s: State,
+    ids: &[u32],
+    coords: &[f64],
+    zoom: u8,
+    w: f64,
+    south: f64,
+    e: f64,
+    n: f64,
+    out: &mut [u32],
+) -> Answer
+    ensures { λ r. ⌜ r ≡ answerOf (boxAsked s (now (ids .entry)) (now (coords .entry)) zoom w south e n) (length (now (out .entry))) ⌝ }
+    ensures { λ _. ⌜ now (out .exit) ≡ columnOf (boxAsked s (now (ids .entry)) (now (coords .entry)) zoom w south e n) (now (out .entry)) ⌝ }
+{
+    if !s.is_sound(asking::index_room(ids, coords)) {
+        return Answer::Spoiled;
+    }
+    let o = s.options;
+    let c = o.coordinate_system;
+    if !box_ok(c, w, south, e, n) {
+        return Answer::Box;
+    }
+    let p = plan_box(c, w, south, e, n);
+    list_used(p, s, ids, coords, zoom, out)
+}
