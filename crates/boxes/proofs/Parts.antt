@@ -1,9 +1,8 @@
 -- Each reply of a search over an index that may be searched, as how it came out. Assumes nothing.
-use mathlib.Core.Path.{_≡_, refl, sym, _∙_}
+use mathlib.Core.Path.{_≡_, refl}
 use mathlib.Core.Bool.{Bool, true, false, cond}
 use mathlib.Core.List.{List}
-use Prim.Native.Nat.{ℕ, suc}
-use native.Mathlib.Omega.{arith}
+use Prim.Native.Nat.{ℕ}
 use lib.Dec.{leb}
 use lib.ListN.{length}
 use lib.Ieee.{Float}
@@ -11,7 +10,7 @@ use Rattle.kdbush.specs.declared.Query.{Query}
 use Rattle.kdbush.specs.declared.SearchReply.{SearchReply}
 use Rattle.kdbush.specs.declared.SearchReply.the-variants.{Found, Box, NoRoom, Spoiled}
 use Rattle.kdbush.specs.Run.{sound, whole, filled}
-use Rattle.kdbush.specs.Reply.{found, told, indexOk, listed, listedColumn}
+use Rattle.kdbush.specs.Reply.{found, indexOk, listed, listedColumn}
 use Rattle.boxes.specs.declared.Part.{Part}
 use Rattle.boxes.specs.declared.Part.the-variants.{All, Past}
 use Rattle.boxes.specs.Joined.{partOf}

@@ -1,5 +1,5 @@
 -- Each way out of the listing of a plan is its definition's case. Assumes nothing.
-use mathlib.Core.Path.{_≡_, refl, sym, ap, _∙_}
+use mathlib.Core.Path.{_≡_, ap, _∙_}
 use mathlib.Core.Bool.{true, false}
 use mathlib.Core.List.{List, []}
 use Prim.Native.Nat.{ℕ, _+_, _≤_, min}
@@ -20,7 +20,7 @@ use Rattle.asking.specs.Filled.{filled-length}
 use Rattle.boxes.specs.declared.Plan.{Plan}
 use Rattle.boxes.specs.declared.Part.the-variants.{All, Past}
 use Rattle.boxes.specs.Lists.{walked, planned}
-use Rattle.boxes.specs.Joined.{partOf, part-all, part-past, found-length, filled-back, first-past, only-first, second-past, both-whole}
+use Rattle.boxes.specs.Joined.{partOf, part-all, part-past, found-length, first-past, only-first, second-past, both-whole}
 
 module _ (p : Plan) (size n : ℕ) (ids : List ℕ) (co : List Float) (out : List ℕ) where
   abbrev one : List ℕ

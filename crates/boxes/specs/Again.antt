@@ -19,7 +19,7 @@ use Rattle.floats.specs.Monotone.{neg-finite, add-mono, sub-mono}
 use Rattle.range.specs.declared.CoordinateSystem.the-variants.{LatLng}
 use Rattle.range.specs.Range.{fullCircle}
 use Rattle.boxes.specs.declared.Edges.{Edges}
-use Rattle.boxes.specs.Rule.{halfCircle, wrapped, wrappedEast, ruled, edged, once, halves, planOf}
+use Rattle.boxes.specs.Rule.{halfCircle, wrapped, wrappedEast, ruled, once, halves, planOf}
 
 -- ---- 180 and 360, as they stand in a float
 

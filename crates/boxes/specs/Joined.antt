@@ -19,7 +19,7 @@ use Rattle.tables.specs.Columns.{from, from-drop, back}
 use Rattle.asking.specs.declared.Answer.the-variants.{Spoiled}
 use Rattle.asking.specs.Answers.{fitted}
 use Rattle.asking.specs.Asked.{answerOf, columnOf}
-use Rattle.asking.specs.Filled.{filled-none, filled-length}
+use Rattle.asking.specs.Filled.{filled-none}
 use Rattle.boxes.specs.declared.Part.{Part}
 use Rattle.boxes.specs.declared.Part.the-variants.{All, Past}
 use Rattle.boxes.specs.Lists.{walked}

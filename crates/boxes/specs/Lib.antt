@@ -3,3 +3,6 @@ pub mod Rule
 pub mod Lists
 pub mod Joined
 pub mod Again
+pub mod Inside
+pub mod Replies
+pub mod Worked

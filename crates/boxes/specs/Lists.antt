@@ -4,7 +4,6 @@ use mathlib.Core.Bool.{Bool, cond, not}
 use mathlib.Core.List.{List, _++_}
 use Prim.Native.Nat.{ℕ}
 use lib.Ieee.{Float}
-use Rattle.kdbush.specs.declared.Query.{Query}
 use Rattle.kdbush.specs.declared.Query.the-variants.{Within}
 use Rattle.kdbush.specs.Query.{queryOk}
 use Rattle.kdbush.specs.Slots.{when}

@@ -5,7 +5,6 @@ use Rattle.floats.specs.Numbers.{float}
 use Rattle.floats.specs.Unit.{in01}
 use Rattle.range.specs.declared.CoordinateSystem.{CoordinateSystem}
 use Rattle.range.specs.declared.CoordinateSystem.the-variants.{LatLng, Cartesian}
-use Rattle.range.specs.declared.Point.{Point}
 use Rattle.range.specs.Range.{fullCircle, converted}
 use Rattle.kdbush.specs.declared.Query.{Query}
 use Rattle.kdbush.specs.declared.Query.the-variants.{Range}

@@ -1,6 +1,6 @@
 -- `list_box` meets its contract, by its ways out. Assumes nothing.
 use mathlib.Core.Path.{_≡_, sym, ap, _∙_}
-use mathlib.Core.Bool.{true}
+use mathlib.Core.Bool.{Bool, true}
 use denote.Ref.{now}
 use lib.ListN.{length}
 use borrow.Author.Tests.{not-true, not-false}
@@ -8,12 +8,20 @@ use Rattle.tables.specs.Options.{zoomUsed}
 use Rattle.tables.specs.Sound.{stateOk}
 use Rattle.asking.specs.Asked.{Asked, answerOf, columnOf}
 use Rattle.asking.specs.Columns.{indexRoom}
+use Rattle.boxes.specs.declared.Plan.{Plan}
 use Rattle.boxes.specs.Rule.{planOf, boxOk}
 use Rattle.boxes.specs.Lists.{boxAsked, listedAt}
 use Rattle.boxes.proofs.Used.{asked-spoiled, asked-box, asked-listed}
 use borrow.Author.Needs.{needs}
 use Rattle.boxes.proofs.list_box.Statement.{statement}
 use Rattle.boxes.proofs.list_box.Tie as tie
+
+-- the box as it is given
+abbrev fine : tie.Start → Bool
+fine k = let a = k .args in boxOk (a .s .options .«coordinate_system») (a .w) (a .south) (a .e) (a .n)
+
+abbrev plan-of : tie.Start → Plan
+plan-of k = let a = k .args in planOf (a .s .options .«coordinate_system») (a .w) (a .south) (a .e) (a .n)
 
 -- where the state is sound
 abbrev start-of : tie.Else1 → tie.Start
@@ -34,8 +42,9 @@ returns : tie.Need-returns
 unfolding boxAsked
 returns c =
     let r = c .before .before in
-    let a = r .before .before .before .before .args in
-    let e = asked-spoiled (a .s) (now (a .ids)) (now (a .coords)) (a .zoom) (boxOk (a .s .options .«coordinate_system») (a .w) (a .south) (a .e) (a .n)) (planOf (a .s .options .«coordinate_system») (a .w) (a .south) (a .e) (a .n)) (sym (ap (stateOk (a .s)) (r .index-room .ensures)) ∙ sym (c .before .is-sound .ensures) ∙ not-true _ (c .if1 .taken)) in
+    let k = r .before .before .before .before in
+    let a = k .args in
+    let e = asked-spoiled (a .s) (now (a .ids)) (now (a .coords)) (a .zoom) (fine k) (plan-of k) (sym (ap (stateOk (a .s)) (r .index-room .ensures)) ∙ sym (c .before .is-sound .ensures) ∙ not-true _ (c .if1 .taken)) in
     (ap (λ (x : Asked). answerOf x (length (now (a .out)))) e, ap (λ (x : Asked). columnOf x (now (a .out))) e)
 
 box-ok-requires : tie.Need-box-ok-requires
@@ -45,8 +54,9 @@ returns-2 : tie.Need-returns-2
 unfolding boxAsked
 returns-2 c =
     let l = c .before .before .before in
-    let a = start-of l .args in
-    let e = asked-box (a .s) (now (a .ids)) (now (a .coords)) (a .zoom) (boxOk (a .s .options .«coordinate_system») (a .w) (a .south) (a .e) (a .n)) (planOf (a .s .options .«coordinate_system») (a .w) (a .south) (a .e) (a .n)) (sound l) (sym (c .before .box-ok .ensures) ∙ not-true _ (c .if2 .taken)) in
+    let k = start-of l in
+    let a = k .args in
+    let e = asked-box (a .s) (now (a .ids)) (now (a .coords)) (a .zoom) (fine k) (plan-of k) (sound l) (sym (c .before .box-ok .ensures) ∙ not-true _ (c .if2 .taken)) in
     (ap (λ (x : Asked). answerOf x (length (now (a .out)))) e, ap (λ (x : Asked). columnOf x (now (a .out))) e)
 
 plan-box-requires : tie.Need-plan-box-requires
@@ -65,9 +75,10 @@ returns-3 c =
     let b = v .before .before in
     let f = b .before in
     let l = f .before .before .before in
-    let a = start-of l .args in
+    let k = start-of l in
+    let a = k .args in
     let e = ap (listedAt (a .s) (now (a .ids)) (now (a .coords)) (zoomUsed (a .s .options) (a .zoom))) (b .plan-box .ensures)
-    ∙ asked-listed (a .s) (now (a .ids)) (now (a .coords)) (a .zoom) (boxOk (a .s .options .«coordinate_system») (a .w) (a .south) (a .e) (a .n)) (planOf (a .s .options .«coordinate_system») (a .w) (a .south) (a .e) (a .n)) (sound l) (sym (f .before .box-ok .ensures) ∙ not-false _ (f .if2 .left)) in
+    ∙ asked-listed (a .s) (now (a .ids)) (now (a .coords)) (a .zoom) (fine k) (plan-of k) (sound l) (sym (f .before .box-ok .ensures) ∙ not-false _ (f .if2 .left)) in
     (v .list-used .ensures .0 ∙ ap (λ (x : Asked). answerOf x (length (now (a .out)))) e, v .list-used .ensures .1 ∙ ap (λ (x : Asked). columnOf x (now (a .out))) e)
 
 pub list-box-spec : {M : Type 1} → statement M

@@ -1,0 +1,166 @@
+-- Of an index that is built from its table: a Cartesian box lists exactly the entries inside, each once, and each of them lies within [0,1]; so does a box of
+-- longitudes that is not split, and each half of one that is. A ring lists entries that pass the distance test, each once, within [0,1] too, and every one that
+-- passes it and lies inside the four rounded edges. No such question is refused for a place past the table. Assumes nothing.
+use mathlib.Core.Path.{_≡_, ap, _∙_, subst}
+use mathlib.Core.Bool.{true, false}
+use mathlib.Core.List.{List, [], _∷_, _++_, append-nil}
+use Prim.Native.Nat.{ℕ, _<_}
+use lib.Dec.{T}
+use lib.ListN.{length, getD}
+use lib.Ieee.{Float, nan, binary64, add, sub, le}
+use Rattle.floats.specs.Unit.{In01}
+use Rattle.range.specs.declared.DataRange.{DataRange}
+use Rattle.range.specs.declared.CoordinateSystem.the-variants.{LatLng, Cartesian}
+use Rattle.range.specs.Range.{normalized, converted}
+use Rattle.kdsort.specs.Cols.{Cols, cols}
+use Rattle.kdsort.specs.Tree.{Index}
+use Rattle.kdbush.specs.declared.Query.{Query}
+use Rattle.kdbush.specs.declared.Query.the-variants.{Range, Within}
+use Rattle.kdbush.specs.declared.BuildReply.the-variants.{Done}
+use Rattle.kdbush.specs.Query.{passesQ, queryOk}
+use Rattle.kdbush.specs.Reply.{found, checked, built}
+use Rattle.kdbush.specs.Members.{In, Distinct}
+use Rattle.kdbush.specs.Built.{accepted, build-is-index}
+use Rattle.kdbush.specs.Promise.{AllBelow, all-whole, all-sound, answered-below, answered-once, answered-sound, answered-complete, range-sound, range-complete}
+use Rattle.tables.specs.declared.State.{State}
+use Rattle.tables.specs.Options.{zoomUsed}
+use Rattle.tables.specs.State.{lenOf}
+use Rattle.tables.specs.Sound.{stateOk}
+use Rattle.asking.specs.Asked.{told}
+use Rattle.asking.specs.Columns.{indexRoom, idsAt, coordsAt}
+use Rattle.boxes.specs.Rule.{ruled, edged, once, halves, planOf, boxOk}
+use Rattle.boxes.specs.Lists.{walked, listedAt, ringAsked, boxAsked}
+
+-- ---- what is said
+
+-- the table of zoom z has the coordinates xs and ys, each from 0 to 1, and its part of the columns is an index built from them
+pub record Indexed (s : State) (ids : List ℕ) (co : List Float) (z : ℕ) (xs ys : List Float) : Type 0 where
+  pub long : length xs ≡ lenOf s z
+  pub unit : (p : ℕ) → p < length xs → In01 (getD xs p nan) × In01 (getD ys p nan)
+  pub lent : Cols
+  pub index : Index (s .options .«node_size») xs ys lent (cols (idsAt s ids z) (coordsAt s co z))
+
+-- so it is where `kdbush::build` was accepted for them
+pub built-indexed : (s : State) (ids : List ℕ) (co : List Float) (z : ℕ) (xs ys : List Float) (l : Cols) → length xs ≡ lenOf s z → checked (s .options .«node_size») xs ys l ≡ Done
+    → built (s .options .«node_size») xs ys l ≡ cols (idsAt s ids z) (coordsAt s co z) → Indexed s ids co z xs ys
+built-indexed s ids co z xs ys l h e f =
+    let size = s .options .«node_size» in
+    record { long = h; unit = accepted size xs ys l e .inside; lent = l; index = subst (Index size xs ys l) f (build-is-index size xs ys l e) }
+
+-- the entry p passes a query's test
+abbrev pub Passes : Query → List Float → List Float → ℕ → Type 0
+Passes q xs ys p = passesQ q (getD xs p nan) (getD ys p nan) ≡ true
+
+-- the list has each entry that passes the test, once, and no other, and each of them lies within [0,1]
+pub record Exactly (q : Query) (n : ℕ) (xs ys : List Float) (l : List ℕ) : Type 0 where
+  pub inside : (p : ℕ) → In p l → (p < n) × Passes q xs ys p
+  pub every : (p : ℕ) → p < n → Passes q xs ys p → In p l
+  pub single : Distinct l
+  pub unit : (p : ℕ) → In p l → In01 (getD xs p nan) × In01 (getD ys p nan)
+
+-- the entry p passes the distance test, and lies inside the four rounded edges
+pub record InEdges (x y r : Float) (xs ys : List Float) (p : ℕ) : Type 0 where
+  pub passes : Passes (Within x y r) xs ys p
+  pub west : T (le (sub binary64 x r) (getD xs p nan))
+  pub east : T (le (getD xs p nan) (add binary64 x r))
+  pub south : T (le (sub binary64 y r) (getD ys p nan))
+  pub north : T (le (getD ys p nan) (add binary64 y r))
+
+-- each entry of the list passes the distance test, is in it once, and lies within [0,1]; each one inside the edges is in it
+pub record Around (x y r : Float) (n : ℕ) (xs ys : List Float) (l : List ℕ) : Type 0 where
+  pub inside : (p : ℕ) → In p l → (p < n) × Passes (Within x y r) xs ys p
+  pub every : (p : ℕ) → p < n → InEdges x y r xs ys p → In p l
+  pub single : Distinct l
+  pub unit : (p : ℕ) → In p l → In01 (getD xs p nan) × In01 (getD ys p nan)
+
+-- ---- one search of such an index
+
+below-append : (n : ℕ) (a b : List ℕ) → AllBelow n a → AllBelow n b → AllBelow n (a ++ b)
+unfolding AllBelow
+below-append n [] b u v = v
+below-append n (k ∷ a) b u v = (u .0, below-append n a b (u .1) v)
+
+walked-all : (n : ℕ) (l : List ℕ) → AllBelow n l → walked n l ≡ told true l
+walked-all n l w = rw (all-whole n l w, all-sound n l w)
+
+module _ (s : State) (ids : List ℕ) (co : List Float) (z : ℕ) (xs ys : List Float) (J : Indexed s ids co z xs ys) where
+  abbrev foundIn : ℕ → Query → List ℕ
+  foundIn n q = found q (s .options .«node_size») n (idsAt s ids z) (coordsAt s co z)
+
+  below : (q : Query) → AllBelow (lenOf s z) (foundIn (lenOf s z) q)
+  below q = subst (λ (n : ℕ). AllBelow n (foundIn n q)) (J .long) (answered-below _ xs ys (J .lent) _ (J .index) q)
+
+  one-told : (q : Query) → listedAt s ids co z (once q) ≡ told true (foundIn (lenOf s z) q)
+  one-told q = ap (walked (lenOf s z)) (append-nil (foundIn (lenOf s z) q)) ∙ walked-all (lenOf s z) (foundIn (lenOf s z) q) (below q)
+
+  two-told : (a b : Query) → listedAt s ids co z (record { first = a; second = b; two = true }) ≡ told true (foundIn (lenOf s z) a ++ foundIn (lenOf s z) b)
+  two-told a b = walked-all (lenOf s z) (foundIn (lenOf s z) a ++ foundIn (lenOf s z) b) (below-append (lenOf s z) (foundIn (lenOf s z) a) (foundIn (lenOf s z) b) (below a) (below b))
+
+  range-exactly : (a b c d : Float) → Exactly (Range a b c d) (lenOf s z) xs ys (foundIn (lenOf s z) (Range a b c d))
+  range-exactly a b c d =
+      let I = J .index in
+      subst (λ (n : ℕ). Exactly (Range a b c d) n xs ys (foundIn n (Range a b c d))) (J .long)
+      (record {
+        inside = range-sound _ xs ys (J .lent) _ I a b c d;
+        every = range-complete _ xs ys (J .lent) _ I a b c d;
+        single = answered-once _ xs ys (J .lent) _ I (Range a b c d);
+        unit = λ p m. J .unit p (range-sound _ xs ys (J .lent) _ I a b c d p m .0);
+      })
+
+  within-around : (x y r : Float) → Around x y r (lenOf s z) xs ys (foundIn (lenOf s z) (Within x y r))
+  within-around x y r =
+      let I = J .index in
+      subst (λ (n : ℕ). Around x y r n xs ys (foundIn n (Within x y r))) (J .long)
+      (record {
+        inside = answered-sound _ xs ys (J .lent) _ I (Within x y r);
+        every = λ p h w. answered-complete _ xs ys (J .lent) _ I (Within x y r) p h (record { passes = w .passes; west = w .west; east = w .east; south = w .south; north = w .north });
+        single = answered-once _ xs ys (J .lent) _ I (Within x y r);
+        unit = λ p m. J .unit p (answered-sound _ xs ys (J .lent) _ I (Within x y r) p m .0);
+      })
+
+-- ---- the questions
+
+module _ (st : State) (ids : List ℕ) (co : List Float) (zoom : ℕ) (xs ys : List Float) (good : stateOk st (indexRoom ids co) ≡ true)
+    (J : Indexed st ids co (zoomUsed (st .options) zoom) xs ys) where
+  abbrev z : ℕ
+  z = zoomUsed (st .options) zoom
+
+  module _ (w s e n : Float) (fine : boxOk (st .options .«coordinate_system») w s e n ≡ true) where
+    box-is : boxAsked st ids co zoom w s e n ≡ listedAt st ids co z (planOf (st .options .«coordinate_system») w s e n)
+    unfolding boxAsked
+    box-is = rw (good, fine)
+
+    -- Cartesian: exactly the entries between the normalised corners
+    pub cartesian-box : (d : DataRange) → st .options .«coordinate_system» ≡ Cartesian d
+        → (l : List ℕ) × (boxAsked st ids co zoom w s e n ≡ told true l) × Exactly (Range (normalized d w) (normalized d s) (normalized d e) (normalized d n)) (lenOf st z) xs ys l
+    unfolding planOf converted
+    cartesian-box d c =
+        let q = Range (normalized d w) (normalized d s) (normalized d e) (normalized d n) in
+        (foundIn st ids co z xs ys J (lenOf st z) q, box-is ∙ rw c (one-told st ids co z xs ys J q), range-exactly st ids co z xs ys J _ _ _ _)
+
+    -- longitudes: exactly the entries between the edges after the rule
+    pub longitude-box : st .options .«coordinate_system» ≡ LatLng → ruled w e .split ≡ false
+        → (l : List ℕ) × (boxAsked st ids co zoom w s e n ≡ told true l) × Exactly (edged (ruled w e) s n) (lenOf st z) xs ys l
+    unfolding planOf
+    longitude-box c f =
+        (foundIn st ids co z xs ys J (lenOf st z) (edged (ruled w e) s n), box-is ∙ rw (c, f) (one-told st ids co z xs ys J (edged (ruled w e) s n)), range-exactly st ids co z xs ys J _ _ _ _)
+
+    -- or, where it is split, those of the one half and then those of the other
+    pub split-box : st .options .«coordinate_system» ≡ LatLng → ruled w e .split ≡ true
+        → (a : List ℕ) × (b : List ℕ) × (boxAsked st ids co zoom w s e n ≡ told true (a ++ b))
+        × Exactly (halves (ruled w e) s n .first) (lenOf st z) xs ys a × Exactly (halves (ruled w e) s n .second) (lenOf st z) xs ys b
+    unfolding planOf
+    split-box c f =
+        let h = halves (ruled w e) s n in (
+          foundIn st ids co z xs ys J (lenOf st z) (h .first),
+          foundIn st ids co z xs ys J (lenOf st z) (h .second),
+          box-is ∙ rw (c, f) (two-told st ids co z xs ys J (h .first) (h .second)),
+          range-exactly st ids co z xs ys J _ _ _ _,
+          range-exactly st ids co z xs ys J _ _ _ _,
+        )
+
+  pub ring-around : (x y r : Float) → queryOk (Within x y r) ≡ true
+      → (l : List ℕ) × (ringAsked st ids co zoom x y r ≡ told true l) × Around x y r (lenOf st z) xs ys l
+  unfolding ringAsked
+  ring-around x y r fine =
+      (foundIn st ids co z xs ys J (lenOf st z) (Within x y r), rw (good, fine) (one-told st ids co z xs ys J (Within x y r)), within-around st ids co z xs ys J x y r)
