@@ -5,6 +5,8 @@ mod index;
 mod load;
 mod memory;
 mod points;
+#[cfg(feature = "questions")]
+mod questions;
 mod rounds;
 mod table;
 
@@ -41,7 +43,10 @@ fn main() -> ExitCode {
             return usage();
         }
     };
-    match index::run(&size).and_then(|()| load::run(&size)) {
+    let measured = index::run(&size).and_then(|()| load::run(&size));
+    #[cfg(feature = "questions")]
+    let measured = measured.and_then(|()| questions::run(&size));
+    match measured {
         Ok(()) => ExitCode::SUCCESS,
         Err(difference) => {
             println!("DIFFERENT  {difference}");

@@ -9,6 +9,10 @@ pub trait Judge: Sized {
     const NAME: &'static str;
 
     fn load(options: &Options, points: &[[f64; 2]]) -> Result<Self, String>;
+
+    /// An instance with these points and tables, whoever made them, by the Rust's public fields.
+    fn over(options: &Options, points: &[[f64; 2]], tables: Vec<Table>) -> Self;
+
     fn table(&self, zoom: usize) -> Option<Vec<Entry>>;
     fn decode(&self, id: usize) -> (usize, usize);
     fn children(&self, id: usize) -> Result<Vec<Item>, String>;
@@ -30,6 +34,14 @@ pub trait Judge: Sized {
     fn set_entry(&mut self, zoom: usize, place: usize, entry: Entry);
     fn set_slot(&mut self, zoom: usize, slot: usize, place: usize);
     fn drop_table(&mut self, zoom: usize);
+}
+
+/// A table as the Rust keeps it.
+pub struct Table {
+    pub zoom: usize,
+    pub ids: Vec<usize>,
+    pub coords: Vec<f64>,
+    pub data: Vec<f64>,
 }
 
 /// A point with an empty properties object; its id is its number.
@@ -104,6 +116,17 @@ macro_rules! judge {
                         Ok(_) => Ok(Build(rust)),
                         Err(error) => Err(format!("{error:?}")),
                     }
+                }
+
+                fn over(options: &Options, points: &[[f64; 2]], tables: Vec<Table>) -> Self {
+                    let mut rust = unloaded(options);
+                    let features = points.iter().enumerate();
+                    rust.points = features.map(|(i, point)| feature(i, point)).collect();
+                    for Table { zoom, ids, coords, data } in tables {
+                        let index = KDBush::new(0, options.node_size);
+                        rust.trees.insert(zoom, KDBush { ids, coords, data, ..index });
+                    }
+                    Build(rust)
                 }
 
                 fn table(&self, zoom: usize) -> Option<Vec<Entry>> {

@@ -98,7 +98,7 @@ fn case(
 /// The Rust's tables of points as the port takes them. The Rust would ask for latitudes on the globe, and makes
 /// y of them by functions that are not the same to the bit everywhere: it is asked for its x of each longitude
 /// on the equator, then for the tables of these and y.
-fn tables(options: &Options, [xs, ys]: &[Vec<f64>; 2]) -> Tables {
+pub fn tables(options: &Options, [xs, ys]: &[Vec<f64>; 2]) -> Tables {
     match options.plane {
         Plane::Cartesian(_) => patched::tables(options, xs, ys),
         Plane::Globe => {
@@ -125,7 +125,7 @@ fn line(options: &Options, points: &[Vec<f64>; 2]) -> String {
 }
 
 /// The options: zeros stand for what is not given or not part of the coordinate system.
-fn option_words(options: &Options) -> Vec<u64> {
+pub fn option_words(options: &Options) -> Vec<u64> {
     const NONE: Range =
         Range { min_x: 0.0, min_y: 0.0, max_x: 0.0, max_y: 0.0, offset: None, scale: None };
     let (cartesian, range) = match options.plane {

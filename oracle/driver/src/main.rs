@@ -8,10 +8,13 @@ mod lister_vectors;
 mod listing;
 mod load_vectors;
 mod plain;
+mod question_vectors;
+mod questions;
 mod range_vectors;
 mod report;
 mod worked;
 
+use asked::Form;
 use std::{
     env, fs,
     io::{self, BufWriter, StdoutLock},
@@ -25,7 +28,9 @@ const USAGE: &str = "usage: driver worked
        driver load-vectors
        driver lister-vectors
        driver lister
-       driver lister-program PROGRAM [--full]";
+       driver lister-program PROGRAM [--full]
+       driver question-vectors
+       driver questions [--full]";
 
 fn main() -> ExitCode {
     attempt::silence();
@@ -48,6 +53,9 @@ fn main() -> ExitCode {
         ["lister"] => written(|out| listing::list(out)),
         ["lister-program", program] => listing::judge(program, 1_000),
         ["lister-program", program, "--full"] => listing::judge(program, 50_000),
+        ["question-vectors"] => written(|out| question_vectors::write(out)),
+        ["questions"] => questions::run(Form::Short),
+        ["questions", "--full"] => questions::run(Form::Full),
         _ => fail(USAGE),
     }
 }

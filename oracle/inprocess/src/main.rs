@@ -2,13 +2,16 @@
 //! ../README.md.
 
 mod index;
-mod report;
+#[cfg(feature = "questions")]
+mod questions;
 mod tables;
 mod texts;
 
+use groups as report;
 use std::{env, process::ExitCode};
 
-const USAGE: &str = "usage: inprocess index|tables|lister [--full]";
+const USAGE: &str = "usage: inprocess index|tables|lister|questions [--full]
+       (questions: built with the feature of that name)";
 
 /// How much is compared.
 #[derive(Clone, Copy, PartialEq, Eq)]
@@ -27,6 +30,10 @@ fn main() -> ExitCode {
         ["tables", "--full"] => tables::run(Form::Full),
         ["lister"] => texts::run(Form::Short),
         ["lister", "--full"] => texts::run(Form::Full),
+        #[cfg(feature = "questions")]
+        ["questions"] => questions::run(Form::Short),
+        #[cfg(feature = "questions")]
+        ["questions", "--full"] => questions::run(Form::Full),
         _ => {
             eprintln!("{USAGE}");
             ExitCode::from(2)

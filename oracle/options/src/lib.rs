@@ -1,5 +1,6 @@
 //! The options of a build of the tables, as plain values: for the Rust and for the port.
 
+mod bounds;
 pub mod corners;
 
 /// The four numbers of a Cartesian range, and what is given of offset and scale.

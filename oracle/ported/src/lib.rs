@@ -4,9 +4,13 @@
 
 mod linked;
 mod load;
+#[cfg(feature = "questions")]
+mod questions;
 #[cfg(feature = "lister")]
 mod report;
 
+#[cfg(feature = "questions")]
+pub use questions::Asked;
 #[cfg(feature = "lister")]
 pub use report::report;
 

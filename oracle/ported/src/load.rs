@@ -10,10 +10,10 @@ pub const ZOOMS: usize = 32;
 pub const COLUMNS: [&str; 9] = ["x", "y", "seen", "id", "parent", "num", "ids", "coords", "near"];
 
 /// What stands for a number that is not given, or not part of the coordinate system: none may look at it.
-const NOT_GIVEN: f64 = f64::NAN;
+pub(crate) const NOT_GIVEN: f64 = f64::NAN;
 
 /// The range of a coordinate system that has none.
-const NO_RANGE: Range = Range {
+pub(crate) const NO_RANGE: Range = Range {
     min_x: NOT_GIVEN,
     min_y: NOT_GIVEN,
     max_x: NOT_GIVEN,

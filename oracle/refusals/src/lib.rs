@@ -1,7 +1,7 @@
 //! An independent reference for what a build refuses, written from 01's text: 'Numbers that bound a build'
 //! and 'Numbered replies'.
 
-use options::{Options, Plane, Range};
+use options::{Options, Plane};
 
 /// The most points of a build.
 pub const MOST_POINTS: usize = 1_048_576;
@@ -17,7 +17,7 @@ pub struct Refusal {
 /// entries, two coordinates of the index being one, and one of them for no more.
 pub fn refusal(options: &Options, xs: &[f64], ys: &[f64], room: usize) -> Option<Refusal> {
     let plain = |number| Some(Refusal { number, carried: 0 });
-    if !options_in_bounds(options) {
+    if !options.in_bounds() {
         return plain(1);
     }
     if xs.len() != ys.len() || xs.is_empty() || xs.len() > MOST_POINTS {
@@ -31,26 +31,6 @@ pub fn refusal(options: &Options, xs: &[f64], ys: &[f64], room: usize) -> Option
         return plain(4);
     }
     None
-}
-
-fn options_in_bounds(options: &Options) -> bool {
-    options.min_zoom <= options.max_zoom
-        && options.max_zoom <= 30
-        && (1..=65_535).contains(&options.node_size)
-        && (0.0..=65_536.0).contains(&options.radius)
-        && (1.0..=65_536.0).contains(&options.extent)
-        && match &options.plane {
-            Plane::Globe => true,
-            Plane::Cartesian(range) => range_in_bounds(range),
-        }
-}
-
-fn range_in_bounds(range: &Range) -> bool {
-    let Range { min_x, min_y, max_x, max_y, .. } = *range;
-    let offset = range.offset.unwrap_or(if min_y < min_x { min_y } else { min_x });
-    let scale = range.scale.unwrap_or(if max_x < max_y { max_y } else { max_x } - offset);
-    let all_finite = [min_x, min_y, max_x, max_y, offset, scale].iter().all(|v| v.is_finite());
-    all_finite && scale > 0.0
 }
 
 /// A point in table units.

@@ -17,6 +17,8 @@ pub fn cases<J: Judge>() -> Vec<Case> {
         case("L7", no_table::<J>),
         case("L8", moved_cluster::<J>),
         case("L9", moved_lamp::<J>),
+        case("L10", lamp_that_is_none::<J>),
+        case("L11", child_in_the_smallest_table::<J>),
     ]
 }
 
@@ -56,6 +58,18 @@ fn moved_lamp<J: Judge>() -> String {
     let mut build = load::<J>(WORKED, &[[0.5, 0.5]]);
     change(&mut build, 0, |entry| Entry { x: 0.25, ..entry });
     told(build.tile(0, 0.0, 0.0), spots)
+}
+
+fn lamp_that_is_none<J: Judge>() -> String {
+    let mut build = example::<J>();
+    change(&mut build, 2, |entry| Entry { id: 9.0, ..entry });
+    told(build.children(6), ids)
+}
+
+fn child_in_the_smallest_table<J: Judge>() -> String {
+    let mut build = example::<J>();
+    change(&mut build, 0, |entry| Entry { parent: 4.0, ..entry });
+    told(build.children(4), ids)
 }
 
 /// Changes the first entry of a table.

@@ -1,0 +1,118 @@
+//! One question: what the reference answers beside what the Rust says.
+
+use super::{
+    listed::Refused,
+    rust::{Rust, Said},
+};
+use crate::plain::Item;
+use questions::{Answer, Lent, Outcome, Question, Refusal, State};
+use std::{collections::BTreeMap, fmt::Debug};
+
+/// How the two compare.
+pub enum Verdict {
+    Same,
+    /// They differ as the page's rows of this code say.
+    Listed(&'static str),
+    Different(String),
+}
+
+/// A question to a state and its columns.
+pub struct Case<'a> {
+    pub state: &'a State,
+    pub lent: Lent<'a>,
+    pub question: Question,
+}
+
+impl Case<'_> {
+    /// Holds what the reference answers to what the Rust says.
+    pub fn judged(&self, outcome: &Outcome, rust: &Rust, said: &Said) -> Verdict {
+        let code = match outcome.refusal() {
+            None if self.agrees(outcome, said) => return Verdict::Same,
+            None => None,
+            Some(refusal) if error_of(said) == Some(refusal) => return Verdict::Same,
+            Some(refusal) => {
+                let refused = Refused { state: self.state, question: &self.question, refusal };
+                refused.listed(rust, said)
+            }
+        };
+        match code {
+            Some(code) => Verdict::Listed(code),
+            None => {
+                Verdict::Different(format!("reference {}, Rust {}", short(outcome), short(said)))
+            }
+        }
+    }
+
+    /// Whether an answer that is not refused is the Rust's.
+    fn agrees(&self, outcome: &Outcome, said: &Said) -> bool {
+        match (outcome, said) {
+            (Outcome::List(answer), Said::Places(places)) => {
+                answer.items.iter().map(|place| *place as usize).eq(places.iter().copied())
+            }
+            (Outcome::List(answer), Said::Items(items)) => self.lists(answer, items),
+            (Outcome::Tile(answer), Said::Items(items)) => {
+                let ours = answer.items.iter().map(|item| (self.entry(item.place), item.x, item.y));
+                let theirs =
+                    items.iter().map(|item| ((item.id, item.num), item.x as i64, item.y as i64));
+                ours.eq(theirs)
+            }
+            (Outcome::Number(ours), Said::Number(theirs)) => *ours == Ok(*theirs as u64),
+            (Outcome::Number(ours), Said::Items(items)) => *ours == Ok(distinct(items)),
+            _ => false,
+        }
+    }
+
+    /// Whether a list of places or lamps is these features.
+    fn lists(&self, answer: &Answer<u32>, items: &[Item]) -> bool {
+        let theirs = items.iter().map(|item| (item.id, item.num));
+        match self.question {
+            Question::Leaves { .. } => {
+                answer.items.iter().map(|lamp| (*lamp as usize, 1)).eq(theirs)
+            }
+            _ => answer.items.iter().map(|place| self.entry(*place)).eq(theirs),
+        }
+    }
+
+    /// Id and num of the entry at a place of the table that the question speaks of, as the Rust says them: a
+    /// lamp counts 1.
+    pub fn entry(&self, place: u32) -> (usize, usize) {
+        let at = self.position(place);
+        (self.lent.id[at] as usize, self.lent.num[at].max(1) as usize)
+    }
+
+    /// Where the entry at that place stands in the columns.
+    pub fn position(&self, place: u32) -> usize {
+        let zoom = match self.question {
+            Question::Box { zoom, .. } => self.state.zoom_used(zoom),
+            Question::Tile { z, .. } => self.state.zoom_used(z),
+            Question::Children { id } => (id - self.state.count) as usize % 32,
+            _ => unreachable!("a question that lists no places of a table"),
+        };
+        self.state.positions(zoom).start + place as usize
+    }
+}
+
+/// The sum of the counts of distinct features.
+fn distinct(items: &[Item]) -> u64 {
+    let nums: BTreeMap<usize, usize> = items.iter().map(|item| (item.id, item.num)).collect();
+    nums.values().map(|num| *num as u64).sum()
+}
+
+/// The refusal that the Rust's error stands for.
+fn error_of(said: &Said) -> Option<Refusal> {
+    match said {
+        Said::NoTree => Some(Refusal::NoTree),
+        Said::NoCluster => Some(Refusal::NoCluster),
+        Said::NoTile => Some(Refusal::EmptyTile),
+        Said::Items(_) | Said::Places(_) | Said::Number(_) => None,
+    }
+}
+
+/// The beginning of a value's text.
+fn short(value: &impl Debug) -> String {
+    let text = format!("{value:?}");
+    match text.char_indices().nth(240) {
+        Some((end, _)) => format!("{}..", &text[..end]),
+        None => text,
+    }
+}

@@ -1,0 +1,104 @@
+//! The patched Rust, asked a question of the port.
+
+use crate::{
+    judge::{Judge, Patched, Table},
+    plain::Item,
+};
+use asked::{Build, Columns};
+use questions::Question;
+
+/// What the Rust says to a question.
+#[derive(Debug, PartialEq)]
+pub enum Said {
+    /// The features of an answer.
+    Items(Vec<Item>),
+    /// The places that a search of an index answers.
+    Places(Vec<usize>),
+    Number(usize),
+    NoTree,
+    NoCluster,
+    NoTile,
+}
+
+/// An instance with its tables.
+pub struct Rust(Patched);
+
+impl Rust {
+    /// The points of a build, loaded.
+    pub fn loaded(build: &Build) -> Rust {
+        let loaded = Patched::load(&build.state.options, &lamps(build));
+        Rust(loaded.unwrap_or_else(|error| panic!("not loaded: {error}")))
+    }
+
+    /// The tables of a state, whoever made them, in the Rust's fields.
+    pub fn over(build: &Build) -> Rust {
+        let Build { state, columns, .. } = build;
+        let table = |zoom| {
+            let at = state.positions(zoom);
+            Table {
+                zoom,
+                ids: columns.ids[at.clone()].iter().map(|place| *place as usize).collect(),
+                coords: columns.coords[2 * at.start..2 * at.end].to_vec(),
+                data: at.flat_map(|at| row(columns, at)).collect(),
+            }
+        };
+        let tables = (state.coarsest()..=state.finest()).map(table).collect();
+        Rust(Patched::over(&state.options, &lamps(build), tables))
+    }
+
+    /// The children of a cluster.
+    pub fn children(&self, id: u32) -> Said {
+        said(self.0.children(id as usize))
+    }
+
+    /// Asks; a box has the corners that the Rust takes. The tally is the tile's.
+    pub fn ask(&self, question: &Question, corners: [f64; 4]) -> Said {
+        let Rust(rust) = self;
+        match *question {
+            Question::Box { zoom, .. } => said(rust.in_box(corners, zoom)),
+            Question::Ring { zoom, circle: [x, y, radius] } => {
+                Said::Places(rust.within(zoom, x, y, radius))
+            }
+            Question::Children { id } => self.children(id),
+            Question::Leaves { id, limit, offset } => {
+                Said::Items(rust.leaves(id as usize, limit as usize, offset as usize))
+            }
+            Question::ExpansionZoom { id } => Said::Number(rust.expansion_zoom(id as usize)),
+            Question::Tile { z, x, y } | Question::Tally { z, x, y } => {
+                said(rust.tile(z, f64::from(x), f64::from(y)))
+            }
+        }
+    }
+}
+
+/// The points of a build, one by one.
+fn lamps(build: &Build) -> Vec<[f64; 2]> {
+    let [xs, ys] = &build.points;
+    xs.iter().zip(ys).map(|(x, y)| [*x, *y]).collect()
+}
+
+/// The six numbers of an entry as the Rust keeps them.
+fn row(columns: &Columns, at: usize) -> [f64; 6] {
+    let or = |number: f64, unset: bool, stands: f64| if unset { stands } else { number };
+    let (seen, parent) = (columns.seen[at], columns.parent[at]);
+    [
+        columns.x[at],
+        columns.y[at],
+        or(f64::from(seen), seen == u8::MAX, f64::INFINITY),
+        f64::from(columns.id[at]),
+        or(f64::from(parent), parent == u32::MAX, -1.0),
+        f64::from(columns.num[at]),
+    ]
+}
+
+fn said(answer: Result<Vec<Item>, String>) -> Said {
+    match answer {
+        Ok(items) => Said::Items(items),
+        Err(error) => match error.as_str() {
+            "TreeNotFound" => Said::NoTree,
+            "ClusterNotFound" => Said::NoCluster,
+            "TileNotFound" => Said::NoTile,
+            other => panic!("no error of the Rust: {other}"),
+        },
+    }
+}

@@ -1,0 +1,26 @@
+//! An independent reference for the questions to a build, written from 01's text: 'Questions to a build',
+//! 'The index' and 'Numbered replies'. It takes any state and any lent columns.
+//!
+//! A question is answered whole, as a list and perhaps a refusal behind it; what that leaves in output
+//! columns, and the reply, follow from the list and from the room that there is.
+
+mod answer;
+mod boxes;
+mod children;
+mod ids;
+mod leaves;
+mod question;
+mod ring;
+mod search;
+mod state;
+mod tiles;
+
+pub use answer::{Answer, Refusal, Reply};
+pub use boxes::in_box;
+pub use children::{children, expansion_zoom};
+pub use ids::{decoded, encoded};
+pub use leaves::leaves;
+pub use question::{Out, Outcome, Question};
+pub use ring::ring;
+pub use state::{Lent, State, MOST_POINTS, ZOOMS};
+pub use tiles::{tally, tile, Item};

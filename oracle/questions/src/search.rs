@@ -1,0 +1,100 @@
+//! The search of an index, as 01's 'The index' says: of a split interval the median if it passes, then the
+//! right part, then the left; an unsplit interval slot by slot.
+
+use crate::{state::Index, Refusal};
+
+/// What is searched for.
+#[derive(Clone, Copy, Debug)]
+pub(crate) enum Query {
+    /// Least x, least y, greatest x, greatest y.
+    Range([f64; 4]),
+    /// x and y of the centre, and the radius.
+    Within([f64; 3]),
+}
+
+/// How a search ends before its end: the walk over its answers stops, or is refused.
+pub(crate) enum End {
+    Stopped,
+    Refused(Refusal),
+}
+
+impl From<Refusal> for End {
+    fn from(refusal: Refusal) -> End {
+        End::Refused(refusal)
+    }
+}
+
+/// What is done with an answered place.
+type Visit<'a> = dyn FnMut(usize) -> Result<(), End> + 'a;
+
+/// Walks over the places that a search answers, in order. A slot that names a place past the table refuses
+/// the walk.
+pub(crate) fn walk(
+    index: &Index,
+    query: &Query,
+    visit: &mut impl FnMut(usize) -> Result<(), End>,
+) -> Result<(), Refusal> {
+    let last = index.ids.len() - 1;
+    match (Search { index, query, visit }).interval(0, last, 0) {
+        Ok(()) | Err(End::Stopped) => Ok(()),
+        Err(End::Refused(refusal)) => Err(refusal),
+    }
+}
+
+/// A search on its way. An interval goes from left to right, both slots included; axis 0 is x.
+struct Search<'a, 'v> {
+    index: &'a Index<'a>,
+    query: &'a Query,
+    visit: &'a mut Visit<'v>,
+}
+
+impl Search<'_, '_> {
+    fn interval(&mut self, left: usize, right: usize, axis: usize) -> Result<(), End> {
+        if right - left < self.index.node_size + 1 {
+            return (left..=right).try_for_each(|slot| self.slot(slot));
+        }
+        let m = (left + right) / 2;
+        self.slot(m)?;
+        let (least, greatest) = self.edges(axis);
+        let at = self.index.coords[2 * m + axis];
+        if greatest >= at {
+            self.interval(m + 1, right, 1 - axis)?;
+        }
+        if least <= at {
+            self.interval(left, m - 1, 1 - axis)?;
+        }
+        Ok(())
+    }
+
+    /// Answers a slot that passes.
+    fn slot(&mut self, slot: usize) -> Result<(), End> {
+        if !self.passes(self.index.coords[2 * slot], self.index.coords[2 * slot + 1]) {
+            return Ok(());
+        }
+        let place = self.index.ids[slot] as usize;
+        if place >= self.index.ids.len() {
+            return Err(End::Refused(Refusal::Spoiled));
+        }
+        (self.visit)(place)
+    }
+
+    fn passes(&self, x: f64, y: f64) -> bool {
+        match *self.query {
+            Query::Range([min_x, min_y, max_x, max_y]) => {
+                min_x <= x && x <= max_x && min_y <= y && y <= max_y
+            }
+            Query::Within([qx, qy, radius]) => {
+                let (dx, dy) = (x - qx, y - qy);
+                dx * dx + dy * dy <= radius * radius
+            }
+        }
+    }
+
+    /// The least and the greatest edge on an axis, by which a part is skipped.
+    fn edges(&self, axis: usize) -> (f64, f64) {
+        match *self.query {
+            Query::Range(corners) => (corners[axis], corners[2 + axis]),
+            Query::Within(circle) => (circle[axis] - circle[2], circle[axis] + circle[2]),
+        }
+    }
+}

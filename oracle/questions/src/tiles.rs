@@ -1,0 +1,86 @@
+//! The items of a tile, and its tally.
+
+use crate::{
+    search::{walk, Query},
+    state::Table,
+    Answer, Lent, Refusal, State,
+};
+use std::collections::BTreeSet;
+
+/// An item of a tile: an entry's place in its table, and where it lies in the tile.
+#[derive(Clone, Copy, Debug, PartialEq, Eq)]
+pub struct Item {
+    pub place: u32,
+    pub x: i64,
+    pub y: i64,
+}
+
+/// The items of tile (z, x, y).
+pub fn tile(state: &State, lent: &Lent, z: u8, x: u32, y: u32) -> Answer<Item> {
+    Answer::of(|items| {
+        state.check_all(lent)?;
+        if z > 31 || [x, y].iter().any(|at| u64::from(*at) >= 1 << z) {
+            return Err(Refusal::Tile);
+        }
+        let table = state.table(lent, state.zoom_used(z));
+        let sheet = Sheet { table, extent: state.options.extent, z2: (1_u64 << z) as f64 };
+        sheet.items(state.options.radius / state.options.extent, [x, y].map(f64::from), items)?;
+        match items.is_empty() {
+            true => Err(Refusal::EmptyTile),
+            false => Ok(()),
+        }
+    })
+}
+
+/// The sum of num over the distinct entries that are listed for tile (z, x, y).
+pub fn tally(state: &State, lent: &Lent, z: u8, x: u32, y: u32) -> Result<u64, Refusal> {
+    let Answer { items, refusal } = tile(state, lent, z, x, y);
+    if let Some(refusal) = refusal {
+        return Err(refusal);
+    }
+    let table = state.table(lent, state.zoom_used(z));
+    let places: BTreeSet<u32> = items.iter().map(|item| item.place).collect();
+    Ok(places.iter().map(|place| u64::from(table.num[*place as usize])).sum())
+}
+
+/// A table at the scale of a tile.
+struct Sheet<'a> {
+    table: Table<'a>,
+    extent: f64,
+    z2: f64,
+}
+
+impl Sheet<'_> {
+    /// The tile with a margin of p, then the strips beyond the edges of the map.
+    fn items(&self, p: f64, [x, y]: [f64; 2], items: &mut Vec<Item>) -> Result<(), Refusal> {
+        let z2 = self.z2;
+        let (top, bottom) = ((y - p) / z2, (y + 1.0 + p) / z2);
+        self.found([(x - p) / z2, top, (x + 1.0 + p) / z2, bottom], [x, y], items)?;
+        if x == 0.0 {
+            self.found([1.0 - p / z2, top, 1.0, bottom], [z2, y], items)?;
+        }
+        if x == z2 - 1.0 {
+            self.found([0.0, top, p / z2, bottom], [-1.0, y], items)?;
+        }
+        Ok(())
+    }
+
+    /// Lists what lies in a box, as seen from a tile with this x and y.
+    fn found(
+        &self,
+        corners: [f64; 4],
+        [x, y]: [f64; 2],
+        items: &mut Vec<Item>,
+    ) -> Result<(), Refusal> {
+        walk(&self.table.index, &Query::Range(corners), &mut |place| {
+            let [cx, cy] = [self.table.x[place], self.table.y[place]];
+            if ![cx, cy].iter().all(|v| (0.0..=1.0).contains(v)) {
+                return Err(Refusal::Spoiled.into());
+            }
+            // Halves away from zero.
+            let within = |c: f64, from: f64| (self.extent * (c * self.z2 - from)).round() as i64;
+            items.push(Item { place: place as u32, x: within(cx, x), y: within(cy, y) });
+            Ok(())
+        })
+    }
+}
