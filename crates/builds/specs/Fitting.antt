@@ -1,8 +1,8 @@
 -- The converted coordinates of a build are binary64 numbers: Cartesian ones always, longitudes where the given ys are. In antt a value of type Float need not be
 -- one, it may have any number of digits; what an f64 column holds always is. Assumes nothing.
 use mathlib.Core.Path.{_≡_, sym, subst}
-use mathlib.Core.List.{List, [], _∷_}
-use Prim.Native.Nat.{ℕ, zero, suc, _<_}
+use mathlib.Core.List.{List}
+use Prim.Native.Nat.{ℕ, _<_}
 use native.Mathlib.Omega.{arith}
 use lib.Dec.{T}
 use lib.ListN.{length, getD}
@@ -13,9 +13,9 @@ use Rattle.range.specs.declared.CoordinateSystem.{CoordinateSystem}
 use Rattle.range.specs.declared.CoordinateSystem.the-variants.{LatLng, Cartesian}
 use Rattle.range.specs.declared.DataRange.{DataRange}
 use Rattle.range.specs.Range.{converted, normalized, mercatorX, fullCircle, offsetOf, scaleOf}
+use Rattle.kdbush.specs.All.{All, all-of}
 use Rattle.tables.specs.declared.Entry.{Entry}
-use Rattle.tables.specs.Entries.{Table, entry}
-use Rattle.zoom.specs.Keeps.{All}
+use Rattle.tables.specs.Entries.{entry, none}
 use Rattle.supercluster.specs.Fill.{lamps, lamps-length, lamps-at}
 
 -- a float that binary64 holds
@@ -54,14 +54,8 @@ fitting-longitude xs ys f k h = (mercator-fits (getD xs k nan), f k h)
 
 -- ---- of the finest table
 
--- what holds at each place holds of the table
-pub all-of : (P : Entry → Type 0) (t : Table) → ((i : ℕ) → i < length t → P (entry t i)) → All P t
-unfolding All
-all-of P [] f = tt
-all-of P (e ∷ t) f = (f zero (omega arith), all-of P t (λ i h. f (suc i) (omega arith)))
-
 pub lamps-held : (c : CoordinateSystem) (xs ys : List Float) → length ys ≡ length xs → Fitting c xs ys → All Held (lamps c xs ys)
-lamps-held c xs ys e f = all-of Held (lamps c xs ys) at
+lamps-held c xs ys e f = all-of Held (lamps c xs ys) none at
   where
     at : (i : ℕ) → i < length (lamps c xs ys) → Held (entry (lamps c xs ys) i)
     at i h =

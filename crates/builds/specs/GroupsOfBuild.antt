@@ -7,11 +7,12 @@ use native.Mathlib.Omega.{arith}
 use native.Mathlib.Nat.{add-suc}
 use lib.ListN.{length}
 use lib.Ieee.{Float}
+use Rattle.kdbush.specs.All.{all-of}
 use Rattle.kdbush.specs.Members.{In, Distinct}
 use Rattle.tables.specs.Bounds.{options-are}
 use Rattle.tables.specs.declared.Entry.{Entry}
 use Rattle.tables.specs.declared.Options.{Options}
-use Rattle.tables.specs.Entries.{Table, entry}
+use Rattle.tables.specs.Entries.{Table, entry, none}
 use Rattle.tables.specs.Radius.{radiusAt}
 use Rattle.groups.specs.Groups.{Group, entryOf, around}
 use Rattle.groups.specs.OneZoom.{OneZoom}
@@ -20,7 +21,7 @@ use Rattle.supercluster.specs.Fill.{lamps, lamps-length, lamps-at, finest-fine,
 use Rattle.supercluster.specs.Ready.{Accepted, able}
 use Rattle.supercluster.specs.Running.{Able}
 use Rattle.builds.specs.Came.{came, came-first, came-next, tableAt, table-left, down}
-use Rattle.builds.specs.Fitting.{Fitting, all-of, lamps-held}
+use Rattle.builds.specs.Fitting.{Fitting, lamps-held}
 use Rattle.builds.specs.Steps.{Coming, Grouped, Lone, nearAt, groupsOn, zoom-grouped, coming-next}
 
 -- the places that the zoom z answers around each place of table z + 1
@@ -68,7 +69,7 @@ module _ (o : Options) (xs ys : List Float) (a : Accepted o xs ys) (f : Fitting 
         lamps = finest-total ps 0 ∙ l;
         few = omega (arith, l);
         held = lamps-held c xs ys (a .same) f;
-        lone = all-of Lone (lamps c xs ys) (λ i h. ap (λ (e : Entry). e .parent) (lamps-at c xs ys (a .same) i (omega (arith, l, h))));
+        lone = all-of Lone (lamps c xs ys) none (λ i h. ap (λ (e : Entry). e .parent) (lamps-at c xs ys (a .same) i (omega (arith, l, h))));
       }
 
   -- each table as it came

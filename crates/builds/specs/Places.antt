@@ -7,13 +7,14 @@ use Prim.Native.Nat.{ℕ, zero, suc, _≤_, _<_}
 use native.Mathlib.Omega.{arith}
 use lib.Dec.{eqb}
 use lib.ListN.{length, getD, length-map}
+use Rattle.kdbush.specs.All.{all-getD}
 use Rattle.tables.specs.declared.Entry.{Entry}
 use Rattle.tables.specs.Entries.{Table, entry, none, never, unset, marked}
 use Rattle.tables.specs.Ids.{clusterId}
 use Rattle.groups.specs.Sums.{one, hit, below, count, count-head, sum-append}
 use Rattle.groups.specs.Groups.{Group, copied, joined, entryOf, from, froms, took}
 use Rattle.groups.specs.Literal.{next-entry}
-use Rattle.groups.specs.OneZoom.{Copied, Joined, Fits, OneZoom, every-at}
+use Rattle.groups.specs.OneZoom.{Copied, Joined, Fits, OneZoom}
 
 -- the group at j
 abbrev pub groupAt : List Group → ℕ → Group
@@ -99,7 +100,7 @@ module _ (n least z : ℕ) (near : ℕ → List ℕ) (T T' U : Table) (gs : List
   sole k a b h l = let w = long in sole-at k gs (at-most-once k) a b (omega arith) (omega arith)
 
   fit-at : (j : ℕ) → j < length U → Fits n least z near T T' (groupAt gs j)
-  fit-at j h = every-at (copied 0 none) (Z .fit) j (let w = long in omega arith)
+  fit-at j h = all-getD (Fits n least z near T T') gs j (copied 0 none) (Z .fit) (let w = long in omega arith)
 
   is-entry : (j : ℕ) → j < length U → entry U j ≡ entryOf (groupAt gs j)
   is-entry j h = ap (λ (q : Table). entry q j) u ∙ next-entry gs (copied 0 none) j (let w = long in omega arith)

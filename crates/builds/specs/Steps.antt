@@ -13,17 +13,18 @@ use lib.Ieee.{Float, binary64}
 use lib.Ieee.Fits.{div-fits}
 use Rattle.floats.specs.Numbers.{float}
 use Rattle.kdbush.specs.declared.Query.the-variants.{Within}
+use Rattle.kdbush.specs.All.{All, all-map}
 use Rattle.kdbush.specs.Members.{In, Distinct}
 use Rattle.tables.specs.declared.Entry.{Entry}
 use Rattle.tables.specs.Entries.{Table, entry, unset, unseen}
 use Rattle.tables.specs.Radius.{radiusAt, radius-fine}
-use Rattle.zoom.specs.Keeps.{All, all-at, all-map}
+use Rattle.zoom.specs.Keeps.{all-at}
 use Rattle.zoom.specs.Lamps.{total}
 use Rattle.zoom.specs.Sound.{Body, Next, Sound, cluster-sound}
 use Rattle.zoom.specs.Zoom.{Scan}
 use Rattle.groups.specs.Groups.{Group, copied, joined, entryOf, around, groupsOf}
 use Rattle.groups.specs.Literal.{cluster-groups}
-use Rattle.groups.specs.OneZoom.{Every, every-nil, every-cons, Copied, Joined, Fits, OneZoom}
+use Rattle.groups.specs.OneZoom.{Copied, Joined, Fits, OneZoom}
 use Rattle.groups.specs.Fits.{one-zoom}
 use Rattle.supercluster.specs.Build.{Plan, nearIn, zoomed}
 use Rattle.supercluster.specs.Running.{Able, total-some, slots-promised}
@@ -62,11 +63,11 @@ pub record Grouped (p : Plan) (z : ℕ) (t : Table) : Type 0 where
 
 module _ (n least z : ℕ) (near : ℕ → List ℕ) (T T' : Table) (P : Entry → Type 0) (keeps : (k : ℕ) (e : Entry) → Copied n least z near T T' k e → P e)
     (gets : (i : ℕ) (ks : List ℕ) (e : Entry) → Joined n least z near T T' i ks e → P e) where
-  pub all-next : (gs : List Group) → Every (Fits n least z near T T') gs → All P (map entryOf gs)
+  pub all-next : (gs : List Group) → All (Fits n least z near T T') gs → All P (map entryOf gs)
   unfolding All
-  all-next [] every-nil = tt
-  all-next (copied k e ∷ gs) (every-cons p ps) = (keeps k e p, all-next gs ps)
-  all-next (joined i ks e ∷ gs) (every-cons p ps) = (gets i ks e p, all-next gs ps)
+  all-next [] w = tt
+  all-next (copied k e ∷ gs) w = (keeps k e (w .0), all-next gs (w .1))
+  all-next (joined i ks e ∷ gs) w = (gets i ks e (w .0), all-next gs (w .1))
 
 -- ---- one zoom
 

@@ -2,12 +2,12 @@
 -- with the same counts are each other in another order. Assumes nothing.
 use mathlib.Core.Path.{_≡_, refl, sym, ap, _∙_, subst}
 use mathlib.Core.Logic.{inr, ⊎-elim}
-use mathlib.Core.List.{List, [], _∷_, _++_, List·Permᴰ, List·Permᴰ·nil, List·Permᴰ·cons, List·Permᴰ·trans, Permᴰ·symm, Permᴰ·middle}
+use mathlib.Core.List.{List, [], _∷_, _++_, map, List·Permᴰ, List·Permᴰ·nil, List·Permᴰ·cons, List·Permᴰ·trans, Permᴰ·symm, Permᴰ·middle}
 use Prim.Native.Nat.{ℕ, _≤_, _<_}
 use native.Mathlib.Omega.{arith}
 use lib.Dec.{eqb}
+use Rattle.kdbush.specs.All.{All, AllBelow}
 use Rattle.kdbush.specs.Members.{In, NotIn, Distinct}
-use Rattle.kdbush.specs.Promise.{AllBelow}
 use Rattle.groups.specs.Sums.{one, hit, below, count, count-head, sum-append, range, range-in, range-out}
 
 -- ---- from kdbush's words to counts
@@ -59,10 +59,16 @@ count-in k (j ∷ js) c = ⊎-elim here (later (λ w. count-in k js w)) (hit k j
     later ih e = let b = e .1 in let w = ih (omega arith) in (j ∷ w .0, w .1, ap (λ (m : List ℕ). j ∷ m) (w .2))
 
 pub count-below : (n : ℕ) (l : List ℕ) → ((k : ℕ) → n ≤ k → count k l ≡ 0) → AllBelow n l
-unfolding AllBelow
+unfolding All
 count-below n [] h = tt
 count-below n (j ∷ js) h =
     (⊎-elim (λ a. a) (λ a. absurd (let b = h j a in let c = count-head j js in omega arith)) (below j n), count-below n js (λ k a. let b = h k a in omega arith))
+
+-- what each counted number is mapped to has the property
+pub all-counted : {A : Type 0} (P : A → Type 0) (g : ℕ → A) (ks : List ℕ) → ((k : ℕ) → 0 < count k ks → P (g k)) → All P (map g ks)
+unfolding All
+all-counted P g [] h = tt
+all-counted P g (k ∷ ks) h = (h k (count-head k ks), all-counted P g ks (λ j c. h j (omega arith)))
 
 -- ---- the same counts are the same places in another order
 

@@ -3,7 +3,7 @@
 use mathlib.Core.Path.{_≡_, refl, sym, ap, _∙_, subst}
 use mathlib.Core.Logic.{inr, ⊎-elim}
 use mathlib.Core.List.{List, _∷_}
-use mathlib.Core.Bool.{Bool, true, false, not, _&&_}
+use mathlib.Core.Bool.{Bool, true, false, not}
 use Prim.Native.Nat.{ℕ, _≤_, _<_}
 use native.Mathlib.Omega.{arith}
 use borrow.Author.Tests.{ltb-true, leb-true, ne-eqb}
@@ -11,24 +11,22 @@ use lib.Dec.{ltb, leb, eqb}
 use lib.ListN.{length, List·getD-eq-default}
 use lib.Ieee.{Float, binary64, mul, div}
 use Rattle.floats.specs.Numbers.{float}
+use Rattle.kdbush.specs.All.{All, all-append}
+use Rattle.kdbush.specs.Bounds.{and-both}
 use Rattle.kdbush.specs.Members.{In, Distinct}
 use Rattle.tables.specs.declared.Entry.{Entry}
 use Rattle.tables.specs.Entries.{Table, entry, none, unset, unseen, marked}
 use Rattle.tables.specs.Ids.{clusterId, id-small}
 use Rattle.zoom.specs.Zoom.{Scan, cluster}
 use Rattle.groups.specs.Sums.{pick, not-both, one, eqb-same, below, sum, count, count-head, sum-ext, keep, keep-ext, keep-in, range, range-in, range-out}
-use Rattle.groups.specs.Groups.{Group, copied, joined, unseenAt, turn, weighed, without, meanOf, others, members, total, joins, centreAt, groupsAt, after, around, groupsOf}
+use Rattle.groups.specs.Groups.{Group, copied, unseenAt, turn, weighed, without, meanOf, others, members, total, joins, groupsAt, after, around, groupsOf}
+use Rattle.groups.specs.Counts.{all-counted}
 use Rattle.groups.specs.Sweeps.{inside, seen-alike}
 use Rattle.groups.specs.Run.{Run, stop, pass, acts, run, Answers, members-here, members-unseen, others-are, after-in, after-out, after-done, after-seen, members-split, length-after, run-length, frame}
 use Rattle.groups.specs.Walks.{weighed-ext}
 use Rattle.groups.specs.Literal.{answers, cluster-groups}
 use Rattle.groups.specs.Once.{groups-once, groups-none}
-use Rattle.groups.specs.OneZoom.{Every, every-nil, every-cons, every-append, every-map, Copied, Fits, OneZoom}
-
-both : (a b : Bool) → (a && b) ≡ true → (a ≡ true) × (b ≡ true)
-both true true e = (refl, refl)
-both true false e = (refl, e)
-both false b e = absurd (not-both false e refl)
+use Rattle.groups.specs.OneZoom.{Copied, Fits, OneZoom}
 
 -- a member's parent is no other cluster's
 turn-parent : (n z : ℕ) (b : Bool) (i j : ℕ) (e : Entry) → (i ≡ j → ⊥) → (e .parent ≡ clusterId n z j → ⊥) → turn b z (clusterId n z i) e .parent ≡ clusterId n z j → ⊥
@@ -94,7 +92,7 @@ module _ (n least z : ℕ) (near : ℕ → List ℕ) (T : Table) (A : Answers (l
 
     lots : joins least z near d i ≡ true → (entry T i .num < total z near d i) × (least ≤ total z near d i)
     lots m =
-        let w = both (ltb (entry d i .num) (total z near d i)) (leb least (total z near d i)) m in
+        let w = and-both (ltb (entry d i .num) (total z near d i)) (leb least (total z near d i)) m in
         let a : entry d i .num < total z near d i = ltb-true (entry d i .num) (total z near d i) (w .0) in
         (subst (λ (e : Entry). e .num < total z near d i) (h .asT i u) a, leb-true least (total z near d i) (w .1))
 
@@ -128,25 +126,27 @@ module _ (n least z : ℕ) (near : ℕ → List ℕ) (T : Table) (A : Answers (l
             e ∙ sym (ne-eqb (entry d' k .parent) (clusterId n z i) (λ p. h .clear k i (count-head i is) (ap (λ (x : Entry). x .parent) (sym f) ∙ p)))
 
     groups-fit : (b : Bool) → joins least z near d i ≡ b → ((k : ℕ) → unseenAt z (after n z near b d i) k ≡ false → entry d' k ≡ entry (after n z near b d i) k) →
-        Every (Fits n least z near T d') (groupsAt n z near b d i)
-    groups-fit true m fr =
-        every-cons {g = joined i (members z near d i) (centreAt n z near d i)}
-        (record {
-          place = at-T;
-          has = members-here z near d i i u ∙ A .self i at-T;
-          member = member-in;
-          made-id = refl;
-          made-num = nums;
-          made-x = mean (λ e. e .x);
-          made-y = mean (λ e. e .y);
-          made-seen = refl;
-          made-parent = refl;
-          beyond = lots m .0;
-          plenty = lots m .1;
-          finer = member-end true fr;
-          kids = kids-are fr;
-        }) every-nil
-    groups-fit false m fr = every-map {P = Fits n least z near T d'} (λ k. copied k (marked z (entry d k))) (i ∷ others z near d i) each
+        All (Fits n least z near T d') (groupsAt n z near b d i)
+    unfolding All
+    groups-fit true m fr = (
+      record {
+        place = at-T;
+        has = members-here z near d i i u ∙ A .self i at-T;
+        member = member-in;
+        made-id = refl;
+        made-num = nums;
+        made-x = mean (λ e. e .x);
+        made-y = mean (λ e. e .y);
+        made-seen = refl;
+        made-parent = refl;
+        beyond = lots m .0;
+        plenty = lots m .1;
+        finer = member-end true fr;
+        kids = kids-are fr;
+      },
+      tt,
+    )
+    groups-fit false m fr = all-counted (Fits n least z near T d') (λ k. copied k (marked z (entry d k))) (i ∷ others z near d i) each
       where
         each : (k : ℕ) → 0 < count k (i ∷ others z near d i) → Copied n least z near T d' k (marked z (entry d k))
         each k c =
@@ -154,10 +154,12 @@ module _ (n least z : ℕ) (near : ℕ → List ℕ) (T : Table) (A : Answers (l
             let w : 0 < count k (members z near d i) = omega arith in
             record { place = member-in k w; same = ap (λ (x : Entry). marked z x) (member-as k w); finer = member-end false fr k w }
 
-  fits : {is : List ℕ} {d d' : Table} {gs : List Group} → Run n least z near is d d' gs → Before is d → Every (Fits n least z near T d') gs
-  fits stop h = every-nil
+  fits : {is : List ℕ} {d d' : Table} {gs : List Group} → Run n least z near is d d' gs → Before is d → All (Fits n least z near T d') gs
+  unfolding All
+  fits stop h = tt
   fits (pass e r) h = fits r (before-pass h)
-  fits (acts {i = i} {is = is} {d = d} {d' = d'} b m u r) h = every-append (groups-fit i is d d' u h b m (frame n least z (length T) near A r)) (fits r (before-acts b u h))
+  fits (acts {i = i} {is = is} {d = d} {d' = d'} {rs = rs} b m u r) h =
+      all-append (Fits n least z near T d') (groupsAt n z near b d i) rs (groups-fit i is d d' u h b m (frame n least z (length T) near A r)) (fits r (before-acts b u h))
 
 -- ---- one zoom of a table of which nothing is seen and nothing has a parent
 

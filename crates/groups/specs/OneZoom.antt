@@ -2,39 +2,19 @@
 -- zoom: the places of the groups are those of the table in another order, and the clusters it made have different ids. Assumes nothing.
 use mathlib.Core.Path.{_≡_, sym, ap, _∙_, subst}
 use mathlib.Core.Logic.{⊎-elim}
-use mathlib.Core.List.{List, [], _∷_, _++_, map, List·Permᴰ}
+use mathlib.Core.List.{List, [], _∷_, List·Permᴰ}
 use Prim.Native.Nat.{ℕ, zero, suc, _+_, _≤_, _<_}
 use native.Mathlib.Omega.{arith}
 use lib.Dec.{eqb}
 use lib.ListN.{length, getD}
+use Rattle.kdbush.specs.All.{All, AllBelow, all-getD}
 use Rattle.kdbush.specs.Members.{NotIn, Distinct}
-use Rattle.kdbush.specs.Promise.{AllBelow}
 use Rattle.tables.specs.declared.Entry.{Entry}
 use Rattle.tables.specs.Entries.{Table, entry, never, unset, marked}
 use Rattle.tables.specs.Ids.{clusterId}
-use Rattle.groups.specs.Sums.{one, below, sum, count, count-head, sum-append, keep, range}
+use Rattle.groups.specs.Sums.{one, below, sum, count, sum-append, keep, range}
 use Rattle.groups.specs.Counts.{count-distinct, count-below, permutes}
 use Rattle.groups.specs.Groups.{Group, copied, joined, from, froms, took, without, meanOf}
-
--- ---- a property of each group
-
--- each group has P
-pub data Every (P : Group → Type 0) : List Group → Type 0 where
-  every-nil : Every P []
-  every-cons : {g : Group} {gs : List Group} → P g → Every P gs → Every P (g ∷ gs)
-
-pub every-append : {P : Group → Type 0} {rs qs : List Group} → Every P rs → Every P qs → Every P (rs ++ qs)
-every-append every-nil q = q
-every-append (every-cons p ps) q = every-cons p (every-append ps q)
-
-pub every-map : {P : Group → Type 0} (g : ℕ → Group) (ks : List ℕ) → ((k : ℕ) → 0 < count k ks → P (g k)) → Every P (map g ks)
-every-map g [] h = every-nil
-every-map g (k ∷ ks) h = every-cons (h k (count-head k ks)) (every-map g ks (λ j c. h j (omega arith)))
-
-pub every-at : {P : Group → Type 0} {gs : List Group} (d : Group) → Every P gs → (j : ℕ) → j < length gs → P (getD gs j d)
-every-at d every-nil j h = absurd (omega arith)
-every-at d (every-cons p ps) zero h = p
-every-at d (every-cons p ps) (suc j) h = every-at d ps j (omega arith)
 
 -- ---- what the groups are. n is the number of points, least is min_points, z the zoom, `near i` the places answered around i, T the table, T' the table afterwards
 
@@ -76,7 +56,7 @@ module _ (n least z : ℕ) (near : ℕ → List ℕ) (T : Table) where
     pub long : length T' ≡ length T
     pub once : (k : ℕ) → k < length T → count k (froms gs) ≡ 1
     pub none : (k : ℕ) → length T ≤ k → count k (froms gs) ≡ 0
-    pub fit : Every (Fits T') gs
+    pub fit : All (Fits T') gs
 
 -- the ids of the clusters that were made
 abbrev pub madeIds : List Group → List ℕ
@@ -103,29 +83,31 @@ origin-of n z i j h = omega arith
 
 module _ (n least z : ℕ) (near : ℕ → List ℕ) (T T' : Table) where
   -- an id of a cluster whose origin is in none of the groups is not theirs
-  id-new : (i : ℕ) (gs : List Group) → count i (froms gs) ≡ 0 → Every (Fits n least z near T T') gs → NotIn (clusterId n z i) (madeIds gs)
-  id-new i [] c every-nil = tt
-  id-new i (copied k e ∷ gs) c (every-cons p ps) = id-new i gs (omega arith) ps
-  id-new i (joined j ks e ∷ gs) c (every-cons p ps) =
+  id-new : (i : ℕ) (gs : List Group) → count i (froms gs) ≡ 0 → All (Fits n least z near T T') gs → NotIn (clusterId n z i) (madeIds gs)
+  unfolding All
+  id-new i [] c w = tt
+  id-new i (copied k e ∷ gs) c w = id-new i gs (omega arith) (w .1)
+  id-new i (joined j ks e ∷ gs) c w =
       let a = sum-append (λ x. one (eqb i x)) ks (froms gs) in
-      (other, id-new i gs (omega arith) ps)
+      (other, id-new i gs (omega arith) (w .1))
     where
       other : clusterId n z i ≡ e .id → ⊥
       other h =
           let a = sum-append (λ x. one (eqb i x)) ks (froms gs) in
-          let b : count i ks ≡ count j ks = ap (λ (k : ℕ). count k ks) (origin-of n z i j (h ∙ p .made-id)) in
-          let d = p .has in
+          let b : count i ks ≡ count j ks = ap (λ (k : ℕ). count k ks) (origin-of n z i j (h ∙ w .0 .made-id)) in
+          let d = w .0 .has in
           omega arith
 
-  ids-apart : (gs : List Group) → ((k : ℕ) → count k (froms gs) ≤ 1) → Every (Fits n least z near T T') gs → Distinct (madeIds gs)
-  ids-apart [] c every-nil = tt
-  ids-apart (copied k e ∷ gs) c (every-cons p ps) = ids-apart gs (λ j. let a = c j in omega arith) ps
-  ids-apart (joined i ks e ∷ gs) c (every-cons p ps) =
+  ids-apart : (gs : List Group) → ((k : ℕ) → count k (froms gs) ≤ 1) → All (Fits n least z near T T') gs → Distinct (madeIds gs)
+  unfolding All
+  ids-apart [] c w = tt
+  ids-apart (copied k e ∷ gs) c w = ids-apart gs (λ j. let a = c j in omega arith) (w .1)
+  ids-apart (joined i ks e ∷ gs) c w =
       let a = sum-append (λ x. one (eqb i x)) ks (froms gs) in
       let b = c i in
-      let d = p .has in (
-        rw (p .made-id) (id-new i gs (omega arith) ps),
-        ids-apart gs (λ j. let a = c j in let b = sum-append (λ x. one (eqb j x)) ks (froms gs) in omega arith) ps,
+      let d = w .0 .has in (
+        rw (w .0 .made-id) (id-new i gs (omega arith) (w .1)),
+        ids-apart gs (λ j. let a = c j in let b = sum-append (λ x. one (eqb j x)) ks (froms gs) in omega arith) (w .1),
       )
 
   module _ (gs : List Group) (Z : OneZoom n least z near T T' gs) where
@@ -150,8 +132,8 @@ module _ (n least z : ℕ) (near : ℕ → List ℕ) (T T' : Table) where
     -- the same by place: clusters at two places of the next table have different ids. g is what getD answers past the end
     pub made-apart : (g : Group) (a b i j : ℕ) (ks ls : List ℕ) (e f : Entry) → a < b → b < length gs → getD gs a g ≡ joined i ks e → getD gs b g ≡ joined j ls f → e .id ≡ f .id → ⊥
     made-apart g a b i j ks ls e f h k p q s =
-        let u : Joined n least z near T T' i ks e = subst (λ (r : Group). Fits n least z near T T' r) p (every-at g (Z .fit) a (omega arith)) in
-        let v : Joined n least z near T T' j ls f = subst (λ (r : Group). Fits n least z near T T' r) q (every-at g (Z .fit) b k) in
+        let u : Joined n least z near T T' i ks e = subst (λ (r : Group). Fits n least z near T T' r) p (all-getD (Fits n least z near T T') gs a g (Z .fit) (omega arith)) in
+        let v : Joined n least z near T T' j ls f = subst (λ (r : Group). Fits n least z near T T' r) q (all-getD (Fits n least z near T T') gs b g (Z .fit) k) in
         let o : j ≡ i = origin-of n z j i (sym (v .made-id) ∙ sym s ∙ u .made-id) in
         let c = pair-count i g gs a b h k in
         let d : count i (from (getD gs a g)) ≡ count i ks = ap (λ (r : Group). count i (from r)) p in

@@ -2,7 +2,7 @@
 use mathlib.Core.Path.{_≡_, refl, sym, ap, _∙_}
 use mathlib.Core.Bool.{Bool, true, false, cond, _&&_}
 use mathlib.Core.List.{List, [], _∷_}
-use Prim.Native.Nat.{ℕ, suc, _+_, _*_, _≤_, _<_}
+use Prim.Native.Nat.{ℕ, _+_, _*_, _≤_, _<_}
 use native.Mathlib.Numerals.{add-one}
 use native.Mathlib.Omega.{arith}
 use borrow.Author.Tests.{le-leb, lt-leb}
@@ -14,23 +14,22 @@ use Rattle.floats.specs.Unit.{in01}
 use Rattle.kdsort.specs.Cols.{Cols}
 use Rattle.kdsort.specs.Sort.{indexed}
 use Rattle.kdbush.specs.declared.Query.{Query}
-use Rattle.kdbush.specs.declared.Found.{Found as Came}
 use Rattle.kdbush.specs.declared.Found.the-variants.{All, Spoiled as Came·Spoiled}
 use Rattle.kdbush.specs.declared.Next.{Next}
 use Rattle.kdbush.specs.declared.Next.the-variants.{Slot as Next·Slot, Done as Next·Done}
 use Rattle.kdbush.specs.declared.BuildReply.{BuildReply}
 use Rattle.kdbush.specs.declared.BuildReply.the-variants.{Done as Build·Done, Options, Count, Point, Tables}
-use Rattle.kdbush.specs.declared.SearchReply.{SearchReply}
 use Rattle.kdbush.specs.declared.SearchReply.the-variants.{Found, Box, NoRoom, Spoiled}
 use Rattle.kdbush.specs.declared.Step.{Step}
 use Rattle.kdbush.specs.declared.Step.the-variants.{Slot, Done, Box as Step·Box, Spoiled as Step·Spoiled}
 use Rattle.kdbush.specs.declared.Outside.{Outside}
 use Rattle.kdbush.specs.declared.Outside.the-variants.{At, Nothing}
 use Rattle.kdbush.specs.Query.{queryOk}
+use Rattle.kdbush.specs.Bounds.{both-true}
 use Rattle.kdbush.specs.Slots.{answers}
-use Rattle.kdbush.specs.Run.{ran, run, reply, pickReply, sound, whole, filled, places}
+use Rattle.kdbush.specs.Run.{ran, run, pickReply, sound, whole, filled}
 use Rattle.kdbush.specs.Cursor.{headOf, restOf}
-use Rattle.kdbush.specs.Reply.{nodeSizeOk, countOk, coordsOk, firstOutside, pointed, checked, builtBy, built, found, told, indexOk, listed, listedColumn, searched, columnAfter, nextStep, ending, walk, walkAfter, firstStep, afterStep}
+use Rattle.kdbush.specs.Reply.{nodeSizeOk, countOk, coordsOk, firstOutside, pointed, checked, builtBy, built, found, told, indexOk, listed, listedColumn, searched, columnAfter, nextStep, ending, firstStep, afterStep}
 use Rattle.kdbush.proofs.Runs.{ends}
 
 -- ---- tests
@@ -40,9 +39,6 @@ yes b x y e = rw e
 
 no : {A : Type 0} (b : Bool) (x y : A) → b ≡ false → cond b x y ≡ y
 no b x y e = rw e
-
-pub both-true : {a b : Bool} → a ≡ true → b ≡ true → (a && b) ≡ true
-both-true e f = rw (e, f)
 
 pub first-false : {a : Bool} (b : Bool) → a ≡ false → (a && b) ≡ false
 first-false b e = rw e

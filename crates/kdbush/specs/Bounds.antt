@@ -1,10 +1,13 @@
--- What the bounds of a node size, a count and an index say, as numbers. Assumes nothing.
+-- What the bounds of a node size, a count and an index say, as numbers, and what a test of two says of each. Assumes nothing.
 use mathlib.Core.Path.{_≡_, refl, sym}
 use mathlib.Core.Bool.{Bool, true, false, _&&_, true≢false}
 use Prim.Native.Nat.{ℕ, _*_, _≤_}
 use lib.Dec.{leb}
 use borrow.Author.Tests.{leb-true}
 use Rattle.kdbush.specs.Reply.{nodeSizeOk, countOk, coordsOk}
+
+pub both-true : {a b : Bool} → a ≡ true → b ≡ true → (a && b) ≡ true
+both-true e f = rw (e, f)
 
 pub and-both : (a b : Bool) → (a && b) ≡ true → (a ≡ true) × (b ≡ true)
 and-both true b e = (refl, e)

@@ -1,4 +1,5 @@
--- Definitions that contracts cite: Query, Slots, Run (its first), Cursor, Reply. All else is laws and theorems about them.
+-- Definitions that contracts cite: Query, Slots, Run (its first), Cursor, Reply; in the crates above also All (its first two) and Promise's `Promised`. All else
+-- is laws and theorems about them.
 pub mod Query
 pub mod Slots
 pub mod Run
@@ -6,6 +7,7 @@ pub mod Cursor
 pub mod Reply
 pub mod Bounds
 pub mod Walk
+pub mod All
 pub mod Members
 pub mod Sound
 pub mod Complete

@@ -26,6 +26,7 @@ use Rattle.kdbush.specs.Slots.{answers}
 use Rattle.kdbush.specs.Run.{places, sound, whole}
 use Rattle.kdbush.specs.Reply.{coordsOk, found, listed, listedColumn, searched, columnAfter}
 use Rattle.kdbush.specs.Walk.{no-nil, answers-length}
+use Rattle.kdbush.specs.All.{All, AllBelow}
 use Rattle.kdbush.specs.Members.{In, NotIn, Distinct, Between}
 use Rattle.kdbush.specs.Sound.{answers-sound, answers-between, answers-distinct}
 use Rattle.kdbush.specs.Complete.{Inside, answers-complete, in-box}
@@ -49,13 +50,8 @@ to-place ids (y ∷ pre) i post =
     let w = to-place ids pre i post in
     (getD ids y 0 ∷ w .0, w .1, ap (λ (z : List ℕ). getD ids y 0 ∷ z) (w .2))
 
--- each place is below n
-unfoldable pub AllBelow : ℕ → List ℕ → Type 0
-AllBelow n [] = Unit
-AllBelow n (k ∷ ks) = (k < n) × AllBelow n ks
-
 places-below : (ids : List ℕ) (n : ℕ) → ((p : ℕ) → p < n → getD ids p 0 < n) → (l : List ℕ) → Between 0 n l → AllBelow n (places ids l)
-unfolding places Between AllBelow
+unfolding places Between All
 places-below ids n f [] w = tt
 places-below ids n f (k ∷ ks) w = (f k (w .1), places-below ids n f ks (w .2))
 
@@ -71,12 +67,12 @@ distinct-places ids n f [] w d = tt
 distinct-places ids n f (k ∷ ks) w d = (notin-places ids n f k (w .1) ks (w .2) (d .0), distinct-places ids n f ks (w .2) (d .1))
 
 pub all-whole : (n : ℕ) (l : List ℕ) → AllBelow n l → whole n l ≡ true
-unfolding AllBelow whole
+unfolding All whole
 all-whole n [] w = refl
 all-whole n (k ∷ ks) w = rw (lt-ltb k n (w .0), whole) (all-whole n ks (w .1))
 
 pub all-sound : (n : ℕ) (l : List ℕ) → AllBelow n l → sound n l ≡ l
-unfolding AllBelow sound
+unfolding All sound
 all-sound n [] w = refl
 all-sound n (k ∷ ks) w = rw (lt-ltb k n (w .0), sound) (ap (λ (z : List ℕ). k ∷ z) (all-sound n ks (w .1)))
 

@@ -260,12 +260,13 @@ fn part(
         return scan(q, ids, coords, n, lo, hi, at, out);
     }
     let m = lo + (hi - lo - 1) / 2;
+    let next = m + 1;
     let Found::All(k) = put(q, ids, coords, n, m, at, out) else {
         return Found::Spoiled;
     };
     let mut j = k;
     if right_at(q, coords, axis, m) {
-        let Found::All(r) = part(q, ids, coords, n, most, m + 1, hi, 1 - axis, k, out) else {
+        let Found::All(r) = part(q, ids, coords, n, most, next, hi, 1 - axis, k, out) else {
             return Found::Spoiled;
         };
         j = r;

@@ -1,7 +1,9 @@
 -- Laws of comparisons in a row, over plain values. Assumes nothing.
 use mathlib.Core.Bool.{Bool, true, false, not, _&&_}
 use mathlib.Core.Path.{_≡_, refl, sym, _∙_}
-use borrow.Author.Tests.{not-true, not-false}
+use Prim.Native.Nat.{ℕ}
+use borrow.Author.Tests.{not-true, not-false, eq-eqb, ne-eqb}
+use lib.Dec.{eqb}
 
 -- a comparison b, which is the definition's d: it fails, and the rest c is not looked at; or it holds, and the rest decides
 pub row-no : (b d c : Bool) → b ≡ d → not b ≡ true → false ≡ (d && c)
@@ -9,3 +11,10 @@ row-no b d c e h = rw (sym e ∙ not-true b h) refl
 
 pub row-yes : (b d r c : Bool) → b ≡ d → not b ≡ false → r ≡ c → r ≡ (d && c)
 row-yes b d r c e h g = rw (sym e ∙ not-false b h) g
+
+-- the same of two numbers that are compared
+pub number-no : (a b : ℕ) (c : Bool) → (a ≡ b → ⊥) → false ≡ (eqb a b && c)
+number-no a b c h = rw (ne-eqb a b h) refl
+
+pub number-yes : (a b : ℕ) (r c : Bool) → a ≡ b → r ≡ c → r ≡ (eqb a b && c)
+number-yes a b r c h g = rw (eq-eqb a b h) g

@@ -1,10 +1,17 @@
 -- What the comparisons are: of a build's reply, state and columns with what is expected. Definitions only.
 use Prim.Native.Nat.{ℕ}
-use mathlib.Core.Bool.{Bool, _&&_}
+use mathlib.Core.Bool.{Bool, true, false, _&&_}
 use mathlib.Core.List.{List, _++_}
-use lib.ListN.{drop, replicate}
+use lib.Dec.{eqb}
+use lib.ListN.{length, drop, replicate}
 use lib.Ieee.{Float}
+use Rattle.vectors.specs.Words.{agreeing}
 use Rattle.vectors.specs.Same.{samePlaces, sameFloats, doneIs}
+use Rattle.range.specs.declared.Setting.{Setting}
+use Rattle.range.specs.declared.Setting.the-variants.{Given, Derived}
+use Rattle.range.specs.declared.DataRange.{DataRange}
+use Rattle.range.specs.declared.CoordinateSystem.{CoordinateSystem}
+use Rattle.range.specs.declared.CoordinateSystem.the-variants.{LatLng, Cartesian}
 use Rattle.tables.specs.declared.Options.{Options}
 use Rattle.tables.specs.declared.State.{State}
 use Rattle.supercluster.specs.Build.{Lent, Outcome, loaded}
@@ -13,9 +20,35 @@ use Rattle.supercluster.specs.Build.{Lent, Outcome, loaded}
 abbrev pub zerosIn : ℕ → List ℕ → List ℕ
 zerosIn n l = replicate n 0 ++ drop n l
 
--- the tables start where they are expected to, and are as long
-unfoldable pub sameState : List ℕ → List ℕ → State → Bool
-sameState starts lens s = samePlaces starts (s .starts) && samePlaces lens (s .lens)
+-- both derived, or both given as the same number
+abbrev pub sameSetting : Setting → Setting → Bool
+sameSetting (Given v) (Given w) = agreeing v w
+sameSetting (Given v) Derived = false
+sameSetting Derived (Given w) = false
+sameSetting Derived Derived = true
+
+-- the same four numbers, offset and scale
+unfoldable pub sameRange : DataRange → DataRange → Bool
+sameRange a b =
+    agreeing (a .«min_x») (b .«min_x») && (agreeing (a .«min_y») (b .«min_y») && (agreeing (a .«max_x») (b .«max_x») && (agreeing (a .«max_y») (b .«max_y») &&
+    (sameSetting (a .offset) (b .offset) && sameSetting (a .scale) (b .scale)))))
+
+-- both longitude, or both Cartesian with the same range
+abbrev pub sameSystem : CoordinateSystem → CoordinateSystem → Bool
+sameSystem LatLng LatLng = true
+sameSystem LatLng (Cartesian r) = false
+sameSystem (Cartesian r) LatLng = false
+sameSystem (Cartesian r) (Cartesian s) = sameRange r s
+
+-- the same options
+unfoldable pub sameOptions : Options → Options → Bool
+sameOptions a b =
+    eqb (a .«min_zoom») (b .«min_zoom») && (eqb (a .«max_zoom») (b .«max_zoom») && (eqb (a .«min_points») (b .«min_points») && (eqb (a .«node_size») (b .«node_size») &&
+    (agreeing (a .radius) (b .radius) && (agreeing (a .extent) (b .extent) && sameSystem (a .«coordinate_system») (b .«coordinate_system»))))))
+
+-- the tables start where they are expected to, and are as long, and the state has the number of points and the options as given
+unfoldable pub sameState : Options → ℕ → List ℕ → List ℕ → State → Bool
+sameState o n starts lens s = samePlaces starts (s .starts) && (samePlaces lens (s .lens) && (eqb n (s .count) && sameOptions o (s .options)))
 
 -- the six columns of the tables are those expected, to their ends
 unfoldable pub sameTables : List Float → List Float → List ℕ → List ℕ → List ℕ → List ℕ → List Float → List Float → List ℕ → List ℕ → List ℕ → List ℕ → Bool
@@ -33,10 +66,10 @@ sameColumns w l =
     sameIndexes (w .ids) (w .coords) (w .near) (l .ids) (l .coords) (l .near)
 
 -- what a build replied and left: it was not refused, and its state and its columns are those expected
-unfoldable pub agreesWith : List ℕ → List ℕ → Lent → Outcome → Bool
-agreesWith starts lens want got =
-    doneIs (got .reply .reply) && (sameState starts lens (got .reply .state) && sameColumns want (got .columns))
+unfoldable pub agreesWith : Options → ℕ → List ℕ → List ℕ → Lent → Outcome → Bool
+agreesWith o n starts lens want got =
+    doneIs (got .reply .reply) && (sameState o n starts lens (got .reply .state) && sameColumns want (got .columns))
 
 -- the build of these points in these columns
 unfoldable pub loadsTo : Options → List Float → List Float → List ℕ → List ℕ → Lent → Lent → Bool
-loadsTo o xs ys starts lens want columns = agreesWith starts lens want (loaded o xs ys columns)
+loadsTo o xs ys starts lens want columns = agreesWith o (length xs) starts lens want (loaded o xs ys columns)

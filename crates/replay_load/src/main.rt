@@ -3,7 +3,8 @@
 //     min_zoom max_zoom min_points radius extent node_size cartesian min_x min_y max_x max_y offset_given offset scale_given scale
 //     n, n times `x y`, m, m times `x y seen id parent num slot_id slot_x slot_y`, `start len` for each zoom from min_zoom to max_zoom + 1
 // The n points are built in columns that are filled with old contents. Expected are the m entries of all tables, the slots of their indexes
-// at the same positions, zeros in the first n of `near`, the old contents past all of these, and zeros as start and length of the other zooms.
+// at the same positions, zeros in the first n of `near`, the old contents past all of these, and in the state the options, n, and zeros as start and
+// length of the other zooms.
 // n goes to 64, and the tables to 1152 entries in all; a case beyond is not of the form, nor is one with a max_zoom that is past 30 or below min_zoom.
 // Proved: nothing here reads or writes outside its columns, the verdict of a case is the equation `loadsTo` of specs/, and the tally is right.
 // Assumed: what standard input gives is not modelled, so that the loops that read are only proved to be safe.
@@ -31,7 +32,7 @@ ghost use Rattle.vectors.specs.Tallies.{endingIs};
 ghost use Rattle.tables.specs.Rows.{Even};
 ghost use Rattle.supercluster.specs.Build.{lent, outcome};
 ghost use Rattle.replay_load.specs.Read.{settingOf, systemOf};
-ghost use Rattle.replay_load.specs.Same.{sameState, sameTables, sameIndexes, agreesWith, loadsTo, zerosIn};
+ghost use Rattle.replay_load.specs.Same.{sameSetting, sameRange, sameSystem, sameOptions, sameState, sameTables, sameIndexes, agreesWith, loadsTo, zerosIn};
 
 // An offset or a scale, or words that are none.
 enum Settled {
@@ -243,16 +244,108 @@ fn clear(n: usize, near: &mut [u32])
     }
 }
 
-// Whether the tables of a state start where they are expected to, and are as long.
-fn same_state(starts: &[u32], lens: &[u32], s: State) -> bool
-    ensures { λ r. ⌜ r ≡ sameState (now (starts .entry)) (now (lens .entry)) s ⌝ }
+// Whether both are derived, or both given as the same number.
+fn same_setting(a: Setting, b: Setting) -> bool
+    ensures { λ r. ⌜ r ≡ sameSetting a b ⌝ }
+{
+    match a {
+        Setting::Given(v) => match b {
+            Setting::Given(w) => vectors::agree(v, w),
+            Setting::Derived => false,
+        },
+        Setting::Derived => match b {
+            Setting::Given(w) => false,
+            Setting::Derived => true,
+        },
+    }
+}
+
+// Whether two ranges are the same.
+fn same_range(a: DataRange, b: DataRange) -> bool
+    ensures { λ r. ⌜ r ≡ sameRange a b ⌝ }
+{
+    if !vectors::agree(a.min_x, b.min_x) {
+        return false;
+    }
+    if !vectors::agree(a.min_y, b.min_y) {
+        return false;
+    }
+    if !vectors::agree(a.max_x, b.max_x) {
+        return false;
+    }
+    if !vectors::agree(a.max_y, b.max_y) {
+        return false;
+    }
+    let offset = a.offset;
+    let other_offset = b.offset;
+    if !same_setting(offset, other_offset) {
+        return false;
+    }
+    let scale = a.scale;
+    let other_scale = b.scale;
+    same_setting(scale, other_scale)
+}
+
+// Whether both are longitude, or both Cartesian with the same range.
+fn same_system(a: CoordinateSystem, b: CoordinateSystem) -> bool
+    ensures { λ r. ⌜ r ≡ sameSystem a b ⌝ }
+{
+    match a {
+        CoordinateSystem::LatLng => match b {
+            CoordinateSystem::LatLng => true,
+            CoordinateSystem::Cartesian { range } => false,
+        },
+        CoordinateSystem::Cartesian { range } => match b {
+            CoordinateSystem::LatLng => false,
+            CoordinateSystem::Cartesian { range: other } => same_range(range, other),
+        },
+    }
+}
+
+// Whether two options are the same.
+fn same_options(a: Options, b: Options) -> bool
+    ensures { λ r. ⌜ r ≡ sameOptions a b ⌝ }
+{
+    if a.min_zoom != b.min_zoom {
+        return false;
+    }
+    if a.max_zoom != b.max_zoom {
+        return false;
+    }
+    if a.min_points != b.min_points {
+        return false;
+    }
+    if a.node_size != b.node_size {
+        return false;
+    }
+    if !vectors::agree(a.radius, b.radius) {
+        return false;
+    }
+    if !vectors::agree(a.extent, b.extent) {
+        return false;
+    }
+    let system = a.coordinate_system;
+    let other = b.coordinate_system;
+    same_system(system, other)
+}
+
+// Whether the tables of a state start where they are expected to, and are as long, and it has the number of points and the options as given.
+fn same_state(o: Options, n: usize, starts: &[u32], lens: &[u32], s: State) -> bool
+    ensures { λ r. ⌜ r ≡ sameState o n (now (starts .entry)) (now (lens .entry)) s ⌝ }
 {
     let a = s.starts;
     if !vectors::same_places(starts, &a) {
         return false;
     }
     let b = s.lens;
-    vectors::same_places(lens, &b)
+    if !vectors::same_places(lens, &b) {
+        return false;
+    }
+    if n != s.count as usize {
+        return false;
+    }
+    let made = s.options;
+    same_options(o, made)
 }
 
 // Whether the columns of the tables are those expected, to their ends.
@@ -314,6 +407,8 @@ fn same_indexes(
 
 // Whether a build was not refused, and its state and its columns are those expected.
 fn agrees(
+    o: Options,
+    n: usize,
     starts: &[u32],
     lens: &[u32],
     want_x: &[f64],
@@ -336,7 +431,7 @@ fn agrees(
     coords: &[f64],
     near: &[u32],
 ) -> bool
-    ensures { λ r. ⌜ r ≡ agreesWith (now (starts .entry)) (now (lens .entry))
+    ensures { λ r. ⌜ r ≡ agreesWith o n (now (starts .entry)) (now (lens .entry))
         (lent (now («want_x» .entry)) (now («want_y» .entry)) (now («want_seen» .entry)) (now («want_id» .entry)) (now («want_parent» .entry)) (now («want_num» .entry)) (now («want_ids» .entry)) (now («want_coords» .entry)) (now («want_near» .entry)))
         (outcome built (lent (now (x .entry)) (now (y .entry)) (now (seen .entry)) (now (id .entry)) (now (parent .entry)) (now (num .entry)) (now (ids .entry)) (now (coords .entry)) (now (near .entry)))) ⌝ }
 {
@@ -345,7 +440,7 @@ fn agrees(
         return false;
     }
     let state = built.state;
-    if !same_state(starts, lens, state) {
+    if !same_state(o, n, starts, lens, state) {
         return false;
     }
     if !same_tables(
@@ -399,6 +494,8 @@ fn loads(
 {
     let built = supercluster::load(o, xs, ys, x, y, seen, id, parent, num, ids, coords, near);
     agrees(
+        o,
+        xs.len(),
         starts,
         lens,
         want_x,
@@ -479,6 +576,49 @@ fn replay_load(
     Verdict::Differs(Function::Load)
 }
 
+// Reads where the tables that are expected start and how long they are, and builds the points.
+fn replay_state(
+    o: Options,
+    min_zoom: usize,
+    max_zoom: usize,
+    xs: &[f64],
+    ys: &[f64],
+    x: &[f64],
+    y: &[f64],
+    seen: &[u8],
+    id: &[u32],
+    parent: &[u32],
+    num: &[u32],
+    ids: &[u32],
+    coords: &[f64],
+) -> Verdict
+    requires { ⌜ («max_zoom» ≤ 30) × (length (now xs) ≤ 64) ⌝ }
+{
+    let mut near = [OLD; 1152];
+    let mut starts = [0u32; 32];
+    let mut lens = [0u32; 32];
+    if !read_tables(min_zoom, max_zoom, &mut starts, &mut lens) {
+        return Verdict::Malformed;
+    }
+    clear(xs.len(), &mut near);
+    replay_load(
+        o,
+        xs,
+        ys,
+        &starts,
+        &lens,
+        x,
+        y,
+        seen,
+        id,
+        parent,
+        num,
+        ids,
+        coords,
+        &near,
+    )
+}
+
 // Reads what is expected of a build of points, and builds them.
 fn replay_tables(o: Options, min_zoom: usize, max_zoom: usize, xs: &[f64], ys: &[f64]) -> Verdict
     requires { ⌜ («max_zoom» ≤ 30) × (length (now xs) ≤ 64) ⌝ }
@@ -494,9 +634,6 @@ fn replay_tables(o: Options, min_zoom: usize, max_zoom: usize, xs: &[f64], ys: &
     let mut num = [OLD; 1152];
     let mut ids = [OLD; 1152];
     let mut coords = [-1.5; 2304];
-    let mut near = [OLD; 1152];
-    let mut starts = [0u32; 32];
-    let mut lens = [0u32; 32];
     if !read_entries(
         m,
         &mut x,
@@ -510,16 +647,12 @@ fn replay_tables(o: Options, min_zoom: usize, max_zoom: usize, xs: &[f64], ys: &
     ) {
         return Verdict::Malformed;
     }
-    if !read_tables(min_zoom, max_zoom, &mut starts, &mut lens) {
-        return Verdict::Malformed;
-    }
-    clear(xs.len(), &mut near);
-    replay_load(
+    replay_state(
         o,
+        min_zoom,
+        max_zoom,
         xs,
         ys,
-        &starts,
-        &lens,
         &x,
         &y,
         &seen,
@@ -528,7 +661,6 @@ fn replay_tables(o: Options, min_zoom: usize, max_zoom: usize, xs: &[f64], ys: &
         &num,
         &ids,
         &coords,
-        &near,
     )
 }
 

@@ -15,10 +15,9 @@ use Rattle.range.specs.declared.CoordinateSystem.{CoordinateSystem}
 use Rattle.range.specs.declared.Point.{Point}
 use Rattle.range.specs.Range.{converted}
 use Rattle.kdbush.specs.declared.Outside.the-variants.{At, Nothing}
+use Rattle.kdbush.specs.All.{All}
 use Rattle.kdbush.specs.Reply.{firstOutside}
-use Rattle.tables.specs.declared.Entry.{Entry}
-use Rattle.tables.specs.Entries.{Table, entry, none}
-use Rattle.zoom.specs.Keeps.{All}
+use Rattle.tables.specs.Entries.{Table, entry}
 use Rattle.zoom.specs.Lamps.{total}
 use Rattle.zoom.specs.Sound.{Next}
 use Rattle.supercluster.specs.Build.{convertedAll, lamp, finest, over}

@@ -9,6 +9,7 @@ use lib.Dec.{lit≤}
 use lib.ListN.{length, set, take, drop, replicate}
 use lib.Seq.{take-append-seam}
 use lib.Ieee.{Float}
+use Rattle.kdbush.specs.All.{All, all-map}
 use Rattle.tables.specs.Bounds.{options-are}
 use Rattle.tables.specs.Columns.{part, xs-part, ys-part}
 use Rattle.tables.specs.Entries.{Table, xsOf, ysOf}
@@ -17,7 +18,6 @@ use Rattle.tables.specs.Rows.{rows}
 use Rattle.tables.specs.State.{newState, withTable}
 use Rattle.tables.specs.declared.Options.{Options}
 use Rattle.tables.specs.declared.State.{State}
-use Rattle.zoom.specs.Keeps.{All, all-map}
 use Rattle.zoom.specs.Lamps.{total}
 use Rattle.zoom.specs.Sound.{Body, Next}
 use Rattle.supercluster.specs.Build.{slotsOf, planOf, run, convertedAll, zoomsOf, tablesOf, joined, joinedIds, joinedCo, over, starts, lens, stateOf, need}

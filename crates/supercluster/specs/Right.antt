@@ -1,7 +1,7 @@
 -- Of every build that is accepted: each entry of each table lies from 0 to 1 and counts one lamp or more, each table counts the lamps, once each, and has 1 to N
 -- entries. Assumes nothing.
 use mathlib.Core.Path.{_≡_, _∙_}
-use mathlib.Core.List.{List, [], _∷_}
+use mathlib.Core.List.{List}
 use Prim.Native.Nat.{ℕ, zero, suc, _+_, _-_, _≤_}
 use native.Mathlib.Omega.{arith}
 use native.Mathlib.Nat.{le-trans, add-suc}
@@ -9,12 +9,12 @@ use lib.Dec.{lit≤}
 use lib.ListN.{length}
 use lib.Ieee.{Float}
 use Rattle.kdbush.specs.declared.Query.the-variants.{Within}
+use Rattle.kdbush.specs.All.{All, all-map}
 use Rattle.kdbush.specs.Members.{Distinct}
 use Rattle.tables.specs.Bounds.{options-are}
 use Rattle.tables.specs.Entries.{Table}
 use Rattle.tables.specs.Radius.{radiusAt}
 use Rattle.tables.specs.declared.Options.{Options}
-use Rattle.zoom.specs.Keeps.{All, all-map}
 use Rattle.zoom.specs.Lamps.{total}
 use Rattle.zoom.specs.Sound.{Body, Next, cluster-sound}
 use Rattle.supercluster.specs.Build.{nearIn, Plan, planOf, zoomed, run, convertedAll, zoomsOf, tablesOf}
@@ -29,17 +29,12 @@ pub record Right (n : ℕ) (t : Table) : Type 0 where
   pub some : 1 ≤ length t
   pub few : length t ≤ n
 
--- each table
-unfoldable pub Each : ℕ → List Table → Type 0
-Each n [] = Unit
-Each n (t ∷ ts) = Right n t × Each n ts
-
 module _ (p : Plan) (a : Able p) where
   near-once : (t : Table) → All Body t → 1 ≤ length t → length t ≤ 1048576 → (rad qx qy : Float) → Distinct (nearIn (p .options .«node_size») rad t qx qy)
   near-once t b s m rad qx qy = slots-promised (p .options .«node_size») t (a .size-from) (a .size-to) s m b .once (Within qx qy rad)
 
-  pub run-right : (k : ℕ) (t : Table) → p .options .«min_zoom» + k ≤ 31 → All (Next (p .options .«min_zoom» + k)) t → total t ≡ p .count → length t ≤ p .count → Each (p .count) (run p k t)
-  unfolding run Each
+  pub run-right : (k : ℕ) (t : Table) → p .options .«min_zoom» + k ≤ 31 → All (Next (p .options .«min_zoom» + k)) t → total t ≡ p .count → length t ≤ p .count → All (Right (p .count)) (run p k t)
+  unfolding run All
   run-right zero t h f e l =
       let s = total-some t (omega (arith, e, a .some)) in
       (record { unit = all-map (Next (p .options .«min_zoom» + 0)) Body (λ e q. q .0) t f; lamps = e; some = s; few = l }, tt)
@@ -56,7 +51,7 @@ module _ (p : Plan) (a : Able p) where
       )
 
 -- every table of an accepted build
-pub tables-right : (o : Options) (xs ys : List Float) → Accepted o xs ys → Each (length xs) (tablesOf o xs ys)
+pub tables-right : (o : Options) (xs ys : List Float) → Accepted o xs ys → All (Right (length xs)) (tablesOf o xs ys)
 unfolding tablesOf
 tables-right o xs ys a =
     let z = options-are o (a .options) in

@@ -5,18 +5,18 @@ use Prim.Native.Nat.{ℕ, suc, _+_, _-_, _*_, _<_, _≤_}
 use native.Mathlib.Omega.{arith}
 use native.Mathlib.Nat.{le-trans, add-suc, suc-mul}
 use lib.Dec.{T, lit≤}
-use lib.ListN.{length, take, drop, length-drop, length-map, List·getD-map}
-use lib.Seq.{length-take-le}
+use lib.ListN.{length, take, drop, length-map, List·getD-map}
 use lib.Ieee.{Float, le}
 use Rattle.floats.specs.Numbers.{zero as fzero, one, pow16}
 use Rattle.floats.specs.Unit.{In01}
 use Rattle.kdbush.specs.declared.Query.the-variants.{Within}
+use Rattle.kdbush.specs.All.{All, all-map}
 use Rattle.kdbush.specs.Members.{Distinct}
 use Rattle.kdbush.specs.Promise.{Promised}
-use Rattle.tables.specs.Columns.{part}
+use Rattle.tables.specs.Columns.{part, part-long}
 use Rattle.tables.specs.Entries.{Table, none, xsOf, ysOf}
 use Rattle.tables.specs.Radius.{radiusAt}
-use Rattle.zoom.specs.Keeps.{All, all-at, all-map}
+use Rattle.zoom.specs.Keeps.{all-at}
 use Rattle.zoom.specs.Lamps.{total}
 use Rattle.zoom.specs.Sound.{Body, Next, Sound, cluster-sound}
 use Rattle.supercluster.specs.Build.{slotsOf, nearIn, Plan, zoomed}
@@ -97,7 +97,7 @@ module _ (p : Plan) (M k start len : ℕ) (t : Table) (ids : List ℕ) (co : Lis
   cur = part start len t
 
   pub cur-long : length (part start len t) ≡ len
-  cur-long = length-take-le len (drop start t) (rw (length-drop start t) (omega (arith, r .room, r .long)))
+  cur-long = part-long start len t (omega (arith, r .room, r .long))
 
   pub cur-body : All Body (part start len t)
   cur-body = all-map (Next (p .options .«min_zoom» + k)) Body (λ e q. q .0) (part start len t) (r .fine)

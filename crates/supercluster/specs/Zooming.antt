@@ -9,11 +9,11 @@ use lib.Seq.{drop-drop, length-take-le}
 use lib.Ieee.{Float}
 use Rattle.floats.specs.Unit.{In01-finite}
 use Rattle.kdsort.specs.Cols.{Cols}
+use Rattle.kdbush.specs.All.{All, all-map}
 use Rattle.tables.specs.Columns.{part, xs-part, ys-part}
 use Rattle.tables.specs.Entries.{Table}
 use Rattle.tables.specs.Radius.{radiusAt, radius-fine}
 use Rattle.tables.specs.Rows.{rows, Even}
-use Rattle.zoom.specs.Keeps.{All, all-map}
 use Rattle.zoom.specs.Lamps.{unseenNum-total}
 use Rattle.zoom.specs.Near.{nearOf, Placed, Radius}
 use Rattle.zoom.specs.Scanned.{unseenNum}

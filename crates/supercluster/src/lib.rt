@@ -11,6 +11,7 @@ ghost use mathlib.Core.Path.{_≡_};
 ghost use mathlib.Core.List.{map};
 ghost use Prim.Native.Nat.{suc, _+_, _-_, _*_, _^_, _<_, _≤_};
 ghost use lib.ListN.{length, set, take, drop, replicate};
+ghost use Rattle.kdbush.specs.All.{All};
 ghost use Rattle.kdbush.specs.Promise.{Promised};
 ghost use Rattle.kdbush.specs.Reply.{pairOk, firstOutside, inOrder};
 ghost use Rattle.tables.specs.Rows.{rows, Even};
@@ -20,7 +21,6 @@ ghost use Rattle.tables.specs.State.{newState};
 ghost use Rattle.zoom.specs.Zoom.{cluster};
 ghost use Rattle.zoom.specs.Scanned.{unseenNum};
 ghost use Rattle.zoom.specs.Near.{nearOf, Placed, Radius};
-ghost use Rattle.zoom.specs.Keeps.{All};
 ghost use Rattle.supercluster.specs.Build.{indexOf, planOf, zoomsOf, convertedAll, finest, over, lent, written, stateOf, tablesOf, need, roomyBy, outcome, loaded};
 ghost use Rattle.supercluster.specs.Parts.{Inside, putAt};
 ghost use Rattle.supercluster.specs.Step.{Stepped};
@@ -238,19 +238,22 @@ fn fill(
     ensures { λ _. ⌜ rows (now (x .exit)) (now (y .exit)) (now (seen .exit)) (now (id .exit)) (now (parent .exit)) (now (num .exit))
         ≡ over (finest (convertedAll c (now (xs .entry)) (now (ys .entry))) 0) (rows (now (x .entry)) (now (y .entry)) (now (seen .entry)) (now (id .entry)) (now (parent .entry)) (now (num .entry))) ⌝ }
 {
-    let mut i = 0;
-    while i < xs.len() {
-        let p = c.convert(Point { x: xs[i], y: ys[i] });
+    let mut place = 0;
+    while place < xs.len() {
+        let p = c.convert(Point {
+            x: xs[place],
+            y: ys[place],
+        });
         let e = Entry {
             x: p.x,
             y: p.y,
             seen: 255,
-            id: i as u32,
+            id: place as u32,
             parent: 4294967295,
             num: 1,
         };
-        tables::put_entry(x, y, seen, id, parent, num, i, e);
-        i += 1;
+        tables::put_entry(x, y, seen, id, parent, num, place, e);
+        place += 1;
     }
 }
 

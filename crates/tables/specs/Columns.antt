@@ -2,7 +2,7 @@
 -- Assumes nothing.
 use mathlib.Core.Path.{_≡_, refl, ap, sym, _∙_}
 use mathlib.Core.List.{List, [], _∷_, _++_, map, append-nil}
-use Prim.Native.Nat.{ℕ, zero, suc, _-_, _≤_}
+use Prim.Native.Nat.{ℕ, zero, suc, _+_, _-_, _≤_}
 use native.Mathlib.Omega.{arith}
 use lib.ListN.{length, getD, take, drop, length-drop, drop-of-length-le}
 use lib.Seq.{drop-nil, take-nil, take-at, drop-at, length-take-le, take-all}
@@ -14,6 +14,9 @@ use Rattle.tables.specs.Rows.{rows, tail, Even}
 -- a part of a column: n entries from a on
 abbrev pub part : {A : Type 0} → ℕ → ℕ → List A → List A
 part a n l = take n (drop a l)
+
+pub part-long : {A : Type 0} (a n : ℕ) (l : List A) → a + n ≤ length l → length (part a n l) ≡ n
+part-long a n l h = length-take-le n (drop a l) (rw (length-drop a l) (omega arith))
 
 drop-suc : {A : Type 0} (l : List A) (s : ℕ) → drop (suc s) l ≡ drop s (tail l)
 drop-suc [] s = sym (drop-nil s)

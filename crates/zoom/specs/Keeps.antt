@@ -11,6 +11,7 @@ use borrow.Author.Tests.{ltb-true, ltb-false}
 use lib.ListN.{length, set, length-set}
 use lib.Seq.{map-set-same}
 use lib.Ieee.{Float}
+use Rattle.kdbush.specs.All.{All, all-getD, all-set}
 use Rattle.tables.specs.declared.Entry.{Entry}
 use Rattle.tables.specs.Entries.{Table, entry, none, unseen, marked, under}
 use Rattle.tables.specs.Ids.{clusterId}
@@ -19,33 +20,9 @@ use Rattle.zoom.specs.Zoom.{Absorbed, absorbOne, absorb, started, Scan, 
 use Rattle.zoom.specs.Steps.{absorbOne-yes, absorbOne-no, copyOne-yes, copyOne-no, totalOf, visit-made, visit-left, scan-seen, scan-visit}
 use Rattle.zoom.specs.Unseen.{unseenCount-le, unseenNum-le, unseenCount-under, unseenNum-under}
 
--- each entry of the table has the property
-unfoldable pub All : (Entry → Type 0) → Table → Type 0
-All P [] = Unit
-All P (e ∷ t) = P e × All P t
-
+-- what each entry has, the entry at a place has
 pub all-at : (P : Entry → Type 0) (t : Table) (i : ℕ) → All P t → i < length t → P (entry t i)
-unfolding All
-all-at P [] i a h = absurd (omega arith)
-all-at P (e ∷ t) zero a h = a .0
-all-at P (e ∷ t) (suc i) a h = all-at P t i (a .1) (omega arith)
-
-pub all-snoc : (P : Entry → Type 0) (t : Table) (e : Entry) → All P t → P e → All P (t ++ (e ∷ []))
-unfolding All
-all-snoc P [] e a p = (p, tt)
-all-snoc P (f ∷ t) e a p = (a .0, all-snoc P t e (a .1) p)
-
-pub all-map : (P Q : Entry → Type 0) → ((e : Entry) → P e → Q e) → (t : Table) → All P t → All Q t
-unfolding All
-all-map P Q f [] a = tt
-all-map P Q f (e ∷ t) a = (f e (a .0), all-map P Q f t (a .1))
-
--- a stored entry that has the property if the one before it has
-all-set : (P : Entry → Type 0) (t : Table) (k : ℕ) (e : Entry) → (P (entry t k) → P e) → All P t → All P (set t k e)
-unfolding All
-all-set P [] k e f a = tt
-all-set P (b ∷ t) zero e f a = (f (a .0), a .1)
-all-set P (b ∷ t) (suc k) e f a = (a .0, all-set P t k e f (a .1))
+all-at P t i a h = all-getD P t i none a h
 
 -- ---- what a scan keeps
 
@@ -110,9 +87,9 @@ kept-field f z t₀ a b =
 pub kept-all : (P : Entry → Type 0) (z : ℕ) → ((e : Entry) (q : ℕ) → P e → P (marked q e)) → ((e : Entry) (q : ℕ) → P e → P (under q e)) → Keeps z (λ t. All P t)
 kept-all P z f g =
     record {
-      join = λ t k p a. all-set P t k (under p (marked z (entry t k))) (λ w. g (marked z (entry t k)) p (f (entry t k) z w)) a;
-      mark = λ t k a. all-set P t k (marked z (entry t k)) (f (entry t k) z) a;
-      hang = λ t k p a. all-set P t k (under p (entry t k)) (g (entry t k) p) a;
+      join = λ t k p a. all-set P t k none (under p (marked z (entry t k))) (λ w. g (marked z (entry t k)) p (f (entry t k) z w)) a;
+      mark = λ t k a. all-set P t k none (marked z (entry t k)) (f (entry t k) z) a;
+      hang = λ t k p a. all-set P t k none (under p (entry t k)) (g (entry t k) p) a;
     }
 
 pub kept-length : (z n : ℕ) → Keeps z (λ t. length t ≡ n)

@@ -1,4 +1,4 @@
--- Definitions that contracts cite: Zoom, Scanned, Near, Keeps (its first). All else is laws.
+-- Definitions that contracts cite: Zoom, Scanned, Near. All else is laws.
 pub mod Zoom
 pub mod Scanned
 pub mod Near

@@ -2,9 +2,8 @@
 -- lent column. Assumes nothing.
 use mathlib.Core.Path.{_≡_, refl}
 use mathlib.Core.Bool.{true}
-use mathlib.Core.List.{List, [], _∷_, _++_}
-use Prim.Native.Nat.{ℕ, zero, suc}
-use native.Mathlib.Omega.{arith}
+use mathlib.Core.List.{List, _++_}
+use Prim.Native.Nat.{ℕ}
 use lib.Dec.{T}
 use lib.ListN.{length, take, drop}
 use lib.Seq.{take-at}
@@ -15,9 +14,7 @@ use Rattle.floats.specs.Fraction.{is-true}
 use Rattle.kdbush.specs.declared.Query.the-variants.{Within}
 use Rattle.kdbush.specs.Query.{queryOk}
 use Rattle.kdbush.specs.Reply.{found}
-use Rattle.kdbush.specs.Promise.{AllBelow}
 use Rattle.tables.specs.declared.Entry.{Entry}
-use Rattle.zoom.specs.Scanned.{Below}
 
 -- the places around (x, y)
 abbrev pub nearOf : ℕ → ℕ → List ℕ → List Float → Float → Float → Float → List ℕ
@@ -33,12 +30,6 @@ Radius r = T (finite r) × T (le fzero r)
 
 pub query-fine : (x y r : Float) → T (finite x) → T (finite y) → Radius r → queryOk (Within x y r) ≡ true
 query-fine x y r a b c = rw (is-true (finite x) a, is-true (finite y) b, is-true (finite r) (c .0), is-true (le fzero r) (c .1))
-
-pub all-below : (l : List ℕ) (n : ℕ) → AllBelow n l → Below l n
-unfolding AllBelow
-all-below [] n a k h = absurd (omega arith)
-all-below (j ∷ js) n a zero h = a .0
-all-below (j ∷ js) n a (suc k) h = all-below js n (a .1) k (omega arith)
 
 -- what a search leaves: the places at the front of the column, and their number
 pub record Answered (l : List ℕ) (new : List ℕ) (k : ℕ) : Type 0 where

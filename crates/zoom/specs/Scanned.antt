@@ -2,9 +2,9 @@
 -- Definitions only.
 use mathlib.Core.Path.{_≡_}
 use mathlib.Core.Bool.{cond}
-use mathlib.Core.List.{List, [], _∷_}
-use Prim.Native.Nat.{ℕ, _+_, _<_, _≤_}
-use lib.ListN.{length, getD, set, take, drop}
+use mathlib.Core.List.{[], _∷_}
+use Prim.Native.Nat.{ℕ, _+_, _≤_}
+use lib.ListN.{length, set, take, drop}
 use Rattle.tables.specs.Entries.{Table, entry, unseen, marked}
 use Rattle.zoom.specs.Zoom.{Scan}
 
@@ -22,10 +22,6 @@ pub record Scanned (len d₀ : ℕ) (s : Scan) (old new : Table) (d : ℕ) : Typ
 -- row k is marked, and then copied to row `at`
 abbrev pub copiedTo : Table → ℕ → ℕ → ℕ → Table
 copiedTo t k at z = set (set t k (marked z (entry t k))) at (entry (set t k (marked z (entry t k))) k)
-
--- each number is below n
-abbrev pub Below : List ℕ → ℕ → Type 0
-Below l n = (k : ℕ) → k < length l → getD l k 0 < n
 
 -- how many entries are unseen: there is room for no more in the next table
 unfoldable pub unseenCount : ℕ → Table → ℕ

@@ -6,10 +6,11 @@ use Prim.Native.Nat.{ℕ, suc, _+_, _-_, _<_, _≤_}
 use native.Mathlib.Omega.{arith}
 use native.Mathlib.Nat.{le-refl, le-trans}
 use native.Mathlib.Numerals.{add-one}
-use lib.ListN.{length, drop, take, length-drop}
+use lib.ListN.{length, drop, take}
 use lib.Seq.{length-take-le, drop-drop}
 use lib.Ieee.{Float}
 use Rattle.tables.specs.Entries.{Table}
+use Rattle.tables.specs.Columns.{part-long}
 use Rattle.zoom.specs.Scanned.{scanOf, Scanned, unseenCount, unseenNum}
 use Rattle.zoom.specs.Zoom.{Scan, scanOne, scanFrom, cluster}
 use Rattle.zoom.specs.Unseen.{unseenCount-length}
@@ -51,8 +52,8 @@ module _ (n least z : ℕ) (near : Float → Float → List ℕ) (len : ℕ) (t�
       = subst (λ (q : Scan). unseenNum z (q .table) ≤ unseenNum z (s .table)) (sym (l .scan))
       (keep-one z (λ t. unseenNum z t ≤ unseenNum z (s .table)) (kept-unseenNum z (unseenNum z (s .table))) n least near s i _ refl (le-refl _)) in
       let q : len + d + (d′ - d) ≡ len + d′ = omega (arith, l .grown) in
-      let nx : length (take d (drop len t)) ≡ d = length-take-le d (drop len t) (rw (length-drop len t) (omega (arith, v .room))) in
-      let ny : length (take d′ (drop len t′)) ≡ d′ = length-take-le d′ (drop len t′) (rw (length-drop len t′) (omega (arith, l .fits))) in
+      let nx = part-long len d t (omega (arith, v .room)) in
+      let ny = part-long len d′ t′ (l .fits) in
       record {
         scan = rw (l .scan) (sym step ∙ v .scan);
         rest = l .rest ∙ simp (drop-drop, q) at (ap (drop (d′ - d)) (v .rest));

@@ -12,6 +12,7 @@ use lib.Seq.{getD-set-same}
 use lib.Ieee.{Float}
 use Rattle.floats.specs.Centre.{Weighted, weigh-one, weigh-more, weigh-mean}
 use Rattle.floats.specs.Unit.{In01}
+use Rattle.kdbush.specs.All.{All, all-snoc, all-map}
 use Rattle.kdbush.specs.Members.{Distinct, NotIn}
 use Rattle.tables.specs.declared.Entry.{Entry}
 use Rattle.tables.specs.Entries.{Table, entry, none, unseen, marked, under}
@@ -20,7 +21,7 @@ use Rattle.zoom.specs.Scanned.{unseenNum}
 use Rattle.zoom.specs.Zoom.{more, Absorbed, absorbOne, absorb, started, centre, Scan, copyOne, copyAll, enough, visit, markAt, scanOne, scanFrom, cluster}
 use Rattle.zoom.specs.Steps.{joined, absorbOne-yes, absorbOne-no, copyOne-yes, copyOne-no, more-nil, more-yes, more-no, totalOf, visit-made, visit-left, scan-seen, scan-visit}
 use Rattle.zoom.specs.Unseen.{unseen-in, unseenCount-length, unseenNum-mark, unseenNum-none, more-same}
-use Rattle.zoom.specs.Keeps.{All, all-at, all-snoc, all-map, Keeps, kept-all, keep-copy, keep-one, keep-scan, kept-field, kept-length, scan-sees}
+use Rattle.zoom.specs.Keeps.{all-at, Keeps, kept-all, keep-copy, keep-one, keep-scan, kept-field, kept-length, scan-sees}
 use Rattle.zoom.specs.Fewer.{from-fewer}
 use Rattle.zoom.specs.Lamps.{total, absorb-weighs, scan-weighs-by, from-weighs}
 

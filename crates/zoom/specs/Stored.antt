@@ -10,13 +10,13 @@ use lib.ListN.{length, set, drop, take, length-set, length-drop, List·getD-appe
 use lib.Seq.{getD-take, take-set-le, drop-set-add, drop-set-lt, take-suc-set, length-take-le, drop-drop, set-append-left, take-at, drop-at}
 use lib.Ieee.{binary64, mul}
 use Rattle.floats.specs.Numbers.{float}
+use Rattle.kdbush.specs.All.{All, AllBelow}
 use Rattle.tables.specs.declared.Entry.{Entry}
 use Rattle.tables.specs.Entries.{Table, entry, none, unseen, marked, under}
 use Rattle.tables.specs.Ids.{clusterId}
-use Rattle.zoom.specs.Scanned.{scanOf, Scanned, Below, unseenCount}
+use Rattle.zoom.specs.Scanned.{scanOf, Scanned, unseenCount}
 use Rattle.zoom.specs.Zoom.{Absorbed, absorbed, absorbOne, absorb, centre, madeAt, copyAll, leftAt}
 use Rattle.zoom.specs.Steps.{absorbOne-yes, absorbOne-no}
-use Rattle.zoom.specs.Unseen.{below-tail}
 use Rattle.zoom.specs.Keeps.{keep-absorbOne, keep-absorb, kept-length}
 
 -- ---- rows past the table change nothing of what is absorbed
@@ -41,12 +41,12 @@ absorbOne-length z p s k = keep-absorbOne z (λ q. length q ≡ length (s .table
 absorb-length : (z p : ℕ) (s : Absorbed) (l : List ℕ) → length (absorb z p s l .table) ≡ length (s .table)
 absorb-length z p s l = keep-absorb z (λ q. length q ≡ length (s .table)) (kept-length z (length (s .table))) p s l refl
 
-absorb-grow : (z p : ℕ) (s : Absorbed) (r : Table) (l : List ℕ) → Below l (length (s .table)) → absorb z p (grow s r) l ≡ grow (absorb z p s l) r
-unfolding absorb
+absorb-grow : (z p : ℕ) (s : Absorbed) (r : Table) (l : List ℕ) → AllBelow (length (s .table)) l → absorb z p (grow s r) l ≡ grow (absorb z p s l) r
+unfolding absorb All
 absorb-grow z p s r [] b = refl
 absorb-grow z p s r (k ∷ ks) b =
-    ap (λ (q : Absorbed). absorb z p q ks) (absorbOne-grow z p s r k (b 0 (omega arith)))
-    ∙ absorb-grow z p (absorbOne z p s k) r ks (rw (absorbOne-length z p s k) (below-tail k ks _ b))
+    ap (λ (q : Absorbed). absorb z p q ks) (absorbOne-grow z p s r k (b .0))
+    ∙ absorb-grow z p (absorbOne z p s k) r ks (rw (absorbOne-length z p s k) (b .1))
 
 -- ---- one more entry
 
@@ -107,7 +107,7 @@ module _ (f : Absorbed) (r : Table) (len d i p : ℕ) (e : Entry) (lf : length (
       let k : len + d < length (q ++ r) = rw (length-append q r) (omega arith) in
       rw hung-is (next-rest (q ++ r) len d k e (d + 1) (omega arith) ∙ sym (drop-drop (d + 1) len (q ++ r)) ∙ ap (drop (d + 1)) (drop-at q r len lq))
 
-module _ (t : Table) (len d i z n total : ℕ) (near : List ℕ) (hi : i < len) (room : len + d < length t) (b : Below near len) where
+module _ (t : Table) (len d i z n total : ℕ) (near : List ℕ) (hi : i < len) (room : len + d < length t) (b : AllBelow len near) where
   -- the sums begin with the origin's products
   abbrev pub begun : Table → Absorbed
   begun q = absorbed q (mul binary64 (entry t i .x) (float (entry t i .num))) (mul binary64 (entry t i .y) (float (entry t i .num)))

@@ -9,10 +9,11 @@ use native.Mathlib.Nat.{le-refl}
 use borrow.Author.Tests.{lt-ltb, le-ltb, ltb-true}
 use lib.ListN.{length, set, drop, take, List·getD-append, take-append-drop, length-set}
 use lib.Seq.{getD-set-other, length-take-le}
+use Rattle.kdbush.specs.All.{All, AllBelow}
 use Rattle.kdbush.specs.Members.{Distinct, NotIn}
 use Rattle.tables.specs.declared.Entry.{Entry}
 use Rattle.tables.specs.Entries.{Table, entry, none, unseen, marked, under}
-use Rattle.zoom.specs.Scanned.{Below, unseenCount, unseenNum}
+use Rattle.zoom.specs.Scanned.{unseenCount, unseenNum}
 use Rattle.zoom.specs.Zoom.{more}
 use Rattle.zoom.specs.Steps.{more-yes, more-no, more-nil}
 
@@ -86,9 +87,6 @@ unseenNum-none z (e ∷ t) f = rw (le-ltb z (e .seen) (f 0 (omega arith))) (let 
 
 -- ---- the neighbours
 
-pub below-tail : (k : ℕ) (ks : List ℕ) (n : ℕ) → Below (k ∷ ks) n → Below ks n
-below-tail k ks n b i h = b (suc i) (omega arith)
-
 -- a store at a place that is no neighbour's
 pub more-same : (z : ℕ) (t : Table) (k : ℕ) (e : Entry) (l : List ℕ) → NotIn k l → more z (set t k e) l ≡ more z t l
 unfolding more
@@ -97,13 +95,13 @@ more-same z t k e (j ∷ js) h =
     rw (getD-set-other t k j e none (λ q. h .0 (sym q))) (ap (λ (q : ℕ). cond (unseen z (entry t j)) (entry t j .num) 0 + q) (more-same z t k e js (h .1)))
 
 -- rows past the neighbours change nothing
-more-grow : (z : ℕ) (t r : Table) (l : List ℕ) → Below l (length t) → more z (t ++ r) l ≡ more z t l
-unfolding more
+more-grow : (z : ℕ) (t r : Table) (l : List ℕ) → AllBelow (length t) l → more z (t ++ r) l ≡ more z t l
+unfolding more All
 more-grow z t r [] b = refl
 more-grow z t r (k ∷ ks) b =
-    rw (List·getD-append t r none k (b 0 (omega arith))) (ap (λ (q : ℕ). cond (unseen z (entry t k)) (entry t k .num) 0 + q) (more-grow z t r ks (below-tail k ks _ b)))
+    rw (List·getD-append t r none k (b .0)) (ap (λ (q : ℕ). cond (unseen z (entry t k)) (entry t k .num) 0 + q) (more-grow z t r ks (b .1)))
 
-pub more-take : (z len : ℕ) (t : Table) (near : List ℕ) → Below near len → len ≤ length t → more z t near ≡ more z (take len t) near
+pub more-take : (z len : ℕ) (t : Table) (near : List ℕ) → AllBelow len near → len ≤ length t → more z t near ≡ more z (take len t) near
 more-take z len t near b h =
     ap (λ (q : Table). more z q near) (sym (take-append-drop len t))
     ∙ more-grow z (take len t) (drop len t) near (rw (length-take-le len t h) b)
@@ -119,8 +117,9 @@ more-le-by z t k ks h o f true e =
 more-le-by z t k ks h o f false e = omega (arith, more-no z t k ks e, f t refl)
 
 -- distinct neighbours: each lamp counts once
-pub more-le : (z : ℕ) (t : Table) (l : List ℕ) → Below l (length t) → Distinct l → more z t l ≤ unseenNum z t
+pub more-le : (z : ℕ) (t : Table) (l : List ℕ) → AllBelow (length t) l → Distinct l → more z t l ≤ unseenNum z t
+unfolding All
 more-le z t [] b o = omega (arith, more-nil z t)
 more-le z t (k ∷ ks) b o =
-    more-le-by z t k ks (b 0 (omega arith)) (o .0)
-    (λ t′ e. more-le z t′ ks (rw e (below-tail k ks (length t) b)) (o .1)) _ refl
+    more-le-by z t k ks (b .0) (o .0)
+    (λ t′ e. more-le z t′ ks (rw e (b .1)) (o .1)) _ refl

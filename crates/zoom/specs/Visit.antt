@@ -8,11 +8,12 @@ use native.Mathlib.Nat.{le-refl}
 use lib.ListN.{length, getD, set, drop, take, length-set}
 use lib.Seq.{length-take-le, getD-take, take-set-lt, drop-set-lt}
 use lib.Ieee.{Float}
+use Rattle.kdbush.specs.All.{AllBelow}
 use Rattle.kdbush.specs.Members.{Distinct}
 use Rattle.tables.specs.declared.Entry.{Entry}
 use Rattle.tables.specs.Entries.{Table, entry, none, marked}
 use Rattle.tables.specs.Rows.{rows, rows-entry}
-use Rattle.zoom.specs.Scanned.{scanOf, Scanned, Below, unseenCount, unseenNum}
+use Rattle.zoom.specs.Scanned.{scanOf, Scanned, unseenCount, unseenNum}
 use Rattle.zoom.specs.Zoom.{more, visit, markAt, scanOne}
 use Rattle.zoom.specs.Steps.{scan-seen, scan-visit}
 use Rattle.zoom.specs.Unseen.{unseenCount-mark, unseenNum-mark, more-le}
@@ -56,7 +57,7 @@ module _ (t : Table) (len d z i : ℕ) (hi : i < len) (hl : len ≤ length t) (u
       rw taken (omega (arith, f, h))
 
   -- its total is at most what was unseen before the mark
-  pub marked-unseenNum : (m : ℕ) (l : List ℕ) → Below l len → Distinct l → unseenNum z (take len t) < m
+  pub marked-unseenNum : (m : ℕ) (l : List ℕ) → AllBelow len l → Distinct l → unseenNum z (take len t) < m
       → entry t i .num + more z (take len (marking t len d z i hi)) l < m
   marked-unseenNum m l b o h =
       let q = set (take len t) i (marked z (entry t i)) in

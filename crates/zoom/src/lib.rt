@@ -7,12 +7,12 @@ ghost use Prim.Native.Nat.{_+_, _^_, _<_, _≤_};
 ghost use lib.Dec.{T};
 ghost use lib.ListN.{length, getD, take};
 ghost use lib.Ieee.Scale.{finite};
+ghost use Rattle.kdbush.specs.All.{All, AllBelow};
 ghost use Rattle.kdbush.specs.Promise.{Promised};
 ghost use Rattle.tables.specs.Rows.{rows, Even};
 ghost use Rattle.zoom.specs.Zoom.{absorb, absorbed, copyAll, more, madeAt, leftAt, enough, visit, scanOne, cluster};
-ghost use Rattle.zoom.specs.Scanned.{Scanned, scanOf, copiedTo, Below, unseenCount, unseenNum};
+ghost use Rattle.zoom.specs.Scanned.{Scanned, scanOf, copiedTo, unseenCount, unseenNum};
 ghost use Rattle.zoom.specs.Near.{nearOf, Answered, Placed, Radius};
-ghost use Rattle.zoom.specs.Keeps.{All};
 
 // The running sums of a cluster: coordinates times nums.
 struct Sums {
@@ -34,7 +34,7 @@ fn absorb_near(
     sums: Sums,
 ) -> Sums
     requires { ⌜ Even (now x) (now y) (now seen) (now id) (now parent) (now num) ⌝ }
-    requires { ⌜ Below (now near) (length (now x)) ⌝ }
+    requires { ⌜ AllBelow (length (now x)) (now near) ⌝ }
     ensures { λ r. ⌜ absorbed (rows (now (x .entry)) (now (y .entry)) (now (seen .exit)) (now (id .entry)) (now (parent .exit)) (now (num .entry))) (r .x) (r .y)
         ≡ absorb z p (absorbed (rows (now (x .entry)) (now (y .entry)) (now (seen .entry)) (now (id .entry)) (now (parent .entry)) (now (num .entry))) (sums .x) (sums .y)) (now (near .entry)) ⌝ }
 {
@@ -91,7 +91,7 @@ fn copy_near(
     z: u8,
 ) -> usize
     requires { ⌜ Even (now x) (now y) (now seen) (now id) (now parent) (now num) ⌝ }
-    requires { ⌜ Below (now near) len ⌝ }
+    requires { ⌜ AllBelow len (now near) ⌝ }
     requires { ⌜ len + done + unseenCount z (take len (rows (now x) (now y) (now seen) (now id) (now parent) (now num))) ≤ length (now x) ⌝ }
     ensures { λ r. ⌜ Scanned len done
         (copyAll z (scanOf len done (rows (now (x .entry)) (now (y .entry)) (now (seen .entry)) (now (id .entry)) (now (parent .entry)) (now (num .entry)))) (now (near .entry)))
@@ -124,7 +124,7 @@ fn total_near(
     own: u32,
 ) -> u32
     requires { ⌜ Even (now x) (now y) (now seen) (now id) (now parent) (now num) ⌝ }
-    requires { ⌜ Below (now near) (length (now x)) ⌝ }
+    requires { ⌜ AllBelow (length (now x)) (now near) ⌝ }
     requires { ⌜ own + more z (rows (now x) (now y) (now seen) (now id) (now parent) (now num)) (now near) < 2 ^ 32 ⌝ }
     ensures { λ r. ⌜ r ≡ own + more z (rows (now (x .entry)) (now (y .entry)) (now (seen .entry)) (now (id .entry)) (now (parent .entry)) (now (num .entry))) (now (near .entry)) ⌝ }
 {
@@ -157,7 +157,7 @@ fn make_one(
     total: u32,
 )
     requires { ⌜ Even (now x) (now y) (now seen) (now id) (now parent) (now num) ⌝ }
-    requires { ⌜ Below (now near) len ⌝ }
+    requires { ⌜ AllBelow len (now near) ⌝ }
     requires { ⌜ (i < len) × (len + done < length (now x)) × (len ≤ 1048576) × (n ≤ 1048576) × (z ≤ 30) ⌝ }
     ensures { λ _. ⌜ Scanned len done
         (madeAt n z i total (now (near .entry)) (scanOf len done (rows (now (x .entry)) (now (y .entry)) (now (seen .entry)) (now (id .entry)) (now (parent .entry)) (now (num .entry)))))
@@ -199,7 +199,7 @@ fn leave_one(
     z: u8,
 ) -> usize
     requires { ⌜ Even (now x) (now y) (now seen) (now id) (now parent) (now num) ⌝ }
-    requires { ⌜ Below (now near) len ⌝ }
+    requires { ⌜ AllBelow len (now near) ⌝ }
     requires { ⌜ (i < len) × (len + done + 1 + unseenCount z (take len (rows (now x) (now y) (now seen) (now id) (now parent) (now num))) ≤ length (now x)) ⌝ }
     ensures { λ r. ⌜ Scanned len done
         (leftAt z i (now (near .entry)) (scanOf len done (rows (now (x .entry)) (now (y .entry)) (now (seen .entry)) (now (id .entry)) (now (parent .entry)) (now (num .entry)))))
@@ -238,7 +238,7 @@ fn visit_one(
     least: u8,
 ) -> usize
     requires { ⌜ Even (now x) (now y) (now seen) (now id) (now parent) (now num) ⌝ }
-    requires { ⌜ Below (now near) len ⌝ }
+    requires { ⌜ AllBelow len (now near) ⌝ }
     requires { ⌜ (i < len) × (len + done + 1 + unseenCount z (take len (rows (now x) (now y) (now seen) (now id) (now parent) (now num))) ≤ length (now x)) ⌝ }
     requires { ⌜ getD (now num) i 0 + more z (take len (rows (now x) (now y) (now seen) (now id) (now parent) (now num))) (now near) < 2 ^ 32 ⌝ }
     requires { ⌜ (len ≤ 1048576) × (n ≤ 1048576) × (z ≤ 30) ⌝ }

@@ -133,6 +133,9 @@ part-sub-m-2 t c = omega arith
 part-add-m : (t : ℕ) → part-lts.Need-add-m (part-told t) (part-at t) part.Post
 part-add-m t c = omega arith
 
+part-add-next : (t : ℕ) → part-lts.Need-add-next (part-told t) (part-at t) part.Post
+part-add-next t c = omega arith
+
 part-put-requires : (t : ℕ) → part-lts.Need-put-requires (part-told t) (part-at t) part.Post
 part-put-requires t c κs = omega arith
 
@@ -156,9 +159,6 @@ part-returns-2 t c =
 
 part-right-at-requires : (t : ℕ) → part-lts.Need-right-at-requires (part-told t) (part-at t) part.Post
 part-right-at-requires t c κs = let s = split-of t c in omega (arith, s .if1 .left, start-of t c .pre)
-
-part-add-part : (t : ℕ) → part-lts.Need-add-part (part-told t) (part-at t) part.Post
-part-add-part t c = omega arith
 
 part-sub-part : (t : ℕ) → part-lts.Need-sub-part (part-told t) (part-at t) part.Post
 part-sub-part t c = omega arith
@@ -236,13 +236,13 @@ pub +part-spec : {M : Type 1} → statement M
     (part-sub-m t)
     (part-sub-m-2 t)
     (part-add-m t)
+    (part-add-next t)
     (part-put-requires t)
     (part-enum-known-k t)
     (part-enum-told t)
     (part-same-length-2 t)
     (part-returns-2 t)
     (part-right-at-requires t)
-    (part-add-part t)
     (part-sub-part t)
     (part-part-requires t)
     (part-enum-known-r t)

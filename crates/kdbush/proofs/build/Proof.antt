@@ -1,16 +1,17 @@
 -- `kdbush::build` meets its contract, by its ways out. Assumes nothing.
-use mathlib.Core.Path.{_≡_, sym, ap, _∙_}
+use mathlib.Core.Path.{_≡_, sym, _∙_}
 use mathlib.Core.Bool.{true, _&&_}
 use native.Mathlib.Omega.{arith}
 use borrow.Author.Tests.{not-true, not-false, le-leb, lt-leb, eq-eqb, ne-eqb}
 use denote.Ref.{now}
-use lib.Dec.{leb, eqb}
+use lib.Dec.{eqb}
 use lib.ListN.{length}
 use Rattle.kdsort.specs.Cols.{Cols, cols}
-use Rattle.kdbush.specs.declared.Outside.the-variants.{At, Nothing}
+use Rattle.kdbush.specs.declared.Outside.the-variants.{Nothing}
 use Rattle.kdbush.specs.Reply.{nodeSizeOk, countOk, firstOutside}
 use Rattle.kdbush.specs.Bounds.{size-is, count-is}
-use Rattle.kdbush.proofs.Replies.{both-true, first-false, second-false, build-options, build-count, build-point, build-tables, build-done}
+use Rattle.kdbush.specs.Bounds.{both-true}
+use Rattle.kdbush.proofs.Replies.{first-false, second-false, build-options, build-count, build-point, build-tables, build-done}
 use borrow.Author.Needs.{needs}
 use Rattle.kdbush.proofs.build.Statement.{statement}
 use Rattle.kdbush.proofs.build.Tie as tie

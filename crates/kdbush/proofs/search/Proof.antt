@@ -12,8 +12,8 @@ use Rattle.kdbush.specs.declared.Found.{Found}
 use Rattle.kdbush.specs.Slots.{over, slots}
 use Rattle.kdbush.specs.Run.{ran, run, places}
 use Rattle.kdbush.specs.Reply.{coordsOk, indexOk}
-use Rattle.kdbush.specs.Bounds.{Searchable, coords-is}
-use Rattle.kdbush.proofs.Replies.{both-true, first-false, second-false, search-spoiled, search-past, search-no-room, search-found}
+use Rattle.kdbush.specs.Bounds.{Searchable, coords-is, both-true}
+use Rattle.kdbush.proofs.Replies.{first-false, second-false, search-spoiled, search-past, search-no-room, search-found}
 use borrow.Author.Needs.{needs}
 use Rattle.kdbush.proofs.search.Statement.{statement}
 use Rattle.kdbush.proofs.search.Tie as tie

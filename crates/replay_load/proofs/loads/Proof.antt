@@ -42,7 +42,7 @@ same-length-9 c = loading c .load .kept .1 .1 .1 .1 .1 .1 .1 .1 .1 .1 .1 .0
 
 returns : tie.Need-returns
 unfolding loadsTo
-returns c = c .agrees .ensures ∙ ap (agreesWith _ _ _) (loading c .load .ensures)
+returns c = c .agrees .ensures ∙ ap (agreesWith _ _ _ _ _) (loading c .load .ensures)
 
 pub loads-spec : {M : Type 1} → statement M
 loads-spec =

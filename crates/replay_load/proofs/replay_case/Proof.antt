@@ -1,5 +1,4 @@
 -- `replay_load::replay_case` is safe: the zooms are within their limits, and in order. Assumes nothing.
-use native.Mathlib.Omega.{arith}
 use mathlib.Core.Path.{subst}
 use Rattle.vectors.specs.Words.{countIs}
 use borrow.Author.Needs.{needs}

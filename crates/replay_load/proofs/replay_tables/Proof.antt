@@ -53,62 +53,35 @@ read-entries-requires c κs = (record { ey = refl; es = refl; ei = refl; ep = re
 returns-2 : tie.Need-returns-2
 returns-2 c = search needs
 
-slice-aggregate-read-tables : tie.Need-slice-aggregate-read-tables
-slice-aggregate-read-tables c = search needs
+slice-aggregate-replay-state : tie.Need-slice-aggregate-replay-state
+slice-aggregate-replay-state c = search needs
 
-slice-aggregate-read-tables-2 : tie.Need-slice-aggregate-read-tables-2
-slice-aggregate-read-tables-2 c = search needs
+slice-aggregate-replay-state-2 : tie.Need-slice-aggregate-replay-state-2
+slice-aggregate-replay-state-2 c = search needs
 
-read-tables-requires : tie.Need-read-tables-requires
-read-tables-requires c κs = search needs
+slice-aggregate-replay-state-3 : tie.Need-slice-aggregate-replay-state-3
+slice-aggregate-replay-state-3 c = search needs
+
+slice-aggregate-replay-state-4 : tie.Need-slice-aggregate-replay-state-4
+slice-aggregate-replay-state-4 c = search needs
+
+slice-aggregate-replay-state-5 : tie.Need-slice-aggregate-replay-state-5
+slice-aggregate-replay-state-5 c = search needs
+
+slice-aggregate-replay-state-6 : tie.Need-slice-aggregate-replay-state-6
+slice-aggregate-replay-state-6 c = search needs
+
+slice-aggregate-replay-state-7 : tie.Need-slice-aggregate-replay-state-7
+slice-aggregate-replay-state-7 c = search needs
+
+slice-aggregate-replay-state-8 : tie.Need-slice-aggregate-replay-state-8
+slice-aggregate-replay-state-8 c = search needs
+
+replay-state-requires : tie.Need-replay-state-requires
+replay-state-requires c κs = search needs
 
 returns-3 : tie.Need-returns-3
 returns-3 c = search needs
-
-slice-aggregate-clear : tie.Need-slice-aggregate-clear
-slice-aggregate-clear c = search needs
-
-clear-requires : tie.Need-clear-requires
-clear-requires c κs = search needs
-
-slice-aggregate-replay-load : tie.Need-slice-aggregate-replay-load
-slice-aggregate-replay-load c = search needs
-
-slice-aggregate-replay-load-2 : tie.Need-slice-aggregate-replay-load-2
-slice-aggregate-replay-load-2 c = search needs
-
-slice-aggregate-replay-load-3 : tie.Need-slice-aggregate-replay-load-3
-slice-aggregate-replay-load-3 c = search needs
-
-slice-aggregate-replay-load-4 : tie.Need-slice-aggregate-replay-load-4
-slice-aggregate-replay-load-4 c = search needs
-
-slice-aggregate-replay-load-5 : tie.Need-slice-aggregate-replay-load-5
-slice-aggregate-replay-load-5 c = search needs
-
-slice-aggregate-replay-load-6 : tie.Need-slice-aggregate-replay-load-6
-slice-aggregate-replay-load-6 c = search needs
-
-slice-aggregate-replay-load-7 : tie.Need-slice-aggregate-replay-load-7
-slice-aggregate-replay-load-7 c = search needs
-
-slice-aggregate-replay-load-8 : tie.Need-slice-aggregate-replay-load-8
-slice-aggregate-replay-load-8 c = search needs
-
-slice-aggregate-replay-load-9 : tie.Need-slice-aggregate-replay-load-9
-slice-aggregate-replay-load-9 c = search needs
-
-slice-aggregate-replay-load-10 : tie.Need-slice-aggregate-replay-load-10
-slice-aggregate-replay-load-10 c = search needs
-
-slice-aggregate-replay-load-11 : tie.Need-slice-aggregate-replay-load-11
-slice-aggregate-replay-load-11 c = search needs
-
-replay-load-requires : tie.Need-replay-load-requires
-replay-load-requires c κs = search needs
-
-returns-4 : tie.Need-returns-4
-returns-4 c = search needs
 
 pub replay-tables-spec : {M : Type 1} → statement M
 replay-tables-spec =
@@ -128,22 +101,13 @@ replay-tables-spec =
     slice-aggregate-read-entries-8
     read-entries-requires
     returns-2
-    slice-aggregate-read-tables
-    slice-aggregate-read-tables-2
-    read-tables-requires
-    returns-3
-    slice-aggregate-clear
-    clear-requires
-    slice-aggregate-replay-load
-    slice-aggregate-replay-load-2
-    slice-aggregate-replay-load-3
-    slice-aggregate-replay-load-4
-    slice-aggregate-replay-load-5
-    slice-aggregate-replay-load-6
-    slice-aggregate-replay-load-7
-    slice-aggregate-replay-load-8
-    slice-aggregate-replay-load-9
-    slice-aggregate-replay-load-10
-    slice-aggregate-replay-load-11
-    replay-load-requires
-    returns-4)
+    slice-aggregate-replay-state
+    slice-aggregate-replay-state-2
+    slice-aggregate-replay-state-3
+    slice-aggregate-replay-state-4
+    slice-aggregate-replay-state-5
+    slice-aggregate-replay-state-6
+    slice-aggregate-replay-state-7
+    slice-aggregate-replay-state-8
+    replay-state-requires
+    returns-3)

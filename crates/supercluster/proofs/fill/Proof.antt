@@ -1,4 +1,4 @@
--- `supercluster::fill` meets its contract: at the head of the loop the first i rows are the finest table's, and the rest is as it was. Assumes nothing.
+-- `supercluster::fill` meets its contract: at the head of the loop the first rows, up to the place, are the finest table's, and the rest is as it was. Assumes nothing.
 use mathlib.Core.Path.{_≡_, refl, ap, sym, _∙_}
 use mathlib.Core.List.{_++_}
 use Prim.Native.Nat.{_-_, _≤_}
@@ -60,8 +60,8 @@ put-entry-requires c κs =
     let l = t .before .loop in
     (l .inv .1, omega (arith, t .loop-test .taken, start-of (t .before) .pre .1, l .inv .2))
 
-add-i : tie.Need-add-i Inv-loop μ-loop
-add-i c = let t = test-of (converting c) in omega (arith, t .loop-test .taken, start-of (t .before) .pre .1)
+add-place : tie.Need-add-place Inv-loop μ-loop
+add-place c = let t = test-of (converting c) in omega (arith, t .loop-test .taken, start-of (t .before) .pre .1)
 
 loop-less : tie.Need-loop-less Inv-loop μ-loop
 loop-less c = omega (arith, test-of (converting c) .loop-test .taken)
@@ -77,11 +77,11 @@ loop-again c =
     let w = c .before .before .before .before .before .before .before .before .before .before .before .before .put-entry in
     let kp = w .kept in
     let p = v .convert .result in
-    let q = lamps-at (a .c) (now (a .xs)) (now (a .ys)) (s .pre .1 .0) (l .i) h ∙ ap (λ (p : Point). lamp p (l .i)) (sym (v .convert .ensures)) in (
+    let q = lamps-at (a .c) (now (a .xs)) (now (a .ys)) (s .pre .1 .0) (l .place) h ∙ ap (λ (p : Point). lamp p (l .place)) (sym (v .convert .ensures)) in (
       omega (arith, h),
       even-kept (l .inv .1) (kp .0) (kp .1 .0) (kp .1 .1 .0) (kp .1 .1 .1 .0) (kp .1 .1 .1 .1 .0) (kp .1 .1 .1 .1 .1 .0),
       kp .0 ∙ l .inv .2,
-      w .ensures ∙ fill-step none (lamps (a .c) (now (a .xs)) (now (a .ys))) (table s) (rows (l .x) (l .y) (l .seen) (l .id) (l .parent) (l .num)) (l .i) (lamp p (l .i)) (l .inv .3)
+      w .ensures ∙ fill-step none (lamps (a .c) (now (a .xs)) (now (a .ys))) (table s) (rows (l .x) (l .y) (l .seen) (l .id) (l .parent) (l .num)) (l .place) (lamp p (l .place)) (l .inv .3)
           (omega (arith, h, lamps-length (a .c) (now (a .xs)) (now (a .ys)) (s .pre .1 .0))) (omega (arith, h, rows-length (now (a .x)) (now (a .y)) (now (a .seen)) (now (a .id)) (now (a .parent)) (now (a .num)), s .pre .1)) q,
     )
 
@@ -108,7 +108,7 @@ returns c =
     let l = c .before .loop in
     let s = start-of (c .before) in
     let a = s .args in
-    fill-end (lamps (a .c) (now (a .xs)) (now (a .ys))) (table s) (rows (l .x) (l .y) (l .seen) (l .id) (l .parent) (l .num)) (l .i) (length (now (a .xs))) (l .inv .3)
+    fill-end (lamps (a .c) (now (a .xs)) (now (a .ys))) (table s) (rows (l .x) (l .y) (l .seen) (l .id) (l .parent) (l .num)) (l .place) (length (now (a .xs))) (l .inv .3)
     (lamps-length (a .c) (now (a .xs)) (now (a .ys)) (s .pre .1 .0)) (c .loop-test .left) (l .inv .0)
 
 pub fill-spec : {M : Type 1} → statement M
@@ -125,7 +125,7 @@ fill-spec =
     convert-requires
     cast-t21
     put-entry-requires
-    add-i
+    add-place
     loop-less
     loop-again
     same-length

@@ -1,23 +1,19 @@
 -- `supercluster::index_part` meets its contract: the parts lent to the index's build have just room for it, so that it is not refused and what it leaves is
 -- the index of the part's points. Assumes nothing.
 use mathlib.Core.Path.{_≡_, ap, sym, _∙_}
-use mathlib.Core.List.{List, _++_}
-use Prim.Native.Nat.{ℕ, _+_, _-_, _*_, _≤_}
+use mathlib.Core.List.{_++_}
+use Prim.Native.Nat.{ℕ, _+_, _-_, _*_}
 use native.Mathlib.Omega.{arith}
-use lib.ListN.{length, take, drop, length-drop}
-use lib.Seq.{length-take-le}
+use lib.ListN.{take, drop}
 use denote.Ref.{now}
 use borrow.Author.Needs.{needs}
 use Rattle.kdsort.specs.Cols.{Cols, cols}
 use Rattle.kdbush.specs.Reply.{built}
-use Rattle.tables.specs.Columns.{part}
+use Rattle.tables.specs.Columns.{part, part-long}
 use Rattle.supercluster.specs.Build.{indexOf}
 use Rattle.supercluster.specs.Parts.{Indexable, built-is}
 use Rattle.supercluster.proofs.index_part.Statement.{statement}
 use Rattle.supercluster.proofs.index_part.Tie as tie
-
-part-long : {A : Type 0} (at n : ℕ) (l : List A) → at + n ≤ length l → length (part at n l) ≡ n
-part-long at n l h = length-take-le n (drop at l) (rw (length-drop at l) (omega arith))
 
 abbrev start-of : tie.After-build → tie.Start
 start-of b = b .before .before .before .before .before .before .before .before .before

@@ -1,14 +1,12 @@
 -- `supercluster::is_roomy` meets its contract: each test is one of `roomyBy`, in its order. Assumes nothing.
-use mathlib.Core.Path.{_≡_, sym, ap}
-use mathlib.Core.Bool.{Bool, true, _&&_}
+use mathlib.Core.Path.{sym, ap}
+use mathlib.Core.Bool.{Bool, _&&_}
 use lib.Dec.{leb}
 use borrow.Author.Tests.{le-leb, lt-leb}
 use borrow.Author.Needs.{needs}
+use Rattle.kdbush.specs.Bounds.{both-true}
 use Rattle.supercluster.proofs.is_roomy.Statement.{statement}
 use Rattle.supercluster.proofs.is_roomy.Tie as tie
-
-both : {a b : Bool} → a ≡ true → b ≡ true → (a && b) ≡ true
-both p q = rw (p, q)
 
 returns : tie.Need-returns
 returns c = simp (lt-leb _ _ (c .if1 .taken))
@@ -42,7 +40,7 @@ returns-9 : tie.Need-returns-9
 returns-9 c =
     let a = c .before .before .before .before .before .before .before .before .args in
     sym (ap (λ (b : Bool). b && leb (a .m) (a .near))
-    (both (both (both (both (both (both (both (le-leb _ _ (c .before .before .before .before .before .before .before .if1 .left)) (le-leb _ _ (c .before .before .before .before .before .before .if2 .left))) (le-leb _ _ (c .before .before .before .before .before .if3 .left))) (le-leb _ _ (c .before .before .before .before .if4 .left))) (le-leb _ _ (c .before .before .before .if5 .left))) (le-leb _ _ (c .before .before .if6 .left))) (le-leb _ _ (c .before .if7 .left))) (le-leb _ _ (c .if8 .left))))
+    (both-true (both-true (both-true (both-true (both-true (both-true (both-true (le-leb _ _ (c .before .before .before .before .before .before .before .if1 .left)) (le-leb _ _ (c .before .before .before .before .before .before .if2 .left))) (le-leb _ _ (c .before .before .before .before .before .if3 .left))) (le-leb _ _ (c .before .before .before .before .if4 .left))) (le-leb _ _ (c .before .before .before .if5 .left))) (le-leb _ _ (c .before .before .if6 .left))) (le-leb _ _ (c .before .if7 .left))) (le-leb _ _ (c .if8 .left))))
 
 pub is-roomy-spec : {M : Type 1} → statement M
 is-roomy-spec =

@@ -1,27 +1,29 @@
 -- `vectors::same_floats` meets its contract. The loop's invariant: each position passed is the same. Assumes nothing.
 use Prim.Native.Nat.{_-_, _≤_}
 use native.Mathlib.Omega.{arith}
-use mathlib.Core.Path.{_≡_, sym, _∙_}
+use mathlib.Core.Path.{_≡_, refl, sym, _∙_}
 use mathlib.Core.Bool.{true}
 use borrow.Author.Tests.{not-true, not-false}
 use lib.ListN.{length}
-use Rattle.vectors.specs.Same.{upto, floatAt}
-use Rattle.vectors.proofs.Same.{none-yet, upto-more, floats-none, floats-fail, floats-all}
+use Rattle.floats.specs.Table.{upto}
+use Rattle.vectors.specs.Same.{floatAt, sameFloats}
+use Rattle.vectors.proofs.Same.{upto-more, columns-none, columns-fail, columns-all}
 use borrow.Author.Needs.{needs}
 use Rattle.vectors.proofs.same_floats.Statement.{statement}
 use Rattle.vectors.proofs.same_floats.Tie as tie
 
 abbrev Inv-loop : tie.InvT-loop
-Inv-loop want got i₀ i = (i ≤ length want) × (upto i (floatAt want got) ≡ true)
+Inv-loop want got i₀ i = (i ≤ length want) × (upto (floatAt want got) i ≡ true)
 
 abbrev μ-loop : tie.MeasureT-loop
 μ-loop want got i₀ i = length want - i
 
 returns : tie.Need-returns Inv-loop μ-loop
-returns c = sym (floats-none _ _ (c .if1 .taken))
+unfolding sameFloats
+returns c = sym (columns-none _ _ _ (c .if1 .taken))
 
 loop-holds : tie.Need-loop-holds Inv-loop μ-loop
-loop-holds c = (omega arith, none-yet _)
+loop-holds c = (omega arith, refl)
 
 mul-agree : tie.Need-mul-agree Inv-loop μ-loop
 mul-agree c = omega arith
@@ -39,7 +41,8 @@ agree-requires : tie.Need-agree-requires Inv-loop μ-loop
 agree-requires c κs = search needs
 
 returns-2 : tie.Need-returns-2 Inv-loop μ-loop
-returns-2 c = sym (floats-fail _ _ _ (c .before .before .before .before .before .before .if1 .left) (c .before .before .before .before .loop-test .taken) (sym (c .before .agree .ensures) ∙ not-true _ (c .if2 .taken)))
+unfolding sameFloats
+returns-2 c = sym (columns-fail _ _ _ _ (c .before .before .before .before .before .before .if1 .left) (c .before .before .before .before .loop-test .taken) (sym (c .before .agree .ensures) ∙ not-true _ (c .if2 .taken)))
 
 add-i : tie.Need-add-i Inv-loop μ-loop
 add-i c = omega arith
@@ -51,7 +54,8 @@ loop-again : tie.Need-loop-again Inv-loop μ-loop
 loop-again c = (omega arith, upto-more (floatAt (c .before .before .before .before .before .before .before .before .before .args .want .now) (c .before .before .before .before .before .before .before .before .before .args .got .now)) _ (c .before .before .before .before .before .loop .inv .1) (sym (c .before .agree .ensures) ∙ not-false _ (c .if2 .left)))
 
 returns-3 : tie.Need-returns-3 Inv-loop μ-loop
-returns-3 c = sym (floats-all _ _ _ (c .before .before .if1 .left) (c .loop-test .left) (c .before .loop .inv .0) (c .before .loop .inv .1))
+unfolding sameFloats
+returns-3 c = sym (columns-all _ _ _ _ (c .before .before .if1 .left) (c .loop-test .left) (c .before .loop .inv .0) (c .before .loop .inv .1))
 
 pub same-floats-spec : {M : Type 1} → statement M
 same-floats-spec =

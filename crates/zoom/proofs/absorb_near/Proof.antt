@@ -7,6 +7,7 @@ use native.Mathlib.Omega.{arith}
 use lib.ListN.{length, getD, drop}
 use denote.Ref.{now}
 use borrow.Author.Needs.{needs}
+use Rattle.kdbush.specs.All.{below-at}
 use Rattle.tables.specs.Rows.{rows, Even, even-marks}
 use Rattle.zoom.specs.Zoom.{absorbed, absorb}
 use Rattle.zoom.specs.Turns.{absorb-turn-yes, absorb-turn-no, absorb-end}
@@ -31,7 +32,7 @@ abbrev place : tie.In-loop Inv-loop μ-loop → ℕ
 place i = getD (now (start-of i .args .near)) (i .before .loop .j) 0
 
 place-in : (i : tie.In-loop Inv-loop μ-loop) → place i < length (now (start-of i .args .x))
-place-in i = start-of i .pre .1 (i .before .loop .j) (i .loop-test .taken)
+place-in i = let s = start-of i in below-at (length (now (s .args .x))) (now (s .args .near)) (i .before .loop .j) (s .pre .1) (i .loop-test .taken)
 
 -- the turn, seen from its test, from the branch of an unseen neighbour, from two of that branch's reads, and from its end
 abbrev of-test : tie.After-slice-known Inv-loop μ-loop → tie.In-loop Inv-loop μ-loop

@@ -8,12 +8,13 @@ use lib.ListN.{length, take}
 use lib.Ieee.{Float}
 use denote.Ref.{now}
 use borrow.Author.Needs.{needs}
+use Rattle.kdbush.specs.All.{All}
 use Rattle.tables.specs.Entries.{Table}
 use Rattle.tables.specs.Rows.{rows, Even, even-kept, rows-length}
 use Rattle.zoom.specs.Zoom.{Scan}
 use Rattle.zoom.specs.Scanned.{scanOf}
 use Rattle.zoom.specs.Near.{nearOf, Placed}
-use Rattle.zoom.specs.Keeps.{All, kept-all, keep-one}
+use Rattle.zoom.specs.Keeps.{kept-all, keep-one}
 use Rattle.zoom.specs.Scanning.{Scanning, scanning-start, scanning-step, scanning-end}
 use Rattle.zoom.proofs.cluster.Statement.{statement}
 use Rattle.zoom.proofs.cluster.Tie as tie

@@ -7,6 +7,7 @@ use native.Mathlib.Omega.{arith}
 use lib.ListN.{length, getD}
 use denote.Ref.{now}
 use borrow.Author.Needs.{needs}
+use Rattle.kdbush.specs.All.{below-at}
 use Rattle.tables.specs.declared.Entry.{Entry}
 use Rattle.tables.specs.Entries.{Table, entry}
 use Rattle.tables.specs.Rows.{rows, Even, even-kept, rows-entry, rows-length}
@@ -46,7 +47,7 @@ abbrev place : tie.In-loop Inv-loop μ-loop → ℕ
 place i = getD (now (start-of (i .before) .args .near)) (i .before .loop .j) 0
 
 place-in : (i : tie.In-loop Inv-loop μ-loop) → place i < start-of (i .before) .args .len
-place-in i = start-of (i .before) .pre .1 .0 (i .before .loop .j) (i .loop-test .taken)
+place-in i = let s = start-of (i .before) in below-at (s .args .len) (now (s .args .near)) (i .before .loop .j) (s .pre .1 .0) (i .loop-test .taken)
 
 -- what the test reads, of the rows
 seen-at : (i : tie.In-loop Inv-loop μ-loop) → entry (table (i .before)) (place i) .seen ≡ getD (i .before .loop .seen) (place i) 0

@@ -4,6 +4,7 @@ use Prim.Native.Nat.{_+_, _<_}
 use native.Mathlib.Omega.{arith}
 use lib.ListN.{length, length-set}
 use borrow.Author.Needs.{needs}
+use Rattle.kdbush.specs.All.{below-le}
 use Rattle.tables.specs.Rows.{rows, Even, rows-entry, rows-length, rows-parent}
 use Rattle.zoom.specs.Stored.{made-with, begun}
 use Rattle.zoom.specs.Zoom.{absorbed, absorb}
@@ -47,7 +48,7 @@ slice-read-t28 c = search needs
 absorb-near-requires : tie.Need-absorb-near-requires
 absorb-near-requires c κs =
     let s = begin c in
-    (s .pre .0, λ k h. let q = s .pre .1 .0 k h in omega (arith, q, s .pre .1 .1 .0, s .pre .1 .1 .1))
+    (s .pre .0, below-le (s .args .len) (length (s .args .x .now)) (s .args .near .now) (omega (arith, s .pre .1 .1 .1)) (s .pre .1 .0))
 
 mul-parent : tie.Need-mul-parent
 mul-parent c = search needs

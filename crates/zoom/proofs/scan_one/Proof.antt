@@ -10,12 +10,12 @@ use lib.Ieee.{Float, nan}
 use denote.Ref.{now}
 use borrow.Author.Needs.{needs}
 use Rattle.kdbush.specs.declared.Query.the-variants.{Within}
+use Rattle.kdbush.specs.All.{AllBelow}
 use Rattle.kdbush.specs.Members.{Distinct}
 use Rattle.tables.specs.declared.Entry.{Entry}
 use Rattle.tables.specs.Entries.{Table, entry, none, marked}
 use Rattle.tables.specs.Rows.{rows, row, even-mark, rows-entry, rows-length, rows-mark}
-use Rattle.zoom.specs.Scanned.{Below}
-use Rattle.zoom.specs.Near.{nearOf, Placed, all-below}
+use Rattle.zoom.specs.Near.{nearOf, Placed}
 use Rattle.zoom.specs.Keeps.{all-at}
 use Rattle.zoom.specs.Visit.{marked-room, marked-unseenNum, scanned, passed}
 use Rattle.zoom.proofs.scan_one.Statement.{statement}
@@ -57,8 +57,8 @@ placed-i s =
     subst (λ (e : Entry). Placed e) (getD-take (a .len) (table s) (a .i) none (here s))
     (all-at Placed (take (a .len) (table s)) (a .i) (s .pre .1 .1 .0) (omega (arith, length-take-le (a .len) (table s) (len-in s), here s)))
 
-below-of : (s : tie.Start) → Below (places s) (s .args .len)
-below-of s = let a = s .args in all-below (places s) (a .len) (s .pre .1 .0 .0 .below (Within (getD (now (a .x)) (a .i) nan) (getD (now (a .y)) (a .i) nan) (a .r)))
+below-of : (s : tie.Start) → AllBelow (s .args .len) (places s)
+below-of s = let a = s .args in s .pre .1 .0 .0 .below (Within (getD (now (a .x)) (a .i) nan) (getD (now (a .y)) (a .i) nan) (a .r))
 
 few : (s : tie.Start) → length (places s) ≤ s .args .len
 few s = let a = s .args in s .pre .1 .0 .0 .short (Within (getD (now (a .x)) (a .i) nan) (getD (now (a .y)) (a .i) nan) (a .r))

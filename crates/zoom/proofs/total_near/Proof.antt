@@ -6,6 +6,7 @@ use native.Mathlib.Omega.{arith}
 use lib.ListN.{length, getD, drop}
 use denote.Ref.{now}
 use borrow.Author.Needs.{needs}
+use Rattle.kdbush.specs.All.{below-at}
 use Rattle.tables.specs.Entries.{Table}
 use Rattle.tables.specs.Rows.{rows}
 use Rattle.zoom.specs.Zoom.{more}
@@ -33,7 +34,7 @@ abbrev place : tie.In-loop Inv-loop μ-loop → ℕ
 place i = getD (now (start-of i .args .near)) (i .before .loop .j) 0
 
 place-in : (i : tie.In-loop Inv-loop μ-loop) → place i < length (now (start-of i .args .x))
-place-in i = start-of i .pre .1 .0 (i .before .loop .j) (i .loop-test .taken)
+place-in i = let s = start-of i in below-at (length (now (s .args .x))) (now (s .args .near)) (i .before .loop .j) (s .pre .1 .0) (i .loop-test .taken)
 
 -- what remains, if the neighbour is unseen, and if it is not
 yes : (i : tie.In-loop Inv-loop μ-loop) → start-of i .args .z < getD (now (start-of i .args .seen)) (place i) 0

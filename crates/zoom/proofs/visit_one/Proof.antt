@@ -6,6 +6,7 @@ use native.Mathlib.Omega.{arith}
 use lib.ListN.{length, getD, take}
 use denote.Ref.{now}
 use borrow.Author.Needs.{needs}
+use Rattle.kdbush.specs.All.{below-le}
 use Rattle.tables.specs.Entries.{Table, entry}
 use Rattle.tables.specs.Rows.{rows, rows-length}
 use Rattle.zoom.specs.Scanned.{scanOf, unseenCount}
@@ -82,7 +83,7 @@ slice-read-own c = search needs
 total-near-requires : tie.Need-total-near-requires
 total-near-requires c κs =
     let s = c .before .before .before .before .before .before .before .before .before .before .before .before .before .before in
-    (s .pre .0, ((λ k h. let q = s .pre .1 .0 k h in omega (arith, q, len-in s, long s)), rw (more-is s) (s .pre .1 .1 .1 .0)))
+    (s .pre .0, (below-le (s .args .len) (length (now (s .args .x))) (now (s .args .near)) (omega (arith, len-in s, long s)) (s .pre .1 .0), rw (more-is s) (s .pre .1 .1 .1 .0)))
 
 is-enough-requires : tie.Need-is-enough-requires
 is-enough-requires c κs = search needs
