@@ -35,11 +35,6 @@ comes-shift p top t (suc j) =
     let e : suc top - suc (suc j) ≡ top - suc j = omega arith in
     ap₂ (λ (z : ℕ) (q : Table). zoomed p z q .next) e (comes-shift p top t j)
 
-run-length : (p : Plan) (k : ℕ) (t : Table) → length (run p k t) ≡ suc k
-unfolding run
-run-length p zero t = refl
-run-length p (suc k) t = ap suc (run-length p k (zoomed p (p .options .«min_zoom» + k) t .next))
-
 run-at : (p : Plan) (k : ℕ) (t : Table) (j : ℕ) → j < k →
     getD (run p k t) j [] ≡ zoomed p (p .options .«min_zoom» + k - suc j) (comes p (p .options .«min_zoom» + k) t j) .table
 unfolding run comes
@@ -61,11 +56,6 @@ run-last p (suc k) t =
 -- ---- of a build
 
 module _ (o : Options) (xs ys : List Float) where
-  -- a build has one table more than zooms
-  pub tables-count : length (tablesOf o xs ys) ≡ suc (zoomsOf o)
-  unfolding tablesOf
-  tables-count = run-length (planOf o (length xs)) (zoomsOf o) (lamps (o .«coordinate_system») xs ys)
-
   -- the finest came as the lamps
   pub came-first : came o xs ys (o .«max_zoom» + 1) ≡ lamps (o .«coordinate_system») xs ys
   unfolding came comes

@@ -9,8 +9,8 @@ use Rattle.kdbush.specs.All.{all-getD}
 use Rattle.tables.specs.declared.Options.{Options}
 use Rattle.supercluster.specs.Build.{tablesOf}
 use Rattle.supercluster.specs.Ready.{Accepted}
-use Rattle.supercluster.specs.Right.{Right, tables-right}
-use Rattle.builds.specs.Came.{tableAt, tables-count}
+use Rattle.supercluster.specs.Right.{Right, tables-right, tables-count}
+use Rattle.builds.specs.Came.{tableAt}
 
 pub right-at : (o : Options) (xs ys : List Float) → Accepted o xs ys → (z : ℕ) → o .«min_zoom» ≤ z → z ≤ o .«max_zoom» + 1 → Right (length xs) (tableAt o xs ys z)
 unfolding tableAt

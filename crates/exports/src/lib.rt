@@ -1,6 +1,5 @@
 // The public functions by C names, for Rust and C: numbers and slices only. A slice is passed as a pointer and a length, a `&mut usize` as a pointer.
 // Each answers 01's number of the reply, 0 where there is no refusal, and leaves what the reply carries in `carried`, 0 where it carries nothing.
-use kdbush::BuildReply;
 use kdbush::Query;
 use kdbush::SearchReply;
 use kdbush::Step;
@@ -16,32 +15,6 @@ ghost use Rattle.exports.specs.Given.{settingOf, systemOf, optionsOf};
 ghost use Rattle.kdbush.specs.Run.{filled};
 ghost use Rattle.supercluster.specs.Build.{lent, loaded};
 ghost use Rattle.kdsort.specs.Cols.{cols};
-
-// The number of a build's reply.
-fn build_number(r: BuildReply) -> u32
-    ensures { λ n. ⌜ n ≡ buildNumber r ⌝ }
-{
-    match r {
-        BuildReply::Done => 0,
-        BuildReply::Options => 1,
-        BuildReply::Count => 2,
-        BuildReply::Point(_) => 3,
-        BuildReply::Tables => 4,
-    }
-}
-
-// What a build's reply carries.
-fn build_carried(r: BuildReply) -> usize
-    ensures { λ n. ⌜ n ≡ buildCarried r ⌝ }
-{
-    match r {
-        BuildReply::Done => 0,
-        BuildReply::Options => 0,
-        BuildReply::Count => 0,
-        BuildReply::Point(i) => i,
-        BuildReply::Tables => 0,
-    }
-}
 
 // The number of a search's reply.
 fn search_number(r: SearchReply) -> u32
@@ -105,8 +78,8 @@ pub extern "C" fn kdbush_build(
     ensures { λ _. ⌜ cols (now (ids .exit)) (now (coords .exit)) ≡ built «node_size» (now (xs .entry)) (now (ys .entry)) (cols (now (ids .entry)) (now (coords .entry))) ⌝ }
 {
     let r = kdbush::build(node_size, xs, ys, ids, coords);
-    *carried = build_carried(r);
-    build_number(r)
+    *carried = r.carried();
+    r.number()
 }
 
 #[no_mangle]
@@ -353,6 +326,6 @@ pub extern "C" fn supercluster_load(
     let long = state.lens;
     store(long, lens);
     let r = loaded.reply;
-    *carried = build_carried(r);
-    build_number(r)
+    *carried = r.carried();
+    r.number()
 }

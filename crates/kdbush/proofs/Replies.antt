@@ -19,6 +19,7 @@ use Rattle.kdbush.specs.declared.Next.{Next}
 use Rattle.kdbush.specs.declared.Next.the-variants.{Slot as Next·Slot, Done as Next·Done}
 use Rattle.kdbush.specs.declared.BuildReply.{BuildReply}
 use Rattle.kdbush.specs.declared.BuildReply.the-variants.{Done as Build·Done, Options, Count, Point, Tables}
+use Rattle.kdbush.specs.declared.SearchReply.{SearchReply}
 use Rattle.kdbush.specs.declared.SearchReply.the-variants.{Found, Box, NoRoom, Spoiled}
 use Rattle.kdbush.specs.declared.Step.{Step}
 use Rattle.kdbush.specs.declared.Step.the-variants.{Slot, Done, Box as Step·Box, Spoiled as Step·Spoiled}

@@ -9,13 +9,20 @@ use Rattle.kdbush.specs.declared.Query.{Query}
 use Rattle.kdbush.specs.declared.BuildReply.{BuildReply}
 use Rattle.kdbush.specs.declared.SearchReply.{SearchReply}
 use Rattle.kdbush.specs.declared.Step.{Step}
-use Rattle.kdbush.specs.Reply.{checked, built, listed, listedColumn, searched, columnAfter, firstStep, afterStep}
+use Rattle.kdbush.specs.Reply.{buildNumber, buildCarried, checked, built, listed, listedColumn, searched, columnAfter, firstStep, afterStep}
 
 pub build-replies : (size : ℕ) (xs ys : List Float) (s : Cols) (r t : BuildReply) → r ≡ checked size xs ys s → t ≡ checked size xs ys s → r ≡ t
 build-replies size xs ys s r t = same-reply
 
 pub build-columns : (size : ℕ) (xs ys : List Float) (s u v : Cols) → u ≡ built size xs ys s → v ≡ built size xs ys s → u ≡ v
 build-columns size xs ys s u v = same-reply
+
+-- the methods of a build's reply
+pub number-replies : (b : BuildReply) (r t : ℕ) → r ≡ buildNumber b → t ≡ buildNumber b → r ≡ t
+number-replies b r t = same-reply
+
+pub carried-replies : (b : BuildReply) (r t : ℕ) → r ≡ buildCarried b → t ≡ buildCarried b → r ≡ t
+carried-replies b r t = same-reply
 
 -- `search`
 pub list-replies : (q : Query) (size n : ℕ) (ids : List ℕ) (co : List Float) (room : ℕ) (r t : SearchReply) → r ≡ listed q size n ids co room → t ≡ listed q size n ids co room → r ≡ t

@@ -10,7 +10,7 @@ ghost use Rattle.kdbush.specs.Query.{passesQ, queryOk};
 ghost use Rattle.kdbush.specs.Slots.{over, when, scanned, slots, below};
 ghost use Rattle.kdbush.specs.Run.{ran, run, places};
 ghost use Rattle.kdbush.specs.Cursor.{headOf, rest, leafEnd};
-ghost use Rattle.kdbush.specs.Reply.{nodeSizeOk, countOk, coordsOk, firstOutside, checked, built, listed, listedColumn, searched, columnAfter, firstStep, afterStep};
+ghost use Rattle.kdbush.specs.Reply.{buildNumber, buildCarried, nodeSizeOk, countOk, coordsOk, firstOutside, checked, built, listed, listedColumn, searched, columnAfter, firstStep, afterStep};
 
 // What is asked of an index: the entries of a box, or those around a place.
 pub enum Query {
@@ -34,6 +34,34 @@ pub enum BuildReply {
     Count,
     Point(usize),
     Tables,
+}
+
+impl BuildReply {
+    // 01's number of the reply: 0 where nothing is refused.
+    pub fn number(self) -> u32
+        ensures { λ r. ⌜ r ≡ buildNumber self ⌝ }
+    {
+        match self {
+            BuildReply::Done => 0,
+            BuildReply::Options => 1,
+            BuildReply::Count => 2,
+            BuildReply::Point(_) => 3,
+            BuildReply::Tables => 4,
+        }
+    }
+
+    // What the reply carries: 0 where it carries nothing.
+    pub fn carried(self) -> usize
+        ensures { λ r. ⌜ r ≡ buildCarried self ⌝ }
+    {
+        match self {
+            BuildReply::Done => 0,
+            BuildReply::Options => 0,
+            BuildReply::Count => 0,
+            BuildReply::Point(i) => i,
+            BuildReply::Tables => 0,
+        }
+    }
 }
 
 // The reply of a search: how many places it found, or a refusal. `NoRoom` carries the whole length of the answer.

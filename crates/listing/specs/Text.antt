@@ -8,46 +8,38 @@ use lib.Ieee.{Float}
 use Rattle.listing.specs.declared.Head.{Head}
 use Rattle.listing.specs.declared.Parsed.{Parsed}
 use Rattle.listing.specs.declared.Parsed.the-variants.{Read, Refused}
+use Rattle.listing.specs.Bytes.{bytes}
 use Rattle.listing.specs.Digits.{decimalOf}
 use Rattle.listing.specs.Values.{coordOf}
 
 -- ---- the keys, each with its `=`
 
--- min_zoom=
 abbrev pub minZoomKey : List ℕ
-minZoomKey = 109 ∷ 105 ∷ 110 ∷ 95 ∷ 122 ∷ 111 ∷ 111 ∷ 109 ∷ 61 ∷ []
+minZoomKey = bytes "min_zoom="
 
--- max_zoom=
 abbrev pub maxZoomKey : List ℕ
-maxZoomKey = 109 ∷ 97 ∷ 120 ∷ 95 ∷ 122 ∷ 111 ∷ 111 ∷ 109 ∷ 61 ∷ []
+maxZoomKey = bytes "max_zoom="
 
--- min_points=
 abbrev pub minPointsKey : List ℕ
-minPointsKey = 109 ∷ 105 ∷ 110 ∷ 95 ∷ 112 ∷ 111 ∷ 105 ∷ 110 ∷ 116 ∷ 115 ∷ 61 ∷ []
+minPointsKey = bytes "min_points="
 
--- radius=
 abbrev pub radiusKey : List ℕ
-radiusKey = 114 ∷ 97 ∷ 100 ∷ 105 ∷ 117 ∷ 115 ∷ 61 ∷ []
+radiusKey = bytes "radius="
 
--- extent=
 abbrev pub extentKey : List ℕ
-extentKey = 101 ∷ 120 ∷ 116 ∷ 101 ∷ 110 ∷ 116 ∷ 61 ∷ []
+extentKey = bytes "extent="
 
--- node_size=
 abbrev pub nodeSizeKey : List ℕ
-nodeSizeKey = 110 ∷ 111 ∷ 100 ∷ 101 ∷ 95 ∷ 115 ∷ 105 ∷ 122 ∷ 101 ∷ 61 ∷ []
+nodeSizeKey = bytes "node_size="
 
--- count=
 abbrev pub countKey : List ℕ
-countKey = 99 ∷ 111 ∷ 117 ∷ 110 ∷ 116 ∷ 61 ∷ []
+countKey = bytes "count="
 
--- x=
 abbrev pub xKey : List ℕ
-xKey = 120 ∷ 61 ∷ []
+xKey = bytes "x="
 
--- y=
 abbrev pub yKey : List ℕ
-yKey = 121 ∷ 61 ∷ []
+yKey = bytes "y="
 
 -- ---- the writing of an input
 

@@ -1,14 +1,14 @@
--- A text is read as these values if and only if it is their writing: `accepts` and `only`. So the contract of `parse` allows just one reply to a text
--- (`parsing-one`; of the columns this is not proved here), and what `parsedOf` answers meets it (`parsing`). Assumes nothing.
+-- A text is read as these values if and only if it is their writing: `accepts` and `only`. So what `parsedOf` answers meets the contract of `parse`
+-- (`parsing`), which allows just one reply to a text, and one content of the columns (`parsing-one`). Assumes nothing.
 use mathlib.Core.Bool.{Bool, true, false, cond}
 use mathlib.Core.List.{List}
 use mathlib.Core.Path.{_≡_, refl, ap, sym, subst, _∙_}
-use Prim.Native.Nat.{ℕ, _≤_}
+use Prim.Native.Nat.{ℕ, _+_, _≤_}
 use native.Mathlib.Omega.{arith}
 use borrow.Author.Tests.{le-ltb, ltb-false}
 use lib.Dec.{ltb}
-use lib.ListN.{length, take}
-use lib.Seq.{length-sets, length-take-le}
+use lib.ListN.{length, take, drop, length-map}
+use lib.Seq.{sets, length-sets, sets-eq, take-at}
 use lib.Ieee.{Float}
 use Rattle.listing.specs.declared.Head.{Head}
 use Rattle.listing.specs.declared.Parsed.{Parsed}
@@ -16,6 +16,7 @@ use Rattle.listing.specs.declared.Parsed.the-variants.{Read, Refused}
 use Rattle.listing.specs.Text.{Input, pointsText, headText, headIs, text, Valid, Reads, Parsing, xsOf, ysOf}
 use Rattle.listing.specs.Form.{headOf, pointsOk, fillX, fillY, withPoints, parsedOf, afterX, afterY}
 use Rattle.listing.specs.Points.{Found, points-read, points-end}
+use Rattle.listing.specs.OneInput.{text-one}
 use Rattle.listing.specs.Heads.{refused-not, read-inj, head-read, head-ends}
 
 -- each text of the form is read, as what it is the text of
@@ -107,24 +108,40 @@ module _ (s : List ℕ) (xs ys : List Float) where
   parsing Refused xs′ ys′ e ex ey =
       record { none = λ i v is. refused-not (e ∙ ap parsedOf is ∙ accepts i v .0); same-x = ex; same-y = ey }
 
-  -- the reply that the contract says is the one of `parsedOf`
-  refused-by : (q : Parsed) → parsedOf s ≡ q → ((i : Input) → Valid i → s ≡ text i → ⊥) → Refused ≡ q
-  refused-by (Read h) e no′ = let f = only s h e in absurd (no′ (f .input) (f .valid) (f .is))
-  refused-by Refused e no′ = refl
+  -- two replies that meet it are equal, and so are the columns
+  pub parsing-one : (r q : Parsed) (xs′ ys′ xs″ ys″ : List Float) → Parsing s xs ys r xs′ ys′ → Parsing s xs ys q xs″ ys″ → (r ≡ q) × ((xs′ ≡ xs″) × (ys′ ≡ ys″))
+  parsing-one (Read h) (Read g) xs′ ys′ xs″ ys″ a b =
+      let e = text-one (a .input) (b .input) (a .valid) (b .valid) (sym (a .is) ∙ b .is) in (
+        ap Read (a .head ∙ ap headIs e ∙ sym (b .head)),
+        (
+          a .of-x ∙ ap (λ (i : Input). sets xs 0 (xsOf i)) e ∙ sym (b .of-x),
+          a .of-y ∙ ap (λ (i : Input). sets ys 0 (ysOf i)) e ∙ sym (b .of-y),
+        ),
+      )
+  parsing-one (Read h) Refused xs′ ys′ xs″ ys″ a b = absurd (b .none (a .input) (a .valid) (a .is))
+  parsing-one Refused (Read g) xs′ ys′ xs″ ys″ a b = absurd (a .none (b .input) (b .valid) (b .is))
+  parsing-one Refused Refused xs′ ys′ xs″ ys″ a b = (refl, (a .same-x ∙ sym (b .same-x), a .same-y ∙ sym (b .same-y)))
 
-  parsed : (r : Parsed) (xs′ ys′ : List Float) → Parsing s xs ys r xs′ ys′ → r ≡ parsedOf s
-  parsed (Read h) xs′ ys′ p = ap Read (p .head) ∙ sym (accepts (p .input) (p .valid) .0) ∙ ap parsedOf (sym (p .is))
-  parsed Refused xs′ ys′ p = refused-by (parsedOf s) refl (p .none)
+  -- the points that were read stand at the front of the columns
+  pub record Front (i : Input) (h : Head) (xs′ ys′ : List Float) : Type 0 where
+    pub of-x : take (h .count) xs′ ≡ xsOf i
+    pub of-y : take (h .count) ys′ ≡ ysOf i
+    pub fits-x : h .count ≤ length xs′
+    pub fits-y : h .count ≤ length ys′
 
-  pub parsing-one : (r q : Parsed) (xs′ ys′ xs″ ys″ : List Float) → Parsing s xs ys r xs′ ys′ → Parsing s xs ys q xs″ ys″ → r ≡ q
-  parsing-one r q xs′ ys′ xs″ ys″ a b = parsed r xs′ ys′ a ∙ sym (parsed q xs″ ys″ b)
+  front : (n : ℕ) (l d d′ : List Float) → d′ ≡ sets d 0 l → n ≡ length l → n ≤ length d′ → take n d′ ≡ l
+  front n l d d′ e k h =
+      let fits : 0 + length l ≤ length d = omega (arith, ap length e ∙ length-sets d 0 l) in
+      ap (take n) (e ∙ sets-eq l d 0 fits) ∙ take-at l (drop (0 + length l) d) n (sym k)
 
-  -- a text has at most 1,152 points, and they stand in the columns
-  pub parsing-room : (r : Parsed) (h : Head) (xs′ ys′ : List Float) → r ≡ Read h → Parsing s xs ys r xs′ ys′ → length xs ≡ 1152 → length ys ≡ 1152
-      → ((h .count ≤ length xs′) × (h .count ≡ length (take (h .count) xs′))) × ((h .count ≤ length ys′) × (h .count ≡ length (take (h .count) ys′)))
-  parsing-room r h xs′ ys′ e q lx ly =
-      let p : Reads s xs ys h xs′ ys′ = subst (λ (k : Parsed). Parsing s xs ys k xs′ ys′) e q in
-      let few : h .count ≤ 1152 = omega (arith, ap (λ (k : Head). k .count) (p .head), p .valid .count) in
-      let hx : h .count ≤ length xs′ = omega (arith, ap length (p .of-x) ∙ length-sets xs 0 (xsOf (p .input)), lx) in
-      let hy : h .count ≤ length ys′ = omega (arith, ap length (p .of-y) ∙ length-sets ys 0 (ysOf (p .input)), ly) in
-      ((hx, sym (length-take-le (h .count) xs′ hx)), (hy, sym (length-take-le (h .count) ys′ hy)))
+  pub reads-front : (h : Head) (xs′ ys′ : List Float) (p : Reads s xs ys h xs′ ys′) → length xs′ ≡ 1152 → length ys′ ≡ 1152 → Front (p .input) h xs′ ys′
+  reads-front h xs′ ys′ p lx ly =
+      let n : h .count ≡ length (p .input .points) = ap (λ (k : Head). k .count) (p .head) in
+      let fx : h .count ≤ length xs′ = omega (arith, n, p .valid .count) in
+      let fy : h .count ≤ length ys′ = omega (arith, n, p .valid .count) in
+      record {
+        of-x = front (h .count) (xsOf (p .input)) xs xs′ (p .of-x) (n ∙ sym (length-map (p .input .points) _)) fx;
+        of-y = front (h .count) (ysOf (p .input)) ys ys′ (p .of-y) (n ∙ sym (length-map (p .input .points) _)) fy;
+        fits-x = fx;
+        fits-y = fy;
+      }

@@ -1,22 +1,17 @@
-// The text of the table lister: what it reads, 01's lines of options and points, and what it prints, the line of an entry.
+// The text that the table lister reads: 01's lines of options and points.
 // Proved: a text is accepted with these values if and only if it is the writing of these values, and every other text is refused and leaves the columns as they
-// were; a line holds 01's eight fields. Nothing is asked of the caller beyond room for the text of a table. Assumed: nothing.
+// were. Nothing is asked of the caller. Assumed: nothing.
 use range::CoordinateSystem;
 use range::DataRange;
 use range::Setting;
-use tables::Entry;
 use tables::Options;
 ghost use mathlib.Core.Path.{_≡_};
-ghost use mathlib.Core.List.{[], _∷_};
-ghost use Prim.Native.Nat.{_+_, _*_, _<_, _≤_};
-ghost use lib.ListN.{length, drop};
-ghost use Rattle.tables.specs.Rows.{rows, Even};
-ghost use Rattle.listing.specs.Digits.{decimalOf, glyphOf, hexOf};
+ghost use Prim.Native.Nat.{_<_, _≤_};
+ghost use lib.ListN.{drop};
 ghost use Rattle.listing.specs.Scan.{startsWith, moreOf, numberOf, lineOf, valueIn};
 ghost use Rattle.listing.specs.Form.{headOf, countIn, pointOf, pointsOk, fillX, fillY};
 ghost use Rattle.listing.specs.Values.{coordOf, optionsOf};
 ghost use Rattle.listing.specs.Text.{Parsing};
-ghost use Rattle.listing.specs.Lines.{Put, Counts, orDash, bitsOf, placeText, pointText, marksText, endText, lineText, tableText};
 
 // A place in the text.
 pub struct Cursor {
@@ -285,149 +280,4 @@ pub fn options(h: Head) -> Options
             },
         },
     }
-}
-
-fn put_byte(out: &mut [u8], at: usize, b: u8) -> usize
-    requires { ⌜ at < length (now out) ⌝ }
-    ensures { λ r. ⌜ Put (now (out .entry)) (now (out .exit)) at (b ∷ []) 1 r ⌝ }
-{
-    out[at] = b;
-    at + 1
-}
-
-// n's decimal digits at `at`, at most `left` of them. The place past them.
-fn put_decimal(out: &mut [u8], at: usize, n: u32, left: usize) -> usize
-    requires { ⌜ at + left ≤ length (now out) ⌝ }
-    ensures { λ r. ⌜ Put (now (out .entry)) (now (out .exit)) at (decimalOf left n) left r ⌝ }
-{
-    if left < 1 {
-        return at;
-    }
-    if n < 10 {
-        return put_byte(out, at, 48 + n as u8);
-    }
-    let p = put_decimal(out, at, n / 10, left - 1);
-    put_byte(out, p, 48 + (n % 10) as u8)
-}
-
-// A hexadecimal digit.
-fn glyph(d: u8) -> u8
-    requires { ⌜ d < 16 ⌝ }
-    ensures { λ r. ⌜ r ≡ glyphOf d ⌝ }
-{
-    if d < 10 { 48 + d } else { 87 + d }
-}
-
-// n's last `left` hexadecimal digits at `at`. The place past them.
-fn put_hex(out: &mut [u8], at: usize, n: u64, left: usize) -> usize
-    requires { ⌜ at + left ≤ length (now out) ⌝ }
-    ensures { λ r. ⌜ Put (now (out .entry)) (now (out .exit)) at (hexOf left n) left r ⌝ }
-{
-    if left < 1 {
-        return at;
-    }
-    let p = put_hex(out, at, n / 16, left - 1);
-    put_byte(out, p, glyph((n % 16) as u8))
-}
-
-// The bits of a float. A NaN's are those of the Rust's f64::NAN.
-fn bits(x: f64) -> u64
-    ensures { λ r. ⌜ r ≡ bitsOf x ⌝ }
-{
-    if x == x {
-        return f64::to_bits(x);
-    }
-    0x7ff8000000000000
-}
-
-// A number, or `-` where it is the one that stands for unset.
-fn put_or_dash(out: &mut [u8], at: usize, n: u32, unset: u32) -> usize
-    requires { ⌜ at + 10 ≤ length (now out) ⌝ }
-    ensures { λ r. ⌜ Put (now (out .entry)) (now (out .exit)) at (orDash unset n) 10 r ⌝ }
-{
-    if n == unset {
-        return put_byte(out, at, 45);
-    }
-    put_decimal(out, at, n, 10)
-}
-
-// Zoom and place.
-fn put_place(out: &mut [u8], at: usize, zoom: u32, place: u32) -> usize
-    requires { ⌜ at + 34 ≤ length (now out) ⌝ }
-    ensures { λ r. ⌜ Put (now (out .entry)) (now (out .exit)) at (placeText zoom place) 34 r ⌝ }
-{
-    let a = put_decimal(out, at, zoom, 10);
-    let b = put_byte(out, a, 32);
-    let c = put_decimal(out, b, place, 10);
-    put_byte(out, c, 32)
-}
-
-// The bits of x and of y.
-fn put_point(out: &mut [u8], at: usize, x: f64, y: f64) -> usize
-    requires { ⌜ at + 34 ≤ length (now out) ⌝ }
-    ensures { λ r. ⌜ Put (now (out .entry)) (now (out .exit)) at (pointText x y) 34 r ⌝ }
-{
-    let a = put_hex(out, at, bits(x), 16);
-    let b = put_byte(out, a, 32);
-    let c = put_hex(out, b, bits(y), 16);
-    put_byte(out, c, 32)
-}
-
-// Seen and id.
-fn put_marks(out: &mut [u8], at: usize, seen: u32, id: u32) -> usize
-    requires { ⌜ at + 34 ≤ length (now out) ⌝ }
-    ensures { λ r. ⌜ Put (now (out .entry)) (now (out .exit)) at (marksText seen id) 34 r ⌝ }
-{
-    let a = put_or_dash(out, at, seen, 255);
-    let b = put_byte(out, a, 32);
-    let c = put_decimal(out, b, id, 10);
-    put_byte(out, c, 32)
-}
-
-// Parent, num and the line's end.
-fn put_end(out: &mut [u8], at: usize, parent: u32, num: u32) -> usize
-    requires { ⌜ at + 34 ≤ length (now out) ⌝ }
-    ensures { λ r. ⌜ Put (now (out .entry)) (now (out .exit)) at (endText parent num) 34 r ⌝ }
-{
-    let a = put_or_dash(out, at, parent, 4294967295);
-    let b = put_byte(out, a, 32);
-    let c = put_decimal(out, b, num, 10);
-    put_byte(out, c, 10)
-}
-
-// The line of the entry at a place of the table of a zoom, at `at`. The place past it.
-fn put_line(out: &mut [u8], at: usize, zoom: u8, place: u32, e: Entry) -> usize
-    requires { ⌜ at + 136 ≤ length (now out) ⌝ }
-    ensures { λ r. ⌜ Put (now (out .entry)) (now (out .exit)) at (lineText zoom place e) 136 r ⌝ }
-{
-    let a = put_place(out, at, zoom as u32, place);
-    let b = put_point(out, a, e.x, e.y);
-    let c = put_marks(out, b, e.seen as u32, e.id);
-    put_end(out, c, e.parent, e.num)
-}
-
-// The lines of the table of a zoom, which the columns hold, at the start of `out`. How long they are.
-pub fn put_table(
-    out: &mut [u8],
-    zoom: u8,
-    x: &[f64],
-    y: &[f64],
-    seen: &[u8],
-    id: &[u32],
-    parent: &[u32],
-    num: &[u32],
-) -> usize
-    requires { ⌜ Even (now x) (now y) (now seen) (now id) (now parent) (now num) ⌝ }
-    requires { ⌜ (length (now x) ≤ 1152) × (136 * length (now x) ≤ length (now out)) ⌝ }
-    ensures { λ r. ⌜ Put (now (out .entry)) (now (out .exit)) 0 (tableText zoom 0 (rows (now (x .entry)) (now (y .entry)) (now (seen .entry)) (now (id .entry)) (now (parent .entry)) (now (num .entry)))) (136 * length (now (x .entry))) r ⌝ }
-    ensures { λ r. ⌜ Counts r (now (out .exit)) ⌝ }
-{
-    let mut at: usize = 0;
-    let mut i: usize = 0;
-    while i < x.len() {
-        let e = tables::entry_at(x, y, seen, id, parent, num, i);
-        at = put_line(out, at, zoom, i as u32, e);
-        i += 1;
-    }
-    at
 }

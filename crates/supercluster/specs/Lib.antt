@@ -1,7 +1,6 @@
 -- Definitions that contracts cite: Build, and of Parts, Step, Running, Progress, Ready and Load the records that the crate's own functions ask and leave. What
--- is true of every build: Right, Replies; Worked is 01's example. All else is laws.
+-- is true of every build: Right, Held, Replies. All else is laws.
 pub mod Build
-pub mod Worked
 pub mod Parts
 pub mod Step
 pub mod Over
@@ -13,4 +12,5 @@ pub mod Turn
 pub mod Ready
 pub mod Load
 pub mod Right
+pub mod Held
 pub mod Replies

@@ -1,12 +1,14 @@
--- Columns of which a front is written. Assumes nothing.
+-- Columns of which a front is written, and the rows of columns whose front is a table. Assumes nothing.
 use mathlib.Core.Path.{_≡_, refl, ap, sym, _∙_}
 use mathlib.Core.List.{List, [], _∷_, _++_, map, append-assoc}
 use Prim.Native.Nat.{ℕ, zero, suc, _+_, _-_, _≤_}
 use native.Mathlib.Omega.{arith}
-use lib.ListN.{length, take, drop, length-append, length-map, take-append-drop}
+use lib.ListN.{length, take, drop, length-append, length-drop, length-map, take-append-drop}
 use lib.Seq.{drop-append-add, drop-drop, length-take-le, drop-append-le}
-use Rattle.tables.specs.Columns.{map-drop}
-use Rattle.tables.specs.Entries.{Table}
+use lib.Ieee.{Float}
+use Rattle.tables.specs.Columns.{map-drop, rows-drop}
+use Rattle.tables.specs.Entries.{Table, xsOf, ysOf, seenOf, idsOf, parentsOf, numsOf}
+use Rattle.tables.specs.Rows.{rows}
 use Rattle.tables.specs.declared.Entry.{Entry}
 use Rattle.zoom.specs.Keeps.{cluster-long}
 use Rattle.supercluster.specs.Build.{Plan, zoomed, run, joined, over}
@@ -41,3 +43,19 @@ run-long p zero t = omega (arith, length-append t [])
 run-long p (suc k) t =
     let h : length (zoomed p (p .options .«min_zoom» + k) t .table) ≡ length t = cluster-long (p .count) (p .options .«min_points») (p .options .«min_zoom» + k) _ t in
     omega (arith, length-append (zoomed p (p .options .«min_zoom» + k) t .table) (joined (run p k (zoomed p (p .options .«min_zoom» + k) t .next))), h)
+
+-- ---- the rows of columns that have a table at their front
+
+rows-append : (T : Table) (a b : List Float) (c d e f : List ℕ)
+    → rows (xsOf T ++ a) (ysOf T ++ b) (seenOf T ++ c) (idsOf T ++ d) (parentsOf T ++ e) (numsOf T ++ f) ≡ T ++ rows a b c d e f
+unfolding rows
+rows-append [] a b c d e f = refl
+rows-append (q ∷ T) a b c d e f = ap (λ (t : Table). q ∷ t) (rows-append T a b c d e f)
+
+pub rows-over : (T : Table) (x y : List Float) (ss is ps ns : List ℕ)
+    → rows (over (xsOf T) x) (over (ysOf T) y) (over (seenOf T) ss) (over (idsOf T) is) (over (parentsOf T) ps) (over (numsOf T) ns) ≡ over T (rows x y ss is ps ns)
+rows-over T x y ss is ps ns =
+    rows-append T _ _ _ _ _ _ ∙ ap (λ (t : Table). T ++ t) (simp length-map (rows-drop (length T) x y ss is ps ns))
+
+pub over-length : {A : Type 0} (l d : List A) → length l ≤ length d → length (over l d) ≡ length d
+over-length l d h = omega (arith, length-append l (drop (length l) d), length-drop (length l) d)

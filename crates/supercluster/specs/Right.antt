@@ -1,12 +1,12 @@
 -- Of every build that is accepted: each entry of each table lies from 0 to 1 and counts one lamp or more, each table counts the lamps, once each, and has 1 to N
--- entries. Assumes nothing.
-use mathlib.Core.Path.{_≡_, _∙_}
-use mathlib.Core.List.{List}
-use Prim.Native.Nat.{ℕ, zero, suc, _+_, _-_, _≤_}
+-- entries; and all tables together have no more entries than a lent column has to hold. Assumes nothing.
+use mathlib.Core.Path.{_≡_, refl, ap, _∙_}
+use mathlib.Core.List.{List, [], _∷_}
+use Prim.Native.Nat.{ℕ, zero, suc, _+_, _-_, _*_, _≤_}
 use native.Mathlib.Omega.{arith}
-use native.Mathlib.Nat.{le-trans, add-suc}
+use native.Mathlib.Nat.{le-trans, add-suc, suc-mul}
 use lib.Dec.{lit≤}
-use lib.ListN.{length}
+use lib.ListN.{length, length-append}
 use lib.Ieee.{Float}
 use Rattle.kdbush.specs.declared.Query.the-variants.{Within}
 use Rattle.kdbush.specs.All.{All, all-map}
@@ -17,9 +17,9 @@ use Rattle.tables.specs.Radius.{radiusAt}
 use Rattle.tables.specs.declared.Options.{Options}
 use Rattle.zoom.specs.Lamps.{total}
 use Rattle.zoom.specs.Sound.{Body, Next, cluster-sound}
-use Rattle.supercluster.specs.Build.{nearIn, Plan, planOf, zoomed, run, convertedAll, zoomsOf, tablesOf}
+use Rattle.supercluster.specs.Build.{nearIn, Plan, planOf, zoomed, run, convertedAll, zoomsOf, tablesOf, joined, need}
 use Rattle.supercluster.specs.Fill.{lamps-length, finest-fine, finest-total, lamps}
-use Rattle.supercluster.specs.Ready.{Accepted, able}
+use Rattle.supercluster.specs.Ready.{Accepted, need-some, able}
 use Rattle.supercluster.specs.Running.{Able, total-some, slots-promised}
 
 -- what is true of a table of a build of n lamps
@@ -61,3 +61,27 @@ tables-right o xs ys a =
     run-right (planOf o (length xs)) (able o xs ys a) (zoomsOf o) (lamps c xs ys) (omega (arith, z .zooms, z .zoom-to))
     (finest-fine ps 0 (o .«min_zoom» + zoomsOf o) (omega (arith, z .zooms, z .zoom-to)) (a .inside))
     (finest-total ps 0 ∙ l) (omega (arith, l))
+
+-- ---- how many there are
+
+run-length : (p : Plan) (k : ℕ) (t : Table) → length (run p k t) ≡ suc k
+unfolding run
+run-length p zero t = refl
+run-length p (suc k) t = ap suc (run-length p k (zoomed p (p .options .«min_zoom» + k) t .next))
+
+-- a build has one table more than zooms
+pub tables-count : (o : Options) (xs ys : List Float) → length (tablesOf o xs ys) ≡ suc (zoomsOf o)
+unfolding tablesOf
+tables-count o xs ys = run-length (planOf o (length xs)) (zoomsOf o) (lamps (o .«coordinate_system») xs ys)
+
+each-few : (n : ℕ) (ts : List Table) → All (Right n) ts → length (joined ts) ≤ length ts * n
+unfolding All joined
+each-few n [] e = omega arith
+each-few n (t ∷ ts) e = omega (arith, length-append t (joined ts), e .0 .few, each-few n ts (e .1), suc-mul (length ts) n)
+
+-- what a lent column has to hold holds the tables
+pub tables-room : (o : Options) (xs ys : List Float) → Accepted o xs ys → length (joined (tablesOf o xs ys)) ≤ need o (length xs)
+tables-room o xs ys a =
+    let z = options-are o (a .options) in
+    let e : length (tablesOf o xs ys) * length xs ≡ zoomsOf o * length xs + length xs = ap (λ (k : ℕ). k * length xs) (tables-count o xs ys) ∙ suc-mul (zoomsOf o) (length xs) in
+    omega (arith, each-few (length xs) (tablesOf o xs ys) (tables-right o xs ys a), e, need-some o (length xs) (z .zooms))

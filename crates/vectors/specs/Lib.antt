@@ -2,3 +2,4 @@
 pub mod Words
 pub mod Tallies
 pub mod Same
+pub mod Equal

@@ -52,7 +52,7 @@ pub enum Byte {
     Bad,
 }
 
-// The functions that vectors have answers of: those of `range`, those of `kdbush`, and that of `supercluster`.
+// The functions that vectors have answers of: those of `range`, those of `kdbush`, that of `supercluster`, and that of `report`.
 pub enum Function {
     Normalize,
     Denormalize,
@@ -62,6 +62,7 @@ pub enum Function {
     Within,
     Cursor,
     Load,
+    Report,
 }
 
 // What became of a case: the answers agree, or this function's is the first that does not; it is not of the form; there is none.
@@ -477,6 +478,9 @@ fn say_function(function: Function) {
         }
         Function::Load => {
             io::write_all(STDOUT_FILENO, b"load");
+        }
+        Function::Report => {
+            io::write_all(STDOUT_FILENO, b"report");
         }
     }
 }

@@ -5,12 +5,11 @@ mod index;
 #[cfg(feature = "questions")]
 mod questions;
 mod tables;
-mod texts;
 
 use groups as report;
 use std::{env, process::ExitCode};
 
-const USAGE: &str = "usage: inprocess index|tables|lister|questions [--full]
+const USAGE: &str = "usage: inprocess index|tables|questions [--full]
        (questions: built with the feature of that name)";
 
 /// How much is compared.
@@ -28,8 +27,6 @@ fn main() -> ExitCode {
         ["index", "--full"] => index::run(Form::Full),
         ["tables"] => tables::run(Form::Short),
         ["tables", "--full"] => tables::run(Form::Full),
-        ["lister"] => texts::run(Form::Short),
-        ["lister", "--full"] => texts::run(Form::Full),
         #[cfg(feature = "questions")]
         ["questions"] => questions::run(Form::Short),
         #[cfg(feature = "questions")]

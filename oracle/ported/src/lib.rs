@@ -6,13 +6,9 @@ mod linked;
 mod load;
 #[cfg(feature = "questions")]
 mod questions;
-#[cfg(feature = "lister")]
-mod report;
 
 #[cfg(feature = "questions")]
 pub use questions::Asked;
-#[cfg(feature = "lister")]
-pub use report::report;
 
 pub use load::{load, Columns, Lengths, Lent as LentColumns, State, COLUMNS, ZOOMS};
 

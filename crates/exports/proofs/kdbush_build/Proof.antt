@@ -8,11 +8,11 @@ use Rattle.exports.proofs.kdbush_build.Tie as tie
 build-requires : tie.Need-build-requires
 build-requires c κs = search needs
 
-build-carried-requires : tie.Need-build-carried-requires
-build-carried-requires c κs = search needs
+carried-requires : tie.Need-carried-requires
+carried-requires c κs = search needs
 
-build-number-requires : tie.Need-build-number-requires
-build-number-requires c κs = search needs
+number-requires : tie.Need-number-requires
+number-requires c κs = search needs
 
 same-length : tie.Need-same-length
 same-length c = search needs
@@ -23,15 +23,15 @@ same-length-2 c = search needs
 returns : tie.Need-returns
 returns c =
     let v = c .before .before .before .before .before .before .build .ensures in
-    (c .build-number .ensures ∙ ap buildNumber (v .0), (c .before .build-carried .ensures ∙ ap buildCarried (v .0), v .1))
+    (c .number .ensures ∙ ap buildNumber (v .0), (c .before .carried .ensures ∙ ap buildCarried (v .0), v .1))
 
 pub kdbush-build-spec : {M : Type 1} → statement M
 kdbush-build-spec =
     tie.close
     (tie.spec
     build-requires
-    build-carried-requires
-    build-number-requires
+    carried-requires
+    number-requires
     same-length
     same-length-2
     returns)

@@ -62,11 +62,11 @@ store-requires c κs = search needs
 store-requires-2 : tie.Need-store-requires-2
 store-requires-2 c κs = search needs
 
-build-carried-requires : tie.Need-build-carried-requires
-build-carried-requires c κs = search needs
+carried-requires : tie.Need-carried-requires
+carried-requires c κs = search needs
 
-build-number-requires : tie.Need-build-number-requires
-build-number-requires c κs = search needs
+number-requires : tie.Need-number-requires
+number-requires c κs = search needs
 
 same-length : tie.Need-same-length
 same-length c = search needs
@@ -110,9 +110,9 @@ returns c =
     let s = start-of y in
     let a = s .args in
     let e = w .load .ensures ∙ ap (asked s) (system-is y) in (
-      c .build-number .ensures ∙ ap (λ (q : Outcome). buildNumber (q .reply .reply)) e,
+      c .number .ensures ∙ ap (λ (q : Outcome). buildNumber (q .reply .reply)) e,
       (
-        c .before .build-carried .ensures ∙ ap (λ (q : Outcome). buildCarried (q .reply .reply)) e,
+        c .before .carried .ensures ∙ ap (λ (q : Outcome). buildCarried (q .reply .reply)) e,
         (
           one .store .ensures ∙ ap (λ (q : Outcome). filled (q .reply .state .starts) (now (a .starts))) e,
           (two .store2 .ensures ∙ ap (λ (q : Outcome). filled (q .reply .state .lens) (now (a .lens))) e, ap (λ (q : Outcome). q .columns) e),
@@ -130,8 +130,8 @@ supercluster-load-spec =
     load-requires
     store-requires
     store-requires-2
-    build-carried-requires
-    build-number-requires
+    carried-requires
+    number-requires
     same-length
     same-length-2
     same-length-3

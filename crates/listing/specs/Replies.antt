@@ -1,0 +1,22 @@
+-- Any two replies that meet the contract of a public function of this crate are equal, and so are any two columns that they leave. Assumes nothing.
+use mathlib.Core.Path.{_≡_}
+use mathlib.Core.List.{List}
+use Prim.Native.Nat.{ℕ}
+use lib.Ieee.{Float}
+use Rattle.floats.specs.Replies.{same-reply}
+use Rattle.tables.specs.declared.Options.{Options}
+use Rattle.listing.specs.declared.Head.{Head}
+use Rattle.listing.specs.declared.Parsed.{Parsed}
+use Rattle.listing.specs.Values.{coordOf, optionsOf}
+use Rattle.listing.specs.Text.{Parsing}
+use Rattle.listing.specs.Whole.{parsing-one}
+
+pub coordinate-replies : (k : ℕ) (r t : Float) → r ≡ coordOf k → t ≡ coordOf k → r ≡ t
+coordinate-replies k r t = same-reply
+
+pub options-replies : (h : Head) (r t : Options) → r ≡ optionsOf h → t ≡ optionsOf h → r ≡ t
+options-replies h r t = same-reply
+
+pub parse-replies : (s : List ℕ) (xs ys : List Float) (r q : Parsed) (xs′ ys′ xs″ ys″ : List Float) → Parsing s xs ys r xs′ ys′ → Parsing s xs ys q xs″ ys″
+    → (r ≡ q) × ((xs′ ≡ xs″) × (ys′ ≡ ys″))
+parse-replies = parsing-one

@@ -1,0 +1,3 @@
+-- Prints has the definition that a contract cites; One is laws.
+pub mod Prints
+pub mod One

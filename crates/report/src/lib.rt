@@ -1,0 +1,345 @@
+// The table lister's whole answer to a text: every line of every table of the build, the finest table first, or the refusal.
+// Proved: for every text the bytes that 01 says, and how many there are. Nothing is asked of the caller. Assumed: nothing.
+use listing::Head;
+use listing::Parsed;
+use tables::Entry;
+use tables::State;
+ghost use mathlib.Core.Path.{_≡_};
+ghost use mathlib.Core.List.{[], _∷_};
+ghost use Prim.Native.Nat.{_+_, _*_, _<_, _≤_};
+ghost use lib.ListN.{length, getD, take};
+ghost use Rattle.tables.specs.Columns.{part};
+ghost use Rattle.tables.specs.Rows.{rows, Even};
+ghost use Rattle.listing.specs.Digits.{decimalOf};
+ghost use Rattle.listing.specs.Values.{optionsOf};
+ghost use Rattle.report.specs.Hex.{glyphOf, hexOf};
+ghost use Rattle.report.specs.Lines.{orDash, bitsOf, placeText, pointText, marksText, endText, lineText, tableText, tablesText, atText, refusalText};
+ghost use Rattle.report.specs.Report.{buildText, lending, Reports};
+ghost use Rattle.report.specs.Put.{Put};
+ghost use Rattle.supercluster.specs.Build.{lent, loaded};
+ghost use Rattle.supercluster.specs.Held.{heldAt, heldBy};
+ghost use Rattle.report.specs.Held.{Holding};
+
+// A byte. The place past it.
+fn put_byte(out: &mut [u8], at: usize, b: u8) -> usize
+    requires { ⌜ at < length (now out) ⌝ }
+    ensures { λ r. ⌜ Put (now (out .entry)) (now (out .exit)) at (b ∷ []) 1 r ⌝ }
+{
+    out[at] = b;
+    at + 1
+}
+
+// The bytes bs at `at`. The place past them.
+fn put_bytes(out: &mut [u8], at: usize, bs: &[u8]) -> usize
+    requires { ⌜ at + length (now bs) ≤ length (now out) ⌝ }
+    ensures { λ r. ⌜ Put (now (out .entry)) (now (out .exit)) at (now (bs .entry)) (length (now (bs .entry))) r ⌝ }
+{
+    let mut p = at;
+    let mut i: usize = 0;
+    while i < bs.len() {
+        p = put_byte(out, p, bs[i]);
+        i += 1;
+    }
+    p
+}
+
+// n's decimal digits at `at`, at most `left` of them. The place past them.
+fn put_decimal(out: &mut [u8], at: usize, n: usize, left: usize) -> usize
+    requires { ⌜ at + left ≤ length (now out) ⌝ }
+    ensures { λ r. ⌜ Put (now (out .entry)) (now (out .exit)) at (decimalOf left n) left r ⌝ }
+{
+    if left < 1 {
+        return at;
+    }
+    if n < 10 {
+        return put_byte(out, at, 48 + n as u8);
+    }
+    let p = put_decimal(out, at, n / 10, left - 1);
+    put_byte(out, p, 48 + (n % 10) as u8)
+}
+
+// A hexadecimal digit.
+fn glyph(d: u8) -> u8
+    requires { ⌜ d < 16 ⌝ }
+    ensures { λ r. ⌜ r ≡ glyphOf d ⌝ }
+{
+    if d < 10 { 48 + d } else { 87 + d }
+}
+
+// n's last `left` hexadecimal digits at `at`. The place past them.
+fn put_hex(out: &mut [u8], at: usize, n: u64, left: usize) -> usize
+    requires { ⌜ at + left ≤ length (now out) ⌝ }
+    ensures { λ r. ⌜ Put (now (out .entry)) (now (out .exit)) at (hexOf left n) left r ⌝ }
+{
+    if left < 1 {
+        return at;
+    }
+    let p = put_hex(out, at, n / 16, left - 1);
+    put_byte(out, p, glyph((n % 16) as u8))
+}
+
+// The bits of a float. A NaN's are those of the Rust's f64::NAN.
+fn bits(x: f64) -> u64
+    ensures { λ r. ⌜ r ≡ bitsOf x ⌝ }
+{
+    if x == x {
+        return f64::to_bits(x);
+    }
+    0x7ff8000000000000
+}
+
+// A number, or `-` where it is the one that stands for unset.
+fn put_or_dash(out: &mut [u8], at: usize, n: usize, unset: usize) -> usize
+    requires { ⌜ at + 10 ≤ length (now out) ⌝ }
+    ensures { λ r. ⌜ Put (now (out .entry)) (now (out .exit)) at (orDash unset n) 10 r ⌝ }
+{
+    if n == unset {
+        return put_byte(out, at, 45);
+    }
+    put_decimal(out, at, n, 10)
+}
+
+// Zoom and place.
+fn put_place(out: &mut [u8], at: usize, zoom: usize, place: usize) -> usize
+    requires { ⌜ at + 34 ≤ length (now out) ⌝ }
+    ensures { λ r. ⌜ Put (now (out .entry)) (now (out .exit)) at (placeText zoom place) 34 r ⌝ }
+{
+    let a = put_decimal(out, at, zoom, 10);
+    let b = put_byte(out, a, 32);
+    let c = put_decimal(out, b, place, 10);
+    put_byte(out, c, 32)
+}
+
+// The bits of x and of y.
+fn put_point(out: &mut [u8], at: usize, x: f64, y: f64) -> usize
+    requires { ⌜ at + 34 ≤ length (now out) ⌝ }
+    ensures { λ r. ⌜ Put (now (out .entry)) (now (out .exit)) at (pointText x y) 34 r ⌝ }
+{
+    let a = put_hex(out, at, bits(x), 16);
+    let b = put_byte(out, a, 32);
+    let c = put_hex(out, b, bits(y), 16);
+    put_byte(out, c, 32)
+}
+
+// Seen and id.
+fn put_marks(out: &mut [u8], at: usize, seen: usize, id: usize) -> usize
+    requires { ⌜ at + 34 ≤ length (now out) ⌝ }
+    ensures { λ r. ⌜ Put (now (out .entry)) (now (out .exit)) at (marksText seen id) 34 r ⌝ }
+{
+    let a = put_or_dash(out, at, seen, 255);
+    let b = put_byte(out, a, 32);
+    let c = put_decimal(out, b, id, 10);
+    put_byte(out, c, 32)
+}
+
+// Parent, num and the line's end.
+fn put_end(out: &mut [u8], at: usize, parent: usize, num: usize) -> usize
+    requires { ⌜ at + 34 ≤ length (now out) ⌝ }
+    ensures { λ r. ⌜ Put (now (out .entry)) (now (out .exit)) at (endText parent num) 34 r ⌝ }
+{
+    let a = put_or_dash(out, at, parent, 4294967295);
+    let b = put_byte(out, a, 32);
+    let c = put_decimal(out, b, num, 10);
+    put_byte(out, c, 10)
+}
+
+// The line of the entry at a place of the table of a zoom, at `at`. The place past it.
+fn put_line(out: &mut [u8], at: usize, zoom: u8, place: usize, e: Entry) -> usize
+    requires { ⌜ at + 136 ≤ length (now out) ⌝ }
+    ensures { λ r. ⌜ Put (now (out .entry)) (now (out .exit)) at (lineText zoom place e) 136 r ⌝ }
+{
+    let a = put_place(out, at, zoom as usize, place);
+    let b = put_point(out, a, e.x, e.y);
+    let c = put_marks(out, b, e.seen as usize, e.id as usize);
+    put_end(out, c, e.parent as usize, e.num as usize)
+}
+
+// The lines of the table of a zoom, which is `len` entries of the columns from `start` on, at `at`. The place past them.
+fn put_table(
+    out: &mut [u8],
+    at: usize,
+    zoom: u8,
+    start: usize,
+    len: usize,
+    x: &[f64],
+    y: &[f64],
+    seen: &[u8],
+    id: &[u32],
+    parent: &[u32],
+    num: &[u32],
+) -> usize
+    requires { ⌜ Even (now x) (now y) (now seen) (now id) (now parent) (now num) ⌝ }
+    requires { ⌜ (start + len ≤ length (now x)) × (at + 136 * len ≤ length (now out)) ⌝ }
+    ensures { λ r. ⌜ Put (now (out .entry)) (now (out .exit)) at
+        (tableText zoom 0 (part start len (rows (now (x .entry)) (now (y .entry)) (now (seen .entry)) (now (id .entry)) (now (parent .entry)) (now (num .entry))))) (136 * len) r ⌝ }
+{
+    let mut p = at;
+    let mut i: usize = 0;
+    while i < len {
+        let e = tables::entry_at(x, y, seen, id, parent, num, start + i);
+        p = put_line(out, p, zoom, i, e);
+        i += 1;
+    }
+    p
+}
+
+// The lines of the table that a state says is that of the zoom z, at `at`. The place past them.
+fn put_held(
+    out: &mut [u8],
+    at: usize,
+    s: State,
+    z: u8,
+    x: &[f64],
+    y: &[f64],
+    seen: &[u8],
+    id: &[u32],
+    parent: &[u32],
+    num: &[u32],
+) -> usize
+    requires { ⌜ Even (now x) (now y) (now seen) (now id) (now parent) (now num) ⌝ }
+    requires { ⌜ z < 32 ⌝ }
+    requires { ⌜ (getD (s .starts) z 0 + getD (s .lens) z 0 ≤ length (now x)) × (at + 136 * getD (s .lens) z 0 ≤ length (now out)) ⌝ }
+    ensures { λ r. ⌜ Put (now (out .entry)) (now (out .exit)) at
+        (tableText z 0 (heldAt (s .starts) (s .lens) (rows (now (x .entry)) (now (y .entry)) (now (seen .entry)) (now (id .entry)) (now (parent .entry)) (now (num .entry))) z))
+        (136 * getD (s .lens) z 0) r ⌝ }
+{
+    let start = s.starts[z as usize] as usize;
+    let len = s.lens[z as usize] as usize;
+    put_table(out, at, z, start, len, x, y, seen, id, parent, num)
+}
+
+// The lines of every table of a state at the start of `out`, the finest table first. How long they are.
+fn put_tables(
+    out: &mut [u8],
+    s: State,
+    x: &[f64],
+    y: &[f64],
+    seen: &[u8],
+    id: &[u32],
+    parent: &[u32],
+    num: &[u32],
+) -> usize
+    requires { ⌜ Even (now x) (now y) (now seen) (now id) (now parent) (now num) ⌝ }
+    requires { ⌜ Holding s (rows (now x) (now y) (now seen) (now id) (now parent) (now num)) (length (now out)) ⌝ }
+    ensures { λ r. ⌜ Put (now (out .entry)) (now (out .exit)) 0
+        (tablesText (s .options .«max_zoom» + 1) (heldBy s (rows (now (x .entry)) (now (y .entry)) (now (seen .entry)) (now (id .entry)) (now (parent .entry)) (now (num .entry)))))
+        (length (now (out .entry))) r ⌝ }
+{
+    let o = s.options;
+    let low = o.min_zoom;
+    let mut z = o.max_zoom + 2;
+    let mut at: usize = 0;
+    while low < z {
+        z -= 1;
+        at = put_held(out, at, s, z, x, y, seen, id, parent, num);
+    }
+    at
+}
+
+// What a refusal carries, at `at`: of 3 the point. The place past it.
+fn put_carried(out: &mut [u8], at: usize, number: u32, carried: usize) -> usize
+    requires { ⌜ at + 24 ≤ length (now out) ⌝ }
+    ensures { λ r. ⌜ Put (now (out .entry)) (now (out .exit)) at (atText number carried) 24 r ⌝ }
+{
+    if number == 3 {
+        let a = put_bytes(out, at, b" at=");
+        return put_decimal(out, a, carried, 20);
+    }
+    at
+}
+
+// The line of a refusal at the start of `out`. How long it is.
+fn put_refusal(out: &mut [u8], number: u32, carried: usize) -> usize
+    requires { ⌜ 43 ≤ length (now out) ⌝ }
+    ensures { λ r. ⌜ Put (now (out .entry)) (now (out .exit)) 0 (refusalText number carried) 43 r ⌝ }
+{
+    let a = put_bytes(out, 0, b"refusal=");
+    let b = put_decimal(out, a, number as usize, 10);
+    let c = put_carried(out, b, number, carried);
+    put_byte(out, c, 10)
+}
+
+// What is printed for a head and the points that were read, at the start of `out`. How long it is.
+fn report_read(
+    h: Head,
+    xs: &[f64],
+    ys: &[f64],
+    x: &mut [f64; 1152],
+    y: &mut [f64; 1152],
+    seen: &mut [u8; 1152],
+    id: &mut [u32; 1152],
+    parent: &mut [u32; 1152],
+    num: &mut [u32; 1152],
+    ids: &mut [u32; 1152],
+    coords: &mut [f64; 2304],
+    near: &mut [u32; 1152],
+    out: &mut [u8; 156672],
+) -> usize
+    requires { ⌜ (h .count ≤ length (now xs)) × (h .count ≤ length (now ys)) ⌝ }
+    ensures { λ r. ⌜ Put (now (out .entry)) (now (out .exit)) 0 (buildText (optionsOf h) (take (h .count) (now (xs .entry))) (take (h .count) (now (ys .entry)))) (length (now (out .entry))) r ⌝ }
+    ensures { λ _. ⌜ lent (now (x .exit)) (now (y .exit)) (now (seen .exit)) (now (id .exit)) (now (parent .exit)) (now (num .exit)) (now (ids .exit)) (now (coords .exit)) (now (near .exit))
+        ≡ loaded (optionsOf h) (take (h .count) (now (xs .entry))) (take (h .count) (now (ys .entry))) (lent (now (x .entry)) (now (y .entry)) (now (seen .entry)) (now (id .entry)) (now (parent .entry)) (now (num .entry)) (now (ids .entry)) (now (coords .entry)) (now (near .entry))) .columns ⌝ }
+{
+    let o = listing::options(h);
+    let n = h.count as usize;
+    let built = supercluster::load(
+        o,
+        &xs[..n],
+        &ys[..n],
+        x,
+        y,
+        seen,
+        id,
+        parent,
+        num,
+        ids,
+        coords,
+        near,
+    );
+    let reply = built.reply;
+    let number = reply.number();
+    if number == 0 {
+        return put_tables(out, built.state, x, y, seen, id, parent, num);
+    }
+    put_refusal(out, number, reply.carried())
+}
+
+// What the lister prints for a text, at the start of `out`. How many bytes that is.
+pub fn report(
+    text: &[u8],
+    px: &mut [f64; 1152],
+    py: &mut [f64; 1152],
+    x: &mut [f64; 1152],
+    y: &mut [f64; 1152],
+    seen: &mut [u8; 1152],
+    id: &mut [u32; 1152],
+    parent: &mut [u32; 1152],
+    num: &mut [u32; 1152],
+    ids: &mut [u32; 1152],
+    coords: &mut [f64; 2304],
+    near: &mut [u32; 1152],
+    out: &mut [u8; 156672],
+) -> usize
+    ensures { λ r. ⌜ Reports (now (text .entry))
+        (lending (now (px .entry)) (now (py .entry)) (lent (now (x .entry)) (now (y .entry)) (now (seen .entry)) (now (id .entry)) (now (parent .entry)) (now (num .entry)) (now (ids .entry)) (now (coords .entry)) (now (near .entry))) (now (out .entry))) r
+        (lending (now (px .exit)) (now (py .exit)) (lent (now (x .exit)) (now (y .exit)) (now (seen .exit)) (now (id .exit)) (now (parent .exit)) (now (num .exit)) (now (ids .exit)) (now (coords .exit)) (now (near .exit))) (now (out .exit))) ⌝ }
+{
+    let Parsed::Read(h) = listing::parse(text, px, py) else {
+        return put_refusal(out, 12, 0);
+    };
+    report_read(
+        h,
+        px,
+        py,
+        x,
+        y,
+        seen,
+        id,
+        parent,
+        num,
+        ids,
+        coords,
+        near,
+        out,
+    )
+}

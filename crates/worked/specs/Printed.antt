@@ -1,0 +1,109 @@
+-- 01's example of the table lister, computed: the text that it gives is the writing of the example, and what is printed for it is its seven lines. The tables
+-- are those of Tables. Assumes nothing.
+use mathlib.Core.List.{List, [], _∷_, _++_}
+use mathlib.Core.Path.{_≡_, refl, ap, _∙_}
+use Prim.Native.Nat.{ℕ}
+use lib.Ieee.{div, ofInt, ofBits, toBits, add, sub, mul, le, lt, isNan}
+use Rattle.range.specs.Range.{offsetOf, scaleOf, normalized, inBounds, systemInBounds, converted}
+use Rattle.kdbush.specs.declared.BuildReply.the-variants.{Done}
+use Rattle.kdbush.specs.Reply.{firstOutside}
+use Rattle.tables.specs.Options.{optionsOk}
+use Rattle.supercluster.specs.Build.{convertedAll, checked}
+use Rattle.listing.specs.Bytes.{bytes}
+use Rattle.listing.specs.Digits.{decimalOf}
+use Rattle.listing.specs.Text.{Place, Input, line, pointsText, text, headIs, xsOf, ysOf}
+use Rattle.listing.specs.Values.{optionsOf}
+use Rattle.report.specs.Hex.{hexOf}
+use Rattle.report.specs.Lines.{tableText, tablesText, refusalText}
+use Rattle.report.specs.Report.{columns, answerText, buildText, linesOf}
+use Rattle.worked.specs.Tables.{b, at, options, xs, ys, shown, tables-are}
+
+abbrev place : ℕ → ℕ → Place
+place x y = record { x = x; y = y }
+
+-- 01's input
+unfoldable pub example : Input
+example =
+    record {
+      minZoom = 0;
+      maxZoom = 1;
+      minPoints = 2;
+      radius = 64;
+      extent = 512;
+      nodeSize = 64;
+      points = place 16384 32768 ∷ place 20480 32768 ∷ place 26624 32768 ∷ place 26624 32768 ∷ [];
+    }
+
+-- its text, one key=value a line
+unfoldable pub exampleText : List ℕ
+exampleText =
+    bytes "min_zoom=0\n"
+    ++ bytes "max_zoom=1\n"
+    ++ bytes "min_points=2\n"
+    ++ bytes "radius=64\n"
+    ++ bytes "extent=512\n"
+    ++ bytes "node_size=64\n"
+    ++ bytes "count=4\n"
+    ++ bytes "x=16384\ny=32768\n"
+    ++ bytes "x=20480\ny=32768\n"
+    ++ bytes "x=26624\ny=32768\n"
+    ++ bytes "x=26624\ny=32768\n"
+
+-- and the seven lines that 01 prints for it
+unfoldable pub sevenLines : List ℕ
+sevenLines =
+    bytes "2 0 3fd0000000000000 3fe0000000000000 1 0 6 1\n"
+    ++ bytes "2 1 3fd4000000000000 3fe0000000000000 1 1 6 1\n"
+    ++ bytes "2 2 3fda000000000000 3fe0000000000000 1 2 70 1\n"
+    ++ bytes "2 3 3fda000000000000 3fe0000000000000 1 3 70 1\n"
+    ++ bytes "1 0 3fd2000000000000 3fe0000000000000 0 6 5 2\n"
+    ++ bytes "1 1 3fda000000000000 3fe0000000000000 0 70 5 2\n"
+    ++ bytes "0 0 3fd6000000000000 3fe0000000000000 - 5 - 4\n"
+
+pub text-is : text example ≡ exampleText
+unfolding example exampleText line pointsText decimalOf
+text-is = refl
+
+-- ---- what is printed, step by step
+
+options-are : optionsOf (headIs example) ≡ options 64
+unfolding example options b ofInt ofBits
+options-are = refl
+
+xs-are : xsOf example ≡ xs
+unfolding example xs b ofInt ofBits div
+xs-are = refl
+
+ys-are : ysOf example ≡ ys
+unfolding example ys b ofInt ofBits div
+ys-are = refl
+
+reply-is : checked (options 64) xs ys columns ≡ Done
+unfolding checked columns optionsOk systemInBounds inBounds firstOutside convertedAll converted normalized offsetOf scaleOf add sub mul div ofBits le lt options xs ys b
+reply-is = refl
+
+shown-text : tablesText 2 shown ≡ sevenLines
+unfolding tablesText tableText shown sevenLines b at ofBits toBits isNan decimalOf hexOf
+shown-text = refl
+
+pub lines-are : linesOf example ≡ sevenLines
+unfolding linesOf buildText options
+lines-are =
+    (λ i. buildText (options-are i) (xs-are i) (ys-are i))
+    ∙ ap (answerText (options 64) xs ys) reply-is
+    ∙ ap (tablesText 2) tables-are
+    ∙ shown-text
+
+-- ---- the lines of refusals
+
+pub no-text : refusalText 12 0 ≡ bytes "refusal=12\n"
+unfolding decimalOf
+no-text = refl
+
+pub no-point : refusalText 3 1151 ≡ bytes "refusal=3 at=1151\n"
+unfolding decimalOf
+no-point = refl
+
+pub no-room : refusalText 4 0 ≡ bytes "refusal=4\n"
+unfolding decimalOf
+no-room = refl
