@@ -1,0 +1,3 @@
+-- Definitions that contracts cite: Kids, Next (its second part). All else is laws.
+pub mod Kids
+pub mod Next

@@ -1,0 +1,247 @@
+-- The children of a cluster one at a time, by the cursor: what is ahead of a step is searched for the next child, and after it lie the children that follow.
+-- Assumes nothing.
+use mathlib.Core.Bool.{Bool, true, false}
+use mathlib.Core.Path.{_≡_, refl, sym, ap, subst, _∙_}
+use mathlib.Core.List.{List, [], _∷_, _++_}
+use Prim.Native.Nat.{ℕ, _+_, _*_, _<_, _≤_}
+use native.Mathlib.Omega.{arith}
+use borrow.Author.Tests.{lt-ltb, le-ltb, eq-eqb, ne-eqb, ltb-true}
+use lib.Dec.{ltb, eqb}
+use lib.ListN.{length, getD, length-append}
+use lib.Ieee.{Float}
+use Rattle.kdbush.specs.declared.Step.{Step}
+use Rattle.kdbush.specs.declared.Step.the-variants.{Slot, Done, Box, Spoiled}
+use Rattle.kdbush.specs.Run.{places, sound, whole, filled}
+use Rattle.kdbush.specs.Reply.{afterStep}
+use Rattle.kdbush.specs.Walk.{no-nil}
+use Rattle.tables.specs.declared.State.{State}
+use Rattle.tables.specs.State.{startOf, lenOf}
+use Rattle.tables.specs.Entries.{Table, entry}
+use Rattle.tables.specs.Rows.{rows}
+use Rattle.tables.specs.Columns.{part}
+use Rattle.asking.specs.declared.Ring.{Ring}
+use Rattle.asking.specs.Columns.{Columns, roomOf, tableAt, Held, held, held-fewer, room-index, index-held}
+use Rattle.asking.specs.Reached.{Reached, near}
+use Rattle.asking.specs.Around.{ringOf, queryOf, coordsOf, slotsOf, OnRing, aheadIn, ring-next}
+use Rattle.kids.specs.declared.Child.{Child}
+use Rattle.kids.specs.declared.Child.the-variants.{At, Done as Child·Done, Spoiled as Child·Spoiled}
+use Rattle.kids.specs.declared.Kids.{Kids}
+use Rattle.kids.specs.declared.Kids.the-variants.{All, Spoiled as Kids·Spoiled}
+use Rattle.kids.specs.Kids.{kidsOf, kidsAt, cleanAt, kidsReply}
+
+-- ---- the columns that a walk is lent
+
+-- the columns hold n entries, and so does the index
+pub record Lent (n : ℕ) (c : Columns) : Type 0 where
+  pub entries : Held n (c .x) (c .y) (c .seen) (c .id) (c .parent) (c .num)
+  pub places : n ≤ length (c .ids)
+  pub coords : 2 * n ≤ length (c .coords)
+
+pub lent : (c : Columns) (n : ℕ) → n ≤ roomOf c → Lent n c
+lent c n h =
+    let i = index-held (c .ids) (c .coords) n (room-index c n h) in
+    record { entries = held c n h; places = i .0; coords = i .1 }
+
+pub lent-fewer : {c : Columns} (m n : ℕ) → m ≤ n → Lent n c → Lent m c
+lent-fewer m n h l = record { entries = held-fewer m n h (l .entries); places = omega (arith, l .places); coords = omega (arith, l .coords) }
+
+-- they reach over the table of a place that was reached
+pub lent-ring : (s : State) (c : Columns) (cap z o : ℕ) (g : Ring) → Reached s cap z o → Lent cap c → g ≡ ringOf s (tableAt s c z) z o → Lent (g .start + g .len) c
+lent-ring s c cap z o g r l e =
+    let m : startOf s z + lenOf s z ≤ cap = near r .ends in
+    let w : Lent (startOf s z + lenOf s z) c = lent-fewer _ cap m l in
+    subst (λ (h : Ring). Lent (h .start + h .len) c) (sym e) w
+
+-- ---- a ring's table, and its children
+
+-- the table of a ring, and the places of its slots
+abbrev pub tableIn : Ring → Columns → Table
+tableIn g c = part (g .start) (g .len) (rows (c .x) (c .y) (c .seen) (c .id) (c .parent) (c .num))
+
+abbrev pub idsIn : Ring → Columns → List ℕ
+idsIn g c = part (g .start) (g .len) (c .ids)
+
+-- the children among slots of the ring, and whether each slot names a place of the table
+abbrev pub kidsIn : Ring → Columns → ℕ → List ℕ → List ℕ
+kidsIn g c id is = kidsOf (tableIn g c) id (sound (g .len) (places (idsIn g c) is))
+
+abbrev pub cleanIn : Ring → Columns → List ℕ → Bool
+cleanIn g c is = whole (g .len) (places (idsIn g c) is)
+
+-- those of the ring around an entry are the children around it
+module _ (s : State) (c : Columns) (z o : ℕ) (g : Ring) (e : g ≡ ringOf s (tableAt s c z) z o) where
+  pub kids-around : (id : ℕ) → kidsIn g c id (slotsOf g (c .coords)) ≡ kidsAt s c id z o
+  unfolding kidsAt
+  kids-around id = ap (λ (h : Ring). kidsIn h c id (slotsOf h (c .coords))) e
+
+  pub clean-around : cleanIn g c (slotsOf g (c .coords)) ≡ cleanAt s c z o
+  unfolding cleanAt
+  clean-around = ap (λ (h : Ring). cleanIn h c (slotsOf h (c .coords))) e
+
+  -- a reply on the ring is one on them, and so is the column
+  pub reply-around : (id : ℕ) (r : Kids) → r ≡ kidsReply (cleanIn g c (slotsOf g (c .coords))) (length (kidsIn g c id (slotsOf g (c .coords))))
+      → r ≡ kidsReply (cleanAt s c z o) (length (kidsAt s c id z o))
+  reply-around id r w =
+      w ∙ ap (λ (b : Bool). kidsReply b (length (kidsIn g c id (slotsOf g (c .coords))))) clean-around
+      ∙ ap (λ (l : List ℕ). kidsReply (cleanAt s c z o) (length l)) (kids-around id)
+
+  pub column-around : (id : ℕ) (out out' : List ℕ) → out' ≡ filled (kidsIn g c id (slotsOf g (c .coords))) out → out' ≡ filled (kidsAt s c id z o) out
+  column-around id out out' f = f ∙ ap (λ (l : List ℕ). filled l out) (kids-around id)
+
+-- a child is a place of the table
+pub kids-below : (t : Table) (id n : ℕ) (ps : List ℕ) (p : ℕ) (l : List ℕ) → kidsOf t id (sound n ps) ≡ p ∷ l → p < n
+unfolding kidsOf sound
+kids-below t id n [] p l e = absurd (no-nil [] p l e)
+kids-below t id n (q ∷ ps) p l e = go (ltb q n) refl (eqb (entry t q .parent) id) refl (kids-below t id n ps p l) e
+  where
+    go : (a : Bool) → ltb q n ≡ a → (b : Bool) → eqb (entry t q .parent) id ≡ b → (kidsOf t id (sound n ps) ≡ p ∷ l → p < n) → kidsOf t id (sound n (q ∷ ps)) ≡ p ∷ l → p < n
+    go false u b v h e = let z : [] ≡ p ∷ l = rw (u, sound, kidsOf) at e in absurd (no-nil [] p l z)
+    go true u false v h e = h (rw (u, sound, v, kidsOf) at e)
+    go true u true v h e =
+        let z : q ∷ kidsOf t id (sound n ps) ≡ p ∷ l = rw (u, sound, v, kidsOf) at e in
+        let y : q ≡ p = cc in
+        omega (arith, ltb-true q n u)
+
+-- what a reply says
+pub all-is : (b : Bool) (n k : ℕ) → All k ≡ kidsReply b n → (b ≡ true) × (k ≡ n)
+all-is true n k e = (refl, cc)
+all-is false n k e = let z : _≡_ {A = ℕ} 0 1 = cc in absurd (omega arith)
+
+pub spoiled-is : (b : Bool) (n : ℕ) → Kids·Spoiled ≡ kidsReply b n → b ≡ false
+spoiled-is true n e = let z : _≡_ {A = ℕ} 0 1 = cc in absurd (omega arith)
+spoiled-is false n e = refl
+
+-- the first child among slots of a table of n entries, whose slots name the places ids
+unfoldable pub nextOf : Table → List ℕ → ℕ → ℕ → List ℕ → Child
+nextOf t ids n id [] = Child·Done
+nextOf t ids n id (i ∷ is) =
+    elim (ltb (getD ids i 0) n) [
+      | true ↦ elim (eqb (entry t (getD ids i 0) .parent) id) [ true ↦ At i (getD ids i 0) | false ↦ nextOf t ids n id is ]
+      | false ↦ Child·Spoiled
+    ]
+
+abbrev pub nextIn : Ring → Columns → ℕ → List ℕ → Child
+nextIn g c id is = nextOf (tableIn g c) (idsIn g c) (g .len) id is
+
+module _ (t : Table) (ids : List ℕ) (n id : ℕ) where
+  pub next-none : nextOf t ids n id [] ≡ Child·Done
+  unfolding nextOf
+  next-none = refl
+
+  module _ (i : ℕ) (is : List ℕ) (p : ℕ) (e : p ≡ getD ids i 0) where
+    pub next-past : n ≤ p → nextOf t ids n id (i ∷ is) ≡ Child·Spoiled
+    unfolding nextOf
+    next-past h = rw (le-ltb (getD ids i 0) n (rw e at h), nextOf)
+
+    pub next-kid : p < n → entry t p .parent ≡ id → nextOf t ids n id (i ∷ is) ≡ At i p
+    unfolding nextOf
+    next-kid h k = rw (lt-ltb (getD ids i 0) n (rw e at h), eq-eqb (entry t (getD ids i 0) .parent) id (rw e at k), nextOf) (ap (At i) (sym e))
+
+    pub next-other : p < n → (entry t p .parent ≡ id → ⊥) → nextOf t ids n id (i ∷ is) ≡ nextOf t ids n id is
+    unfolding nextOf
+    next-other h k = rw (lt-ltb (getD ids i 0) n (rw e at h), ne-eqb (entry t (getD ids i 0) .parent) id (rw e at k), nextOf)
+
+  abbrev K : List ℕ → List ℕ
+  K is = kidsOf t id (sound n (places ids is))
+
+  abbrev C : List ℕ → Bool
+  C is = whole n (places ids is)
+
+  -- the child p at the slot i, with the slots before it, of which none is a child's, and those after it
+  record Reaches (is : List ℕ) (i p : ℕ) : Type 0 where
+    pre : List ℕ
+    post : List ℕ
+    joins : is ≡ pre ++ i ∷ post
+    kids : K is ≡ p ∷ K post
+    clean : C is ≡ C post
+    below : p < n
+
+  abbrev Told : Child → List ℕ → Type 0
+  Told (At i p) is = Reaches is i p
+  Told Child·Done is = (K is ≡ []) × (C is ≡ true)
+  Told Child·Spoiled is = (K is ≡ []) × (C is ≡ false)
+
+  lift : (i : ℕ) (is : List ℕ) → K (i ∷ is) ≡ K is → C (i ∷ is) ≡ C is → (r : Child) → Told r is → Told r (i ∷ is)
+  lift i is k c (At j p) w =
+      record { pre = i ∷ w .pre; post = w .post; joins = ap (λ (l : List ℕ). i ∷ l) (w .joins); kids = k ∙ w .kids; clean = c ∙ w .clean; below = w .below }
+  lift i is k c Child·Done w = (k ∙ w .0, c ∙ w .1)
+  lift i is k c Child·Spoiled w = (k ∙ w .0, c ∙ w .1)
+
+  told : (is : List ℕ) → Told (nextOf t ids n id is) is
+  unfolding nextOf kidsOf sound whole places
+  told [] = (refl, refl)
+  told (i ∷ is) = go (ltb (getD ids i 0) n) refl (eqb (entry t (getD ids i 0) .parent) id) refl (told is)
+    where
+      go : (a : Bool) → ltb (getD ids i 0) n ≡ a → (b : Bool) → eqb (entry t (getD ids i 0) .parent) id ≡ b → Told (nextOf t ids n id is) is → Told (nextOf t ids n id (i ∷ is)) (i ∷ is)
+      go false e b f w =
+          let r : Child·Spoiled ≡ nextOf t ids n id (i ∷ is) = rw (e, nextOf) in
+          let k : K (i ∷ is) ≡ [] = rw (e, sound, kidsOf) in
+          let c : C (i ∷ is) ≡ false = rw (e, whole) in
+          subst (λ (x : Child). Told x (i ∷ is)) r (k, c)
+      go true e true f w =
+          let r : At i (getD ids i 0) ≡ nextOf t ids n id (i ∷ is) = rw (e, f, nextOf) in
+          let k : K (i ∷ is) ≡ getD ids i 0 ∷ K is = rw (e, sound, f, kidsOf) in
+          let c : C (i ∷ is) ≡ C is = rw (e, whole) in
+          subst (λ (x : Child). Told x (i ∷ is)) r (record { pre = []; post = is; joins = refl; kids = k; clean = c; below = ltb-true (getD ids i 0) n e })
+      go true e false f w =
+          let r : nextOf t ids n id is ≡ nextOf t ids n id (i ∷ is) = rw (e, f, nextOf) in
+          let k : K (i ∷ is) ≡ K is = rw (e, sound, f, kidsOf) in
+          let c : C (i ∷ is) ≡ C is = rw (e, whole) in
+          subst (λ (x : Child). Told x (i ∷ is)) r (lift i is k c (nextOf t ids n id is) w)
+
+-- ---- a walk over them by the cursor
+
+module _ (g : Ring) (coords : List Float) where
+  -- a step ahead of which a slot is first stands at the slot
+  stand : (from : Step) (i : ℕ) (post : List ℕ) → OnRing g coords from → aheadIn g coords from ≡ i ∷ post → OnRing g coords (Slot i) × (aheadIn g coords (Slot i) ≡ i ∷ post)
+  stand (Slot c) i post o e =
+      let q : c ≡ i = cc in
+      (subst (λ (x : ℕ). OnRing g coords (Slot x)) q o, subst (λ (x : ℕ). aheadIn g coords (Slot x) ≡ i ∷ post) q e)
+  stand Done i post o e = absurd (no-nil [] i post e)
+  stand Box i post o e = absurd (no-nil [] i post e)
+  stand Spoiled i post o e = absurd (no-nil [] i post e)
+
+  -- where a slot is ahead of a step, the walk comes to it, with what lies after it
+  reach : (pre : List ℕ) (i : ℕ) (post : List ℕ) (from : Step) → OnRing g coords from → aheadIn g coords from ≡ pre ++ i ∷ post
+      → OnRing g coords (Slot i) × (aheadIn g coords (Slot i) ≡ i ∷ post)
+  reach [] i post from o e = stand from i post o e
+  reach (x ∷ pre) i post from o e =
+      let to = afterStep (queryOf g) (g .«node_size») (g .len) (coordsOf g coords) x in
+      let w = stand from x (pre ++ i ∷ post) o e in
+      let h = ring-next g coords (Slot x) x to refl (w .0) refl in
+      reach pre i post to (h .0) (cc (h .1, w .1))
+
+-- the child p lies ahead of a step, and the children after it ahead of another
+pub record Further (g : Ring) (c : Columns) (id : ℕ) (from : Step) (p : ℕ) (to : Step) : Type 0 where
+  pub on : OnRing g (c .coords) to
+  pub less : length (aheadIn g (c .coords) to) < length (aheadIn g (c .coords) from)
+  pub kids : kidsIn g c id (aheadIn g (c .coords) from) ≡ p ∷ kidsIn g c id (aheadIn g (c .coords) to)
+  pub clean : cleanIn g c (aheadIn g (c .coords) from) ≡ cleanIn g c (aheadIn g (c .coords) to)
+  pub below : p < g .len
+
+module _ (g : Ring) (c : Columns) (id : ℕ) (from : Step) (r : Child) (w : r ≡ nextIn g c id (aheadIn g (c .coords) from)) where
+  pub kid-next : OnRing g (c .coords) from → (i p : ℕ) → r ≡ At i p → (to : Step) → to ≡ afterStep (queryOf g) (g .«node_size») (g .len) (coordsOf g (c .coords)) i
+      → Further g c id from p to
+  kid-next o i p e to f =
+      let is = aheadIn g (c .coords) from in
+      let x = subst (λ (q : Child). Told (tableIn g c) (idsIn g c) (g .len) id q is) (sym w ∙ e) (told (tableIn g c) (idsIn g c) (g .len) id is) in
+      let h = reach g (c .coords) (x .pre) i (x .post) from o (x .joins) in
+      let n = ring-next g (c .coords) (Slot i) i to refl (h .0) f in
+      let q : x .post ≡ aheadIn g (c .coords) to = cc (h .1, n .1) in
+      record {
+        on = n .0;
+        less = omega (arith, ap length (x .joins), length-append (x .pre) (i ∷ x .post), ap length q);
+        kids = x .kids ∙ ap (λ (l : List ℕ). p ∷ kidsIn g c id l) q;
+        clean = x .clean ∙ ap (λ (l : List ℕ). cleanIn g c l) q;
+        below = x .below;
+      }
+
+  pub kid-done : r ≡ Child·Done → (kidsIn g c id (aheadIn g (c .coords) from) ≡ []) × (cleanIn g c (aheadIn g (c .coords) from) ≡ true)
+  kid-done e =
+      let is = aheadIn g (c .coords) from in
+      subst (λ (q : Child). Told (tableIn g c) (idsIn g c) (g .len) id q is) (sym w ∙ e) (told (tableIn g c) (idsIn g c) (g .len) id is)
+
+  pub kid-spoiled : r ≡ Child·Spoiled → (kidsIn g c id (aheadIn g (c .coords) from) ≡ []) × (cleanIn g c (aheadIn g (c .coords) from) ≡ false)
+  kid-spoiled e =
+      let is = aheadIn g (c .coords) from in
+      subst (λ (q : Child). Told (tableIn g c) (idsIn g c) (g .len) id q is) (sym w ∙ e) (told (tableIn g c) (idsIn g c) (g .len) id is)

@@ -1,0 +1,96 @@
+// The children of a cluster, one at a time and into a column: what the questions that walk from cluster to cluster rest on.
+use asking::Ring;
+use kdbush::Step;
+ghost use mathlib.Core.Path.{_≡_};
+ghost use Prim.Native.Nat.{_+_};
+ghost use lib.ListN.{length};
+ghost use Rattle.kdbush.specs.Run.{filled};
+ghost use Rattle.asking.specs.Columns.{columns};
+ghost use Rattle.asking.specs.Around.{slotsOf, OnRing, aheadIn};
+ghost use Rattle.kids.specs.Kids.{kidsReply};
+ghost use Rattle.kids.specs.Next.{Lent, kidsIn, cleanIn, nextIn};
+
+// The next child of a cluster, at its slot; or none is left; or a slot that names a place past the table comes before it.
+pub enum Child {
+    At { slot: usize, place: u32 },
+    Done,
+    Spoiled,
+}
+
+// How many children there are, or that a slot names a place past the table.
+pub enum Kids {
+    All(usize),
+    Spoiled,
+}
+
+// The first child of the cluster cid from the step `from` of a walk over the ring on.
+pub fn next_child(
+    g: Ring,
+    x: &[f64],
+    y: &[f64],
+    seen: &[u8],
+    id: &[u32],
+    parent: &[u32],
+    num: &[u32],
+    ids: &[u32],
+    coords: &[f64],
+    cid: u32,
+    from: Step,
+) -> Child
+    requires { ⌜ Lent (g .start + g .len) (columns (now x) (now y) (now seen) (now id) (now parent) (now num) (now ids) (now coords)) ⌝ }
+    requires { ⌜ OnRing g (now coords) from ⌝ }
+    ensures { λ r. ⌜ r ≡ nextIn g (columns (now (x .entry)) (now (y .entry)) (now (seen .entry)) (now (id .entry)) (now (parent .entry)) (now (num .entry)) (now (ids .entry)) (now (coords .entry))) cid (aheadIn g (now (coords .entry)) from) ⌝ }
+{
+    let start = g.start;
+    let len = g.len;
+    let mut cur = from;
+    loop {
+        let Step::Slot(slot) = cur else {
+            return Child::Done;
+        };
+        let i = start + slot;
+        let place = ids[i];
+        if len <= place as usize {
+            return Child::Spoiled;
+        }
+        let e = asking::entry_in(start, len, x, y, seen, id, parent, num, place as usize);
+        if e.parent == cid {
+            return Child::At { slot, place };
+        }
+        cur = asking::after(g, coords, slot);
+    }
+}
+
+// The children of the cluster cid in the ring, written to `out` as far as they fit.
+pub fn list_kids(
+    g: Ring,
+    x: &[f64],
+    y: &[f64],
+    seen: &[u8],
+    id: &[u32],
+    parent: &[u32],
+    num: &[u32],
+    ids: &[u32],
+    coords: &[f64],
+    cid: u32,
+    out: &mut [u32],
+) -> Kids
+    requires { ⌜ Lent (g .start + g .len) (columns (now x) (now y) (now seen) (now id) (now parent) (now num) (now ids) (now coords)) ⌝ }
+    ensures { λ r. ⌜ (r ≡ kidsReply (cleanIn g (columns (now (x .entry)) (now (y .entry)) (now (seen .entry)) (now (id .entry)) (now (parent .entry)) (now (num .entry)) (now (ids .entry)) (now (coords .entry))) (slotsOf g (now (coords .entry))))
+        (length (kidsIn g (columns (now (x .entry)) (now (y .entry)) (now (seen .entry)) (now (id .entry)) (now (parent .entry)) (now (num .entry)) (now (ids .entry)) (now (coords .entry))) cid (slotsOf g (now (coords .entry))))))
+        × (now (out .exit) ≡ filled (kidsIn g (columns (now (x .entry)) (now (y .entry)) (now (seen .entry)) (now (id .entry)) (now (parent .entry)) (now (num .entry)) (now (ids .entry)) (now (coords .entry))) cid (slotsOf g (now (coords .entry)))) (now (out .entry))) ⌝ }
+{
+    let mut k = 0;
+    let mut from = asking::first(g, coords);
+    loop {
+        match next_child(g, x, y, seen, id, parent, num, ids, coords, cid, from) {
+            Child::Done => return Kids::All(k),
+            Child::Spoiled => return Kids::Spoiled,
+            Child::At { slot, place } => {
+                asking::put_at(out, k, place);
+                k += 1;
+                from = asking::after(g, coords, slot);
+            }
+        }
+    }
+}

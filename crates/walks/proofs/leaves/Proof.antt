@@ -1,0 +1,141 @@
+-- `walks::leaves` meets its contract: the id leads to a refusal, or to a place from which the lamps are walked over. Assumes nothing.
+use mathlib.Core.Path.{refl}
+use borrow.Author.Needs.{needs}
+use denote.Ref.{now}
+use Rattle.asking.specs.Columns.{Columns, columns}
+use Rattle.walks.proofs.Led.{lent-all, reached}
+use Rattle.walks.proofs.GivesLeaves.{leaves-refused, gives-broke, gives-childless, gives-went}
+use Rattle.walks.proofs.leaves.Statement.{statement}
+use Rattle.walks.proofs.leaves.Tie as tie
+
+abbrev start-of : tie.After-find-target → tie.Start
+start-of f = f .before .before .before .before .before .before .before .before .before .before .before
+
+abbrev cols : tie.After-find-target → Columns
+cols f = let a = start-of f .args in columns (now (a .x)) (now (a .y)) (now (a .seen)) (now (a .id)) (now (a .parent)) (now (a .num)) (now (a .ids)) (now (a .coords))
+
+room-requires : tie.Need-room-requires
+room-requires c κs = tt
+
+find-target-requires : tie.Need-find-target-requires
+find-target-requires c κs = tt
+
+enum-told : tie.Need-enum-told
+enum-told c = search needs
+
+enum-told-2 : tie.Need-enum-told-2
+enum-told-2 c = search needs
+
+enum-told-3 : tie.Need-enum-told-3
+enum-told-3 c = search needs
+
+enum-known-table : tie.Need-enum-known-table
+enum-known-table c = search needs
+
+walk-into-requires : tie.Need-walk-into-requires
+walk-into-requires c κs =
+    let d = c .before .before in
+    let f = d .before .before in
+    let a = start-of f .args in
+    let r = f .before .room in (
+      reached (a .s) (cols f) (a .cid) (r .result) (r .ensures) (f .find-target .result) (f .find-target .ensures) _ _ (d .table .given .1),
+      lent-all (a .s) (cols f) (a .cid) (r .result) (r .ensures),
+    )
+
+enum-told-4 : tie.Need-enum-told-4
+enum-told-4 c = search needs
+
+enum-told-5 : tie.Need-enum-told-5
+enum-told-5 c = search needs
+
+enum-known-w : tie.Need-enum-known-w
+enum-known-w c = search needs
+
+fit-requires : tie.Need-fit-requires
+fit-requires c κs = tt
+
+returns : tie.Need-returns
+returns c =
+    let f = c .before .before in
+    let a = start-of f .args in
+    let r = f .before .room in
+    leaves-refused (a .s) (cols f) (a .cid) (a .limit) (a .offset) (r .result) (r .ensures) (f .find-target .result) (f .find-target .ensures) _ _ (c .enum-told .given .1) refl (now (a .out))
+
+returns-2 : tie.Need-returns-2
+returns-2 c =
+    let f = c .before .before in
+    let a = start-of f .args in
+    let r = f .before .room in
+    leaves-refused (a .s) (cols f) (a .cid) (a .limit) (a .offset) (r .result) (r .ensures) (f .find-target .result) (f .find-target .ensures) _ _ (c .enum-told2 .given .1) refl (now (a .out))
+
+returns-3 : tie.Need-returns-3
+returns-3 c =
+    let f = c .before .before in
+    let a = start-of f .args in
+    let r = f .before .room in
+    leaves-refused (a .s) (cols f) (a .cid) (a .limit) (a .offset) (r .result) (r .ensures) (f .find-target .result) (f .find-target .ensures) _ _ (c .enum-told3 .given .1) refl (now (a .out))
+
+same-length : tie.Need-same-length
+same-length c = c .before .before .before .before .walk-into .kept .1 .1 .1 .1 .1 .1 .1 .1 .1 .1 .1 .1 .1 .1 .0
+
+returns-4 : tie.Need-returns-4
+returns-4 c =
+    let w = c .before .before .before .before in
+    let d = w .before .before .before in
+    let f = d .before .before in
+    let a = start-of f .args in
+    let r = f .before .room in
+    gives-broke (a .s) (cols f) (a .cid) (a .limit) (a .offset) (r .result) (r .ensures) (f .find-target .result) (f .find-target .ensures) _ _ (d .table .given .1)
+    (w .walk-into .result) (now (a .out)) _ (w .walk-into .ensures) _ (c .enum-told4 .given .1)
+
+same-length-2 : tie.Need-same-length-2
+same-length-2 c = c .before .before .before .before .walk-into .kept .1 .1 .1 .1 .1 .1 .1 .1 .1 .1 .1 .1 .1 .1 .0
+
+returns-5 : tie.Need-returns-5
+returns-5 c =
+    let w = c .before .before .before .before in
+    let d = w .before .before .before in
+    let f = d .before .before in
+    let a = start-of f .args in
+    let r = f .before .room in
+    gives-childless (a .s) (cols f) (a .cid) (a .limit) (a .offset) (r .result) (r .ensures) (f .find-target .result) (f .find-target .ensures) _ _ (d .table .given .1)
+    (w .walk-into .result) (now (a .out)) _ (w .walk-into .ensures) _ (c .enum-told5 .given .1)
+
+same-length-3 : tie.Need-same-length-3
+same-length-3 c = c .before .before .before .before .before .before .walk-into .kept .1 .1 .1 .1 .1 .1 .1 .1 .1 .1 .1 .1 .1 .1 .0
+
+returns-6 : tie.Need-returns-6
+returns-6 c =
+    let m = c .before .before in
+    let w = m .before .before .before .before in
+    let d = w .before .before .before in
+    let f = d .before .before in
+    let a = start-of f .args in
+    let r = f .before .room in
+    gives-went (a .s) (cols f) (a .cid) (a .limit) (a .offset) (r .result) (r .ensures) (f .find-target .result) (f .find-target .ensures) _ _ (d .table .given .1)
+    (w .walk-into .result) (now (a .out)) _ (w .walk-into .ensures) _ (m .w .given .1) (c .fit .result) (c .fit .ensures)
+
+pub leaves-spec : {M : Type 1} → statement M
+leaves-spec =
+    tie.close
+    (tie.spec
+    room-requires
+    find-target-requires
+    enum-told
+    enum-told-2
+    enum-told-3
+    enum-known-table
+    walk-into-requires
+    enum-told-4
+    enum-told-5
+    enum-known-w
+    fit-requires
+    returns
+    returns-2
+    returns-3
+    same-length
+    returns-4
+    same-length-2
+    returns-5
+    same-length-3
+    returns-6)

@@ -1,0 +1,495 @@
+// The questions that walk from cluster to cluster: the children of a cluster, the zoom at which it falls apart, and its lamps. Each looks at the state first, then
+// at where the id leads.
+use asking::Answer;
+use asking::Target;
+use kids::Child;
+use kids::Kids;
+use tables::Entry;
+use tables::State;
+ghost use mathlib.Core.Path.{_≡_};
+ghost use mathlib.Core.Bool.{true};
+ghost use Prim.Native.Nat.{_+_, _-_};
+ghost use lib.ListN.{length};
+ghost use Rattle.asking.specs.declared.Target.the-variants.{At as Target·At};
+ghost use Rattle.asking.specs.Asked.{answerOf, columnOf};
+ghost use Rattle.asking.specs.Columns.{columns};
+ghost use Rattle.asking.specs.Reached.{Reached};
+ghost use Rattle.kids.specs.Next.{Lent};
+ghost use Rattle.walks.specs.Children.{childrenOf};
+ghost use Rattle.walks.specs.Expansion.{expansionNumber, expansionCarried, fetchedAt, expand, zoomOf};
+ghost use Rattle.walks.specs.Leaves.{fateOf, leavesOf};
+ghost use Rattle.walks.specs.Column.{col, Visited, Walked};
+
+// The children of the cluster cid: their places in its table.
+pub fn children(
+    s: State,
+    x: &[f64],
+    y: &[f64],
+    seen: &[u8],
+    id: &[u32],
+    parent: &[u32],
+    num: &[u32],
+    ids: &[u32],
+    coords: &[f64],
+    cid: u32,
+    out: &mut [u32],
+) -> Answer
+    ensures { λ r. ⌜ (r ≡ answerOf (childrenOf s (columns (now (x .entry)) (now (y .entry)) (now (seen .entry)) (now (id .entry)) (now (parent .entry)) (now (num .entry)) (now (ids .entry)) (now (coords .entry))) cid) (length (now (out .entry))))
+        × (now (out .exit) ≡ columnOf (childrenOf s (columns (now (x .entry)) (now (y .entry)) (now (seen .entry)) (now (id .entry)) (now (parent .entry)) (now (num .entry)) (now (ids .entry)) (now (coords .entry))) cid) (now (out .entry))) ⌝ }
+{
+    let cap = asking::room(x, y, seen, id, parent, num, ids, coords);
+    match asking::find_target(s, cap, cid) {
+        Target::Spoiled => Answer::Spoiled,
+        Target::NoTree => Answer::NoTree,
+        Target::NoCluster => Answer::NoCluster,
+        Target::At { table, origin } => {
+            let g = asking::ring_of(s, cap, table, origin, x, y, seen, id, parent, num);
+            match kids::list_kids(g, x, y, seen, id, parent, num, ids, coords, cid, out) {
+                Kids::Spoiled => Answer::Spoiled,
+                Kids::All(k) => {
+                    if k == 0 {
+                        return Answer::NoCluster;
+                    }
+                    asking::fit(k, out.len())
+                }
+            }
+        }
+    }
+}
+
+// The zoom at which a cluster falls apart, or a refusal.
+pub enum Expansion {
+    At(u8),
+    NoTree,
+    NoCluster,
+    Spoiled,
+}
+
+impl Expansion {
+    // 01's number of the reply, 0 where there is no refusal.
+    pub fn number(self) -> u32
+        ensures { λ r. ⌜ r ≡ expansionNumber self ⌝ }
+    {
+        match self {
+            Expansion::At(_) => 0,
+            Expansion::NoTree => 5,
+            Expansion::NoCluster => 6,
+            Expansion::Spoiled => 11,
+        }
+    }
+
+    // The zoom, 0 where there is none.
+    pub fn carried(self) -> u8
+        ensures { λ r. ⌜ r ≡ expansionCarried self ⌝ }
+    {
+        match self {
+            Expansion::At(z) => z,
+            Expansion::NoTree => 0,
+            Expansion::NoCluster => 0,
+            Expansion::Spoiled => 0,
+        }
+    }
+}
+
+// The children of a cluster, as far as its expansion goes by them: a sole one that is a cluster, with its id; none; or others.
+enum Fetched {
+    Cluster(u32),
+    Nobody,
+    Others,
+    Spoiled,
+}
+
+fn fetch(
+    s: State,
+    cap: usize,
+    x: &[f64],
+    y: &[f64],
+    seen: &[u8],
+    id: &[u32],
+    parent: &[u32],
+    num: &[u32],
+    ids: &[u32],
+    coords: &[f64],
+    cid: u32,
+    table: usize,
+    origin: usize,
+) -> Fetched
+    requires { ⌜ Reached s cap table origin ⌝ }
+    requires { ⌜ Lent cap (columns (now x) (now y) (now seen) (now id) (now parent) (now num) (now ids) (now coords)) ⌝ }
+    ensures { λ r. ⌜ r ≡ fetchedAt s (columns (now (x .entry)) (now (y .entry)) (now (seen .entry)) (now (id .entry)) (now (parent .entry)) (now (num .entry)) (now (ids .entry)) (now (coords .entry))) cid table origin ⌝ }
+{
+    let g = asking::ring_of(s, cap, table, origin, x, y, seen, id, parent, num);
+    let mut one = [0u32; 1];
+    match kids::list_kids(g, x, y, seen, id, parent, num, ids, coords, cid, &mut one) {
+        Kids::Spoiled => Fetched::Spoiled,
+        Kids::All(k) => {
+            if k == 0 {
+                return Fetched::Nobody;
+            }
+            if 1 < k {
+                return Fetched::Others;
+            }
+            let p = one[0] as usize;
+            let e = asking::entry_in(g.start, g.len, x, y, seen, id, parent, num, p);
+            if 1 < e.num {
+                return Fetched::Cluster(e.id);
+            }
+            Fetched::Others
+        }
+    }
+}
+
+// The expansion zoom of the cluster cid, whose origin is an entry of the table.
+fn expand_from(
+    s: State,
+    cap: usize,
+    x: &[f64],
+    y: &[f64],
+    seen: &[u8],
+    id: &[u32],
+    parent: &[u32],
+    num: &[u32],
+    ids: &[u32],
+    coords: &[f64],
+    cid: u32,
+    table: usize,
+    origin: usize,
+) -> Expansion
+    requires { ⌜ Reached s cap table origin ⌝ }
+    requires { ⌜ Lent cap (columns (now x) (now y) (now seen) (now id) (now parent) (now num) (now ids) (now coords)) ⌝ }
+    ensures { λ r. ⌜ r ≡ expand s (columns (now (x .entry)) (now (y .entry)) (now (seen .entry)) (now (id .entry)) (now (parent .entry)) (now (num .entry)) (now (ids .entry)) (now (coords .entry)))
+        (s .options .«max_zoom» + 1 - (table - 1)) (Target·At table origin) cid (table - 1) true ⌝ }
+{
+    let o = s.options;
+    let top = o.max_zoom as usize;
+    let mut z = table - 1;
+    let mut of = cid;
+    let mut at = table;
+    let mut from = origin;
+    let mut first = true;
+    loop {
+        match fetch(
+            s,
+            cap,
+            x,
+            y,
+            seen,
+            id,
+            parent,
+            num,
+            ids,
+            coords,
+            of,
+            at,
+            from,
+        ) {
+            Fetched::Spoiled => return Expansion::Spoiled,
+            Fetched::Nobody => {
+                if first {
+                    return Expansion::NoCluster;
+                }
+                return Expansion::Spoiled;
+            }
+            Fetched::Others => return Expansion::At((z + 1) as u8),
+            Fetched::Cluster(child) => {
+                z += 1;
+                if top < z {
+                    return Expansion::At(z as u8);
+                }
+                let to = asking::go_on(s, at, child);
+                let Target::At {
+                    table: t,
+                    origin: p,
+                } = to
+                else {
+                    return Expansion::Spoiled;
+                };
+                of = child;
+                at = t;
+                from = p;
+                first = false;
+            }
+        }
+    }
+}
+
+// The zoom at which the cluster cid falls apart.
+pub fn expansion_zoom(
+    s: State,
+    x: &[f64],
+    y: &[f64],
+    seen: &[u8],
+    id: &[u32],
+    parent: &[u32],
+    num: &[u32],
+    ids: &[u32],
+    coords: &[f64],
+    cid: u32,
+) -> Expansion
+    ensures { λ r. ⌜ r ≡ zoomOf s (columns (now (x .entry)) (now (y .entry)) (now (seen .entry)) (now (id .entry)) (now (parent .entry)) (now (num .entry)) (now (ids .entry)) (now (coords .entry))) cid ⌝ }
+{
+    let cap = asking::room(x, y, seen, id, parent, num, ids, coords);
+    match asking::find_target(s, cap, cid) {
+        Target::Spoiled => Expansion::Spoiled,
+        Target::NoTree => Expansion::NoTree,
+        Target::NoCluster => Expansion::NoCluster,
+        Target::At { table, origin } => {
+            expand_from(
+                s,
+                cap,
+                x,
+                y,
+                seen,
+                id,
+                parent,
+                num,
+                ids,
+                coords,
+                cid,
+                table,
+                origin,
+            )
+        }
+    }
+}
+
+// What becomes of a child in a walk over lamps: so many are then skipped; or it is entered; or it is listed.
+enum Fate {
+    Skipped(u32),
+    Entered,
+    Listed,
+}
+
+fn fate_of(offset: u32, skipped: u32, num: u32) -> Fate
+    ensures { λ r. ⌜ r ≡ fateOf offset skipped num ⌝ }
+{
+    if 1 < num {
+        if skipped as u64 + num as u64 <= offset as u64 {
+            return Fate::Skipped(skipped + num);
+        }
+        return Fate::Entered;
+    }
+    if skipped < offset {
+        return Fate::Skipped(skipped + 1);
+    }
+    Fate::Listed
+}
+
+// A leg of a walk over lamps: the table that it is in, and which of the lamps are asked for.
+struct Leg {
+    table: usize,
+    limit: u32,
+    offset: u32,
+}
+
+// How many lamps a walk has skipped, and how many it has listed.
+struct Sofar {
+    skipped: u32,
+    listed: usize,
+}
+
+// What a walk into a cluster comes to: so far; or so many were listed when it broke, or when the cluster had no children.
+enum Walk {
+    Went(Sofar),
+    Broke(usize),
+    Childless(usize),
+}
+
+// The child e of a cluster: skipped, listed or entered.
+fn visit(
+    s: State,
+    cap: usize,
+    x: &[f64],
+    y: &[f64],
+    seen: &[u8],
+    id: &[u32],
+    parent: &[u32],
+    num: &[u32],
+    ids: &[u32],
+    coords: &[f64],
+    e: Entry,
+    leg: Leg,
+    so: Sofar,
+    out: &mut [u32],
+) -> Walk
+    requires { ⌜ Reached s cap (leg .table) 0 ⌝ }
+    requires { ⌜ Lent cap (columns (now x) (now y) (now seen) (now id) (now parent) (now num) (now ids) (now coords)) ⌝ }
+    ensures { λ r. ⌜ Visited s (columns (now (x .entry)) (now (y .entry)) (now (seen .entry)) (now (id .entry)) (now (parent .entry)) (now (num .entry)) (now (ids .entry)) (now (coords .entry)))
+        (leg .limit) (leg .offset) (leg .table) e (so .skipped) (col (so .listed) (now (out .entry))) r (now (out .exit)) ⌝ }
+{
+    match fate_of(leg.offset, so.skipped, e.num) {
+        Fate::Skipped(skipped) => Walk::Went(Sofar {
+            skipped,
+            listed: so.listed,
+        }),
+        Fate::Listed => {
+            if s.count as usize <= so.listed {
+                return Walk::Broke(so.listed);
+            }
+            asking::put_at(out, so.listed, e.id);
+            Walk::Went(Sofar {
+                skipped: so.skipped,
+                listed: so.listed + 1,
+            })
+        }
+        Fate::Entered => {
+            let to = asking::go_on(s, leg.table, e.id);
+            let Target::At { table, origin } = to else {
+                return Walk::Broke(so.listed);
+            };
+            let next = Leg {
+                table,
+                limit: leg.limit,
+                offset: leg.offset,
+            };
+            walk_into(
+                s,
+                cap,
+                x,
+                y,
+                seen,
+                id,
+                parent,
+                num,
+                ids,
+                coords,
+                e.id,
+                origin,
+                next,
+                so,
+                out,
+            )
+        }
+    }
+}
+
+// The children of the cluster cid, one after the other, from the ring around its origin.
+fn walk_into(
+    s: State,
+    cap: usize,
+    x: &[f64],
+    y: &[f64],
+    seen: &[u8],
+    id: &[u32],
+    parent: &[u32],
+    num: &[u32],
+    ids: &[u32],
+    coords: &[f64],
+    cid: u32,
+    origin: usize,
+    leg: Leg,
+    was: Sofar,
+    out: &mut [u32],
+) -> Walk
+    requires { ⌜ Reached s cap (leg .table) origin ⌝ }
+    requires { ⌜ Lent cap (columns (now x) (now y) (now seen) (now id) (now parent) (now num) (now ids) (now coords)) ⌝ }
+    ensures { λ r. ⌜ Walked s (columns (now (x .entry)) (now (y .entry)) (now (seen .entry)) (now (id .entry)) (now (parent .entry)) (now (num .entry)) (now (ids .entry)) (now (coords .entry)))
+        (leg .limit) (leg .offset) cid (leg .table) origin (was .skipped) (col (was .listed) (now (out .entry))) r (now (out .exit)) ⌝ }
+{
+    let g = asking::ring_of(s, cap, leg.table, origin, x, y, seen, id, parent, num);
+    let most = leg.limit as usize;
+    let mut any = false;
+    let mut so = was;
+    let mut from = asking::first(g, coords);
+    loop {
+        match kids::next_child(g, x, y, seen, id, parent, num, ids, coords, cid, from) {
+            Child::Spoiled => return Walk::Broke(so.listed),
+            Child::Done => {
+                if any {
+                    return Walk::Went(so);
+                }
+                return Walk::Childless(so.listed);
+            }
+            Child::At { slot, place } => {
+                let p = place as usize;
+                let e = asking::entry_in(g.start, g.len, x, y, seen, id, parent, num, p);
+                match visit(
+                    s,
+                    cap,
+                    x,
+                    y,
+                    seen,
+                    id,
+                    parent,
+                    num,
+                    ids,
+                    coords,
+                    e,
+                    leg,
+                    so,
+                    out,
+                ) {
+                    Walk::Broke(k) => return Walk::Broke(k),
+                    Walk::Childless(k) => return Walk::Broke(k),
+                    Walk::Went(w) => {
+                        if w.listed == most {
+                            return Walk::Went(w);
+                        }
+                        any = true;
+                        so = w;
+                        from = asking::after(g, coords, slot);
+                    }
+                }
+            }
+        }
+    }
+}
+
+// The lamps of the cluster cid: the ids of at most limit of them, after the first offset. Limit 0 lists all at offset 0 and nothing at a larger one.
+pub fn leaves(
+    s: State,
+    x: &[f64],
+    y: &[f64],
+    seen: &[u8],
+    id: &[u32],
+    parent: &[u32],
+    num: &[u32],
+    ids: &[u32],
+    coords: &[f64],
+    cid: u32,
+    limit: u32,
+    offset: u32,
+    out: &mut [u32],
+) -> Answer
+    ensures { λ r. ⌜ (r ≡ answerOf (leavesOf s (columns (now (x .entry)) (now (y .entry)) (now (seen .entry)) (now (id .entry)) (now (parent .entry)) (now (num .entry)) (now (ids .entry)) (now (coords .entry))) cid limit offset) (length (now (out .entry))))
+        × (now (out .exit) ≡ columnOf (leavesOf s (columns (now (x .entry)) (now (y .entry)) (now (seen .entry)) (now (id .entry)) (now (parent .entry)) (now (num .entry)) (now (ids .entry)) (now (coords .entry))) cid limit offset) (now (out .entry))) ⌝ }
+{
+    let cap = asking::room(x, y, seen, id, parent, num, ids, coords);
+    match asking::find_target(s, cap, cid) {
+        Target::Spoiled => Answer::Spoiled,
+        Target::NoTree => Answer::NoTree,
+        Target::NoCluster => Answer::NoCluster,
+        Target::At { table, origin } => {
+            let leg = Leg {
+                table,
+                limit,
+                offset,
+            };
+            let so = Sofar {
+                skipped: 0,
+                listed: 0,
+            };
+            match walk_into(
+                s,
+                cap,
+                x,
+                y,
+                seen,
+                id,
+                parent,
+                num,
+                ids,
+                coords,
+                cid,
+                origin,
+                leg,
+                so,
+                out,
+            ) {
+                Walk::Broke(_) => Answer::Spoiled,
+                Walk::Childless(_) => Answer::NoCluster,
+                Walk::Went(w) => asking::fit(w.listed, out.len()),
+            }
+        }
+    }
+}
