@@ -4,15 +4,15 @@ use mathlib.Core.Path.{_≡_, refl, ap, sym, _∙_}
 use mathlib.Core.List.{List}
 use Prim.Native.Nat.{ℕ, _+_, _-_, _*_, _/_, _<_, _≤_, min}
 use native.Mathlib.Omega.{arith}
-use lib.ListN.{length, getD, take, drop, length-drop}
-use lib.Seq.{length-take-le, getD-take, getD-drop}
+use lib.ListN.{length, getD, take, drop}
+use lib.Seq.{getD-take, getD-drop}
 use lib.Ieee.{Float}
 use Rattle.tables.specs.declared.State.{State}
 use Rattle.tables.specs.State.{startOf, lenOf}
 use Rattle.tables.specs.Sound.{Stands}
 use Rattle.tables.specs.Entries.{Table}
 use Rattle.tables.specs.Rows.{rows, rows-length, Even}
-use Rattle.tables.specs.Columns.{part, rows-take, rows-drop}
+use Rattle.tables.specs.Columns.{part, part-long, rows-take, rows-drop}
 
 -- six columns of entries, and two of the index
 pub record Columns : Type 0 where
@@ -87,9 +87,6 @@ index-held ids coords n h =
 
 -- ---- parts
 
-pub part-length : {A : Type 0} (a n : ℕ) (l : List A) → a + n ≤ length l → length (part a n l) ≡ n
-part-length a n l h = length-take-le n (drop a l) (rw (length-drop a l) (omega arith))
-
 pub part-getD : {A : Type 0} (a n : ℕ) (l : List A) (i : ℕ) (d : A) → i < n → getD (part a n l) i d ≡ getD l (a + i) d
 part-getD a n l i d h = getD-take n (drop a l) i d h ∙ getD-drop a l i d
 
@@ -101,13 +98,13 @@ rows-part a n xs ys ss is ps ns =
 pub even-part : (a n : ℕ) (xs ys : List Float) (ss is ps ns : List ℕ) → Held (a + n) xs ys ss is ps ns
     → Even (part a n xs) (part a n ys) (part a n ss) (part a n is) (part a n ps) (part a n ns)
 even-part a n xs ys ss is ps ns h =
-    let e = sym (part-length a n xs (h .hx)) in
+    let e = sym (part-long a n xs (h .hx)) in
     record {
-      ey = part-length a n ys (h .hy) ∙ e;
-      es = part-length a n ss (h .hs) ∙ e;
-      ei = part-length a n is (h .hi) ∙ e;
-      ep = part-length a n ps (h .hp) ∙ e;
-      en = part-length a n ns (h .hn) ∙ e;
+      ey = part-long a n ys (h .hy) ∙ e;
+      es = part-long a n ss (h .hs) ∙ e;
+      ei = part-long a n is (h .hi) ∙ e;
+      ep = part-long a n ps (h .hp) ∙ e;
+      en = part-long a n ns (h .hn) ∙ e;
     }
 
 -- ---- a column as it is lent, from a up to e
@@ -135,7 +132,7 @@ lent-even a n xs ys ss is ps ns h =
 module _ (s : State) (c : Columns) (z : ℕ) (w : Stands s (roomOf c) z) where
   pub table-length : length (tableAt s c z) ≡ lenOf s z
   table-length =
-      part-length (startOf s z) (lenOf s z) (rows (c .x) (c .y) (c .seen) (c .id) (c .parent) (c .num))
+      part-long (startOf s z) (lenOf s z) (rows (c .x) (c .y) (c .seen) (c .id) (c .parent) (c .num))
       (rw (rows-length (c .x) (c .y) (c .seen) (c .id) (c .parent) (c .num)) (held c (startOf s z + lenOf s z) (w .ends) .hx))
 
   -- the six columns reach over it
@@ -144,12 +141,12 @@ module _ (s : State) (c : Columns) (z : ℕ) (w : Stands s (roomOf c) z) where
 
 module _ (s : State) (ids : List ℕ) (coords : List Float) (z : ℕ) (w : Stands s (indexRoom ids coords) z) where
   pub ids-length : length (idsAt s ids z) ≡ lenOf s z
-  ids-length = part-length (startOf s z) (lenOf s z) ids (index-held ids coords (startOf s z + lenOf s z) (w .ends) .0)
+  ids-length = part-long (startOf s z) (lenOf s z) ids (index-held ids coords (startOf s z + lenOf s z) (w .ends) .0)
 
   pub coords-length : length (coordsAt s coords z) ≡ 2 * lenOf s z
   coords-length =
       let h = index-held ids coords (startOf s z + lenOf s z) (w .ends) .1 in
-      part-length (2 * startOf s z) (2 * lenOf s z) coords (omega (arith, h))
+      part-long (2 * startOf s z) (2 * lenOf s z) coords (omega (arith, h))
 
 -- a table that stands in all columns stands in those of the index
 pub stands-index : (s : State) (c : Columns) (z : ℕ) → Stands s (roomOf c) z → Stands s (indexRoom (c .ids) (c .coords)) z

@@ -21,7 +21,8 @@ use Rattle.kdbush.specs.Query.{passesQ, queryOk}
 use Rattle.kdbush.specs.Reply.{found, checked, built}
 use Rattle.kdbush.specs.Members.{In, Distinct}
 use Rattle.kdbush.specs.Built.{accepted, build-is-index}
-use Rattle.kdbush.specs.Promise.{AllBelow, all-whole, all-sound, answered-below, answered-once, answered-sound, answered-complete, range-sound, range-complete}
+use Rattle.kdbush.specs.All.{AllBelow, all-append}
+use Rattle.kdbush.specs.Promise.{all-whole, all-sound, answered-below, answered-once, answered-sound, answered-complete, range-sound, range-complete}
 use Rattle.tables.specs.declared.State.{State}
 use Rattle.tables.specs.Options.{zoomUsed}
 use Rattle.tables.specs.State.{lenOf}
@@ -75,11 +76,6 @@ pub record Around (x y r : Float) (n : ℕ) (xs ys : List Float) (l : List ℕ) 
 
 -- ---- one search of such an index
 
-below-append : (n : ℕ) (a b : List ℕ) → AllBelow n a → AllBelow n b → AllBelow n (a ++ b)
-unfolding AllBelow
-below-append n [] b u v = v
-below-append n (k ∷ a) b u v = (u .0, below-append n a b (u .1) v)
-
 walked-all : (n : ℕ) (l : List ℕ) → AllBelow n l → walked n l ≡ told true l
 walked-all n l w = rw (all-whole n l w, all-sound n l w)
 
@@ -94,7 +90,7 @@ module _ (s : State) (ids : List ℕ) (co : List Float) (z : ℕ) (xs ys : List 
   one-told q = ap (walked (lenOf s z)) (append-nil (foundIn (lenOf s z) q)) ∙ walked-all (lenOf s z) (foundIn (lenOf s z) q) (below q)
 
   two-told : (a b : Query) → listedAt s ids co z (record { first = a; second = b; two = true }) ≡ told true (foundIn (lenOf s z) a ++ foundIn (lenOf s z) b)
-  two-told a b = walked-all (lenOf s z) (foundIn (lenOf s z) a ++ foundIn (lenOf s z) b) (below-append (lenOf s z) (foundIn (lenOf s z) a) (foundIn (lenOf s z) b) (below a) (below b))
+  two-told a b = walked-all (lenOf s z) (foundIn (lenOf s z) a ++ foundIn (lenOf s z) b) (all-append (λ (k : ℕ). k < lenOf s z) (foundIn (lenOf s z) a) (foundIn (lenOf s z) b) (below a) (below b))
 
   range-exactly : (a b c d : Float) → Exactly (Range a b c d) (lenOf s z) xs ys (foundIn (lenOf s z) (Range a b c d))
   range-exactly a b c d =

@@ -5,11 +5,11 @@ use Prim.Native.Nat.{ℕ, suc, _+_, _-_, _*_, _<_, _≤_}
 use native.Mathlib.Omega.{arith}
 use lib.ListN.{length, getD, length-append}
 use Rattle.tables.specs.declared.State.{State}
+use Rattle.tables.specs.Columns.{part-long}
 use Rattle.tables.specs.Entries.{Table}
 use Rattle.supercluster.specs.Build.{joined}
 use Rattle.supercluster.specs.Held.{heldAt, held, heldBy}
 use Rattle.report.specs.Lines.{tableText, tablesText}
-use Rattle.report.specs.Parts.{part-length}
 
 -- each table lies within the rows, and there is room for a line of 136 bytes for each entry
 pub record Holding (s : State) (t : Table) (room : ℕ) : Type 0 where
@@ -42,4 +42,4 @@ module _ (ss ll : List ℕ) (t : Table) (low z : ℕ) where
   held-long h w =
       ap (λ (q : List Table). length (joined q)) (held-step h)
       ∙ length-append (heldAt ss ll t (z - 1)) (joined (held ss ll t low (z - 1 - low)))
-      ∙ ap (λ (k : ℕ). k + length (joined (held ss ll t low (z - 1 - low)))) (part-length (getD ss (z - 1) 0) (getD ll (z - 1) 0) t w)
+      ∙ ap (λ (k : ℕ). k + length (joined (held ss ll t low (z - 1 - low)))) (part-long (getD ss (z - 1) 0) (getD ll (z - 1) 0) t w)

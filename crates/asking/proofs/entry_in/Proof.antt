@@ -4,7 +4,8 @@ use native.Mathlib.Omega.{arith}
 use lib.ListN.{length}
 use denote.Ref.{now}
 use Rattle.tables.specs.Entries.{Table, entry}
-use Rattle.asking.specs.Columns.{lent-rows, lent-even, lent-part, part-length}
+use Rattle.tables.specs.Columns.{part-long}
+use Rattle.asking.specs.Columns.{lent-rows, lent-even, lent-part}
 use borrow.Author.Needs.{needs}
 use Rattle.asking.proofs.entry_in.Statement.{statement}
 use Rattle.asking.proofs.entry_in.Tie as tie
@@ -89,7 +90,7 @@ entry-at-requires c κs =
     let s = start c in
     let a = s .args in
     let h = s .pre .0 in
-    (lent-even (a .start) (a .len) _ _ _ _ _ _ h, omega (arith, s .pre .1, ap length (lent-part (a .start) (a .len) (now (a .x))) ∙ part-length (a .start) (a .len) (now (a .x)) (h .hx)))
+    (lent-even (a .start) (a .len) _ _ _ _ _ _ h, omega (arith, s .pre .1, ap length (lent-part (a .start) (a .len) (now (a .x))) ∙ part-long (a .start) (a .len) (now (a .x)) (h .hx)))
 
 returns : tie.Need-returns
 returns c =
