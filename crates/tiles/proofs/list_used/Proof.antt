@@ -1,0 +1,271 @@
+-- `tiles::list_used` meets its contract: what is lent of the columns is the table of the zoom used, with its index. Assumes nothing.
+use mathlib.Core.Path.{_≡_, sym, ap, _∙_, subst}
+use mathlib.Core.List.{List}
+use Prim.Native.Nat.{ℕ, _+_, _*_}
+use native.Mathlib.Omega.{arith}
+use lib.ListN.{length}
+use denote.Ref.{now}
+use borrow.Author.Needs.{needs}
+use Rattle.tables.specs.Options.{zoomUsed}
+use Rattle.tables.specs.State.{startOf, lenOf}
+use Rattle.tables.specs.Entries.{Table}
+use Rattle.asking.specs.Columns.{Columns, columns, lent, lent-even}
+use Rattle.tiling.specs.Tile.{Visit, visited}
+use Rattle.tiling.specs.Framed.{IsTile}
+use Rattle.tiling.specs.Runs.{Left, run}
+use Rattle.tiles.specs.Asked.{visitsFor}
+use Rattle.tiles.specs.Used.{Spot, spot, spot-at, lent-ok, lent-ids, lentTable, table-used, visits-used}
+use Rattle.tiles.proofs.list_used.Statement.{statement}
+use Rattle.tiles.proofs.list_used.Tie as tie
+
+-- ---- the table, once its start and its length are read
+
+abbrev begin : tie.After-len-of → tie.Start
+begin w = w .before .before .before .before .before .before .before .before .before .before .before .before .before .before
+
+abbrev lent-columns : tie.Start → Columns
+lent-columns s = let a = s .args in columns (now (a .x)) (now (a .y)) (now (a .seen)) (now (a .id)) (now (a .parent)) (now (a .num)) (now (a .ids)) (now (a .coords))
+
+abbrev from-of : tie.After-len-of → ℕ
+from-of w = w .before .start-of .result
+
+abbrev len-of : tie.After-len-of → ℕ
+len-of w = w .len-of .result
+
+abbrev used : tie.After-len-of → ℕ
+used w = zoomUsed (begin w .args .s .options) (begin w .args .z)
+
+used-is : (w : tie.After-len-of) → w .before .before .index .result ≡ used w
+used-is w = w .before .before .index .ensures ∙ w .before .before .before .zoom-used .ensures
+
+from-is : (w : tie.After-len-of) → from-of w ≡ startOf (begin w .args .s) (used w)
+from-is w = w .before .start-of .ensures ∙ ap (startOf (begin w .args .s)) (used-is w)
+
+len-is : (w : tie.After-len-of) → len-of w ≡ lenOf (begin w .args .s) (used w)
+len-is w = w .len-of .ensures ∙ ap (lenOf (begin w .args .s)) (used-is w)
+
+spot-of : (w : tie.After-len-of) → Spot (begin w .args .s) (lent-columns (begin w)) (used w) (from-of w) (len-of w)
+spot-of w =
+    let s = begin w in
+    spot-at (s .args .s) (lent-columns s) (s .args .z) (from-of w) (len-of w) (s .pre .0) (from-is w) (len-is w)
+
+-- ---- the parts
+
+zoom-used-requires : tie.Need-zoom-used-requires
+zoom-used-requires c κs = search needs
+
+index-requires : tie.Need-index-requires
+index-requires c κs = search needs
+
+start-of-requires : tie.Need-start-of-requires
+start-of-requires c κs =
+    let s = c .before .before .before .before .before .before .before .before .before .before .before .before in
+    let p = spot (s .args .s) (lent-columns s) (s .args .z) (s .pre .0) in
+    omega (arith, p .table, c .index .ensures, c .before .zoom-used .ensures)
+
+len-of-requires : tie.Need-len-of-requires
+len-of-requires c κs =
+    let s = c .before .before .before .before .before .before .before .before .before .before .before .before .before in
+    let p = spot (s .args .s) (lent-columns s) (s .args .z) (s .pre .0) in
+    omega (arith, p .table, c .before .index .ensures, c .before .before .zoom-used .ensures)
+
+add-e : tie.Need-add-e
+add-e c = omega (arith, spot-of c .ids-held, begin c .good)
+
+mul-c : tie.Need-mul-c
+mul-c c = omega (arith, spot-of c .ids-held, begin c .good)
+
+mul-d : tie.Need-mul-d
+mul-d c = omega (arith, spot-of c .ids-held, begin c .good)
+
+wide-requires : tie.Need-wide-requires
+wide-requires c κs = search needs
+
+mul-list : tie.Need-mul-list
+mul-list c = let w = c .before in omega (arith, spot-of w .rows-held .hx, begin w .good)
+
+sub-list : tie.Need-sub-list
+sub-list c = omega arith
+
+part-list-start : tie.Need-part-list-start
+part-list-start c = let w = c .before in omega (arith, spot-of w .rows-held .hx)
+
+part-list-end : tie.Need-part-list-end
+part-list-end c = let w = c .before in omega (arith, spot-of w .rows-held .hx)
+
+mul-list-2 : tie.Need-mul-list-2
+mul-list-2 c = let w = c .before .before in omega (arith, spot-of w .rows-held .hy, begin w .good)
+
+sub-list-2 : tie.Need-sub-list-2
+sub-list-2 c = omega arith
+
+part-list-start-2 : tie.Need-part-list-start-2
+part-list-start-2 c = let w = c .before .before in omega (arith, spot-of w .rows-held .hy)
+
+part-list-end-2 : tie.Need-part-list-end-2
+part-list-end-2 c = let w = c .before .before in omega (arith, spot-of w .rows-held .hy)
+
+sub-list-3 : tie.Need-sub-list-3
+sub-list-3 c = omega arith
+
+part-list-start-3 : tie.Need-part-list-start-3
+part-list-start-3 c = let w = c .before .before .before in omega (arith, spot-of w .rows-held .hs)
+
+part-list-end-3 : tie.Need-part-list-end-3
+part-list-end-3 c = let w = c .before .before .before in omega (arith, spot-of w .rows-held .hs)
+
+mul-list-3 : tie.Need-mul-list-3
+mul-list-3 c = let w = c .before .before .before .before in omega (arith, spot-of w .rows-held .hi, begin w .good)
+
+sub-list-4 : tie.Need-sub-list-4
+sub-list-4 c = omega arith
+
+part-list-start-4 : tie.Need-part-list-start-4
+part-list-start-4 c = let w = c .before .before .before .before in omega (arith, spot-of w .rows-held .hi)
+
+part-list-end-4 : tie.Need-part-list-end-4
+part-list-end-4 c = let w = c .before .before .before .before in omega (arith, spot-of w .rows-held .hi)
+
+mul-list-4 : tie.Need-mul-list-4
+mul-list-4 c = let w = c .before .before .before .before .before in omega (arith, spot-of w .rows-held .hp, begin w .good)
+
+sub-list-5 : tie.Need-sub-list-5
+sub-list-5 c = omega arith
+
+part-list-start-5 : tie.Need-part-list-start-5
+part-list-start-5 c = let w = c .before .before .before .before .before in omega (arith, spot-of w .rows-held .hp)
+
+part-list-end-5 : tie.Need-part-list-end-5
+part-list-end-5 c = let w = c .before .before .before .before .before in omega (arith, spot-of w .rows-held .hp)
+
+mul-list-5 : tie.Need-mul-list-5
+mul-list-5 c = let w = c .before .before .before .before .before .before in omega (arith, spot-of w .rows-held .hn, begin w .good)
+
+sub-list-6 : tie.Need-sub-list-6
+sub-list-6 c = omega arith
+
+part-list-start-6 : tie.Need-part-list-start-6
+part-list-start-6 c = let w = c .before .before .before .before .before .before in omega (arith, spot-of w .rows-held .hn)
+
+part-list-end-6 : tie.Need-part-list-end-6
+part-list-end-6 c = let w = c .before .before .before .before .before .before in omega (arith, spot-of w .rows-held .hn)
+
+mul-list-6 : tie.Need-mul-list-6
+mul-list-6 c = let w = c .before .before .before .before .before .before .before in omega (arith, spot-of w .ids-held, begin w .good)
+
+sub-list-7 : tie.Need-sub-list-7
+sub-list-7 c = omega arith
+
+part-list-start-7 : tie.Need-part-list-start-7
+part-list-start-7 c = let w = c .before .before .before .before .before .before .before in omega (arith, spot-of w .ids-held)
+
+part-list-end-7 : tie.Need-part-list-end-7
+part-list-end-7 c = let w = c .before .before .before .before .before .before .before in omega (arith, spot-of w .ids-held)
+
+mul-list-7 : tie.Need-mul-list-7
+mul-list-7 c = let w = c .before .before .before .before .before .before .before .before in omega (arith, spot-of w .coords-held, begin w .good)
+
+sub-list-8 : tie.Need-sub-list-8
+sub-list-8 c = omega arith
+
+part-list-start-8 : tie.Need-part-list-start-8
+part-list-start-8 c = let w = c .before .before .before .before .before .before .before .before in omega (arith, spot-of w .coords-held)
+
+part-list-end-8 : tie.Need-part-list-end-8
+part-list-end-8 c = let w = c .before .before .before .before .before .before .before .before in omega (arith, spot-of w .coords-held)
+
+abbrev wide-of : tie.After-list-arg11 → tie.After-wide
+wide-of c = c .before .before .before .before .before .before .before .before .before .before .before
+
+list-requires : tie.Need-list-requires
+list-requires c κs =
+    let v = wide-of c in
+    let w = v .before in
+    let s = begin w in
+    let p = spot-of w in
+    let t : IsTile (v .wide .result) (s .args .tx) (s .args .ty) = subst (λ (k : ℕ). IsTile k (s .args .tx) (s .args .ty)) (sym (v .wide .ensures)) (s .pre .1) in (
+      (p .bounds, t),
+      (
+        lent-even (from-of w) (len-of w) _ _ _ _ _ _ (p .rows-held),
+        (lent-ok (s .args .s) (lent-columns s) (used w) (from-of w) (len-of w) p, lent-ids (s .args .s) (lent-columns s) (used w) (from-of w) (len-of w) p),
+      ),
+    )
+
+abbrev ended : tie.After-py → tie.After-list
+ended c = c .before .before .before .before
+
+same-length : tie.Need-same-length
+same-length c = ended c .list .kept .1 .1 .1 .1 .1 .1 .1 .1 .1 .1 .1 .1 .0
+
+same-length-2 : tie.Need-same-length-2
+same-length-2 c = ended c .list .kept .1 .1 .1 .1 .1 .1 .1 .1 .1 .1 .1 .1 .1 .0
+
+same-length-3 : tie.Need-same-length-3
+same-length-3 c = ended c .list .kept .1 .1 .1 .1 .1 .1 .1 .1 .1 .1 .1 .1 .1 .1 .0
+
+abbrev runs : tie.Start → Table → List Visit → Left
+runs s t vs = run t 0 vs (now (s .args .out)) (now (s .args .px)) (now (s .args .py))
+
+returns : tie.Need-returns
+returns c =
+    let l = ended c in
+    let v = wide-of (l .before) in
+    let w = v .before in
+    let s = begin w in
+    let a = s .args in
+    let k = lent-columns s in
+    let f = from-of w in
+    let n = len-of w in
+    l .list .ensures
+    ∙ ap (λ (z : ℕ). runs s (lentTable k f (f + n)) (visited (a .s .options) z (a .tx) (a .ty) (lentTable k f (f + n)) (lent f (f + n) (k .ids)) (lent (2 * f) (2 * (f + n)) (k .coords)))) (v .wide .ensures)
+    ∙ ap (λ (vs : List Visit). runs s (lentTable k f (f + n)) vs) (visits-used (a .s) k (a .z) f n (from-is w) (len-is w) (a .tx) (a .ty))
+    ∙ ap (λ (t : Table). runs s t (visitsFor (a .s) k (a .z) (a .tx) (a .ty))) (table-used (a .s) k (a .z) f n (from-is w) (len-is w))
+
+pub list-used-spec : {M : Type 1} → statement M
+list-used-spec =
+    tie.close
+    (tie.spec
+    zoom-used-requires
+    index-requires
+    start-of-requires
+    len-of-requires
+    add-e
+    mul-c
+    mul-d
+    wide-requires
+    mul-list
+    sub-list
+    part-list-start
+    part-list-end
+    mul-list-2
+    sub-list-2
+    part-list-start-2
+    part-list-end-2
+    sub-list-3
+    part-list-start-3
+    part-list-end-3
+    mul-list-3
+    sub-list-4
+    part-list-start-4
+    part-list-end-4
+    mul-list-4
+    sub-list-5
+    part-list-start-5
+    part-list-end-5
+    mul-list-5
+    sub-list-6
+    part-list-start-6
+    part-list-end-6
+    mul-list-6
+    sub-list-7
+    part-list-start-7
+    part-list-end-7
+    mul-list-7
+    sub-list-8
+    part-list-start-8
+    part-list-end-8
+    list-requires
+    same-length
+    same-length-2
+    same-length-3
+    returns)

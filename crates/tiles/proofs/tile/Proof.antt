@@ -1,0 +1,216 @@
+-- `tiles::tile` meets its contract: each return is one of its ends. Assumes nothing.
+use mathlib.Core.Path.{_≡_, sym, ap, _∙_}
+use mathlib.Core.Bool.{true}
+use mathlib.Core.List.{List, _++_}
+use Prim.Native.Nat.{ℕ, min, _≤_}
+use native.Mathlib.Omega.{arith}
+use lib.ListN.{length, drop}
+use lib.IntN.{ℤ}
+use lib.Seq.{length-take-le}
+use denote.Ref.{now}
+use borrow.Author.Needs.{needs}
+use borrow.Author.Tests.{not-true, not-false}
+use Rattle.tables.specs.Sound.{stateOk}
+use Rattle.asking.specs.declared.Answer.{Answer}
+use Rattle.asking.specs.Columns.{Columns, columns, roomOf}
+use Rattle.tiling.specs.declared.Ran.{Ran}
+use Rattle.tiling.specs.Tile.{isTile}
+use Rattle.tiling.specs.Framed.{tile-is}
+use Rattle.tiles.specs.Asked.{shortest, outcome, tiled}
+use Rattle.tiles.specs.Ends.{finish, room-fits, ends-spoiled, ends-no-tile, ends-listed}
+use Rattle.tiles.proofs.tile.Statement.{statement}
+use Rattle.tiles.proofs.tile.Tie as tie
+
+-- ---- the state, looked at
+
+abbrev begin : tie.After-is-sound → tie.Start
+begin c = c .before .before .before .before .before .before .before .before .before .before .before
+
+abbrev lent-columns : tie.Start → Columns
+lent-columns s = let a = s .args in columns (now (a .x)) (now (a .y)) (now (a .seen)) (now (a .id)) (now (a .parent)) (now (a .num)) (now (a .ids)) (now (a .coords))
+
+sound-is : (c : tie.After-is-sound) → c .is-sound .result ≡ stateOk (begin c .args .s) (roomOf (lent-columns (begin c)))
+sound-is c = c .is-sound .ensures ∙ ap (stateOk (begin c .args .s)) (c .before .room .ensures)
+
+-- ---- the tile, looked at
+
+abbrev sound-of : tie.After-is-tile → tie.After-is-sound
+sound-of c = c .before .before .before
+
+sound : (c : tie.After-is-tile) → stateOk (begin (sound-of c) .args .s) (roomOf (lent-columns (begin (sound-of c)))) ≡ true
+sound c = sym (sound-is (sound-of c)) ∙ not-false _ (c .before .before .if1 .left)
+
+tile-test : (c : tie.After-is-tile) → let a = begin (sound-of c) .args in c .is-tile .result ≡ isTile (a .z) (a .tx) (a .ty)
+tile-test c = let a = begin (sound-of c) .args in c .is-tile .ensures ∙ ap (λ (k : ℕ). isTile k (a .tx) (a .ty)) (c .before .wide .ensures)
+
+-- ---- the room
+
+abbrev tile-of : tie.After-less2 → tie.After-is-tile
+tile-of c = c .before .before .before
+
+abbrev begun : tie.After-less2 → tie.Start
+begun c = begin (sound-of (tile-of c))
+
+room-is : (c : tie.After-less2) → let a = begun c .args in c .less2 .result ≡ shortest (now (a .places)) (now (a .px)) (now (a .py))
+room-is c = let a = begun c .args in c .less2 .ensures ∙ ap (min (length (now (a .places)))) (c .before .less .ensures)
+
+room-in : (c : tie.After-less2) → let a = begun c .args in (c .less2 .result ≤ length (now (a .places))) × (c .less2 .result ≤ length (now (a .px))) × (c .less2 .result ≤ length (now (a .py)))
+room-in c =
+    let a = begun c .args in
+    let m = room-fits (length (now (a .places))) (length (now (a .px))) (length (now (a .py))) in
+    let e = room-is c in
+    (omega (arith, m, e), omega (arith, m, e), omega (arith, m, e))
+
+-- ---- the parts
+
+room-requires : tie.Need-room-requires
+room-requires c κs = search needs
+
+is-sound-requires : tie.Need-is-sound-requires
+is-sound-requires c κs = search needs
+
+returns : tie.Need-returns
+returns c =
+    let s = begin (c .before) in
+    let a = s .args in
+    ends-spoiled (a .s) (lent-columns s) (a .z) (a .tx) (a .ty) (now (a .places)) (now (a .px)) (now (a .py)) (sym (sound-is (c .before)) ∙ not-true _ (c .if1 .taken))
+
+wide-requires : tie.Need-wide-requires
+wide-requires c κs = search needs
+
+is-tile-requires : tie.Need-is-tile-requires
+is-tile-requires c κs = search needs
+
+returns-2 : tie.Need-returns-2
+returns-2 c =
+    let t = c .before in
+    let s = begin (sound-of t) in
+    let a = s .args in
+    ends-no-tile (a .s) (lent-columns s) (a .z) (a .tx) (a .ty) (now (a .places)) (now (a .px)) (now (a .py)) (sound t) (sym (tile-test t) ∙ not-true _ (c .if2 .taken))
+
+less-requires : tie.Need-less-requires
+less-requires c κs = search needs
+
+less-requires-2 : tie.Need-less-requires-2
+less-requires-2 c κs = search needs
+
+slice-relend-prefix-list-used : tie.Need-slice-relend-prefix-list-used
+slice-relend-prefix-list-used c = search needs
+
+slice-aggregate-list-used : tie.Need-slice-aggregate-list-used
+slice-aggregate-list-used c = let r = c .before in sym (length-take-le (r .less2 .result) (now (begun r .args .places)) (room-in r .0))
+
+slice-relend-prefix-list-used-2 : tie.Need-slice-relend-prefix-list-used-2
+slice-relend-prefix-list-used-2 c = search needs
+
+slice-aggregate-list-used-2 : tie.Need-slice-aggregate-list-used-2
+slice-aggregate-list-used-2 c = let r = c .before .before in sym (length-take-le (r .less2 .result) (now (begun r .args .px)) (room-in r .1))
+
+slice-relend-prefix-list-used-3 : tie.Need-slice-relend-prefix-list-used-3
+slice-relend-prefix-list-used-3 c = search needs
+
+slice-aggregate-list-used-3 : tie.Need-slice-aggregate-list-used-3
+slice-aggregate-list-used-3 c = let r = c .before .before .before in sym (length-take-le (r .less2 .result) (now (begun r .args .py)) (room-in r .2))
+
+list-used-requires : tie.Need-list-used-requires
+list-used-requires c κs =
+    let r = c .before .before .before in
+    let t = tile-of r in
+    let a = begun r .args in
+    (sound t, tile-is (a .z) (a .tx) (a .ty) (sym (tile-test t) ∙ not-false _ (r .before .before .if2 .left)))
+
+-- ---- what was listed
+
+abbrev room-of : tie.After-list-used → tie.After-less2
+room-of l = l .before .before .before .before
+
+-- the columns, the part that was lent and the rest
+abbrev places-after : tie.After-list-used → List ℕ
+places-after l = l .list-used .last .1 .1 .1 .1 .1 .1 .1 .1 .1 .1 .1 .1 .0 ++ drop (room-of l .less2 .result) (now (begun (room-of l) .args .places))
+
+abbrev px-after : tie.After-list-used → List ℤ
+px-after l = l .list-used .last .1 .1 .1 .1 .1 .1 .1 .1 .1 .1 .1 .1 .1 .0 ++ drop (room-of l .less2 .result) (now (begun (room-of l) .args .px))
+
+abbrev py-after : tie.After-list-used → List ℤ
+py-after l = l .list-used .last .1 .1 .1 .1 .1 .1 .1 .1 .1 .1 .1 .1 .1 .1 .0 ++ drop (room-of l .less2 .result) (now (begun (room-of l) .args .py))
+
+listed-is : (l : tie.After-list-used) → let a = begun (room-of l) .args in outcome (finish (l .list-used .result) (room-of l .less2 .result)) (places-after l) (px-after l) (py-after l)
+    ≡ tiled (a .s) (lent-columns (begun (room-of l))) (a .z) (a .tx) (a .ty) (now (a .places)) (now (a .px)) (now (a .py))
+listed-is l =
+    let r = room-of l in
+    let t = tile-of r in
+    let s = begun r in
+    let a = s .args in
+    ends-listed (a .s) (lent-columns s) (a .z) (a .tx) (a .ty) (now (a .places)) (now (a .px)) (now (a .py)) (sound t) (sym (tile-test t) ∙ not-false _ (r .before .before .if2 .left))
+    (r .less2 .result) (room-is r) (l .list-used .result) _ _ _ (l .list-used .ensures)
+
+enum-told : tie.Need-enum-told
+enum-told c = search needs
+
+enum-known-k : tie.Need-enum-known-k
+enum-known-k c = search needs
+
+some-of-requires : tie.Need-some-of-requires
+some-of-requires c κs = search needs
+
+same-length : tie.Need-same-length
+same-length c = search needs
+
+same-length-2 : tie.Need-same-length-2
+same-length-2 c = search needs
+
+same-length-3 : tie.Need-same-length-3
+same-length-3 c = search needs
+
+returns-3 : tie.Need-returns-3
+returns-3 c =
+    let l = c .before .before .before .before .before .before in
+    sym (ap (λ (q : Ran). outcome (finish q (room-of l .less2 .result)) (places-after l) (px-after l) (py-after l)) (c .enum-told .given .1)) ∙ listed-is l
+
+same-length-4 : tie.Need-same-length-4
+same-length-4 c = search needs
+
+same-length-5 : tie.Need-same-length-5
+same-length-5 c = search needs
+
+same-length-6 : tie.Need-same-length-6
+same-length-6 c = search needs
+
+returns-4 : tie.Need-returns-4
+returns-4 c =
+    let k = c .before .before in
+    let l = k .before .before .before .before .before .before in
+    ap (λ (q : Answer). outcome q (places-after l) (px-after l) (py-after l)) (c .some-of .ensures)
+    ∙ sym (ap (λ (q : Ran). outcome (finish q (room-of l .less2 .result)) (places-after l) (px-after l) (py-after l)) (k .k .given .1))
+    ∙ listed-is l
+
+pub tile-spec : {M : Type 1} → statement M
+tile-spec =
+    tie.close
+    (tie.spec
+    room-requires
+    is-sound-requires
+    returns
+    wide-requires
+    is-tile-requires
+    returns-2
+    less-requires
+    less-requires-2
+    slice-relend-prefix-list-used
+    slice-aggregate-list-used
+    slice-relend-prefix-list-used-2
+    slice-aggregate-list-used-2
+    slice-relend-prefix-list-used-3
+    slice-aggregate-list-used-3
+    list-used-requires
+    enum-told
+    enum-known-k
+    some-of-requires
+    same-length
+    same-length-2
+    same-length-3
+    returns-3
+    same-length-4
+    same-length-5
+    same-length-6
+    returns-4)

@@ -1,0 +1,76 @@
+-- The question of a tile: what it comes to, its answer, and the three columns afterwards, for every input. Definitions only.
+use mathlib.Core.Bool.{Bool, true, false, cond, not}
+use mathlib.Core.List.{List, _++_, map}
+use Prim.Native.Nat.{ℕ, zero, suc, min}
+use lib.ListN.{length, take, drop}
+use lib.IntN.{ℤ}
+use Rattle.tables.specs.declared.State.{State}
+use Rattle.tables.specs.Options.{zoomUsed}
+use Rattle.tables.specs.Sound.{stateOk}
+use Rattle.tables.specs.Entries.{Table}
+use Rattle.asking.specs.declared.Answer.{Answer}
+use Rattle.asking.specs.declared.Answer.the-variants.{Tile, EmptyTile, Spoiled}
+use Rattle.asking.specs.Answers.{fitted}
+use Rattle.asking.specs.Columns.{Columns, roomOf, tableAt, idsAt, coordsAt}
+use Rattle.tiling.specs.declared.Item.{Item}
+use Rattle.tiling.specs.Tile.{Visit, isTile, visited, listed, whole, items}
+
+-- the table of the zoom used, and what the tile finds there
+abbrev pub tableFor : State → Columns → ℕ → Table
+tableFor s c z = tableAt s c (zoomUsed (s .options) z)
+
+abbrev pub visitsFor : State → Columns → ℕ → ℕ → ℕ → List Visit
+visitsFor s c z x y =
+    visited (s .options) z x y (tableFor s c z) (idsAt s (c .ids) (zoomUsed (s .options) z)) (coordsAt s (c .coords) (zoomUsed (s .options) z))
+
+-- a tile is refused with nothing written; or it comes to the items listed, and whether everything that was found could be listed
+pub data Asked : Type 0 where
+  refused : Answer → Asked
+  told : Bool → List Item → Asked
+
+-- the refusals in 01's order: the state over the eight columns (11), no such tile (7)
+unfoldable pub asked : State → Columns → ℕ → ℕ → ℕ → Asked
+asked s c z x y =
+    cond (not (stateOk s (roomOf c))) (refused Spoiled)
+    (cond (not (isTile z x y)) (refused Tile)
+    (told (whole (tableFor s c z) (visitsFor s c z x y)) (items (tableFor s c z) (listed (tableFor s c z) (visitsFor s c z x y)))))
+
+-- the answer, where the shortest column holds so many: what was found and cannot be listed (11), nothing listed (8), too many (10)
+abbrev pub someOf : ℕ → ℕ → Answer
+someOf zero room = EmptyTile
+someOf (suc k) room = fitted (suc k) room
+
+abbrev pub answerOf : Asked → ℕ → Answer
+answerOf (refused a) room = a
+answerOf (told true l) room = someOf (length l) room
+answerOf (told false l) room = Spoiled
+
+-- how many items the shortest of the three columns holds
+abbrev pub shortest : List ℕ → List ℤ → List ℤ → ℕ
+shortest places xs ys = min (length places) (min (length xs) (length ys))
+
+-- the first items, as many as there is room for, and then the old contents
+abbrev pub firstOf : {A : Type 0} → ℕ → List A → List A → List A
+firstOf room l out = take room l ++ drop (length (take room l)) out
+
+abbrev pub columnOf : {A : Type 0} → (Item → A) → Asked → ℕ → List A → List A
+columnOf f (refused a) room out = out
+columnOf f (told b l) room out = firstOf room (map f l) out
+
+-- the answer, and what it leaves in the three columns: places in the table, and places in the tile
+pub record Outcome : Type 0 where
+  pub answer : Answer
+  pub places : List ℕ
+  pub xs : List ℤ
+  pub ys : List ℤ
+
+abbrev pub outcome : Answer → List ℕ → List ℤ → List ℤ → Outcome
+outcome a places xs ys = record { answer = a; places = places; xs = xs; ys = ys }
+
+abbrev pub outcomeOf : Asked → List ℕ → List ℤ → List ℤ → Outcome
+outcomeOf a places xs ys =
+    let room = shortest places xs ys in
+    outcome (answerOf a room) (columnOf (λ i. i .place) a room places) (columnOf (λ i. i .x) a room xs) (columnOf (λ i. i .y) a room ys)
+
+abbrev pub tiled : State → Columns → ℕ → ℕ → ℕ → List ℕ → List ℤ → List ℤ → Outcome
+tiled s c z x y places xs ys = outcomeOf (asked s c z x y) places xs ys

@@ -1,0 +1,143 @@
+// The question 'tile' to a build. Nothing is asked of the caller: what 01 does not take is refused with its number.
+use asking::Answer;
+use tables::State;
+use tiling::Ran;
+ghost use mathlib.Core.Path.{_≡_};
+ghost use mathlib.Core.Bool.{true};
+ghost use Prim.Native.Nat.{min};
+ghost use Rattle.tables.specs.Sound.{stateOk};
+ghost use Rattle.asking.specs.Columns.{columns, roomOf};
+ghost use Rattle.tiling.specs.Framed.{IsTile};
+ghost use Rattle.tiling.specs.Runs.{left, run};
+ghost use Rattle.tiles.specs.Asked.{tableFor, visitsFor, someOf, outcome, tiled};
+
+fn wide(x: u8) -> u32
+    ensures { λ r. ⌜ r ≡ x ⌝ }
+{
+    x as u32
+}
+
+fn index(x: u8) -> usize
+    ensures { λ r. ⌜ r ≡ x ⌝ }
+{
+    x as usize
+}
+
+fn less(a: usize, b: usize) -> usize
+    ensures { λ r. ⌜ r ≡ min a b ⌝ }
+{
+    if a <= b {
+        return a;
+    }
+    b
+}
+
+// The answer of k items, for a column of so many.
+fn some_of(k: usize, room: usize) -> Answer
+    ensures { λ r. ⌜ r ≡ someOf k room ⌝ }
+{
+    if k == 0 {
+        return Answer::EmptyTile;
+    }
+    asking::fit(k, room)
+}
+
+// Lists what a tile finds in the table of the zoom used.
+fn list_used(
+    s: State,
+    x: &[f64],
+    y: &[f64],
+    seen: &[u8],
+    id: &[u32],
+    parent: &[u32],
+    num: &[u32],
+    ids: &[u32],
+    coords: &[f64],
+    z: u8,
+    tx: u32,
+    ty: u32,
+    out: &mut [u32],
+    px: &mut [i64],
+    py: &mut [i64],
+) -> Ran
+    requires { ⌜ (stateOk s (roomOf (columns (now x) (now y) (now seen) (now id) (now parent) (now num) (now ids) (now coords))) ≡ true) × IsTile z tx ty ⌝ }
+    ensures { λ r. ⌜ left r (now (out .exit)) (now (px .exit)) (now (py .exit))
+        ≡ run (tableFor s (columns (now (x .entry)) (now (y .entry)) (now (seen .entry)) (now (id .entry)) (now (parent .entry)) (now (num .entry)) (now (ids .entry)) (now (coords .entry))) z) 0
+        (visitsFor s (columns (now (x .entry)) (now (y .entry)) (now (seen .entry)) (now (id .entry)) (now (parent .entry)) (now (num .entry)) (now (ids .entry)) (now (coords .entry))) z tx ty)
+        (now (out .entry)) (now (px .entry)) (now (py .entry)) ⌝ }
+{
+    let o = s.options;
+    let u = index(o.zoom_used(z));
+    let a = s.start_of(u);
+    let e = a + s.len_of(u);
+    let c = 2 * a;
+    let d = 2 * e;
+    tiling::list(
+        o,
+        wide(z),
+        tx,
+        ty,
+        &x[a..e],
+        &y[a..e],
+        &seen[a..e],
+        &id[a..e],
+        &parent[a..e],
+        &num[a..e],
+        &ids[a..e],
+        &coords[c..d],
+        out,
+        px,
+        py,
+    )
+}
+
+// The entries that the tile (z, tx, ty) lists: their places in the table of the zoom used, and their places in the tile.
+pub fn tile(
+    s: State,
+    x: &[f64],
+    y: &[f64],
+    seen: &[u8],
+    id: &[u32],
+    parent: &[u32],
+    num: &[u32],
+    ids: &[u32],
+    coords: &[f64],
+    z: u8,
+    tx: u32,
+    ty: u32,
+    places: &mut [u32],
+    px: &mut [i64],
+    py: &mut [i64],
+) -> Answer
+    ensures { λ r. ⌜ outcome r (now (places .exit)) (now (px .exit)) (now (py .exit))
+        ≡ tiled s (columns (now (x .entry)) (now (y .entry)) (now (seen .entry)) (now (id .entry)) (now (parent .entry)) (now (num .entry)) (now (ids .entry)) (now (coords .entry))) z tx ty
+        (now (places .entry)) (now (px .entry)) (now (py .entry)) ⌝ }
+{
+    if !s.is_sound(asking::room(x, y, seen, id, parent, num, ids, coords)) {
+        return Answer::Spoiled;
+    }
+    if !tiling::is_tile(wide(z), tx, ty) {
+        return Answer::Tile;
+    }
+    let room = less(places.len(), less(px.len(), py.len()));
+    match list_used(
+        s,
+        x,
+        y,
+        seen,
+        id,
+        parent,
+        num,
+        ids,
+        coords,
+        z,
+        tx,
+        ty,
+        &mut places[..room],
+        &mut px[..room],
+        &mut py[..room],
+    ) {
+        Ran::Spoiled => Answer::Spoiled,
+        Ran::All(k) => some_of(k, room),
+    }
+}

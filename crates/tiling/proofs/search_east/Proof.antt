@@ -1,0 +1,19 @@
+-- `tiling::search_east` meets its contract: it is the strip from 1 - p / z2 to 1. Assumes nothing.
+use lib.Ieee.{ofBits}
+use borrow.Author.Needs.{needs}
+use Rattle.tiling.specs.Tile.{east}
+use Rattle.tiling.proofs.search_east.Statement.{statement}
+use Rattle.tiling.proofs.search_east.Tie as tie
+
+power-requires : tie.Need-power-requires
+power-requires c κs = search needs
+
+strip-of-requires : tie.Need-strip-of-requires
+strip-of-requires c κs = search needs
+
+returns : tie.Need-returns
+unfolding east ofBits
+returns c = simp (c .strip-of .ensures, c .before .before .power .ensures)
+
+pub search-east-spec : {M : Type 1} → statement M
+search-east-spec = tie.close (tie.spec power-requires strip-of-requires returns)
