@@ -9,6 +9,7 @@ use lib.Seq.{append-snoc}
 use Rattle.kdbush.specs.declared.Step.{Step}
 use Rattle.kdbush.specs.Run.{filled}
 use Rattle.kdbush.specs.Reply.{firstStep}
+use Rattle.tables.specs.declared.Entry.{Entry}
 use Rattle.asking.specs.declared.Ring.{Ring}
 use Rattle.asking.specs.Columns.{Columns}
 use Rattle.asking.specs.Filled.{filled-none, filled-next, filled-length}
@@ -46,8 +47,8 @@ module _ (g : Ring) (c : Columns) (id : ℕ) (out₀ : List ℕ) where
     going-length = ap length (w .column) ∙ filled-length (w .done) out₀
 
     -- one child more
-    pub going-on : (p : ℕ) (to : Step) → Further g c id from p to → (out' : List ℕ) → out' ≡ set out k p → Going out' (k + 1) to
-    going-on p to f out' e =
+    pub going-on : (p : ℕ) (e : Entry) (to : Step) → Further g c id from p e to → (out' : List ℕ) → out' ≡ set out k p → Going out' (k + 1) to
+    going-on p y to f out' e =
         record {
           on = f .on;
           done = w .done ++ (p ∷ []);
@@ -58,8 +59,8 @@ module _ (g : Ring) (c : Columns) (id : ℕ) (out₀ : List ℕ) where
           clean = sym (f .clean) ∙ w .clean;
         }
 
-    pub going-room : (p : ℕ) (to : Step) → Further g c id from p to → k < g .len
-    going-room p to f = omega (arith, w .few, f .less)
+    pub going-room : (p : ℕ) (e : Entry) (to : Step) → Further g c id from p e to → k < g .len
+    going-room p e to f = omega (arith, w .few, f .less)
 
     -- none is ahead
     all : kidsIn g c id (aheadIn g (c .coords) from) ≡ [] → w .done ≡ kidsIn g c id (slotsOf g (c .coords))

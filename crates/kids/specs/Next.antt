@@ -14,6 +14,7 @@ use Rattle.kdbush.specs.declared.Step.the-variants.{Slot, Done, Box, Spoiled}
 use Rattle.kdbush.specs.Run.{places, sound, whole, filled}
 use Rattle.kdbush.specs.Reply.{afterStep}
 use Rattle.kdbush.specs.Walk.{no-nil}
+use Rattle.tables.specs.declared.Entry.{Entry}
 use Rattle.tables.specs.declared.State.{State}
 use Rattle.tables.specs.State.{startOf, lenOf}
 use Rattle.tables.specs.Entries.{Table, entry}
@@ -116,7 +117,7 @@ unfoldable pub nextOf : Table → List ℕ → ℕ → ℕ → List ℕ → Chil
 nextOf t ids n id [] = Child·Done
 nextOf t ids n id (i ∷ is) =
     elim (ltb (getD ids i 0) n) [
-      | true ↦ elim (eqb (entry t (getD ids i 0) .parent) id) [ true ↦ At i (getD ids i 0) | false ↦ nextOf t ids n id is ]
+      | true ↦ elim (eqb (entry t (getD ids i 0) .parent) id) [ true ↦ At i (getD ids i 0) (entry t (getD ids i 0)) | false ↦ nextOf t ids n id is ]
       | false ↦ Child·Spoiled
     ]
 
@@ -133,13 +134,19 @@ module _ (t : Table) (ids : List ℕ) (n id : ℕ) where
     unfolding nextOf
     next-past h = rw (le-ltb (getD ids i 0) n (rw e at h), nextOf)
 
-    pub next-kid : p < n → entry t p .parent ≡ id → nextOf t ids n id (i ∷ is) ≡ At i p
-    unfolding nextOf
-    next-kid h k = rw (lt-ltb (getD ids i 0) n (rw e at h), eq-eqb (entry t (getD ids i 0) .parent) id (rw e at k), nextOf) (ap (At i) (sym e))
+    module _ (y : Entry) (q : y ≡ entry t p) (h : p < n) where
+      pub next-kid : y .parent ≡ id → nextOf t ids n id (i ∷ is) ≡ At i p y
+      unfolding nextOf
+      next-kid k =
+          let w : y ≡ entry t (getD ids i 0) = q ∙ ap (entry t) e in
+          let m : entry t (getD ids i 0) .parent ≡ id = ap (λ (z : Entry). z .parent) (sym w) ∙ k in
+          rw (lt-ltb (getD ids i 0) n (rw e at h), eq-eqb (entry t (getD ids i 0) .parent) id m, nextOf) (rw (sym w, sym e))
 
-    pub next-other : p < n → (entry t p .parent ≡ id → ⊥) → nextOf t ids n id (i ∷ is) ≡ nextOf t ids n id is
-    unfolding nextOf
-    next-other h k = rw (lt-ltb (getD ids i 0) n (rw e at h), ne-eqb (entry t (getD ids i 0) .parent) id (rw e at k), nextOf)
+      pub next-other : (y .parent ≡ id → ⊥) → nextOf t ids n id (i ∷ is) ≡ nextOf t ids n id is
+      unfolding nextOf
+      next-other k =
+          let w : y ≡ entry t (getD ids i 0) = q ∙ ap (entry t) e in
+          rw (lt-ltb (getD ids i 0) n (rw e at h), ne-eqb (entry t (getD ids i 0) .parent) id (λ m. k (ap (λ (z : Entry). z .parent) w ∙ m)), nextOf)
 
   abbrev K : List ℕ → List ℕ
   K is = kidsOf t id (sound n (places ids is))
@@ -148,22 +155,22 @@ module _ (t : Table) (ids : List ℕ) (n id : ℕ) where
   C is = whole n (places ids is)
 
   -- the child p at the slot i, with the slots before it, of which none is a child's, and those after it
-  record Reaches (is : List ℕ) (i p : ℕ) : Type 0 where
+  record Reaches (is : List ℕ) (i p : ℕ) (e : Entry) : Type 0 where
     pre : List ℕ
     post : List ℕ
     joins : is ≡ pre ++ i ∷ post
     kids : K is ≡ p ∷ K post
     clean : C is ≡ C post
-    below : p < n
+    found : e ≡ entry t p
 
   abbrev Told : Child → List ℕ → Type 0
-  Told (At i p) is = Reaches is i p
+  Told (At i p e) is = Reaches is i p e
   Told Child·Done is = (K is ≡ []) × (C is ≡ true)
   Told Child·Spoiled is = (K is ≡ []) × (C is ≡ false)
 
   lift : (i : ℕ) (is : List ℕ) → K (i ∷ is) ≡ K is → C (i ∷ is) ≡ C is → (r : Child) → Told r is → Told r (i ∷ is)
-  lift i is k c (At j p) w =
-      record { pre = i ∷ w .pre; post = w .post; joins = ap (λ (l : List ℕ). i ∷ l) (w .joins); kids = k ∙ w .kids; clean = c ∙ w .clean; below = w .below }
+  lift i is k c (At j p e) w =
+      record { pre = i ∷ w .pre; post = w .post; joins = ap (λ (l : List ℕ). i ∷ l) (w .joins); kids = k ∙ w .kids; clean = c ∙ w .clean; found = w .found }
   lift i is k c Child·Done w = (k ∙ w .0, c ∙ w .1)
   lift i is k c Child·Spoiled w = (k ∙ w .0, c ∙ w .1)
 
@@ -179,10 +186,10 @@ module _ (t : Table) (ids : List ℕ) (n id : ℕ) where
           let c : C (i ∷ is) ≡ false = rw (e, whole) in
           subst (λ (x : Child). Told x (i ∷ is)) r (k, c)
       go true e true f w =
-          let r : At i (getD ids i 0) ≡ nextOf t ids n id (i ∷ is) = rw (e, f, nextOf) in
+          let r : At i (getD ids i 0) (entry t (getD ids i 0)) ≡ nextOf t ids n id (i ∷ is) = rw (e, f, nextOf) in
           let k : K (i ∷ is) ≡ getD ids i 0 ∷ K is = rw (e, sound, f, kidsOf) in
           let c : C (i ∷ is) ≡ C is = rw (e, whole) in
-          subst (λ (x : Child). Told x (i ∷ is)) r (record { pre = []; post = is; joins = refl; kids = k; clean = c; below = ltb-true (getD ids i 0) n e })
+          subst (λ (x : Child). Told x (i ∷ is)) r (record { pre = []; post = is; joins = refl; kids = k; clean = c; found = refl })
       go true e false f w =
           let r : nextOf t ids n id is ≡ nextOf t ids n id (i ∷ is) = rw (e, f, nextOf) in
           let k : K (i ∷ is) ≡ K is = rw (e, sound, f, kidsOf) in
@@ -211,18 +218,18 @@ module _ (g : Ring) (coords : List Float) where
       let h = ring-next g coords (Slot x) x to refl (w .0) refl in
       reach pre i post to (h .0) (cc (h .1, w .1))
 
--- the child p lies ahead of a step, and the children after it ahead of another
-pub record Further (g : Ring) (c : Columns) (id : ℕ) (from : Step) (p : ℕ) (to : Step) : Type 0 where
+-- the child p, whose entry is e, lies ahead of a step, and the children after it ahead of another
+pub record Further (g : Ring) (c : Columns) (id : ℕ) (from : Step) (p : ℕ) (e : Entry) (to : Step) : Type 0 where
   pub on : OnRing g (c .coords) to
   pub less : length (aheadIn g (c .coords) to) < length (aheadIn g (c .coords) from)
   pub kids : kidsIn g c id (aheadIn g (c .coords) from) ≡ p ∷ kidsIn g c id (aheadIn g (c .coords) to)
   pub clean : cleanIn g c (aheadIn g (c .coords) from) ≡ cleanIn g c (aheadIn g (c .coords) to)
-  pub below : p < g .len
+  pub found : e ≡ entry (tableIn g c) p
 
 module _ (g : Ring) (c : Columns) (id : ℕ) (from : Step) (r : Child) (w : r ≡ nextIn g c id (aheadIn g (c .coords) from)) where
-  pub kid-next : OnRing g (c .coords) from → (i p : ℕ) → r ≡ At i p → (to : Step) → to ≡ afterStep (queryOf g) (g .«node_size») (g .len) (coordsOf g (c .coords)) i
-      → Further g c id from p to
-  kid-next o i p e to f =
+  pub kid-next : OnRing g (c .coords) from → (i p : ℕ) (y : Entry) → r ≡ At i p y → (to : Step) → to ≡ afterStep (queryOf g) (g .«node_size») (g .len) (coordsOf g (c .coords)) i
+      → Further g c id from p y to
+  kid-next o i p y e to f =
       let is = aheadIn g (c .coords) from in
       let x = subst (λ (q : Child). Told (tableIn g c) (idsIn g c) (g .len) id q is) (sym w ∙ e) (told (tableIn g c) (idsIn g c) (g .len) id is) in
       let h = reach g (c .coords) (x .pre) i (x .post) from o (x .joins) in
@@ -233,7 +240,7 @@ module _ (g : Ring) (c : Columns) (id : ℕ) (from : Step) (r : Child) (w : r �
         less = omega (arith, ap length (x .joins), length-append (x .pre) (i ∷ x .post), ap length q);
         kids = x .kids ∙ ap (λ (l : List ℕ). p ∷ kidsIn g c id l) q;
         clean = x .clean ∙ ap (λ (l : List ℕ). cleanIn g c l) q;
-        below = x .below;
+        found = x .found;
       }
 
   pub kid-done : r ≡ Child·Done → (kidsIn g c id (aheadIn g (c .coords) from) ≡ []) × (cleanIn g c (aheadIn g (c .coords) from) ≡ true)

@@ -1,6 +1,7 @@
 // The children of a cluster, one at a time and into a column: what the questions that walk from cluster to cluster rest on.
 use asking::Ring;
 use kdbush::Step;
+use tables::Entry;
 ghost use mathlib.Core.Path.{_≡_};
 ghost use Prim.Native.Nat.{_+_};
 ghost use lib.ListN.{length};
@@ -10,9 +11,13 @@ ghost use Rattle.asking.specs.Around.{slotsOf, OnRing, aheadIn};
 ghost use Rattle.kids.specs.Kids.{kidsReply};
 ghost use Rattle.kids.specs.Next.{Lent, kidsIn, cleanIn, nextIn};
 
-// The next child of a cluster, at its slot; or none is left; or a slot that names a place past the table comes before it.
+// The next child of a cluster, by its slot, its place and its entry; or none is left; or a slot that names a place past the table comes before it.
 pub enum Child {
-    At { slot: usize, place: u32 },
+    At {
+        slot: usize,
+        place: u32,
+        entry: Entry,
+    },
     Done,
     Spoiled,
 }
@@ -53,9 +58,9 @@ pub fn next_child(
         if len <= place as usize {
             return Child::Spoiled;
         }
-        let e = asking::entry_in(start, len, x, y, seen, id, parent, num, place as usize);
-        if e.parent == cid {
-            return Child::At { slot, place };
+        let entry = asking::entry_in(start, len, x, y, seen, id, parent, num, place as usize);
+        if entry.parent == cid {
+            return Child::At { slot, place, entry };
         }
         cur = asking::after(g, coords, slot);
     }
@@ -86,7 +91,7 @@ pub fn list_kids(
         match next_child(g, x, y, seen, id, parent, num, ids, coords, cid, from) {
             Child::Done => return Kids::All(k),
             Child::Spoiled => return Kids::Spoiled,
-            Child::At { slot, place } => {
+            Child::At { slot, place, .. } => {
                 asking::put_at(out, k, place);
                 k += 1;
                 from = asking::after(g, coords, slot);

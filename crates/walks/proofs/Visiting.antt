@@ -1,10 +1,8 @@
--- How the code's steps at one child make a visit of the walk over lamps. Assumes nothing.
+-- How the code's steps at one child make a visit of the walk over lamps, and how a child cluster is entered. Assumes nothing.
 use mathlib.Core.Path.{_≡_, refl, sym, ap, _∙_}
 use mathlib.Core.List.{List}
 use Prim.Native.Nat.{ℕ, _+_, _<_, _≤_}
 use native.Mathlib.Omega.{arith}
-use borrow.Author.Tests.{lt-ltb, le-ltb}
-use lib.ListN.{set}
 use Rattle.tables.specs.declared.Entry.{Entry}
 use Rattle.tables.specs.declared.State.{State}
 use Rattle.asking.specs.declared.Target.{Target}
@@ -12,43 +10,40 @@ use Rattle.asking.specs.declared.Target.the-variants.{At, Spoiled as Target·Sp
 use Rattle.asking.specs.Columns.{Columns}
 use Rattle.asking.specs.Ids.{onward}
 use Rattle.walks.specs.declared.Fate.{Fate}
-use Rattle.walks.specs.declared.Fate.the-variants.{Skipped, Entered, Listed}
 use Rattle.walks.specs.declared.Walk.{Walk}
-use Rattle.walks.specs.declared.Walk.the-variants.{Went, Broke}
-use Rattle.walks.specs.Leaves.{fateOf, Trip, broke, went, Into, enter, byFate, visit, walk}
-use Rattle.walks.specs.Column.{Col, col, column, tripOf, Visited}
+use Rattle.walks.specs.declared.Walk.the-variants.{Broke}
+use Rattle.walks.specs.Leaves.{fateOf, broke, Into, enter, byFate, visit, walk}
+use Rattle.walks.specs.Column.{Col, col, column, tripOf, Opened}
 
--- a cluster that cannot be entered
+-- a visit of the child e in zoom t's table, with n skipped and l listed, comes to r and leaves out, whatever bounds the definition
+abbrev pub Visited : State → Columns → ℕ → ℕ → ℕ → Entry → ℕ → Col → Walk → List ℕ → Type 0
+Visited s c limit offset t e n l r out = (f : ℕ) → 32 ≤ f + 1 + t → tripOf r out ≡ visit column s c limit offset (walk column s c limit offset f) t e n l
+
+module _ (s : State) (c : Columns) (limit offset t : ℕ) (e : Entry) (n : ℕ) (l : Col) (F : Fate) (q : F ≡ fateOf offset n (e .num)) where
+  -- by its fate; the walk and the column go by other names where the ways meet
+  pub visit-by : (x : Fate) → F ≡ x → (r : Walk) (out : List ℕ)
+      → ((f : ℕ) → 32 ≤ f + 1 + t → tripOf r out ≡ byFate column s c limit offset x (walk column s c limit offset f) t e n l)
+      → (r' : Walk) (out' : List ℕ) → out' ≡ out → r' ≡ r → Visited s c limit offset t e n l r' out'
+  unfolding visit
+  visit-by x d r out w r' out' i j f h =
+      ap (tripOf r') i ∙ ap (λ (y : Walk). tripOf y out) j ∙ w f h
+      ∙ ap (λ (y : Fate). byFate column s c limit offset y (walk column s c limit offset f) t e n l) (sym d ∙ q)
+
+-- ---- a child cluster
+
+-- one that cannot be entered
 enter-lost : (into : Into Col) (t : Target) (id n : ℕ) (l : Col) → ((u o : ℕ) → t ≡ At u o → ⊥) → enter into t id n l ≡ broke l
 enter-lost into (At u o) id n l h = absurd (h u o refl)
 enter-lost into Target·Spoiled id n l h = refl
 enter-lost into Target·NoTree id n l h = refl
 enter-lost into Target·NoCluster id n l h = refl
 
-module _ (s : State) (c : Columns) (limit offset t : ℕ) (e : Entry) (n k : ℕ) (out : List ℕ) (F : Fate) (q : F ≡ fateOf offset n (e .num)) where
-  abbrev W : ℕ → Into Col
-  W f = walk column s c limit offset f
+module _ (s : State) (c : Columns) (limit offset t id n k : ℕ) (out : List ℕ) (g : Target) (x : g ≡ onward s t id) where
+  pub opened-lost : ((u o : ℕ) → g ≡ At u o → ⊥) → Opened s c limit offset t id n (col k out) (Broke k) out
+  opened-lost l f h =
+      let into = walk column s c limit offset f in
+      sym (ap (λ (y : Target). enter into y id n (col k out)) (sym x) ∙ enter-lost into g id n (col k out) l)
 
-  fated : (x : Fate) → F ≡ x → (f : ℕ) → visit column s c limit offset (W f) t e n (col k out) ≡ byFate column s c limit offset x (W f) t e n (col k out)
-  unfolding visit
-  fated x d f = ap (λ (y : Fate). byFate column s c limit offset y (W f) t e n (col k out)) (sym q ∙ d)
-
-  pub visit-skipped : (m : ℕ) → F ≡ Skipped m → Visited s c limit offset t e n (col k out) (Went (record { skipped = m; listed = k })) out
-  visit-skipped m d f h = sym (fated (Skipped m) d f)
-
-  pub visit-full : F ≡ Listed → s .count ≤ k → Visited s c limit offset t e n (col k out) (Broke k) out
-  visit-full d l f h = sym (fated Listed d f ∙ simp (le-ltb k (s .count) l))
-
-  pub visit-listed : F ≡ Listed → k < s .count → (out' : List ℕ) → out' ≡ set out k (e .id)
-      → Visited s c limit offset t e n (col k out) (Went (record { skipped = n; listed = k + 1 })) out'
-  visit-listed d l out' o f h = ap (λ (x : List ℕ). went n (col (k + 1) x)) o ∙ sym (fated Listed d f ∙ simp (lt-ltb k (s .count) l))
-
-  module _ (d : F ≡ Entered) (g : Target) (x : g ≡ onward s t (e .id)) where
-    pub visit-lost : ((u o : ℕ) → g ≡ At u o → ⊥) → Visited s c limit offset t e n (col k out) (Broke k) out
-    visit-lost l f h =
-        sym (fated Entered d f ∙ ap (λ (y : Target). enter (W f) y (e .id) n (col k out)) (sym x) ∙ enter-lost (W f) g (e .id) n (col k out) l)
-
-    pub visit-entered : (u o : ℕ) → g ≡ At u o → t < u → (r : Walk) (out' : List ℕ) → ((f : ℕ) → 32 ≤ f + u → tripOf r out' ≡ W f (e .id) u o n (col k out))
-        → Visited s c limit offset t e n (col k out) r out'
-    visit-entered u o y l r out' w f h =
-        w f (omega arith) ∙ sym (fated Entered d f ∙ ap (λ (z : Target). enter (W f) z (e .id) n (col k out)) (sym x ∙ y))
+  pub opened-in : (u o : ℕ) → g ≡ At u o → t < u → (r : Walk) (out' : List ℕ) → ((f : ℕ) → 32 ≤ f + u → tripOf r out' ≡ walk column s c limit offset f id u o n (col k out))
+      → Opened s c limit offset t id n (col k out) r out'
+  opened-in u o y l r out' w f h = w f (omega arith) ∙ sym (ap (λ (z : Target). enter (walk column s c limit offset f) z id n (col k out)) (sym x ∙ y))

@@ -22,8 +22,9 @@ use Rattle.walks.specs.declared.Sofar.{Sofar}
 use Rattle.walks.specs.declared.Walk.{Walk}
 use Rattle.walks.specs.declared.Walk.the-variants.{Went, Broke, Childless}
 use Rattle.walks.specs.Leaves.{Trip, broke, went, Into, visit, after, steps, walk}
-use Rattle.walks.specs.Column.{Col, col, column, tripOf, childlessOf, Visited, Walked}
+use Rattle.walks.specs.Column.{Col, col, column, tripOf, childlessOf, Walked}
 use Rattle.walks.proofs.Led.{none-is}
+use Rattle.walks.proofs.Visiting.{Visited}
 
 and-false : (a : Bool) → (a && false) ≡ false
 and-false true = refl
@@ -132,8 +133,8 @@ module _ (s : State) (c : Columns) (limit offset id t o : ℕ) (was : Sofar) (ou
           go y m (suc f) i = ap broke y ∙ sym (simp (eq-eqb (length K) 0 m))
 
     -- at the child p, whose visit comes to r and leaves out'
-    module _ (eg : g ≡ ringOf s (tableAt s c t) t o) (p : ℕ) (e : Entry) (ee : e ≡ entry (tableIn g c) p) (r : Walk) (out' : List ℕ)
-        (v : Visited s c limit offset t e (so .skipped) (col (so .listed) out) r out') (to : Step) (z : Further g c id from p to) where
+    module _ (eg : g ≡ ringOf s (tableAt s c t) t o) (p : ℕ) (e : Entry) (r : Walk) (out' : List ℕ)
+        (v : Visited s c limit offset t e (so .skipped) (col (so .listed) out) r out') (to : Step) (z : Further g c id from p e to) where
       met-some : (a : Bool) → Met a (kidsAhead from) → length K ≡ 0 → ⊥
       met-some true m = m
       met-some false m = λ i. omega (arith, ap length (sym (z .kids) ∙ m), i)
@@ -145,7 +146,7 @@ module _ (s : State) (c : Columns) (limit offset id t o : ℕ) (was : Sofar) (ou
           → after column s c limit offset x (λ m y. steps column s c limit offset (walk column s c limit offset f) t (cleanAt s c t o) (map (entry (tableAt s c t)) (kidsAhead to)) m y) ≡ S f K was out₀
       unfolding steps
       step f h x d =
-          let i : e ≡ entry (tableAt s c t) p = ee ∙ ap (λ (y : Ring). entry (tableIn y c) p) eg in
+          let i : e ≡ entry (tableAt s c t) p = z .found ∙ ap (λ (y : Ring). entry (tableIn y c) p) eg in
           let u = sym d ∙ v f h ∙ ap (λ (y : Entry). visit column s c limit offset (walk column s c limit offset f) t y (so .skipped) (col (so .listed) out)) i in
           ap (λ (y : Trip Col). after column s c limit offset y
           (λ m y. steps column s c limit offset (walk column s c limit offset f) t (cleanAt s c t o) (map (entry (tableAt s c t)) (kidsAhead to)) m y)) u

@@ -46,9 +46,9 @@ childlessOf (Went so) = false
 childlessOf (Broke k) = false
 childlessOf (Childless k) = true
 
--- a visit of the child e in zoom t's table, with n skipped and l listed, comes to r and leaves out, whatever bounds the definition
-abbrev pub Visited : State → Columns → ℕ → ℕ → ℕ → Entry → ℕ → Col → Walk → List ℕ → Type 0
-Visited s c limit offset t e n l r out = (f : ℕ) → 32 ≤ f + 1 + t → tripOf r out ≡ visit column s c limit offset (walk column s c limit offset f) t e n l
+-- to enter the child cluster id from zoom t's table, with n skipped and l listed, comes to r and leaves out, whatever bounds the definition
+abbrev pub Opened : State → Columns → ℕ → ℕ → ℕ → ℕ → ℕ → Col → Walk → List ℕ → Type 0
+Opened s c limit offset t id n l r out = (f : ℕ) → 32 ≤ f + 1 + t → tripOf r out ≡ enter (walk column s c limit offset f) (onward s t id) id n l
 
 -- so does a walk into the cluster id, which was made at the entry o of zoom t's table
 pub record Walked (s : State) (c : Columns) (limit offset id t o n : ℕ) (l : Col) (r : Walk) (out : List ℕ) : Type 0 where

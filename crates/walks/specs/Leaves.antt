@@ -46,12 +46,16 @@ enter into Target·Spoiled id n l = broke l
 enter into Target·NoTree id n l = broke l
 enter into Target·NoCluster id n l = broke l
 
+-- a lamp is listed, with n skipped; one after N are listed breaks the walk
+abbrev pub listOne : {S : Type 0} → Sink S → ℕ → ℕ → ℕ → S → Trip S
+listOne k N id n l = cond (ltb (k .count l) N) (went n (k .put l id)) (broke l)
+
 module _ {S : Type 0} (k : Sink S) (s : State) (c : Columns) (limit offset : ℕ) where
-  -- the child e in zoom t's table, with n skipped, by its fate; a lamp after N are listed breaks the walk
+  -- the child e in zoom t's table, with n skipped, by its fate
   abbrev pub byFate : Fate → Into S → ℕ → Entry → ℕ → S → Trip S
   byFate (Skipped m) into t e n l = went m l
   byFate Entered into t e n l = enter into (onward s t (e .id)) (e .id) n l
-  byFate Listed into t e n l = cond (ltb (k .count l) (s .count)) (went n (k .put l (e .id))) (broke l)
+  byFate Listed into t e n l = listOne k (s .count) (e .id) n l
 
   unfoldable pub visit : Into S → ℕ → Entry → ℕ → S → Trip S
   visit into t e n l = byFate (fateOf offset n (e .num)) into t e n l

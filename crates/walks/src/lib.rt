@@ -17,8 +17,9 @@ ghost use Rattle.asking.specs.Reached.{Reached};
 ghost use Rattle.kids.specs.Next.{Lent};
 ghost use Rattle.walks.specs.Children.{childrenOf};
 ghost use Rattle.walks.specs.Expansion.{expansionNumber, expansionCarried, fetchedAt, expand, zoomOf};
-ghost use Rattle.walks.specs.Leaves.{fateOf, leavesOf};
-ghost use Rattle.walks.specs.Column.{col, Visited, Walked};
+ghost use Rattle.walks.specs.declared.Walk.the-variants.{Went as Walk·Went};
+ghost use Rattle.walks.specs.Leaves.{fateOf, listOne, leavesOf};
+ghost use Rattle.walks.specs.Column.{col, column, tripOf, Opened, Walked};
 
 // The children of the cluster cid: their places in its table.
 pub fn children(
@@ -275,8 +276,9 @@ fn fate_of(offset: u32, skipped: u32, num: u32) -> Fate
     Fate::Listed
 }
 
-// A leg of a walk over lamps: the table that it is in, and which of the lamps are asked for.
+// A leg of a walk over lamps: how many entries the columns hold, the table that it is in, and which of the lamps are asked for.
 struct Leg {
+    cap: usize,
     table: usize,
     limit: u32,
     offset: u32,
@@ -295,10 +297,33 @@ enum Walk {
     Childless(usize),
 }
 
-// The child e of a cluster: skipped, listed or entered.
-fn visit(
+// So many are skipped.
+fn skip_to(skipped: u32, so: Sofar) -> Walk
+    ensures { λ r. ⌜ r ≡ Walk·Went (record { skipped = skipped; listed = so .listed }) ⌝ }
+{
+    Walk::Went(Sofar {
+        skipped,
+        listed: so.listed,
+    })
+}
+
+// A lamp is listed, unless `count` are.
+fn list_one(count: u32, lamp: u32, so: Sofar, out: &mut [u32]) -> Walk
+    ensures { λ r. ⌜ tripOf r (now (out .exit)) ≡ listOne column count lamp (so .skipped) (col (so .listed) (now (out .entry))) ⌝ }
+{
+    if count as usize <= so.listed {
+        return Walk::Broke(so.listed);
+    }
+    asking::put_at(out, so.listed, lamp);
+    Walk::Went(Sofar {
+        skipped: so.skipped,
+        listed: so.listed + 1,
+    })
+}
+
+// The child cluster e is entered.
+fn enter(
     s: State,
-    cap: usize,
     x: &[f64],
     y: &[f64],
     seen: &[u8],
@@ -312,61 +337,42 @@ fn visit(
     so: Sofar,
     out: &mut [u32],
 ) -> Walk
-    requires { ⌜ Reached s cap (leg .table) 0 ⌝ }
-    requires { ⌜ Lent cap (columns (now x) (now y) (now seen) (now id) (now parent) (now num) (now ids) (now coords)) ⌝ }
-    ensures { λ r. ⌜ Visited s (columns (now (x .entry)) (now (y .entry)) (now (seen .entry)) (now (id .entry)) (now (parent .entry)) (now (num .entry)) (now (ids .entry)) (now (coords .entry)))
-        (leg .limit) (leg .offset) (leg .table) e (so .skipped) (col (so .listed) (now (out .entry))) r (now (out .exit)) ⌝ }
+    requires { ⌜ Reached s (leg .cap) (leg .table) 0 ⌝ }
+    requires { ⌜ Lent (leg .cap) (columns (now x) (now y) (now seen) (now id) (now parent) (now num) (now ids) (now coords)) ⌝ }
+    ensures { λ r. ⌜ Opened s (columns (now (x .entry)) (now (y .entry)) (now (seen .entry)) (now (id .entry)) (now (parent .entry)) (now (num .entry)) (now (ids .entry)) (now (coords .entry)))
+        (leg .limit) (leg .offset) (leg .table) (e .id) (so .skipped) (col (so .listed) (now (out .entry))) r (now (out .exit)) ⌝ }
 {
-    match fate_of(leg.offset, so.skipped, e.num) {
-        Fate::Skipped(skipped) => Walk::Went(Sofar {
-            skipped,
-            listed: so.listed,
-        }),
-        Fate::Listed => {
-            if s.count as usize <= so.listed {
-                return Walk::Broke(so.listed);
-            }
-            asking::put_at(out, so.listed, e.id);
-            Walk::Went(Sofar {
-                skipped: so.skipped,
-                listed: so.listed + 1,
-            })
-        }
-        Fate::Entered => {
-            let to = asking::go_on(s, leg.table, e.id);
-            let Target::At { table, origin } = to else {
-                return Walk::Broke(so.listed);
-            };
-            let next = Leg {
-                table,
-                limit: leg.limit,
-                offset: leg.offset,
-            };
-            walk_into(
-                s,
-                cap,
-                x,
-                y,
-                seen,
-                id,
-                parent,
-                num,
-                ids,
-                coords,
-                e.id,
-                origin,
-                next,
-                so,
-                out,
-            )
-        }
-    }
+    let to = asking::go_on(s, leg.table, e.id);
+    let Target::At { table, origin } = to else {
+        return Walk::Broke(so.listed);
+    };
+    let next = Leg {
+        cap: leg.cap,
+        table,
+        limit: leg.limit,
+        offset: leg.offset,
+    };
+    walk_into(
+        s,
+        x,
+        y,
+        seen,
+        id,
+        parent,
+        num,
+        ids,
+        coords,
+        e.id,
+        origin,
+        next,
+        so,
+        out,
+    )
 }
 
 // The children of the cluster cid, one after the other, from the ring around its origin.
 fn walk_into(
     s: State,
-    cap: usize,
     x: &[f64],
     y: &[f64],
     seen: &[u8],
@@ -381,13 +387,12 @@ fn walk_into(
     was: Sofar,
     out: &mut [u32],
 ) -> Walk
-    requires { ⌜ Reached s cap (leg .table) origin ⌝ }
-    requires { ⌜ Lent cap (columns (now x) (now y) (now seen) (now id) (now parent) (now num) (now ids) (now coords)) ⌝ }
+    requires { ⌜ Reached s (leg .cap) (leg .table) origin ⌝ }
+    requires { ⌜ Lent (leg .cap) (columns (now x) (now y) (now seen) (now id) (now parent) (now num) (now ids) (now coords)) ⌝ }
     ensures { λ r. ⌜ Walked s (columns (now (x .entry)) (now (y .entry)) (now (seen .entry)) (now (id .entry)) (now (parent .entry)) (now (num .entry)) (now (ids .entry)) (now (coords .entry)))
         (leg .limit) (leg .offset) cid (leg .table) origin (was .skipped) (col (was .listed) (now (out .entry))) r (now (out .exit)) ⌝ }
 {
-    let g = asking::ring_of(s, cap, leg.table, origin, x, y, seen, id, parent, num);
-    let most = leg.limit as usize;
+    let g = asking::ring_of(s, leg.cap, leg.table, origin, x, y, seen, id, parent, num);
     let mut any = false;
     let mut so = was;
     let mut from = asking::first(g, coords);
@@ -400,33 +405,23 @@ fn walk_into(
                 }
                 return Walk::Childless(so.listed);
             }
-            Child::At { slot, place } => {
-                let p = place as usize;
-                let e = asking::entry_in(g.start, g.len, x, y, seen, id, parent, num, p);
-                match visit(
-                    s,
-                    cap,
-                    x,
-                    y,
-                    seen,
-                    id,
-                    parent,
-                    num,
-                    ids,
-                    coords,
-                    e,
-                    leg,
-                    so,
-                    out,
-                ) {
+            Child::At { slot, entry: e, .. } => {
+                let w = match fate_of(leg.offset, so.skipped, e.num) {
+                    Fate::Entered => {
+                        enter(s, x, y, seen, id, parent, num, ids, coords, e, leg, so, out)
+                    }
+                    Fate::Listed => list_one(s.count, e.id, so, out),
+                    Fate::Skipped(n) => skip_to(n, so),
+                };
+                match w {
                     Walk::Broke(k) => return Walk::Broke(k),
                     Walk::Childless(k) => return Walk::Broke(k),
-                    Walk::Went(w) => {
-                        if w.listed == most {
-                            return Walk::Went(w);
+                    Walk::Went(next) => {
+                        if next.listed == leg.limit as usize {
+                            return Walk::Went(next);
                         }
                         any = true;
-                        so = w;
+                        so = next;
                         from = asking::after(g, coords, slot);
                     }
                 }
@@ -461,6 +456,7 @@ pub fn leaves(
         Target::NoCluster => Answer::NoCluster,
         Target::At { table, origin } => {
             let leg = Leg {
+                cap,
                 table,
                 limit,
                 offset,
@@ -471,7 +467,6 @@ pub fn leaves(
             };
             match walk_into(
                 s,
-                cap,
                 x,
                 y,
                 seen,

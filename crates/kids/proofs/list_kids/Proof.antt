@@ -7,7 +7,7 @@ use lib.ListN.{length}
 use denote.Ref.{now}
 use Rattle.kdbush.specs.declared.Step.{Step}
 use Rattle.kdbush.specs.Reply.{afterStep}
-use Rattle.asking.specs.declared.Ring.{Ring}
+use Rattle.tables.specs.declared.Entry.{Entry}
 use Rattle.asking.specs.Columns.{Columns, columns}
 use Rattle.asking.specs.Around.{queryOf, coordsOf, aheadIn}
 use Rattle.kids.specs.Next.{Further, kid-next, kid-done, kid-spoiled}
@@ -41,12 +41,15 @@ module _ (d : tie.After-slot Inv-loop μ-loop) where
   abbrev place : ℕ
   place = d .slot .given .0 .1 .0
 
+  abbrev entry-of : Entry
+  entry-of = d .slot .given .0 .1 .1 .0
+
   further : (to : Step) → let a = start-of loop-of .args in to ≡ afterStep (queryOf (a .g)) (a .g .«node_size») (a .g .len) (coordsOf (a .g) (now (a .coords))) slot
-      → Further (a .g) (cols (start-of loop-of)) (a .cid) (loop-of .loop .from) place to
+      → Further (a .g) (cols (start-of loop-of)) (a .cid) (loop-of .loop .from) place entry-of to
   further to e =
       let a = start-of loop-of .args in
       let n = d .before .before .next-child in
-      kid-next (a .g) (cols (start-of loop-of)) (a .cid) (loop-of .loop .from) (n .result) (n .ensures) (loop-of .loop .inv .on) slot place (d .slot .given .1) to e
+      kid-next (a .g) (cols (start-of loop-of)) (a .cid) (loop-of .loop .from) (n .result) (n .ensures) (loop-of .loop .inv .on) slot place entry-of (d .slot .given .1) to e
 
 first-requires : tie.Need-first-requires Inv-loop μ-loop
 first-requires c κs = c .before .before .before .before .before .before .before .before .before .pre .coords
@@ -98,7 +101,7 @@ add-k c =
     let d = c .before .before .before .before .before in
     let w = loop-of d in
     let s = start-of w in
-    let h = going-room (s .args .g) (cols s) (s .args .cid) (now (s .args .out)) _ _ _ (w .loop .inv) (place d) _ (further d _ refl) in
+    let h = going-room (s .args .g) (cols s) (s .args .cid) (now (s .args .out)) _ _ _ (w .loop .inv) (place d) _ _ (further d _ refl) in
     omega (arith, h, s .pre .places, s .good .1 .1 .1 .1 .1 .1 .1 .0)
 
 after-requires : tie.Need-after-requires Inv-loop μ-loop
@@ -113,7 +116,7 @@ loop-again c =
     let w = loop-of d in
     let s = start-of w in
     let p = c .before .before .before .put-at in
-    going-on (s .args .g) (cols s) (s .args .cid) (now (s .args .out)) _ _ _ (w .loop .inv) (place d) (c .after .result) (further d (c .after .result) (c .after .ensures)) (p .last .0) (p .ensures)
+    going-on (s .args .g) (cols s) (s .args .cid) (now (s .args .out)) _ _ _ (w .loop .inv) (place d) _ (c .after .result) (further d (c .after .result) (c .after .ensures)) (p .last .0) (p .ensures)
 
 pub list-kids-spec : {M : Type 1} → statement M
 list-kids-spec =

@@ -17,7 +17,6 @@ use Rattle.asking.specs.declared.Ring.{Ring}
 use Rattle.asking.specs.Columns.{Columns, columns, part-getD}
 use Rattle.asking.specs.Around.{queryOf, coordsOf, OnRing, aheadIn, ring-slot, ring-next, ring-end}
 use Rattle.kdbush.specs.Reply.{afterStep}
-use Rattle.tables.specs.declared.Entry.{Entry}
 use Rattle.kids.specs.Next.{tableIn, idsIn, nextIn, next-none, next-past, next-kid, next-other}
 use Rattle.kids.proofs.next_child.Statement.{statement}
 use Rattle.kids.proofs.next_child.Tie as tie
@@ -134,8 +133,8 @@ returns-3 c =
     let w = loop-of d in
     let a = start-of w .args in
     let is = restIn d in
-    sym (next-kid (tableIn (a .g) (cols w)) (idsIn (a .g) (cols w)) (a .g .len) (a .cid) (slot d) (is .0) _ (place-is d) (t .if1 .left)
-    (sym (ap (λ (e : Entry). e .parent) (c .before .before .entry-in .ensures)) ∙ c .if2 .taken)) ∙ whole d (is .0) (is .1)
+    let y = c .before .before .entry-in in
+    sym (next-kid (tableIn (a .g) (cols w)) (idsIn (a .g) (cols w)) (a .g .len) (a .cid) (slot d) (is .0) _ (place-is d) (y .result) (y .ensures) (t .if1 .left) (c .if2 .taken)) ∙ whole d (is .0) (is .1)
 
 after-requires : tie.Need-after-requires Inv-loop μ-loop
 after-requires c κs = start-of (loop-of (c .before .before .before .before .before)) .pre .0 .coords
@@ -150,10 +149,10 @@ loop-again c =
     let w = loop-of d in
     let a = start-of w .args in
     let h = next-step c in
-    let is = aheadIn (a .g) (now (a .coords)) (c .after .result) in (
+    let is = aheadIn (a .g) (now (a .coords)) (c .after .result) in
+    let y = c .before .before .before .entry-in in (
       h .0,
-      sym (next-other (tableIn (a .g) (cols w)) (idsIn (a .g) (cols w)) (a .g .len) (a .cid) (slot d) is _ (place-is d) (t .if1 .left)
-          (λ e. c .before .if2 .left (ap (λ (e : Entry). e .parent) (c .before .before .before .entry-in .ensures) ∙ e))) ∙ whole d is (h .1),
+      sym (next-other (tableIn (a .g) (cols w)) (idsIn (a .g) (cols w)) (a .g .len) (a .cid) (slot d) is _ (place-is d) (y .result) (y .ensures) (t .if1 .left) (c .before .if2 .left)) ∙ whole d is (h .1),
     )
 
 pub next-child-spec : {M : Type 1} → statement M

@@ -76,7 +76,7 @@ returns-3 c =
     leaves-refused (a .s) (cols f) (a .cid) (a .limit) (a .offset) (r .result) (r .ensures) (f .find-target .result) (f .find-target .ensures) _ _ (c .enum-told3 .given .1) refl (now (a .out))
 
 same-length : tie.Need-same-length
-same-length c = c .before .before .before .before .walk-into .kept .1 .1 .1 .1 .1 .1 .1 .1 .1 .1 .1 .1 .1 .1 .0
+same-length c = c .before .before .before .before .walk-into .kept .1 .1 .1 .1 .1 .1 .1 .1 .1 .1 .1 .1 .1 .0
 
 returns-4 : tie.Need-returns-4
 returns-4 c =
@@ -89,7 +89,7 @@ returns-4 c =
     (w .walk-into .result) (now (a .out)) _ (w .walk-into .ensures) _ (c .enum-told4 .given .1)
 
 same-length-2 : tie.Need-same-length-2
-same-length-2 c = c .before .before .before .before .walk-into .kept .1 .1 .1 .1 .1 .1 .1 .1 .1 .1 .1 .1 .1 .1 .0
+same-length-2 c = c .before .before .before .before .walk-into .kept .1 .1 .1 .1 .1 .1 .1 .1 .1 .1 .1 .1 .1 .0
 
 returns-5 : tie.Need-returns-5
 returns-5 c =
@@ -102,7 +102,7 @@ returns-5 c =
     (w .walk-into .result) (now (a .out)) _ (w .walk-into .ensures) _ (c .enum-told5 .given .1)
 
 same-length-3 : tie.Need-same-length-3
-same-length-3 c = c .before .before .before .before .before .before .walk-into .kept .1 .1 .1 .1 .1 .1 .1 .1 .1 .1 .1 .1 .1 .1 .0
+same-length-3 c = c .before .before .before .before .before .before .walk-into .kept .1 .1 .1 .1 .1 .1 .1 .1 .1 .1 .1 .1 .1 .0
 
 returns-6 : tie.Need-returns-6
 returns-6 c =
