@@ -16,8 +16,12 @@ use Rattle.asking.specs.Columns.{Columns, roomOf}
 use Rattle.tiling.specs.declared.Item.{Item}
 use Rattle.tiling.specs.declared.Ran.{Ran}
 use Rattle.tiling.specs.declared.Ran.the-variants.{All, Spoiled}
+use Rattle.tiling.specs.declared.Running.{Running}
+use Rattle.tiling.specs.declared.Tally.the-variants.{Tile as Tally·Tile, Spoiled as Tally·Spoiled}
 use Rattle.tiling.specs.Tile.{isTile, listed, whole, items, itemAt}
 use Rattle.tiling.specs.Runs.{left, run, ranOf, run-is}
+use Rattle.tiling.specs.Counting.{runningOf}
+use Rattle.tiles.specs.Tallied.{sumOf, tallied}
 use Rattle.tiles.specs.Asked.{tableFor, visitsFor, Asked, told, asked, someOf, answerOf, shortest, firstOf, outcome, outcomeOf, tiled}
 
 -- ---- a column
@@ -89,3 +93,19 @@ module _ (s : State) (c : Columns) (z x y : ℕ) (places : List ℕ) (xs ys : Li
       let X : a ++ drop room xs ≡ firstOf room (map (λ i. i .x) l) xs = ap (λ (k : List ℤ). k ++ drop room xs) (w .2) ∙ first-items room (map (λ i. i .x) l) xs (omega (arith, m)) in
       let Y : b ++ drop room ys ≡ firstOf room (map (λ i. i .y) l) ys = ap (λ (k : List ℤ). k ++ drop room ys) (w .3) ∙ first-items room (map (λ i. i .y) l) ys (omega (arith, m)) in
       rw (A, P, X, Y, q) (ap (λ (k : Asked). outcomeOf k places xs ys) (sym (asked-is s c z x y e f)))
+
+-- ---- the ends of a tally
+
+module _ (s : State) (c : Columns) (z x y : ℕ) where
+  pub tally-spoiled : stateOk s (roomOf c) ≡ false → Tally·Spoiled ≡ tallied s c z x y
+  unfolding tallied
+  tally-spoiled e = rw e
+
+  pub tally-no-tile : stateOk s (roomOf c) ≡ true → isTile z x y ≡ false → Tally·Tile ≡ tallied s c z x y
+  unfolding tallied
+  tally-no-tile e f = rw (e, f)
+
+  pub tally-summed : stateOk s (roomOf c) ≡ true → isTile z x y ≡ true → (r : Running) → r ≡ runningOf (tableFor s c z) (visitsFor s c z x y)
+      → sumOf (r .whole) (r .count) (r .sum) ≡ tallied s c z x y
+  unfolding tallied
+  tally-summed e f r h = rw (e, f) (ap (λ (q : Running). sumOf (q .whole) (q .count) (q .sum)) h)

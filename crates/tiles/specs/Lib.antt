@@ -1,5 +1,6 @@
--- Definitions that contracts cite: Asked. All else is laws and theorems about them.
+-- Definitions that contracts cite: Asked, Tallied. All else is laws and theorems about them.
 pub mod Asked
+pub mod Tallied
 pub mod Used
 pub mod Ends
 pub mod Built

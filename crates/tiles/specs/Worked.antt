@@ -1,5 +1,5 @@
 -- 01's lines on tiles, computed from the definitions over the tables that 01 prints, each with its index: tile (0,0,0) lists entry 0 at (176,256); and of a lone lamp at
--- (1, 0.5) it lists the lamp at (512,256) and again at (0,256). And what stands in the columns afterwards. Assumes nothing.
+-- (1, 0.5) it lists the lamp at (512,256) and again at (0,256), and counts it once. And what stands in the columns afterwards. Assumes nothing.
 use mathlib.Core.Path.{_≡_, refl}
 use mathlib.Core.Bool.{true}
 use mathlib.Core.List.{List, [], _∷_}
@@ -23,7 +23,10 @@ use Rattle.tables.specs.Rows.{rows}
 use Rattle.tables.specs.Sound.{packed, stateOk}
 use Rattle.asking.specs.declared.Answer.the-variants.{Listed, NoRoom, Tile}
 use Rattle.asking.specs.Columns.{Columns, columns}
+use Rattle.tiling.specs.declared.Tally.the-variants.{Sum}
 use Rattle.tiling.specs.Tile.{here, east, west, visited, listed, whole, rounded}
+use Rattle.tiling.specs.Tally.{member, distinct, total, tallyOf}
+use Rattle.tiles.specs.Tallied.{tallied}
 use Rattle.tiles.specs.Asked.{told, asked, outcome, tiled}
 
 -- a float by its bits, as 01 prints it
@@ -82,6 +85,11 @@ no-tile : tiled four fourColumns 0 1 0 (9 ∷ []) (pos 9 ∷ []) (pos 9 ∷ []) 
 unfolding asked stateOk packed optionsOk systemInBounds inBounds offsetOf scaleOf visited here east west listed whole rounded away neg add sub mul div ofInt ofBits le lt eq shape split scanned slots places rows options four fourColumns b
 no-tile = refl
 
+-- its four lamps
+tally-of-four : tallied four fourColumns 0 0 0 ≡ Sum 4
+unfolding tallied tallyOf total distinct member stateOk packed optionsOk systemInBounds inBounds offsetOf scaleOf visited here east west listed whole rounded away neg add sub mul div ofInt ofBits le lt eq shape split scanned slots places rows options four fourColumns b
+tally-of-four = refl
+
 -- ---- a lone lamp at (1, 0.5), the same in each table
 
 lone : State
@@ -108,3 +116,8 @@ tile-of-lone = refl
 no-room : tiled lone loneColumns 0 0 0 (9 ∷ 9 ∷ []) (pos 9 ∷ []) (pos 9 ∷ pos 9 ∷ []) ≡ outcome (NoRoom 2) (0 ∷ 9 ∷ []) (pos 512 ∷ []) (pos 256 ∷ pos 9 ∷ [])
 unfolding asked stateOk packed optionsOk systemInBounds inBounds offsetOf scaleOf visited here east west listed whole rounded away neg add sub mul div ofInt ofBits le lt eq shape split scanned slots places rows options lone loneColumns b
 no-room = refl
+
+-- listed twice, and counted once
+tally-of-lone : tallied lone loneColumns 0 0 0 ≡ Sum 1
+unfolding tallied tallyOf total distinct member stateOk packed optionsOk systemInBounds inBounds offsetOf scaleOf visited here east west listed whole rounded away neg add sub mul div ofInt ofBits le lt eq shape split scanned slots places rows options lone loneColumns b
+tally-of-lone = refl

@@ -1,15 +1,18 @@
-// The question 'tile' to a build. Nothing is asked of the caller: what 01 does not take is refused with its number.
+// The questions 'tile' and 'tile tally' to a build. Nothing is asked of the caller: what 01 does not take is refused with its number.
 use asking::Answer;
 use tables::State;
 use tiling::Ran;
+use tiling::Running;
+use tiling::Tally;
 ghost use mathlib.Core.Path.{_≡_};
 ghost use mathlib.Core.Bool.{true};
-ghost use Prim.Native.Nat.{min};
 ghost use Rattle.tables.specs.Sound.{stateOk};
 ghost use Rattle.asking.specs.Columns.{columns, roomOf};
 ghost use Rattle.tiling.specs.Framed.{IsTile};
 ghost use Rattle.tiling.specs.Runs.{left, run};
+ghost use Rattle.tiling.specs.Counting.{runningOf};
 ghost use Rattle.tiles.specs.Asked.{tableFor, visitsFor, someOf, outcome, tiled};
+ghost use Rattle.tiles.specs.Tallied.{sumOf, tallied};
 
 fn wide(x: u8) -> u32
     ensures { λ r. ⌜ r ≡ x ⌝ }
@@ -21,15 +24,6 @@ fn index(x: u8) -> usize
     ensures { λ r. ⌜ r ≡ x ⌝ }
 {
     x as usize
-}
-
-fn less(a: usize, b: usize) -> usize
-    ensures { λ r. ⌜ r ≡ min a b ⌝ }
-{
-    if a <= b {
-        return a;
-    }
-    b
 }
 
 // The answer of k items, for a column of so many.
@@ -119,7 +113,7 @@ pub fn tile(
     if !tiling::is_tile(wide(z), tx, ty) {
         return Answer::Tile;
     }
-    let room = less(places.len(), less(px.len(), py.len()));
+    let room = asking::less(places.len(), asking::less(px.len(), py.len()));
     match list_used(
         s,
         x,
@@ -140,4 +134,84 @@ pub fn tile(
         Ran::Spoiled => Answer::Spoiled,
         Ran::All(k) => some_of(k, room),
     }
+}
+
+// The tally of what a tile finds in the table of the zoom used.
+fn tally_used(
+    s: State,
+    x: &[f64],
+    y: &[f64],
+    seen: &[u8],
+    id: &[u32],
+    parent: &[u32],
+    num: &[u32],
+    ids: &[u32],
+    coords: &[f64],
+    z: u8,
+    tx: u32,
+    ty: u32,
+) -> Running
+    requires { ⌜ (stateOk s (roomOf (columns (now x) (now y) (now seen) (now id) (now parent) (now num) (now ids) (now coords))) ≡ true) × IsTile z tx ty ⌝ }
+    ensures { λ r. ⌜ r ≡ runningOf (tableFor s (columns (now (x .entry)) (now (y .entry)) (now (seen .entry)) (now (id .entry)) (now (parent .entry)) (now (num .entry)) (now (ids .entry)) (now (coords .entry))) z)
+        (visitsFor s (columns (now (x .entry)) (now (y .entry)) (now (seen .entry)) (now (id .entry)) (now (parent .entry)) (now (num .entry)) (now (ids .entry)) (now (coords .entry))) z tx ty) ⌝ }
+{
+    let o = s.options;
+    let u = index(o.zoom_used(z));
+    let a = s.start_of(u);
+    let e = a + s.len_of(u);
+    let c = 2 * a;
+    let d = 2 * e;
+    tiling::add_up(
+        o,
+        wide(z),
+        tx,
+        ty,
+        &x[a..e],
+        &y[a..e],
+        &seen[a..e],
+        &id[a..e],
+        &parent[a..e],
+        &num[a..e],
+        &ids[a..e],
+        &coords[c..d],
+    )
+}
+
+// The answer of a tally that went to its end.
+fn sum_of(r: Running) -> Tally
+    ensures { λ a. ⌜ a ≡ sumOf (r .whole) (r .count) (r .sum) ⌝ }
+{
+    if !r.whole {
+        return Tally::Spoiled;
+    }
+    if r.count == 0 {
+        return Tally::EmptyTile;
+    }
+    Tally::Sum(r.sum)
+}
+
+// The sum of num over the distinct entries that the tile (z, tx, ty) lists.
+pub fn tally(
+    s: State,
+    x: &[f64],
+    y: &[f64],
+    seen: &[u8],
+    id: &[u32],
+    parent: &[u32],
+    num: &[u32],
+    ids: &[u32],
+    coords: &[f64],
+    z: u8,
+    tx: u32,
+    ty: u32,
+) -> Tally
+    ensures { λ r. ⌜ r ≡ tallied s (columns (now (x .entry)) (now (y .entry)) (now (seen .entry)) (now (id .entry)) (now (parent .entry)) (now (num .entry)) (now (ids .entry)) (now (coords .entry))) z tx ty ⌝ }
+{
+    if !s.is_sound(asking::room(x, y, seen, id, parent, num, ids, coords)) {
+        return Tally::Spoiled;
+    }
+    if !tiling::is_tile(wide(z), tx, ty) {
+        return Tally::Tile;
+    }
+    sum_of(tally_used(s, x, y, seen, id, parent, num, ids, coords, z, tx, ty))
 }

@@ -1,4 +1,4 @@
--- Definitions that contracts cite: Tile, Runs (its first). All else is laws.
+-- Definitions that contracts cite: Tile, Runs (its first), Tally (its first), Counting (its first). All else is laws.
 pub mod Tile
 pub mod Framed
 pub mod Finite
@@ -7,3 +7,6 @@ pub mod Turns
 pub mod Three
 pub mod Inside
 pub mod Lists
+pub mod Marks
+pub mod Tally
+pub mod Counting

@@ -1,11 +1,11 @@
-// What a tile lists of one table. The table and its index stand alone in the lent columns.
+// What a tile lists of one table, and its tally. The table and its index stand alone in the lent columns.
 use kdbush::Query;
 use kdbush::Step;
 use tables::Entry;
 use tables::Options;
 ghost use mathlib.Core.Path.{_≡_};
-ghost use mathlib.Core.Bool.{true};
-ghost use Prim.Native.Nat.{_+_, _^_, _<_, _≤_};
+ghost use mathlib.Core.Bool.{true, cond};
+ghost use Prim.Native.Nat.{_+_, _*_, _^_, _<_, _≤_};
 ghost use lib.Dec.{T};
 ghost use lib.ListN.{length, set};
 ghost use lib.Ieee.{le, neg};
@@ -18,6 +18,9 @@ ghost use Rattle.tiling.specs.Tile.{isTile, strip, here, east, west, vis
 ghost use Rattle.tiling.specs.Framed.{Framed, IsTile};
 ghost use Rattle.tiling.specs.Runs.{left, run};
 ghost use Rattle.tiling.specs.Turns.{walked};
+ghost use Rattle.tiling.specs.Marks.{marked};
+ghost use Rattle.tiling.specs.Tally.{tallyNumber, tallyValue};
+ghost use Rattle.tiling.specs.Counting.{held, placesIn, marking, counted, runningOf};
 
 // One search of a tile: whether the tile has it, what it asks of the index, and what stands for the tile's x and y in the items that it finds.
 pub struct Search {
@@ -47,6 +50,40 @@ pub enum Ran {
 pub enum Named {
     At(Entry),
     Bad,
+}
+
+// The answer of a tally, in 01's words: the sum, or a refusal.
+pub enum Tally {
+    Sum(u64),
+    Tile,
+    EmptyTile,
+    Spoiled,
+}
+
+impl Tally {
+    // 01's number of the answer, 0 where there is no refusal.
+    pub fn number(self) -> u32
+        ensures { λ r. ⌜ r ≡ tallyNumber self ⌝ }
+    {
+        match self {
+            Tally::Sum(_) => 0,
+            Tally::Tile => 7,
+            Tally::EmptyTile => 8,
+            Tally::Spoiled => 11,
+        }
+    }
+
+    // What the answer carries, 0 where it carries nothing.
+    pub fn value(self) -> u64
+        ensures { λ r. ⌜ r ≡ tallyValue self ⌝ }
+    {
+        match self {
+            Tally::Sum(s) => s,
+            Tally::Tile => 0,
+            Tally::EmptyTile => 0,
+            Tally::Spoiled => 0,
+        }
+    }
 }
 
 // 2^z.
@@ -287,4 +324,139 @@ pub fn list(
     };
     let w = search_west(o, z, tx, ty);
     list_by(w, x, y, seen, id, parent, num, ids, coords, b, out, px, py)
+}
+
+// 2^j.
+fn bit(j: usize) -> u8
+    requires { ⌜ j < 8 ⌝ }
+    ensures { λ r. ⌜ r ≡ 2 ^ j ⌝ }
+{
+    1u8 << j
+}
+
+// The same byte: its call says that it is one.
+fn keep(x: u8) -> u8
+    ensures { λ r. ⌜ r ≡ x ⌝ }
+{
+    x
+}
+
+// Adds num to the sum, if the place p is not marked, and marks it.
+fn add_once(marks: &mut [u8; 131072], p: usize, num: u32, sum: u64) -> u64
+    requires { ⌜ (p < 1048576) × (sum + 4294967295 < 2 ^ 64) ⌝ }
+    ensures { λ r. ⌜ (r ≡ cond (marked (now (marks .entry)) p) sum (sum + num)) × (now (marks .exit) ≡ marking p (now (marks .entry))) × (r ≤ sum + 4294967295) ⌝ }
+{
+    let i = p / 8;
+    let b = bit(p % 8);
+    let m = keep(marks[i]);
+    if m / b % 2 == 1 {
+        return sum;
+    }
+    marks[i] = m + b;
+    sum + wide(num)
+}
+
+// A tally on its way: whether everything found could be listed, how many were, and their sum.
+pub struct Running {
+    pub whole: bool,
+    pub count: usize,
+    pub sum: u64,
+}
+
+// Tallies what a search finds, after what was tallied before.
+fn tally_by(
+    g: Search,
+    x: &[f64],
+    y: &[f64],
+    seen: &[u8],
+    id: &[u32],
+    parent: &[u32],
+    num: &[u32],
+    ids: &[u32],
+    coords: &[f64],
+    r: Running,
+    marks: &mut [u8; 131072],
+) -> Running
+    requires { ⌜ Even (now x) (now y) (now seen) (now id) (now parent) (now num) ⌝ }
+    requires { ⌜ (length (now x) ≤ length (now ids)) × (length (now x) ≤ 1048576) ⌝ }
+    requires { ⌜ (r .count + length (now x) ≤ 4194304) × (r .sum ≤ r .count * 4294967295) ⌝ }
+    ensures { λ a. ⌜ (held (a .whole) (a .count) (a .sum) (now (marks .exit))
+        ≡ counted (rows (now (x .entry)) (now (y .entry)) (now (seen .entry)) (now (id .entry)) (now (parent .entry)) (now (num .entry))) (r .count) (r .sum)
+        (placesIn (walked g (length (now (x .entry))) (now (ids .entry)) (now (coords .entry)))) (now (marks .entry)))
+        × (a .count ≤ r .count + length (now (x .entry))) × (a .sum ≤ a .count * 4294967295) ⌝ }
+{
+    let mut k = r.count;
+    let mut t = r.sum;
+    if !g.made {
+        return Running {
+            whole: true,
+            count: k,
+            sum: t,
+        };
+    }
+    let q = g.query;
+    let size = g.node_size;
+    let n = x.len();
+    let mut cur = kdbush::first(q, size, n, coords);
+    loop {
+        let Step::Slot(c) = cur else {
+            return Running {
+                whole: true,
+                count: k,
+                sum: t,
+            };
+        };
+        let p = ids[c];
+        let Named::At(e) = entry_named(x, y, seen, id, parent, num, p) else {
+            return Running {
+                whole: false,
+                count: k,
+                sum: t,
+            };
+        };
+        t = add_once(marks, index(p), e.num, t);
+        k += 1;
+        cur = kdbush::after(q, size, n, coords, c);
+    }
+}
+
+// The tally of what a tile finds, by its three searches.
+pub fn add_up(
+    o: Options,
+    z: u32,
+    tx: u32,
+    ty: u32,
+    x: &[f64],
+    y: &[f64],
+    seen: &[u8],
+    id: &[u32],
+    parent: &[u32],
+    num: &[u32],
+    ids: &[u32],
+    coords: &[f64],
+) -> Running
+    requires { ⌜ InBounds o × IsTile z tx ty ⌝ }
+    requires { ⌜ Even (now x) (now y) (now seen) (now id) (now parent) (now num) ⌝ }
+    requires { ⌜ (coordsOk (o .«node_size») (length (now x)) (length (now coords)) ≡ true) × (length (now x) ≤ length (now ids)) ⌝ }
+    ensures { λ r. ⌜ r ≡ runningOf (rows (now (x .entry)) (now (y .entry)) (now (seen .entry)) (now (id .entry)) (now (parent .entry)) (now (num .entry)))
+        (visited o z tx ty (rows (now (x .entry)) (now (y .entry)) (now (seen .entry)) (now (id .entry)) (now (parent .entry)) (now (num .entry))) (now (ids .entry)) (now (coords .entry))) ⌝ }
+{
+    let mut marks = [0u8; 131072];
+    let r = Running {
+        whole: true,
+        count: 0,
+        sum: 0,
+    };
+    let g = search_here(o, z, tx, ty);
+    let a = tally_by(g, x, y, seen, id, parent, num, ids, coords, r, &mut marks);
+    if !a.whole {
+        return a;
+    }
+    let h = search_east(o, z, tx, ty);
+    let b = tally_by(h, x, y, seen, id, parent, num, ids, coords, a, &mut marks);
+    if !b.whole {
+        return b;
+    }
+    let w = search_west(o, z, tx, ty);
+    tally_by(w, x, y, seen, id, parent, num, ids, coords, b, &mut marks)
 }

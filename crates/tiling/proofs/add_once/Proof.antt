@@ -1,0 +1,85 @@
+-- `tiling::add_once` meets its contract: the bit of a place tells whether it is marked, and a bit that is not set is added. Assumes nothing.
+use mathlib.Core.Path.{_≡_, refl, sym, ap, subst}
+use mathlib.Core.Bool.{false}
+use Prim.Native.Nat.{ℕ, _+_, _/_, _%_, _<_}
+use native.Mathlib.Omega.{arith}
+use lib.Pow.{pow-pos}
+use lib.ListN.{getD}
+use denote.Ref.{now}
+use borrow.Author.Needs.{needs}
+use Rattle.tiling.specs.Marks.{marked, mark, unmarked, once-yes, once-no, mark-is, bit-fits}
+use Rattle.tiling.proofs.add_once.Statement.{statement}
+use Rattle.tiling.proofs.add_once.Tie as tie
+
+abbrev begin : tie.After-keep → tie.Start
+begin k = k .before .before .before
+
+-- the bit of the place, and its byte
+abbrev bit-of : tie.After-keep → ℕ
+bit-of k = k .before .before .bit .result
+
+unmarked-at : (c : tie.Else1) → marked (now (begin (c .before) .args .marks)) (begin (c .before) .args .p) ≡ false
+unmarked-at c =
+    let k = c .before in
+    let a = begin k .args in
+    once-no (now (a .marks)) (a .p) (bit-of k) (k .before .before .bit .ensures) (rw (k .keep .ensures) at (c .if1 .left))
+
+bit-requires : tie.Need-bit-requires
+bit-requires c κs = search needs
+
+element-copy-out-keep : tie.Need-element-copy-out-keep
+element-copy-out-keep c = search needs
+
+keep-requires : tie.Need-keep-requires
+keep-requires c κs = search needs
+
+div-if1 : tie.Need-div-if1
+div-if1 c = subst (λ (k : ℕ). 0 < k) (sym (c .before .before .bit .ensures)) (pow-pos (begin c .args .p % 8))
+
+returns : tie.Need-returns
+returns c =
+    let k = c .before in
+    let a = begin k .args in
+    rw (once-yes (now (a .marks)) (a .p) (bit-of k) (k .before .before .bit .ensures) (rw (k .keep .ensures) at (c .if1 .taken))) (refl, refl, omega arith)
+
+add-marks : tie.Need-add-marks
+add-marks c =
+    let k = c .before in
+    let a = begin k .args in
+    let h = bit-fits (getD (now (a .marks)) (a .p / 8) 0) (a .p % 8) (omega arith) (omega (arith, k .keep .ensures, k .keep .ok)) (unmarked (now (a .marks)) (a .p) (unmarked-at c)) in
+    omega (arith, h, k .before .before .bit .ensures, k .keep .ensures)
+
+element-write-marks : tie.Need-element-write-marks
+element-write-marks c = search needs
+
+wide-requires : tie.Need-wide-requires
+wide-requires c κs = search needs
+
+add-result : tie.Need-add-result
+add-result c = let s = begin (c .before .before) in omega (arith, c .wide .ensures, s .fits, s .pre)
+
+returns-2 : tie.Need-returns-2
+returns-2 c =
+    let k = c .before .before in
+    let s = begin k in
+    let a = s .args in
+    rw (unmarked-at (c .before)) (
+      ap (λ (n : ℕ). a .sum + n) (c .wide .ensures),
+      rw (k .keep .ensures) (mark-is (now (a .marks)) (a .p) (bit-of k) (k .before .before .bit .ensures)),
+      omega (arith, c .wide .ensures, s .fits),
+    )
+
+pub add-once-spec : {M : Type 1} → statement M
+add-once-spec =
+    tie.close
+    (tie.spec
+    bit-requires
+    element-copy-out-keep
+    keep-requires
+    div-if1
+    returns
+    add-marks
+    element-write-marks
+    wide-requires
+    add-result
+    returns-2)

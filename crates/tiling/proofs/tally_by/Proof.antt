@@ -1,0 +1,269 @@
+-- `tiling::tally_by` meets its contract: at the head of the loop what is ahead of the cursor, counted after what is counted, gives the whole tally. The measure is what
+-- is ahead. Assumes nothing.
+use mathlib.Core.Path.{_≡_, sym, ap, _∙_}
+use mathlib.Core.Bool.{true, cond}
+use mathlib.Core.List.{List, _∷_}
+use Prim.Native.Nat.{ℕ, _+_, _*_, _<_, _≤_}
+use native.Mathlib.Omega.{arith}
+use lib.ListN.{length, getD}
+use denote.Ref.{now}
+use borrow.Author.Needs.{needs}
+use borrow.Author.Tests.{not-true, not-false}
+use Rattle.kdbush.specs.declared.Step.{Step}
+use Rattle.kdbush.specs.Run.{places}
+use Rattle.kdbush.specs.Reply.{walk}
+use Rattle.kdbush.specs.Walk.{On, ahead, on-first, on-slot, on-next, walk-length}
+use Rattle.tables.specs.Entries.{Table}
+use Rattle.tables.specs.Rows.{rows, rows-length}
+use Rattle.tiling.specs.Tile.{Visit}
+use Rattle.tiling.specs.Turns.{walked, walked-none, walked-made, Fine, named-fine}
+use Rattle.tiling.specs.Marks.{marked}
+use Rattle.tiling.specs.Counting.{Held, placesIn, places-of, marking, counted, counted-none, count-end, count-bad, count-next}
+use Rattle.tiling.proofs.Ends.{no-more}
+use Rattle.tiling.proofs.tally_by.Statement.{statement}
+use Rattle.tiling.proofs.tally_by.Tie as tie
+
+abbrev Inv-loop : tie.InvT-loop
+Inv-loop x y seen id parent num ids coords marks₀ k₀ t₀ q size n cur₀ marks k t cur =
+    On q size n coords cur × (k + length (ahead q size n coords cur) ≤ k₀ + n) × (t ≤ k * 4294967295)
+    × (counted (rows x y seen id parent num) k t (places ids (ahead q size n coords cur)) marks ≡ counted (rows x y seen id parent num) k₀ t₀ (places ids (walk q size n coords)) marks₀)
+
+abbrev μ-loop : tie.MeasureT-loop
+μ-loop x y seen id parent num ids coords marks₀ k₀ t₀ q size n cur₀ marks k t cur = length (ahead q size n coords cur)
+
+-- ---- the start, and the head of the loop
+
+abbrev Start : Type 0
+Start = tie.Start Inv-loop μ-loop
+
+abbrev Loop : Type 0
+Loop = tie.At-loop Inv-loop μ-loop
+
+abbrev asked-of : Loop → tie.Else1 Inv-loop μ-loop
+asked-of l = l .before .before
+
+abbrev begin : Loop → Start
+begin l = asked-of l .before .before .before .before .before .before .before .before .before .before
+
+abbrev table : Start → Table
+table s = let a = s .args in rows (now (a .x)) (now (a .y)) (now (a .seen)) (now (a .id)) (now (a .parent)) (now (a .num))
+
+abbrev slots : Start → Step → List ℕ
+slots s = let a = s .args in ahead (a .g .query) (a .g .«node_size») (length (now (a .x))) (now (a .coords))
+
+-- the tally that the contract names, of a list of visits
+abbrev of-visits : Start → List Visit → Held
+of-visits s vs = counted (table s) (s .args .r .count) (s .args .r .sum) (placesIn vs) (now (s .args .marks))
+
+abbrev all-visits : Start → List Visit
+all-visits s = let a = s .args in walked (a .g) (length (now (a .x))) (now (a .ids)) (now (a .coords))
+
+-- once the search is made
+whole : (l : Loop) → counted (table (begin l)) (l .loop .k) (l .loop .t) (places (now (begin l .args .ids)) (slots (begin l) (l .loop .cur))) (l .loop .marks) ≡ of-visits (begin l) (all-visits (begin l))
+whole l =
+    let s = begin l in
+    let a = s .args in
+    l .loop .inv .3
+    ∙ ap (λ (ps : List ℕ). counted (table s) (a .r .count) (a .r .sum) ps (now (a .marks))) (sym (places-of (a .g) _))
+    ∙ ap (of-visits s) (sym (walked-made (a .g) (length (now (a .x))) (now (a .ids)) (now (a .coords)) (not-false (a .g .made) (asked-of l .if1 .left))))
+
+-- ---- a slot
+
+abbrev Found : Type 0
+Found = tie.After-cur Inv-loop μ-loop
+
+abbrev loop-of : Found → Loop
+loop-of f = f .before .before
+
+abbrev slot : Found → ℕ
+slot f = f .cur .given .0 .0
+
+slot-in : (f : Found) → slot f < length (now (begin (loop-of f) .args .x))
+slot-in f =
+    let l = loop-of f in
+    let a = begin l .args in
+    on-slot (a .g .query) (a .g .«node_size») (length (now (a .x))) (now (a .coords)) (l .loop .cur) (slot f) (f .cur .given .1) (l .loop .inv .0)
+
+abbrev Read : Type 0
+Read = tie.After-entry-named Inv-loop μ-loop
+
+abbrev found-of : Read → Found
+found-of r = r .before .before .before
+
+-- ---- the entry is counted
+
+abbrev known-of : tie.After-index Inv-loop μ-loop → tie.After-known-told2 Inv-loop μ-loop
+known-of c = c .before .before
+
+abbrev read-of : tie.After-known-told2 Inv-loop μ-loop → Read
+read-of c = c .before .before .before
+
+fine-at : (k : tie.After-known-told2 Inv-loop μ-loop) → let f = found-of (read-of k) in
+    Fine (table (begin (loop-of f))) (getD (now (begin (loop-of f) .args .ids)) (slot f) 0) (k .before .e .given .0 .0)
+fine-at k =
+    let r = read-of k in
+    let f = found-of r in
+    let s = begin (loop-of f) in
+    named-fine (table s) (getD (now (s .args .ids)) (slot f) 0) (k .before .e .given .0 .0) (sym (r .entry-named .ensures) ∙ k .before .e .given .1)
+
+-- ---- the next step
+
+abbrev Next : Type 0
+Next = tie.After-after Inv-loop μ-loop
+
+abbrev found-at : Next → Found
+found-at c = found-of (read-of (known-of (c .before .before)))
+
+moves : (c : Next) → let f = found-at c in
+    let l = loop-of f in
+    let a = begin l .args in
+    On (a .g .query) (a .g .«node_size») (length (now (a .x))) (now (a .coords)) (c .after .result) × (slots (begin l) (l .loop .cur) ≡ slot f ∷ slots (begin l) (c .after .result))
+moves c =
+    let f = found-at c in
+    let l = loop-of f in
+    let a = begin l .args in
+    on-next (a .g .query) (a .g .«node_size») (length (now (a .x))) (now (a .coords)) (l .loop .cur) (slot f) (c .after .result) (f .cur .given .1) (l .loop .inv .0) (c .after .ensures)
+
+-- ---- the parts
+
+returns : tie.Need-returns Inv-loop μ-loop
+returns c =
+    let s = c .before .before .before .before .before .before .before .before .before .before in
+    let a = s .args in (
+      counted-none (table s) (a .r .count) (a .r .sum) (now (a .marks))
+          ∙ ap (of-visits s) (sym (walked-none (a .g) (length (now (a .x))) (now (a .ids)) (now (a .coords)) (not-true (a .g .made) (c .if1 .taken)))),
+      omega arith,
+      s .pre .1 .1 .1,
+    )
+
+first-requires : tie.Need-first-requires Inv-loop μ-loop
+first-requires c κs = search needs
+
+loop-holds : tie.Need-loop-holds Inv-loop μ-loop
+loop-holds c =
+    let s = c .before .before .before .before .before .before .before .before .before .before .before in
+    let a = s .args in
+    let h = on-first (a .g .query) (a .g .«node_size») (length (now (a .x))) (now (a .coords)) (c .first .result) (c .first .ensures) in (
+      h .0,
+      omega (arith, ap length (h .1), walk-length (a .g .query) (a .g .«node_size») (length (now (a .x))) (now (a .coords))),
+      s .pre .1 .1 .1,
+      ap (λ (l : List ℕ). counted (table s) (a .r .count) (a .r .sum) (places (now (a .ids)) l) (now (a .marks))) (h .1),
+    )
+
+enum-known-cur : tie.Need-enum-known-cur Inv-loop μ-loop
+enum-known-cur c = search needs
+
+returns-2 : tie.Need-returns-2 Inv-loop μ-loop
+returns-2 c =
+    let l = c .before in
+    let s = begin l in
+    let a = s .args in
+    let e = no-more (a .g .query) (a .g .«node_size») (length (now (a .x))) (now (a .coords)) (l .loop .cur) (c .match .keys2) in
+    (count-end (table s) (now (a .ids)) (l .loop .k) (l .loop .t) (slots s (l .loop .cur)) (l .loop .marks) e ∙ whole l, omega (arith, l .loop .inv .1), l .loop .inv .2)
+
+mul-p : tie.Need-mul-p Inv-loop μ-loop
+mul-p c = let f = c .before in let s = begin (loop-of f) in omega (arith, slot-in f, s .pre .1 .0, s .good)
+
+shared-slice-read-p : tie.Need-shared-slice-read-p Inv-loop μ-loop
+shared-slice-read-p c = let f = c .before .before in omega (arith, slot-in f, begin (loop-of f) .pre .1 .0)
+
+entry-named-requires : tie.Need-entry-named-requires Inv-loop μ-loop
+entry-named-requires c κs = begin (loop-of (c .before .before)) .pre .0
+
+enum-known-e : tie.Need-enum-known-e Inv-loop μ-loop
+enum-known-e c = search needs
+
+enum-told : tie.Need-enum-told Inv-loop μ-loop
+enum-told c = search needs
+
+returns-3 : tie.Need-returns-3 Inv-loop μ-loop
+returns-3 c =
+    let r = c .before .before in
+    let f = found-of r in
+    let l = loop-of f in
+    let s = begin l in
+    let a = s .args in (
+      count-bad (table s) (now (a .ids)) (l .loop .k) (l .loop .t) (slots s (l .loop .cur)) (l .loop .marks) (slot f) _ (ap (slots s) (f .cur .given .1))
+          (sym (r .entry-named .ensures) ∙ c .enum-told .given .1)
+          ∙ whole l,
+      omega (arith, l .loop .inv .1),
+      l .loop .inv .2,
+    )
+
+index-requires : tie.Need-index-requires Inv-loop μ-loop
+index-requires c κs = search needs
+
+add-once-requires : tie.Need-add-once-requires Inv-loop μ-loop
+add-once-requires c κs =
+    let k = known-of c in
+    let f = found-of (read-of k) in
+    let l = loop-of f in
+    let s = begin l in
+    let a = s .args in
+    omega (
+      arith,
+      fine-at k .inside,
+      rows-length (now (a .x)) (now (a .y)) (now (a .seen)) (now (a .id)) (now (a .parent)) (now (a .num)),
+      c .index .ensures,
+      s .pre .1 .0,
+      s .pre .1 .1,
+      l .loop .inv .1,
+      l .loop .inv .2,
+    )
+
+add-k : tie.Need-add-k Inv-loop μ-loop
+add-k c =
+    let l = loop-of (found-of (read-of (known-of (c .before)))) in
+    omega (arith, begin l .pre .1 .1, l .loop .inv .1)
+
+after-requires : tie.Need-after-requires Inv-loop μ-loop
+after-requires c κs = search needs
+
+loop-less : tie.Need-loop-less Inv-loop μ-loop
+loop-less c = omega (arith, ap length (moves c .1))
+
+loop-again : tie.Need-loop-again Inv-loop μ-loop
+loop-again c =
+    let i = c .before .before in
+    let k = known-of i in
+    let r = read-of k in
+    let f = found-of r in
+    let l = loop-of f in
+    let s = begin l in
+    let a = s .args in
+    let g = k .before .e .given in
+    let h = moves c in
+    let w = c .before .add-once in (
+      h .0,
+      omega (arith, ap length (h .1), l .loop .inv .1),
+      omega (arith, w .ensures .2, l .loop .inv .2),
+      count-next (table s) (now (a .ids)) (l .loop .k) (l .loop .t) (slots s (l .loop .cur)) (l .loop .marks) (slot f) (slots s (c .after .result)) (h .1)
+          (g .0 .0) (sym (r .entry-named .ensures) ∙ g .1) (w .result) (w .last .0)
+          (w .ensures .0 ∙ ap (λ (v : ℕ). cond (marked (l .loop .marks) v) (l .loop .t) (l .loop .t + g .0 .0 .num)) (i .index .ensures))
+          (w .ensures .1 ∙ ap (λ (v : ℕ). marking v (l .loop .marks)) (i .index .ensures))
+          ∙ l .loop .inv .3,
+    )
+
+pub tally-by-spec : {M : Type 1} → statement M
+tally-by-spec =
+    tie.close
+    (tie.spec
+    Inv-loop
+    μ-loop
+    returns
+    first-requires
+    loop-holds
+    enum-known-cur
+    returns-2
+    mul-p
+    shared-slice-read-p
+    entry-named-requires
+    enum-known-e
+    enum-told
+    returns-3
+    index-requires
+    add-once-requires
+    add-k
+    after-requires
+    loop-less
+    loop-again)
