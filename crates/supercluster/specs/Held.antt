@@ -60,6 +60,25 @@ lens-above (t ∷ ts) low l = lens-keep (t ∷ ts) (low + length (t ∷ ts) - 1)
 
 -- ---- the tables, each in its place
 
+-- ss and ll record the tables ts, low the smallest zoom: the first starts at `at`, and each where the one before ends
+unfoldable pub Laid : List ℕ → List ℕ → ℕ → ℕ → List Table → Type 0
+Laid ss ll low at [] = Unit
+Laid ss ll low at (t ∷ ts) = (getD ss (low + length ts) 0 ≡ at) × (getD ll (low + length ts) 0 ≡ length t) × Laid ss ll low (at + length t) ts
+
+laid : (ts : List Table) (low at : ℕ) (ss ll : List ℕ) → low + length ts ≤ length ss → low + length ts ≤ length ll
+    → Laid (starts (low + length ts - 1) at ts ss) (lens (low + length ts - 1) ts ll) low at ts
+unfolding starts lens Laid
+laid [] low at ss ll hs hl = tt
+laid (t ∷ ts) low at ss ll hs hl =
+    let z = low + length ts in
+    let top : z ≡ low + length (t ∷ ts) - 1 = omega arith in
+    let ss′ = set ss z at in
+    let ll′ = set ll z (length t) in
+    let g = laid ts low (at + length t) ss′ ll′ (omega (arith, length-set ss z at)) (omega (arith, length-set ll z (length t))) in
+    let s : getD (starts (z - 1) (at + length t) ts ss′) z 0 ≡ at = starts-above ts low (at + length t) ss′ ∙ getD-set-same ss z at 0 (omega arith) in
+    let l : getD (lens (z - 1) ts ll′) z 0 ≡ length t = lens-above ts low ll′ ∙ getD-set-same ll z (length t) 0 (omega arith) in
+    subst (λ (y : ℕ). Laid (starts y at (t ∷ ts) ss) (lens y (t ∷ ts) ll) low at (t ∷ ts)) top (s, l, g)
+
 -- ss and ll give the tables ts back, low the smallest zoom, each within the rows R
 pub record Stands (ss ll : List ℕ) (R : Table) (low : ℕ) (ts : List Table) : Type 0 where
   pub is : held ss ll R low (length ts) ≡ ts
@@ -82,55 +101,53 @@ module _ (t : Table) (ts : List Table) (low at : ℕ) (ss ll : List ℕ) (R : Ta
         within = λ z h k. within-by z h k (ltb z (low + length ts)) refl;
       }
 
-pub stands : (ts : List Table) (low at : ℕ) (ss ll : List ℕ) (R rest : Table) → at ≤ length R → drop at R ≡ joined ts ++ rest → low + length ts ≤ length ss → low + length ts ≤ length ll
-    → Stands (starts (low + length ts - 1) at ts ss) (lens (low + length ts - 1) ts ll) R low ts
-unfolding starts lens joined held
-stands [] low at ss ll R rest h e hs hl = record { is = refl; within = λ z a b. absurd (omega arith) }
-stands (t ∷ ts) low at ss ll R rest h e hs hl =
-    let z = low + length ts in
-    let top : z ≡ low + length (t ∷ ts) - 1 = omega arith in
+stands : (ts : List Table) (low at : ℕ) (ss ll : List ℕ) (R rest : Table) → Laid ss ll low at ts → at ≤ length R → drop at R ≡ joined ts ++ rest → Stands ss ll R low ts
+unfolding Laid joined held
+stands [] low at ss ll R rest d h e = record { is = refl; within = λ z a b. absurd (omega arith) }
+stands (t ∷ ts) low at ss ll R rest d h e =
     let e′ : drop at R ≡ t ++ (joined ts ++ rest) = e ∙ append-assoc t (joined ts) rest in
     let long : length R - at ≡ length t + length (joined ts ++ rest) = sym (length-drop at R) ∙ ap length e′ ∙ length-append t (joined ts ++ rest) in
     let after : drop (at + length t) R ≡ joined ts ++ rest = sym (drop-drop (length t) at R) ∙ ap (drop (length t)) e′ ∙ drop-append-seam t (joined ts ++ rest) in
-    let ss′ = set ss z at in
-    let ll′ = set ll z (length t) in
-    let g = stands ts low (at + length t) ss′ ll′ R rest (omega arith) after (omega (arith, length-set ss z at)) (omega (arith, length-set ll z (length t))) in
-    let s : getD (starts (z - 1) (at + length t) ts ss′) z 0 ≡ at = starts-above ts low (at + length t) ss′ ∙ getD-set-same ss z at 0 (omega arith) in
-    let l : getD (lens (z - 1) ts ll′) z 0 ≡ length t = lens-above ts low ll′ ∙ getD-set-same ll z (length t) 0 (omega arith) in
-    subst (λ (y : ℕ). Stands (starts y at (t ∷ ts) ss) (lens y (t ∷ ts) ll) R low (t ∷ ts)) top
-    (one-more t ts low at (starts (z - 1) (at + length t) ts ss′) (lens (z - 1) ts ll′) R s l (ap (take (length t)) e′ ∙ take-append-seam t (joined ts ++ rest)) (omega arith) g)
+    one-more t ts low at ss ll R (d .0) (d .1) (ap (take (length t)) e′ ∙ take-append-seam t (joined ts ++ rest)) (omega arith)
+    (stands ts low (at + length t) ss ll R rest (d .2) (omega arith) after)
 
 -- ---- the tables of a build
 
-module _ (o : Options) (xs ys : List Float) (a : Accepted o xs ys) (l : Lent) where
+module _ (o : Options) (xs ys : List Float) (a : Accepted o xs ys) where
   abbrev tables : List Table
   tables = tablesOf o xs ys
 
-  rows-are : rowsIn (written (o .«node_size») (length xs) tables l) ≡ over (joined tables) (rowsIn l)
-  unfolding written
-  rows-are = rows-over (joined tables) (l .x) (l .y) (l .seen) (l .id) (l .parent) (l .num)
-
-  pub built-stands : (R : Table) → R ≡ over (joined tables) (rowsIn l)
-      → Stands (stateOf o (length xs) tables .starts) (stateOf o (length xs) tables .lens) R (o .«min_zoom») tables
-  built-stands R e =
+  -- its state records them
+  pub built-laid : Laid (stateOf o (length xs) tables .starts) (stateOf o (length xs) tables .lens) (o .«min_zoom») 0 tables
+  built-laid =
       let z = options-are o (a .options) in
       let n = tables-count o xs ys in
       let top : o .«min_zoom» + length tables - 1 ≡ o .«max_zoom» + 1 = omega (arith, z .zooms, n) in
       let room : o .«min_zoom» + length tables ≤ 32 = omega (arith, z .zooms, z .zoom-to, n) in
       let r = length-replicate {A = ℕ} 32 0 in
-      subst (λ (y : ℕ). Stands (starts y 0 tables (replicate 32 0)) (lens y tables (replicate 32 0)) R (o .«min_zoom») tables) top
-      (stands tables (o .«min_zoom») 0 (replicate 32 0) (replicate 32 0) R (drop (length (joined tables)) (rowsIn l)) (omega arith) e (omega (arith, r)) (omega (arith, r)))
+      subst (λ (y : ℕ). Laid (starts y 0 tables (replicate 32 0)) (lens y tables (replicate 32 0)) (o .«min_zoom») 0 tables) top
+      (laid tables (o .«min_zoom») 0 (replicate 32 0) (replicate 32 0) (omega (arith, r)) (omega (arith, r)))
 
-  -- all of them, and each within the rows
-  pub built-held : heldBy (stateOf o (length xs) tables) (rowsIn (written (o .«node_size») (length xs) tables l)) ≡ tables
-  built-held =
-      let z = options-are o (a .options) in
-      let n : length tables ≡ o .«max_zoom» + 2 - o .«min_zoom» = omega (arith, z .zooms, tables-count o xs ys) in
-      let R = rowsIn (written (o .«node_size») (length xs) tables l) in
-      ap (held (stateOf o (length xs) tables .starts) (stateOf o (length xs) tables .lens) R (o .«min_zoom»)) (sym n) ∙ built-stands R rows-are .is
+  module _ (l : Lent) where
+    rows-are : rowsIn (written (o .«node_size») (length xs) tables l) ≡ over (joined tables) (rowsIn l)
+    unfolding written
+    rows-are = rows-over (joined tables) (l .x) (l .y) (l .seen) (l .id) (l .parent) (l .num)
 
-  pub built-within : (z : ℕ) → o .«min_zoom» ≤ z → z < o .«max_zoom» + 2
-      → getD (stateOf o (length xs) tables .starts) z 0 + getD (stateOf o (length xs) tables .lens) z 0 ≤ length (rowsIn (written (o .«node_size») (length xs) tables l))
-  built-within z h k =
-      let b = options-are o (a .options) in
-      built-stands (rowsIn (written (o .«node_size») (length xs) tables l)) rows-are .within z h (omega (arith, b .zooms, tables-count o xs ys))
+    pub built-stands : (R : Table) → R ≡ over (joined tables) (rowsIn l)
+        → Stands (stateOf o (length xs) tables .starts) (stateOf o (length xs) tables .lens) R (o .«min_zoom») tables
+    built-stands R e =
+        stands tables (o .«min_zoom») 0 (stateOf o (length xs) tables .starts) (stateOf o (length xs) tables .lens) R (drop (length (joined tables)) (rowsIn l)) built-laid (omega arith) e
+
+    -- all of them, and each within the rows
+    pub built-held : heldBy (stateOf o (length xs) tables) (rowsIn (written (o .«node_size») (length xs) tables l)) ≡ tables
+    built-held =
+        let z = options-are o (a .options) in
+        let n : length tables ≡ o .«max_zoom» + 2 - o .«min_zoom» = omega (arith, z .zooms, tables-count o xs ys) in
+        let R = rowsIn (written (o .«node_size») (length xs) tables l) in
+        ap (held (stateOf o (length xs) tables .starts) (stateOf o (length xs) tables .lens) R (o .«min_zoom»)) (sym n) ∙ built-stands R rows-are .is
+
+    pub built-within : (z : ℕ) → o .«min_zoom» ≤ z → z < o .«max_zoom» + 2
+        → getD (stateOf o (length xs) tables .starts) z 0 + getD (stateOf o (length xs) tables .lens) z 0 ≤ length (rowsIn (written (o .«node_size») (length xs) tables l))
+    built-within z h k =
+        let b = options-are o (a .options) in
+        built-stands (rowsIn (written (o .«node_size») (length xs) tables l)) rows-are .within z h (omega (arith, b .zooms, tables-count o xs ys))
