@@ -1,0 +1,92 @@
+-- Of every such build: a lamp's owner in table z is the entry whose id is the parent of its owner in table z + 1, or that owner's own id where its parent is unset;
+-- and no other entry of table z has that id. So owners are read off the columns. Assumes nothing.
+use mathlib.Core.Path.{_≡_, sym, ap, _∙_}
+use mathlib.Core.Logic.{_↔_}
+use mathlib.Core.Bool.{Bool, cond}
+use mathlib.Core.List.{List}
+use Prim.Native.Nat.{ℕ, suc, _≤_, _<_}
+use native.Mathlib.Omega.{arith}
+use borrow.Author.Tests.{eq-eqb, ne-eqb}
+use lib.ListN.{length}
+use lib.Ieee.{Float}
+use Rattle.tables.specs.Bounds.{options-are}
+use Rattle.tables.specs.declared.Entry.{Entry}
+use Rattle.tables.specs.declared.Options.{Options}
+use Rattle.tables.specs.Entries.{entry, unset}
+use Rattle.tables.specs.Ids.{clusterId, id-small}
+use Rattle.zoom.specs.Keeps.{all-at}
+use Rattle.groups.specs.Sums.{count}
+use Rattle.groups.specs.Groups.{Group, copied, joined, entryOf, from}
+use Rattle.groups.specs.OneZoom.{Fits}
+use Rattle.supercluster.specs.Build.{planOf}
+use Rattle.supercluster.specs.Ready.{Accepted}
+use Rattle.builds.specs.Came.{came, tableAt}
+use Rattle.builds.specs.Fitting.{Fitting}
+use Rattle.builds.specs.GroupsOfBuild.{groupsBy, nearBy, came-coming}
+use Rattle.builds.specs.Identities.{ids-distinct}
+use Rattle.builds.specs.Places.{groupAt}
+use Rattle.builds.specs.Steps.{Coming, Lone}
+use Rattle.lamps.specs.Owner.{up, placeIn, owner}
+use Rattle.lamps.specs.PlaceIn.{place-in, place-has, copy-is}
+use Rattle.lamps.specs.Owners.{owner-next, owner-in, group-id, group-fits, groups-long, place-once}
+
+-- an entry with no parent, and one with a parent
+up-lone : (e : Entry) → e .parent ≡ unset → up e ≡ e .id
+up-lone e h = ap (λ (b : Bool). cond b (e .id) (e .parent)) (eq-eqb (e .parent) unset h)
+
+up-under : (e : Entry) → e .parent < unset → up e ≡ e .parent
+up-under e h = ap (λ (b : Bool). cond b (e .id) (e .parent)) (ne-eqb (e .parent) unset (λ q. omega arith))
+
+module _ (o : Options) (xs ys : List Float) (a : Accepted o xs ys) (f : Fitting (o .«coordinate_system») xs ys) where
+  -- the entry of table z whose group has the place i of table z + 1
+  pub place-up : (z : ℕ) → o .«min_zoom» ≤ z → z ≤ o .«max_zoom» → (i : ℕ) → i < length (tableAt o xs ys (suc z)) →
+      entry (tableAt o xs ys z) (placeIn (groupsBy o xs ys z) i) .id ≡ up (entry (tableAt o xs ys (suc z)) i)
+  place-up z h k i l = group-id o xs ys a f z h k j there ∙ by (groupAt (groupsBy o xs ys z) j) (group-fits o xs ys a f z h k j there) has
+    where
+      j : ℕ
+      j = placeIn (groupsBy o xs ys z) i
+
+      there : placeIn (groupsBy o xs ys z) i < length (tableAt o xs ys z)
+      there =
+          let n = groups-long o xs ys a f z h k in
+          let p = place-in i (groupsBy o xs ys z) (place-once o xs ys a f z h k i l) in
+          omega arith
+
+      has : count i (from (groupAt (groupsBy o xs ys z) (placeIn (groupsBy o xs ys z) i))) ≡ 1
+      has = place-has i (groupsBy o xs ys z) (place-once o xs ys a f z h k i l)
+
+      c : Coming (planOf o (length xs)) (suc z) (came o xs ys (suc z))
+      c = came-coming o xs ys a f (suc z) (omega arith) (omega arith)
+
+      by : (g : Group) → Fits (length xs) (o .«min_points») z (nearBy o xs ys z) (came o xs ys (suc z)) (tableAt o xs ys (suc z)) g → count i (from g) ≡ 1 →
+          entryOf g .id ≡ up (entry (tableAt o xs ys (suc z)) i)
+      by (copied m e) w q =
+          let T = tableAt o xs ys (suc z) in
+          let s : i ≡ m = copy-is i m (omega arith) in
+          let p : entry T m .parent ≡ unset = ap (λ (x : Entry). x .parent) (w .finer) ∙ all-at Lone (came o xs ys (suc z)) m (c .lone) (w .place) in
+          let d : e .id ≡ entry T m .id = ap (λ (x : Entry). x .id) (w .same ∙ sym (w .finer)) in
+          d ∙ sym (up-lone (entry T m) p) ∙ ap (λ (x : ℕ). up (entry T x)) (sym s)
+      by (joined x ks e) w q =
+          let T = tableAt o xs ys (suc z) in
+          let p : entry T i .parent ≡ clusterId (length xs) z x = ap (λ (x : Entry). x .parent) (w .finer i (omega arith)) in
+          let few = c .few in
+          let most = a .few in
+          let r = w .place in
+          let top = options-are o (a .options) .zoom-to in
+          let u = id-small (length xs) z x (omega arith) most (omega arith) in
+          w .made-id ∙ sym p ∙ sym (up-under (entry T i) (omega arith))
+
+  -- the owner one table up
+  pub owner-up : (z : ℕ) → o .«min_zoom» ≤ z → z ≤ o .«max_zoom» → (l : ℕ) → l < length xs →
+      entry (tableAt o xs ys z) (owner o xs ys z l) .id ≡ up (entry (tableAt o xs ys (suc z)) (owner o xs ys (suc z) l))
+  owner-up z h k l w =
+      ap (λ (j : ℕ). entry (tableAt o xs ys z) j .id) (owner-next o xs ys z k l)
+      ∙ place-up z h k (owner o xs ys (suc z) l) (owner-in o xs ys a f (suc z) (omega arith) (omega arith) l w)
+
+  -- the entry with that id is the owner, and no other
+  pub owner-climbs : (z : ℕ) → o .«min_zoom» ≤ z → z ≤ o .«max_zoom» → (l : ℕ) → l < length xs → (q : ℕ) → q < length (tableAt o xs ys z) →
+      (entry (tableAt o xs ys z) q .id ≡ up (entry (tableAt o xs ys (suc z)) (owner o xs ys (suc z) l))) ↔ (q ≡ owner o xs ys z l)
+  owner-climbs z h k l w q m = (
+    (λ e. ids-distinct o xs ys a f z h (omega arith) q (owner o xs ys z l) m (owner-in o xs ys a f z h (omega arith) l w) (e ∙ sym (owner-up z h k l w))),
+    (λ e. ap (λ (j : ℕ). entry (tableAt o xs ys z) j .id) e ∙ owner-up z h k l w),
+  )

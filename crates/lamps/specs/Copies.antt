@@ -1,0 +1,169 @@
+-- Of every such build: the lamps of a lamp are itself. Entries of any two tables with the same id have the same lamps, in the same order. The lamps of a cluster are
+-- those of its members, in the order in which they are answered around its origin, in the table that its id names. Assumes nothing.
+use mathlib.Core.Path.{_≡_, refl, sym, ap, ap₂, _∙_, subst}
+use mathlib.Core.Logic.{inl, inr, ⊎-elim}
+use mathlib.Core.List.{List, [], _∷_}
+use Prim.Native.Nat.{ℕ, suc, _+_, _-_, _≤_, _<_}
+use native.Mathlib.Omega.{arith}
+use lib.Dec.{eqb}
+use lib.ListN.{length}
+use lib.Ieee.{Float}
+use Rattle.tables.specs.Bounds.{options-are}
+use Rattle.tables.specs.declared.Entry.{Entry}
+use Rattle.tables.specs.declared.Options.{Options}
+use Rattle.tables.specs.Entries.{entry}
+use Rattle.tables.specs.Ids.{clusterId, tableOf, id-from, id-origin}
+use Rattle.tables.specs.Radius.{radiusAt}
+use Rattle.groups.specs.Sums.{below, keep}
+use Rattle.groups.specs.Groups.{Group, copied, joined, entryOf}
+use Rattle.groups.specs.OneZoom.{Copied, Joined, Fits}
+use Rattle.supercluster.specs.Build.{nearIn}
+use Rattle.supercluster.specs.Ready.{Accepted}
+use Rattle.builds.specs.Came.{came, tableAt, down}
+use Rattle.builds.specs.Fitting.{Fitting}
+use Rattle.builds.specs.GroupsOfBuild.{groupsBy, nearBy}
+use Rattle.builds.specs.Identities.{Known, identities, ids-distinct, id-table-suc}
+use Rattle.builds.specs.Places.{groupAt}
+use Rattle.builds.specs.Same.{table-same, near-same}
+use Rattle.lamps.specs.Owner.{gather, lampsOf, answersAt, membersOf}
+use Rattle.lamps.specs.Owners.{lamps-first, lamps-joined, lamps-copied, first-long, first-id, group-id, group-fits}
+
+module _ (o : Options) (xs ys : List Float) (a : Accepted o xs ys) (f : Fitting (o .«coordinate_system») xs ys) where
+  high : o .«max_zoom» ≤ 30
+  high = options-are o (a .options) .zoom-to
+
+  -- what the zoom z makes of a group
+  abbrev FitsBy : ℕ → Group → Type 0
+  FitsBy z g = Fits (length xs) (o .«min_points») z (nearBy o xs ys z) (came o xs ys (suc z)) (tableAt o xs ys (suc z)) g
+
+  -- what the zoom z answered around a place of table z + 1 as it came is answered around it in the build's table
+  near-build : (z : ℕ) → o .«min_zoom» ≤ z → z ≤ o .«max_zoom» → (i : ℕ) → i < length (came o xs ys (suc z)) → nearBy o xs ys z i ≡ answersAt o xs ys (suc z) i
+  near-build z h l i q =
+      let T = tableAt o xs ys (suc z) in
+      let C = came o xs ys (suc z) in
+      let e : suc z - 1 ≡ z = omega arith in
+      let r = radiusAt (o .radius) (o .extent) z in
+      let s = table-same o xs ys a f (suc z) (omega arith) (omega arith) .each i q in
+      let n = near-same o xs ys a f (suc z) (omega arith) (omega arith) (o .«node_size») r in
+      ap₂ (λ (x y : Float). nearIn (o .«node_size») r C x y) (sym (s .x)) (sym (s .y))
+      ∙ ap (λ (g : Float → Float → List ℕ). g (entry T i .x) (entry T i .y)) (sym n)
+      ∙ ap (λ (v : ℕ). nearIn (o .«node_size») (radiusAt (o .radius) (o .extent) v) T (entry T i .x) (entry T i .y)) (sym e)
+
+  -- where the entry at j of table z is from: the copy of one of table z + 1 with the same id and lamps, or a cluster with the members' lamps
+  pub data From (z j : ℕ) : Type 0 where
+    again : (k : ℕ) → k < length (tableAt o xs ys (suc z)) → entry (tableAt o xs ys z) j .id ≡ entry (tableAt o xs ys (suc z)) k .id →
+        lampsOf o xs ys z j ≡ lampsOf o xs ys (suc z) k → From z j
+    anew : (i : ℕ) (ks : List ℕ) → entry (tableAt o xs ys z) j .id ≡ clusterId (length xs) z i →
+        ks ≡ keep (λ k. eqb (entry (tableAt o xs ys (suc z)) k .parent) (clusterId (length xs) z i)) (answersAt o xs ys (suc z) i) →
+        lampsOf o xs ys z j ≡ gather (λ k. lampsOf o xs ys (suc z) k) ks → From z j
+
+  pub from-by : (z : ℕ) → o .«min_zoom» ≤ z → z ≤ o .«max_zoom» → (j : ℕ) → j < length (tableAt o xs ys z) → From z j
+  from-by z h l j q = by (groupAt (groupsBy o xs ys z) j) refl
+    where
+      fit : (g : Group) → groupAt (groupsBy o xs ys z) j ≡ g → FitsBy z g
+      fit g e = subst (λ (r : Group). FitsBy z r) e (group-fits o xs ys a f z h l j q)
+
+      by : (g : Group) → groupAt (groupsBy o xs ys z) j ≡ g → From z j
+      by (copied k e) p =
+          let w : Copied (length xs) (o .«min_points») z (nearBy o xs ys z) (came o xs ys (suc z)) (tableAt o xs ys (suc z)) k e = fit (copied k e) p in
+          let s = table-same o xs ys a f (suc z) (omega arith) (omega arith) in
+          let n = s .long in
+          let m = w .place in
+          again k (omega arith)
+          (group-id o xs ys a f z h l j q ∙ ap (λ (g : Group). entryOf g .id) p ∙ ap (λ (x : Entry). x .id) (w .same) ∙ sym (s .each k m .id))
+          (lamps-copied o xs ys z l j k e p)
+      by (joined i ks e) p =
+          let w : Joined (length xs) (o .«min_points») z (nearBy o xs ys z) (came o xs ys (suc z)) (tableAt o xs ys (suc z)) i ks e = fit (joined i ks e) p in
+          anew i ks (group-id o xs ys a f z h l j q ∙ ap (λ (g : Group). entryOf g .id) p ∙ w .made-id)
+          (w .kids ∙ ap (λ (r : List ℕ). keep (λ k. eqb (entry (tableAt o xs ys (suc z)) k .parent) (clusterId (length xs) z i)) r) (near-build z h l i (w .place)))
+          (lamps-joined o xs ys z l j i ks e p)
+
+  -- ---- a lamp
+
+  -- the lamps of a lamp: its id alone
+  pub lamps-of-lamp : (z : ℕ) → o .«min_zoom» ≤ z → z ≤ o .«max_zoom» + 1 → (j : ℕ) → j < length (tableAt o xs ys z) → entry (tableAt o xs ys z) j .id < length xs →
+      lampsOf o xs ys z j ≡ entry (tableAt o xs ys z) j .id ∷ []
+  lamps-of-lamp =
+      down (λ z. (j : ℕ) → j < length (tableAt o xs ys z) → entry (tableAt o xs ys z) j .id < length xs → lampsOf o xs ys z j ≡ entry (tableAt o xs ys z) j .id ∷ []) (o .«min_zoom») (o .«max_zoom» + 1)
+      (λ j q b. lamps-first o xs ys j ∙ ap (λ (i : ℕ). i ∷ []) (sym (first-id o xs ys a f j q)))
+      (λ z h k ih j q b. by z j b ih (from-by z h (omega arith) j q))
+    where
+      by : (z j : ℕ) → entry (tableAt o xs ys z) j .id < length xs →
+          ((i : ℕ) → i < length (tableAt o xs ys (suc z)) → entry (tableAt o xs ys (suc z)) i .id < length xs → lampsOf o xs ys (suc z) i ≡ entry (tableAt o xs ys (suc z)) i .id ∷ []) →
+          From z j → lampsOf o xs ys z j ≡ entry (tableAt o xs ys z) j .id ∷ []
+      by z j b ih (again k q e s) = s ∙ ih k q (omega arith) ∙ ap (λ (i : ℕ). i ∷ []) (sym e)
+      by z j b ih (anew i ks e c s) = absurd (let w = id-from (length xs) z i in omega arith)
+
+  -- an entry that counts one is a lamp
+  pub one-lamp : (z : ℕ) → o .«min_zoom» ≤ z → z ≤ o .«max_zoom» + 1 → (j : ℕ) → j < length (tableAt o xs ys z) → entry (tableAt o xs ys z) j .num ≡ 1 → entry (tableAt o xs ys z) j .id < length xs
+  one-lamp z h k j q e = by (identities o xs ys a f z h k j q)
+    where
+      by : Known o xs ys z (entry (tableAt o xs ys z) j) → entry (tableAt o xs ys z) j .id < length xs
+      by (inl w) = w .below
+      by (inr w) = absurd (let m = w .many in omega arith)
+
+  pub lamps-of-one : (z : ℕ) → o .«min_zoom» ≤ z → z ≤ o .«max_zoom» + 1 → (j : ℕ) → j < length (tableAt o xs ys z) → entry (tableAt o xs ys z) j .num ≡ 1 →
+      lampsOf o xs ys z j ≡ entry (tableAt o xs ys z) j .id ∷ []
+  lamps-of-one z h k j q e = lamps-of-lamp z h k j q (one-lamp z h k j q e)
+
+  -- ---- entries with the same id
+
+  -- no cluster that the zoom z made is in a finer table
+  not-yet : (z w i k : ℕ) → z < w → o .«min_zoom» ≤ w → w ≤ o .«max_zoom» + 1 → k < length (tableAt o xs ys w) → entry (tableAt o xs ys w) k .id ≡ clusterId (length xs) z i → ⊥
+  not-yet z w i k h l m q e = by (identities o xs ys a f w l m k q)
+    where
+      by : Known o xs ys w (entry (tableAt o xs ys w) k) → ⊥
+      by (inl u) = let b = u .below in omega arith
+      by (inr u) =
+          let b = u .table-from in
+          let t = high in
+          let s : tableOf (length xs) (entry (tableAt o xs ys w) k .id) ≡ suc z = ap (tableOf (length xs)) e ∙ id-table-suc (length xs) z i (omega arith) in
+          omega arith
+
+  same-above : (z w : ℕ) → o .«min_zoom» ≤ z → z ≤ w → w ≤ o .«max_zoom» + 1 → (k : ℕ) → k < length (tableAt o xs ys w) → (j : ℕ) → j < length (tableAt o xs ys z) →
+      entry (tableAt o xs ys z) j .id ≡ entry (tableAt o xs ys w) k .id → lampsOf o xs ys z j ≡ lampsOf o xs ys w k
+  same-above z w h l m k q =
+      down (λ v. (j : ℕ) → j < length (tableAt o xs ys v) → entry (tableAt o xs ys v) j .id ≡ entry (tableAt o xs ys w) k .id → lampsOf o xs ys v j ≡ lampsOf o xs ys w k) (o .«min_zoom») w
+      (λ j p e. ap (λ (i : ℕ). lampsOf o xs ys w i) (ids-distinct o xs ys a f w (omega arith) m j k p q e))
+      (λ v r s ih j p e. by v r s ih j e (from-by v r (omega arith) j p)) z h l
+    where
+      by : (v : ℕ) → o .«min_zoom» ≤ v → v < w →
+          ((j : ℕ) → j < length (tableAt o xs ys (suc v)) → entry (tableAt o xs ys (suc v)) j .id ≡ entry (tableAt o xs ys w) k .id → lampsOf o xs ys (suc v) j ≡ lampsOf o xs ys w k) →
+          (j : ℕ) → entry (tableAt o xs ys v) j .id ≡ entry (tableAt o xs ys w) k .id → From v j → lampsOf o xs ys v j ≡ lampsOf o xs ys w k
+      by v r s ih j e (again i p d t) = t ∙ ih i p (sym d ∙ e)
+      by v r s ih j e (anew i ks d c t) = absurd (not-yet v w i k s (omega arith) m q (sym e ∙ d))
+
+  -- entries of any two tables with the same id have the same lamps
+  pub lamps-same : (z w : ℕ) → o .«min_zoom» ≤ z → z ≤ o .«max_zoom» + 1 → o .«min_zoom» ≤ w → w ≤ o .«max_zoom» + 1 → (j k : ℕ) → j < length (tableAt o xs ys z) → k < length (tableAt o xs ys w) →
+      entry (tableAt o xs ys z) j .id ≡ entry (tableAt o xs ys w) k .id → lampsOf o xs ys z j ≡ lampsOf o xs ys w k
+  lamps-same z w h l m n j k p q e =
+      ⊎-elim (λ s. same-above z w h (omega arith) n k q j p e) (λ s. sym (same-above w z m s l j p k q (sym e))) (below z w)
+
+  -- ---- a cluster
+
+  -- the members of a cluster that the zoom z made
+  members-made : (z i : ℕ) → z ≤ 30 →
+      membersOf o xs ys (clusterId (length xs) z i) ≡ keep (λ k. eqb (entry (tableAt o xs ys (suc z)) k .parent) (clusterId (length xs) z i)) (answersAt o xs ys (suc z) i)
+  members-made z i h =
+      ap₂ (λ (t v : ℕ). keep (λ k. eqb (entry (tableAt o xs ys t) k .parent) (clusterId (length xs) z i)) (answersAt o xs ys t v)) (id-table-suc (length xs) z i h) (id-origin (length xs) z i h)
+
+  -- the lamps of a cluster: those of its members
+  pub lamps-of-cluster : (z : ℕ) → o .«min_zoom» ≤ z → z ≤ o .«max_zoom» + 1 → (j : ℕ) → j < length (tableAt o xs ys z) → length xs ≤ entry (tableAt o xs ys z) j .id →
+      lampsOf o xs ys z j ≡ gather (λ k. lampsOf o xs ys (tableOf (length xs) (entry (tableAt o xs ys z) j .id)) k) (membersOf o xs ys (entry (tableAt o xs ys z) j .id))
+  lamps-of-cluster =
+      down (λ z. (j : ℕ) → j < length (tableAt o xs ys z) → length xs ≤ entry (tableAt o xs ys z) j .id → lampsOf o xs ys z j ≡ those (entry (tableAt o xs ys z) j .id)) (o .«min_zoom») (o .«max_zoom» + 1)
+      (λ j q b. absurd (let n = first-long o xs ys a f in let e = first-id o xs ys a f j q in omega arith))
+      (λ z h k ih j q b. by z (omega arith) j b ih (from-by z h (omega arith) j q))
+    where
+      those : ℕ → List ℕ
+      those id = gather (λ k. lampsOf o xs ys (tableOf (length xs) id) k) (membersOf o xs ys id)
+
+      by : (z : ℕ) → z ≤ o .«max_zoom» → (j : ℕ) → length xs ≤ entry (tableAt o xs ys z) j .id →
+          ((i : ℕ) → i < length (tableAt o xs ys (suc z)) → length xs ≤ entry (tableAt o xs ys (suc z)) i .id → lampsOf o xs ys (suc z) i ≡ those (entry (tableAt o xs ys (suc z)) i .id)) →
+          From z j → lampsOf o xs ys z j ≡ those (entry (tableAt o xs ys z) j .id)
+      by z l j b ih (again k q e s) = s ∙ ih k q (omega arith) ∙ ap those (sym e)
+      by z l j b ih (anew i ks e c s) =
+          let t = high in
+          let w : tableOf (length xs) (clusterId (length xs) z i) ≡ suc z = id-table-suc (length xs) z i (omega arith) in
+          let v : membersOf o xs ys (clusterId (length xs) z i) ≡ ks = members-made z i (omega arith) ∙ sym c in
+          s ∙ sym (ap those e ∙ ap₂ (λ (u : ℕ) (r : List ℕ). gather (λ k. lampsOf o xs ys u k) r) w v)

@@ -1,0 +1,61 @@
+-- Each lamp's owner in each table of a build, as a place of the table, and the lamps of the entry at a place. Both go by table number, from max_zoom + 1, the
+-- finest, down to min_zoom. Definitions only.
+use mathlib.Core.Bool.{cond}
+use mathlib.Core.List.{List, [], _∷_, _++_}
+use Prim.Native.Nat.{ℕ, zero, suc, _+_, _-_}
+use lib.Dec.{ltb, eqb}
+use lib.ListN.{length}
+use lib.Ieee.{Float}
+use Rattle.tables.specs.declared.Entry.{Entry}
+use Rattle.tables.specs.declared.Options.{Options}
+use Rattle.tables.specs.Entries.{entry, unset}
+use Rattle.tables.specs.Ids.{originOf, tableOf}
+use Rattle.tables.specs.Radius.{radiusAt}
+use Rattle.groups.specs.Sums.{count, keep}
+use Rattle.groups.specs.Groups.{Group, from, around}
+use Rattle.supercluster.specs.Build.{nearIn}
+use Rattle.builds.specs.Came.{tableAt}
+use Rattle.builds.specs.GroupsOfBuild.{groupsBy}
+use Rattle.builds.specs.Places.{groupAt}
+
+-- the id under which an entry is found in the table of the next smaller zoom: its parent, or its own id where the parent is unset
+abbrev pub up : Entry → ℕ
+up e = cond (eqb (e .parent) unset) (e .id) (e .parent)
+
+-- the place in the next table of the group that has the place k
+abbrev pub placeIn : List Group → ℕ → ℕ
+placeIn [] k = 0
+placeIn (g ∷ gs) k = cond (ltb 0 (count k (from g))) 0 (suc (placeIn gs k))
+
+-- the lists of each, one after the other
+abbrev pub gather : (ℕ → List ℕ) → List ℕ → List ℕ
+gather f [] = []
+gather f (k ∷ ks) = f k ++ gather f ks
+
+-- lamp l's owner after d zooms: itself before the first, then the place of the group that has the owner before
+unfoldable pub ownerAt : Options → List Float → List Float → ℕ → ℕ → ℕ
+ownerAt o xs ys zero l = l
+ownerAt o xs ys (suc d) l = placeIn (groupsBy o xs ys (o .«max_zoom» - d)) (ownerAt o xs ys d l)
+
+-- lamp l's owner, as a place of table z
+unfoldable pub owner : Options → List Float → List Float → ℕ → ℕ → ℕ
+owner o xs ys z l = ownerAt o xs ys (o .«max_zoom» + 1 - z) l
+
+-- the lamps of the place j after d zooms: itself before the first, then those of the members of its group, in the order of the group
+unfoldable pub lampsAt : Options → List Float → List Float → ℕ → ℕ → List ℕ
+lampsAt o xs ys zero j = j ∷ []
+lampsAt o xs ys (suc d) j = gather (λ k. lampsAt o xs ys d k) (from (groupAt (groupsBy o xs ys (o .«max_zoom» - d)) j))
+
+-- the lamps of the entry at j of table z
+unfoldable pub lampsOf : Options → List Float → List Float → ℕ → ℕ → List ℕ
+lampsOf o xs ys z j = lampsAt o xs ys (o .«max_zoom» + 1 - z) j
+
+-- the places answered around the place i of table t of a build, at the radius of the zoom below it
+abbrev pub answersAt : Options → List Float → List Float → ℕ → ℕ → List ℕ
+answersAt o xs ys t = around (nearIn (o .«node_size») (radiusAt (o .radius) (o .extent) (t - 1)) (tableAt o xs ys t)) (tableAt o xs ys t)
+
+-- the members of the cluster id: of those answered around its origin, in the table that the id names, those whose parent it is
+abbrev pub membersOf : Options → List Float → List Float → ℕ → List ℕ
+membersOf o xs ys id =
+    let t = tableOf (length xs) id in
+    keep (λ k. eqb (entry (tableAt o xs ys t) k .parent) id) (answersAt o xs ys t (originOf (length xs) id))
