@@ -1,3 +1,4 @@
 -- What the questions answer of a build that is accepted: where its tables stand, the children of its clusters, and what rests on them.
 pub mod Stored
 pub mod Children
+pub mod Clusters

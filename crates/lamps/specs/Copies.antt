@@ -12,9 +12,9 @@ use Rattle.tables.specs.Bounds.{options-are}
 use Rattle.tables.specs.declared.Entry.{Entry}
 use Rattle.tables.specs.declared.Options.{Options}
 use Rattle.tables.specs.Entries.{entry}
-use Rattle.tables.specs.Ids.{clusterId, tableOf, id-from, id-origin}
+use Rattle.tables.specs.Ids.{clusterId, originOf, tableOf, id-from, id-origin}
 use Rattle.tables.specs.Radius.{radiusAt}
-use Rattle.groups.specs.Sums.{below, keep}
+use Rattle.groups.specs.Sums.{below, count, keep}
 use Rattle.groups.specs.Groups.{Group, copied, joined, entryOf}
 use Rattle.groups.specs.OneZoom.{Copied, Joined, Fits}
 use Rattle.supercluster.specs.Build.{nearIn}
@@ -26,7 +26,7 @@ use Rattle.builds.specs.Identities.{Known, identities, ids-distinct, id-table-s
 use Rattle.builds.specs.Places.{groupAt}
 use Rattle.builds.specs.Same.{table-same, near-same}
 use Rattle.lamps.specs.Owner.{gather, lampsOf, answersAt, membersOf}
-use Rattle.lamps.specs.Owners.{lamps-first, lamps-joined, lamps-copied, first-long, first-id, group-id, group-fits}
+use Rattle.lamps.specs.Owners.{lamps-first, lamps-joined, lamps-copied, first-long, first-id, lamps-long, group-id, group-num, group-fits}
 
 module _ (o : Options) (xs ys : List Float) (a : Accepted o xs ys) (f : Fitting (o .«coordinate_system») xs ys) where
   high : o .«max_zoom» ≤ 30
@@ -49,11 +49,12 @@ module _ (o : Options) (xs ys : List Float) (a : Accepted o xs ys) (f : Fitting 
       ∙ ap (λ (g : Float → Float → List ℕ). g (entry T i .x) (entry T i .y)) (sym n)
       ∙ ap (λ (v : ℕ). nearIn (o .«node_size») (radiusAt (o .radius) (o .extent) v) T (entry T i .x) (entry T i .y)) (sym e)
 
-  -- where the entry at j of table z is from: the copy of one of table z + 1 with the same id and lamps, or a cluster with the members' lamps
+  -- where the entry at j of table z is from: the copy of one of table z + 1 with the same id and lamps, or a cluster with the members' lamps, of
+  -- which its origin is one, with fewer lamps
   pub data From (z j : ℕ) : Type 0 where
     again : (k : ℕ) → k < length (tableAt o xs ys (suc z)) → entry (tableAt o xs ys z) j .id ≡ entry (tableAt o xs ys (suc z)) k .id →
         lampsOf o xs ys z j ≡ lampsOf o xs ys (suc z) k → From z j
-    anew : (i : ℕ) (ks : List ℕ) → entry (tableAt o xs ys z) j .id ≡ clusterId (length xs) z i →
+    anew : (i : ℕ) (ks : List ℕ) → entry (tableAt o xs ys z) j .id ≡ clusterId (length xs) z i → entry (tableAt o xs ys (suc z)) i .num < entry (tableAt o xs ys z) j .num → count i ks ≡ 1 →
         ks ≡ keep (λ k. eqb (entry (tableAt o xs ys (suc z)) k .parent) (clusterId (length xs) z i)) (answersAt o xs ys (suc z) i) →
         lampsOf o xs ys z j ≡ gather (λ k. lampsOf o xs ys (suc z) k) ks → From z j
 
@@ -74,7 +75,10 @@ module _ (o : Options) (xs ys : List Float) (a : Accepted o xs ys) (f : Fitting 
           (lamps-copied o xs ys z l j k e p)
       by (joined i ks e) p =
           let w : Joined (length xs) (o .«min_points») z (nearBy o xs ys z) (came o xs ys (suc z)) (tableAt o xs ys (suc z)) i ks e = fit (joined i ks e) p in
-          anew i ks (group-id o xs ys a f z h l j q ∙ ap (λ (g : Group). entryOf g .id) p ∙ w .made-id)
+          let s = table-same o xs ys a f (suc z) (omega arith) (omega arith) .each i (w .place) .num in
+          let n = group-num o xs ys a f z h l j q ∙ ap (λ (g : Group). entryOf g .num) p in
+          let b = w .beyond in
+          anew i ks (group-id o xs ys a f z h l j q ∙ ap (λ (g : Group). entryOf g .id) p ∙ w .made-id) (omega arith) (w .has)
           (w .kids ∙ ap (λ (r : List ℕ). keep (λ k. eqb (entry (tableAt o xs ys (suc z)) k .parent) (clusterId (length xs) z i)) r) (near-build z h l i (w .place)))
           (lamps-joined o xs ys z l j i ks e p)
 
@@ -92,7 +96,7 @@ module _ (o : Options) (xs ys : List Float) (a : Accepted o xs ys) (f : Fitting 
           ((i : ℕ) → i < length (tableAt o xs ys (suc z)) → entry (tableAt o xs ys (suc z)) i .id < length xs → lampsOf o xs ys (suc z) i ≡ entry (tableAt o xs ys (suc z)) i .id ∷ []) →
           From z j → lampsOf o xs ys z j ≡ entry (tableAt o xs ys z) j .id ∷ []
       by z j b ih (again k q e s) = s ∙ ih k q (omega arith) ∙ ap (λ (i : ℕ). i ∷ []) (sym e)
-      by z j b ih (anew i ks e c s) = absurd (let w = id-from (length xs) z i in omega arith)
+      by z j b ih (anew i ks e m w c s) = absurd (let w = id-from (length xs) z i in omega arith)
 
   -- an entry that counts one is a lamp
   pub one-lamp : (z : ℕ) → o .«min_zoom» ≤ z → z ≤ o .«max_zoom» + 1 → (j : ℕ) → j < length (tableAt o xs ys z) → entry (tableAt o xs ys z) j .num ≡ 1 → entry (tableAt o xs ys z) j .id < length xs
@@ -131,7 +135,7 @@ module _ (o : Options) (xs ys : List Float) (a : Accepted o xs ys) (f : Fitting 
           ((j : ℕ) → j < length (tableAt o xs ys (suc v)) → entry (tableAt o xs ys (suc v)) j .id ≡ entry (tableAt o xs ys w) k .id → lampsOf o xs ys (suc v) j ≡ lampsOf o xs ys w k) →
           (j : ℕ) → entry (tableAt o xs ys v) j .id ≡ entry (tableAt o xs ys w) k .id → From v j → lampsOf o xs ys v j ≡ lampsOf o xs ys w k
       by v r s ih j e (again i p d t) = t ∙ ih i p (sym d ∙ e)
-      by v r s ih j e (anew i ks d c t) = absurd (not-yet v w i k s (omega arith) m q (sym e ∙ d))
+      by v r s ih j e (anew i ks d u y c t) = absurd (not-yet v w i k s (omega arith) m q (sym e ∙ d))
 
   -- entries of any two tables with the same id have the same lamps
   pub lamps-same : (z w : ℕ) → o .«min_zoom» ≤ z → z ≤ o .«max_zoom» + 1 → o .«min_zoom» ≤ w → w ≤ o .«max_zoom» + 1 → (j k : ℕ) → j < length (tableAt o xs ys z) → k < length (tableAt o xs ys w) →
@@ -147,23 +151,55 @@ module _ (o : Options) (xs ys : List Float) (a : Accepted o xs ys) (f : Fitting 
   members-made z i h =
       ap₂ (λ (t v : ℕ). keep (λ k. eqb (entry (tableAt o xs ys t) k .parent) (clusterId (length xs) z i)) (answersAt o xs ys t v)) (id-table-suc (length xs) z i h) (id-origin (length xs) z i h)
 
-  -- the lamps of a cluster: those of its members
-  pub lamps-of-cluster : (z : ℕ) → o .«min_zoom» ≤ z → z ≤ o .«max_zoom» + 1 → (j : ℕ) → j < length (tableAt o xs ys z) → length xs ≤ entry (tableAt o xs ys z) j .id →
-      lampsOf o xs ys z j ≡ gather (λ k. lampsOf o xs ys (tableOf (length xs) (entry (tableAt o xs ys z) j .id)) k) (membersOf o xs ys (entry (tableAt o xs ys z) j .id))
-  lamps-of-cluster =
-      down (λ z. (j : ℕ) → j < length (tableAt o xs ys z) → length xs ≤ entry (tableAt o xs ys z) j .id → lampsOf o xs ys z j ≡ those (entry (tableAt o xs ys z) j .id)) (o .«min_zoom») (o .«max_zoom» + 1)
-      (λ j q b. absurd (let n = first-long o xs ys a f in let e = first-id o xs ys a f j q in omega arith))
-      (λ z h k ih j q b. by z (omega arith) j b ih (from-by z h (omega arith) j q))
-    where
-      those : ℕ → List ℕ
-      those id = gather (λ k. lampsOf o xs ys (tableOf (length xs) id) k) (membersOf o xs ys id)
+  -- the num of the origin of the cluster id
+  abbrev originNum : ℕ → ℕ
+  originNum id = entry (tableAt o xs ys (tableOf (length xs) id)) (originOf (length xs) id) .num
 
-      by : (z : ℕ) → z ≤ o .«max_zoom» → (j : ℕ) → length xs ≤ entry (tableAt o xs ys z) j .id →
-          ((i : ℕ) → i < length (tableAt o xs ys (suc z)) → length xs ≤ entry (tableAt o xs ys (suc z)) i .id → lampsOf o xs ys (suc z) i ≡ those (entry (tableAt o xs ys (suc z)) i .id)) →
-          From z j → lampsOf o xs ys z j ≡ those (entry (tableAt o xs ys z) j .id)
-      by z l j b ih (again k q e s) = s ∙ ih k q (omega arith) ∙ ap those (sym e)
-      by z l j b ih (anew i ks e c s) =
+  -- the cluster id with the lamps ls: they are those of its members, its origin is one of these, and has fewer lamps
+  pub record Clustered (id : ℕ) (ls : List ℕ) : Type 0 where
+    pub lamps : ls ≡ gather (λ k. lampsOf o xs ys (tableOf (length xs) id) k) (membersOf o xs ys id)
+    pub has : count (originOf (length xs) id) (membersOf o xs ys id) ≡ 1
+    pub beyond : entry (tableAt o xs ys (tableOf (length xs) id)) (originOf (length xs) id) .num < length ls
+
+  -- a cluster that the zoom z made
+  clustered-made : (z i : ℕ) (ks ls : List ℕ) → z ≤ 30 → membersOf o xs ys (clusterId (length xs) z i) ≡ ks → count i ks ≡ 1 → ls ≡ gather (λ k. lampsOf o xs ys (suc z) k) ks →
+      entry (tableAt o xs ys (suc z)) i .num < length ls → Clustered (clusterId (length xs) z i) ls
+  clustered-made z i ks ls t v c s m =
+      let id = clusterId (length xs) z i in
+      let w : tableOf (length xs) id ≡ suc z = id-table-suc (length xs) z i t in
+      let x : originOf (length xs) id ≡ i = id-origin (length xs) z i t in
+      let n : originNum id ≡ entry (tableAt o xs ys (suc z)) i .num = ap₂ (λ (u y : ℕ). entry (tableAt o xs ys u) y .num) w x in
+      record {
+        lamps = s ∙ sym (ap₂ (λ (u : ℕ) (r : List ℕ). gather (λ k. lampsOf o xs ys u k) r) w v);
+        has = ap₂ (λ (u : ℕ) (r : List ℕ). count u r) x v ∙ c;
+        beyond = omega arith;
+      }
+
+  -- each cluster of each table
+  pub clustered : (z : ℕ) → o .«min_zoom» ≤ z → z ≤ o .«max_zoom» + 1 → (j : ℕ) → j < length (tableAt o xs ys z) → length xs ≤ entry (tableAt o xs ys z) j .id →
+      Clustered (entry (tableAt o xs ys z) j .id) (lampsOf o xs ys z j)
+  clustered =
+      down (λ z. (j : ℕ) → j < length (tableAt o xs ys z) → length xs ≤ entry (tableAt o xs ys z) j .id → Clustered (entry (tableAt o xs ys z) j .id) (lampsOf o xs ys z j)) (o .«min_zoom») (o .«max_zoom» + 1)
+      (λ j q b. absurd (let n = first-long o xs ys a f in let e = first-id o xs ys a f j q in omega arith))
+      (λ z h k ih j q b. by z h (omega arith) j q b ih (from-by z h (omega arith) j q))
+    where
+      by : (z : ℕ) → o .«min_zoom» ≤ z → z ≤ o .«max_zoom» → (j : ℕ) → j < length (tableAt o xs ys z) → length xs ≤ entry (tableAt o xs ys z) j .id →
+          ((i : ℕ) → i < length (tableAt o xs ys (suc z)) → length xs ≤ entry (tableAt o xs ys (suc z)) i .id → Clustered (entry (tableAt o xs ys (suc z)) i .id) (lampsOf o xs ys (suc z) i)) →
+          From z j → Clustered (entry (tableAt o xs ys z) j .id) (lampsOf o xs ys z j)
+      by z h l j q b ih (again k p e s) =
+          subst (λ (id : ℕ). Clustered id (lampsOf o xs ys z j)) (sym e) (subst (λ (ls : List ℕ). Clustered (entry (tableAt o xs ys (suc z)) k .id) ls) (sym s) (ih k p (omega arith)))
+      by z h l j q b ih (anew i ks e m w c s) =
           let t = high in
-          let w : tableOf (length xs) (clusterId (length xs) z i) ≡ suc z = id-table-suc (length xs) z i (omega arith) in
-          let v : membersOf o xs ys (clusterId (length xs) z i) ≡ ks = members-made z i (omega arith) ∙ sym c in
-          s ∙ sym (ap those e ∙ ap₂ (λ (u : ℕ) (r : List ℕ). gather (λ k. lampsOf o xs ys u k) r) w v)
+          let n = lamps-long o xs ys a f z h (omega arith) j q in
+          subst (λ (id : ℕ). Clustered id (lampsOf o xs ys z j)) (sym e)
+          (clustered-made z i ks (lampsOf o xs ys z j) (omega arith) (members-made z i (omega arith) ∙ sym c) w s (omega arith))
+
+  -- the members of the cluster of a group are the group's, in its order
+  pub members-are : (z : ℕ) → o .«min_zoom» ≤ z → z ≤ o .«max_zoom» → (j i : ℕ) (ks : List ℕ) (e : Entry) → j < length (tableAt o xs ys z) → groupAt (groupsBy o xs ys z) j ≡ joined i ks e →
+      membersOf o xs ys (e .id) ≡ ks
+  members-are z h l j i ks e q p =
+      let t = high in
+      let w : Joined (length xs) (o .«min_points») z (nearBy o xs ys z) (came o xs ys (suc z)) (tableAt o xs ys (suc z)) i ks e =
+      subst (λ (g : Group). FitsBy z g) p (group-fits o xs ys a f z h l j q) in
+      ap (membersOf o xs ys) (w .made-id) ∙ members-made z i (omega arith)
+      ∙ sym (w .kids ∙ ap (λ (r : List ℕ). keep (λ k. eqb (entry (tableAt o xs ys (suc z)) k .parent) (clusterId (length xs) z i)) r) (near-build z h l i (w .place)))
