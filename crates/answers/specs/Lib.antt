@@ -2,3 +2,4 @@
 pub mod Stored
 pub mod Children
 pub mod Clusters
+pub mod Page
