@@ -100,7 +100,7 @@ module _ (o : Options) (xs ys : List Float) (a : Accepted o xs ys) (l : Lent) (r
         ∙ ap (λ (v : ℕ). places (slotsOf (o .«node_size») (built o xs ys t) .ids) (walk Q (o .«node_size») v (slotsOf (o .«node_size») (built o xs ys t) .co))) n
         ∙ rw (promised .ok, fine)
 
-    around-below : AllBelow (length (built o xs ys t)) (answersAt o xs ys t i)
+    pub around-below : AllBelow (length (built o xs ys t)) (answersAt o xs ys t i)
     around-below = promised .below Q
 
     -- none is past the table

@@ -141,7 +141,7 @@ module _ (o : Options) (xs ys : List Float) (a : Accepted o xs ys) (l : Lent) (r
         by (x ∷ []) e = absurd (not-sole x e)
         by (x ∷ y ∷ ks) e = omega arith
 
-    not-childless : childless (stateBy o xs ys) (columnsBy o xs ys l) (entry (built o xs ys z) j .id) T I ≡ false
+    pub not-childless : childless (stateBy o xs ys) (columnsBy o xs ys l) (entry (built o xs ys z) j .id) T I ≡ false
     not-childless =
         let n = two-members in
         let e = ap length kids-are in

@@ -3,3 +3,4 @@ pub mod Stored
 pub mod Children
 pub mod Clusters
 pub mod Page
+pub mod Walks

@@ -1,0 +1,219 @@
+-- A walk over the lamps of a cluster of an accepted build, whatever is said of what it skips and lists: what holds of no lamps, of lamps that are skipped, of one
+-- that is listed, and of some lamps and then more, holds of the whole walk over the cluster's lamps, in their order. Assumes nothing.
+use mathlib.Core.Path.{_≡_, refl, ap, ap₂, sym, _∙_, subst}
+use mathlib.Core.Logic.{⊎-elim, inl, inr}
+use mathlib.Core.Bool.{Bool, true, false, cond}
+use mathlib.Core.List.{List, [], _∷_, _++_, map}
+use Prim.Native.Nat.{ℕ, zero, suc, _+_, _-_, _<_, _≤_}
+use native.Mathlib.Omega.{arith}
+use borrow.Author.Tests.{lt-ltb, le-ltb, le-leb, lt-leb, eq-eqb, ne-eqb, eqb-true, eqb-false}
+use lib.Dec.{leb, ltb, eqb}
+use lib.ListN.{length, length-append}
+use lib.Ieee.{Float}
+use Rattle.kdbush.specs.All.{All, AllBelow}
+use Rattle.tables.specs.declared.Entry.{Entry}
+use Rattle.tables.specs.declared.Options.{Options}
+use Rattle.tables.specs.declared.State.{State}
+use Rattle.tables.specs.Bounds.{options-are}
+use Rattle.tables.specs.Entries.{Table, entry}
+use Rattle.tables.specs.Ids.{originOf, tableOf}
+use Rattle.zoom.specs.Keeps.{all-at}
+use Rattle.zoom.specs.Sound.{Body}
+use Rattle.groups.specs.Sums.{below, put, keep}
+use Rattle.asking.specs.Columns.{Columns, roomOf, tableAt}
+use Rattle.asking.specs.Ids.{onward}
+use Rattle.asking.specs.declared.Target.{Target}
+use Rattle.asking.specs.declared.Target.the-variants.{At}
+use Rattle.kids.specs.Kids.{kidsAt, cleanAt}
+use Rattle.walks.specs.Leaves.{Trip, went, enter, visit, after, steps, walk, lamps}
+use Rattle.supercluster.specs.Build.{Lent, need}
+use Rattle.supercluster.specs.Load.{Holds}
+use Rattle.supercluster.specs.Ready.{Accepted}
+use Rattle.builds.specs.Came.{tableAt as built}
+use Rattle.builds.specs.Fitting.{Fitting}
+use Rattle.builds.specs.Identities.{Known, identities}
+use Rattle.builds.specs.RightAt.{right-at}
+use Rattle.supercluster.specs.Right.{Right}
+use Rattle.lamps.specs.Owner.{gather, lampsOf, membersOf}
+use Rattle.lamps.specs.Owners.{lamps-long}
+use Rattle.lamps.specs.Copies.{Clustered, clustered, lamps-of-lamp}
+use Rattle.answers.specs.Stored.{stateBy, columnsBy, table-is}
+use Rattle.answers.specs.Children.{around-below}
+use Rattle.answers.specs.Clusters.{above, top, inside, onward-is, no-spoiled-slot, kids-are, two-members}
+
+all-keep : (P : ℕ → Type 0) (p : ℕ → Bool) (ks : List ℕ) → All P ks → All P (keep p ks)
+unfolding All
+all-keep P p [] w = tt
+all-keep P p (k ∷ ks) w = go (p k) (all-keep P p ks (w .1))
+  where
+    go : (b : Bool) → All P (keep p ks) → All P (put b k (keep p ks))
+    go true v = (w .0, v)
+    go false v = v
+
+-- what is said of a walk that has skipped n lamps and listed out, may go on where G says, and comes to t after the lamps ls: R n out ls t
+pub record Rules (limit offset : ℕ) (G : ℕ → List ℕ → Type 0) (R : ℕ → List ℕ → List ℕ → Trip (List ℕ) → Type 0) : Type 0 where
+  -- it does not break
+  pub whole : (n : ℕ) (out ls : List ℕ) (t : Trip (List ℕ)) → R n out ls t → (m : ℕ) × (p : List ℕ) × (t ≡ went m p)
+  -- no lamps, lamps that are skipped, one that is listed
+  pub none : (n : ℕ) (out : List ℕ) → G n out → R n out [] (went n out)
+  pub skip : (n : ℕ) (out ls : List ℕ) → G n out → 1 ≤ length ls → n + length ls ≤ offset → R n out ls (went (n + length ls) out)
+  pub list : (n : ℕ) (out : List ℕ) (id : ℕ) → G n out → offset ≤ n → R n out (id ∷ []) (went n (out ++ (id ∷ [])))
+  -- some, and then more: the walk stops where the limit is reached, otherwise it goes on
+  pub stop : (n : ℕ) (out ls ms : List ℕ) (m : ℕ) (p : List ℕ) → G n out → 1 ≤ length ls → R n out ls (went m p) → length p ≡ limit → R n out (ls ++ ms) (went m p)
+  pub go : (n : ℕ) (out ls : List ℕ) (m : ℕ) (p : List ℕ) → G n out → 1 ≤ length ls → R n out ls (went m p) → (length p ≡ limit → ⊥) → G m p × (length p ≤ length out + length ls)
+  pub more : (n : ℕ) (out ls ms : List ℕ) (m : ℕ) (p : List ℕ) (t : Trip (List ℕ)) → G n out → 1 ≤ length ls → R n out ls (went m p) → (length p ≡ limit → ⊥) → R m p ms t → R n out (ls ++ ms) t
+
+module _ (o : Options) (xs ys : List Float) (a : Accepted o xs ys) (l : Lent) (r : Holds (need o (length xs)) l) (f : Fitting (o .«coordinate_system») xs ys) (limit offset : ℕ)
+    (G : ℕ → List ℕ → Type 0) (R : ℕ → List ℕ → List ℕ → Trip (List ℕ) → Type 0) (rules : Rules limit offset G R) where
+  abbrev S : State
+  S = stateBy o xs ys
+
+  abbrev C : Columns
+  C = columnsBy o xs ys l
+
+  -- a walk into the cluster at j of table z, in a definition that may go g tables on
+  abbrev walkInto : ℕ → ℕ → ℕ → ℕ → List ℕ → Trip (List ℕ)
+  walkInto g z j n out =
+      let id = entry (built o xs ys z) j .id in
+      walk lamps (stateBy o xs ys) (columnsBy o xs ys l) limit offset g id (tableOf (length xs) id) (originOf (length xs) id) n out
+
+  abbrev Walks : ℕ → Type 0
+  Walks g =
+      (z j : ℕ) → o .«min_zoom» ≤ z → z ≤ o .«max_zoom» + 1 → j < length (built o xs ys z) → length xs ≤ entry (built o xs ys z) j .id → 32 ≤ g + tableOf (length xs) (entry (built o xs ys z) j .id) →
+      (n : ℕ) (out : List ℕ) → G n out → length out + length (lampsOf o xs ys z j) ≤ length xs → R n out (lampsOf o xs ys z j) (walkInto g z j n out)
+
+  -- ---- one child: the entry at j of table z
+
+  module _ (g z j : ℕ) (ih : Walks g) (h : o .«min_zoom» ≤ z) (k : z ≤ o .«max_zoom» + 1) (q : j < length (built o xs ys z)) (deep : 32 ≤ g + suc z) (n : ℕ) (out : List ℕ) (ok : G n out)
+      (room : length out + length (lampsOf o xs ys z j) ≤ length xs) where
+    abbrev E : Entry
+    E = entry (built o xs ys z) j
+
+    abbrev visited : Trip (List ℕ)
+    visited = visit lamps (stateBy o xs ys) (columnsBy o xs ys l) limit offset (walk lamps (stateBy o xs ys) (columnsBy o xs ys l) limit offset g) z (entry (built o xs ys z) j) n out
+
+    abbrev Visits : Type 0
+    Visits = R n out (lampsOf o xs ys z j) visited
+
+    long : entry (built o xs ys z) j .num ≡ length (lampsOf o xs ys z j)
+    long = lamps-long o xs ys a f z h k j q
+
+    by-trip : (t : Trip (List ℕ)) (ls : List ℕ) → visited ≡ t → lampsOf o xs ys z j ≡ ls → R n out ls t → Visits
+    by-trip t ls e d w = subst (λ (x : Trip (List ℕ)). R n out (lampsOf o xs ys z j) x) (sym e) (subst (λ (x : List ℕ). R n out x t) (sym d) w)
+
+    lamp-visit : entry (built o xs ys z) j .id < length xs → entry (built o xs ys z) j .num ≡ 1 → Visits
+    unfolding visit
+    lamp-visit b one = ⊎-elim skipped there (below n offset)
+      where
+        is : lampsOf o xs ys z j ≡ entry (built o xs ys z) j .id ∷ []
+        is = lamps-of-lamp o xs ys a f z h k j q b
+
+        skipped : n < offset → Visits
+        skipped w = by-trip (went (n + 1) out) (E .id ∷ []) (rw (one, lt-ltb n offset w)) is (rules .skip n out (E .id ∷ []) ok (omega arith) (omega arith))
+
+        there : offset ≤ n → Visits
+        there w =
+            let lr : length out < length xs = (let m = ap length is in omega arith) in
+            by-trip (went n (out ++ (E .id ∷ []))) (E .id ∷ []) (rw (one, le-ltb n offset w, lt-ltb (length out) (length xs) lr)) is (rules .list n out (E .id) ok w)
+
+    cluster-visit : length xs ≤ entry (built o xs ys z) j .id → 2 ≤ entry (built o xs ys z) j .num → Visits
+    unfolding visit
+    cluster-visit b many = ⊎-elim (λ w. entered w) (λ w. skipped w) (below offset (n + E .num))
+      where
+        skipped : n + entry (built o xs ys z) j .num ≤ offset → Visits
+        skipped w =
+            by-trip (went (n + length (lampsOf o xs ys z j)) out) (lampsOf o xs ys z j)
+            (rw (lt-ltb 1 (E .num) (omega arith), le-leb (n + E .num) offset w) (ap (λ (m : ℕ). went (n + m) out) long))
+            refl (let e = long in rules .skip n out (lampsOf o xs ys z j) ok (omega arith) (omega arith))
+
+        entered : offset < n + entry (built o xs ys z) j .num → Visits
+        entered w =
+            by-trip (walkInto g z j n out) (lampsOf o xs ys z j)
+            (rw (lt-ltb 1 (E .num) (omega arith), lt-leb (n + E .num) offset w)
+            (ap (λ (t : Target). enter (walk lamps S C limit offset g) t (E .id) n out) (onward-is o xs ys a l r f z j h k q b z (omega arith))))
+            refl (ih z j h k q b (let t = above o xs ys a l r f z j h k q b in omega arith) n out ok room)
+
+    visit-is : Visits
+    visit-is = by (identities o xs ys a f z h k j q)
+      where
+        by : Known o xs ys z (entry (built o xs ys z) j) → Visits
+        by (inl w) = lamp-visit (w .below) (w .num)
+        by (inr w) = cluster-visit (w .above) (w .many)
+
+    -- it has a lamp
+    some : 1 ≤ length (lampsOf o xs ys z j)
+    some = let e = long in let w = all-at Body (built o xs ys z) j (right-at o xs ys a z h k .unit) q .2 in omega arith
+
+  -- ---- the children of a cluster one after the other
+
+  abbrev stepsOver : ℕ → ℕ → List ℕ → ℕ → List ℕ → Trip (List ℕ)
+  stepsOver g t ks n out =
+      steps lamps (stateBy o xs ys) (columnsBy o xs ys l) limit offset (walk lamps (stateBy o xs ys) (columnsBy o xs ys l) limit offset g) t true (map (entry (built o xs ys t)) ks) n out
+
+  steps-are : (g t : ℕ) → Walks g → o .«min_zoom» ≤ t → t ≤ o .«max_zoom» + 1 → 32 ≤ g + suc t → (ks : List ℕ) → AllBelow (length (built o xs ys t)) ks → (n : ℕ) (out : List ℕ) → G n out →
+      length out + length (gather (λ k. lampsOf o xs ys t k) ks) ≤ length xs → R n out (gather (λ k. lampsOf o xs ys t k) ks) (stepsOver g t ks n out)
+  unfolding steps All
+  steps-are g t ih h k deep [] w n out ok room = rules .none n out ok
+  steps-are g t ih h k deep (j ∷ ks) w n out ok room =
+      let d = length-append L M in
+      let v = visit-is g t j ih h k (w .0) deep n out ok (omega arith) in
+      let s = some g t j ih h k (w .0) deep n out ok (omega arith) in
+      let x = rules .whole n out L X v in
+      subst (λ (y : Trip (List ℕ)). R n out (L ++ M) (after lamps S C limit offset y (λ m p. stepsOver g t ks m p))) (sym (x .2))
+      (on (x .0) (x .1) s (subst (λ (y : Trip (List ℕ)). R n out L y) (x .2) v) (eqb (length (x .1)) limit) refl (λ c e. steps-are g t ih h k deep ks (w .1) (x .0) (x .1) c e))
+    where
+      L : List ℕ
+      L = lampsOf o xs ys t j
+
+      M : List ℕ
+      M = gather (λ k. lampsOf o xs ys t k) ks
+
+      X : Trip (List ℕ)
+      X = visit lamps S C limit offset (walk lamps S C limit offset g) t (entry (built o xs ys t) j) n out
+
+      on : (m : ℕ) (p : List ℕ) → 1 ≤ length L → R n out L (went m p) → (b : Bool) → eqb (length p) limit ≡ b → (G m p → length p + length M ≤ length xs → R m p M (stepsOver g t ks m p))
+          → R n out (L ++ M) (cond b (went m p) (stepsOver g t ks m p))
+      on m p s v true e rec = rules .stop n out L M m p ok s v (eqb-true _ _ e)
+      on m p s v false e rec =
+          let c = rules .go n out L m p ok s v (eqb-false _ _ e) in
+          let d = length-append L M in
+          rules .more n out L M m p (stepsOver g t ks m p) ok s v (eqb-false _ _ e) (rec (c .0) (let u = c .1 in omega arith))
+
+  -- ---- a walk
+
+  pub walks : (g : ℕ) → Walks g
+  unfolding walk
+  walks zero z j h k q b deep n out ok room = absurd (let t = top o xs ys a l r f z j h k q b in let m = options-are o (a .options) .zoom-to in omega arith)
+  walks (suc g) z j h k q b deep n out ok room =
+      subst (λ (x : Trip (List ℕ)). R n out (lampsOf o xs ys z j) x) (sym opened)
+      (subst (λ (x : List ℕ). R n out x (stepsOver g T (membersOf o xs ys Id) n out)) (sym is)
+      (steps-are g T (walks g) low up (omega arith) (membersOf o xs ys Id) within n out ok (let e = ap length is in omega arith)))
+    where
+      Id : ℕ
+      Id = entry (built o xs ys z) j .id
+
+      T : ℕ
+      T = tableOf (length xs) Id
+
+      I : ℕ
+      I = originOf (length xs) Id
+
+      low : o .«min_zoom» ≤ T
+      low = let t = above o xs ys a l r f z j h k q b in omega arith
+
+      up : T ≤ o .«max_zoom» + 1
+      up = top o xs ys a l r f z j h k q b
+
+      is : lampsOf o xs ys z j ≡ gather (λ i. lampsOf o xs ys T i) (membersOf o xs ys Id)
+      is = clustered o xs ys a f z h k j q b .lamps
+
+      within : AllBelow (length (built o xs ys T)) (membersOf o xs ys Id)
+      within =
+          all-keep (λ (i : ℕ). i < length (built o xs ys T)) _ _
+          (around-below o xs ys a l r T I (let t = above o xs ys a l r f z j h k q b in omega arith) up (inside o xs ys a l r f z j h k q b))
+
+      opened : walkInto (suc g) z j n out ≡ stepsOver g T (membersOf o xs ys Id) n out
+      opened =
+          rw (ne-eqb (length (kidsAt S C Id T I)) 0 (λ e. let w = two-members o xs ys a l r f z j h k q b in let v = ap length (kids-are o xs ys a l r f z j h k q b) in omega arith))
+          (ap (λ (c : Bool). steps lamps S C limit offset (walk lamps S C limit offset g) T c (map (entry (tableAt S C T)) (kidsAt S C Id T I)) n out) (no-spoiled-slot o xs ys a l r f z j h k q b)
+          ∙ ap₂ (λ (t : Table) (ks : List ℕ). steps lamps S C limit offset (walk lamps S C limit offset g) T true (map (entry t) ks) n out) (table-is o xs ys a l r T low up) (kids-are o xs ys a l r f z j h k q b))
