@@ -41,7 +41,8 @@ use Rattle.answers.specs.Stored.{stateBy, columnsBy, table-is}
 use Rattle.answers.specs.Children.{around-below}
 use Rattle.answers.specs.Clusters.{above, top, inside, onward-is, no-spoiled-slot, kids-are, two-members}
 
-all-keep : (P : ℕ → Type 0) (p : ℕ → Bool) (ks : List ℕ) → All P ks → All P (keep p ks)
+-- what is kept of a list has what each of the list has, and passes the test
+pub all-keep : (P : ℕ → Type 0) (p : ℕ → Bool) (ks : List ℕ) → All P ks → All P (keep p ks)
 unfolding All
 all-keep P p [] w = tt
 all-keep P p (k ∷ ks) w = go (p k) (all-keep P p ks (w .1))
@@ -49,6 +50,15 @@ all-keep P p (k ∷ ks) w = go (p k) (all-keep P p ks (w .1))
     go : (b : Bool) → All P (keep p ks) → All P (put b k (keep p ks))
     go true v = (w .0, v)
     go false v = v
+
+pub keep-passes : (p : ℕ → Bool) (ks : List ℕ) → All (λ k. p k ≡ true) (keep p ks)
+unfolding All
+keep-passes p [] = tt
+keep-passes p (k ∷ ks) = go (p k) refl (keep-passes p ks)
+  where
+    go : (b : Bool) → p k ≡ b → All (λ k. p k ≡ true) (keep p ks) → All (λ k. p k ≡ true) (put b k (keep p ks))
+    go true e v = (e, v)
+    go false e v = v
 
 -- what is said of a walk that has skipped n lamps and listed out, may go on where G says, and comes to t after the lamps ls: R n out ls t
 pub record Rules (limit offset : ℕ) (G : ℕ → List ℕ → Type 0) (R : ℕ → List ℕ → List ℕ → Trip (List ℕ) → Type 0) : Type 0 where

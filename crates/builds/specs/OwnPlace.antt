@@ -26,7 +26,7 @@ use Rattle.supercluster.specs.Running.{table-inside}
 use Rattle.builds.specs.Fitting.{Held, Fits64}
 
 -- an index of points from 0 to 1 is one
-index-of : (size : ℕ) (xs ys : List Float) → 1 ≤ size → 1 ≤ length xs → Inside xs ys → Index size xs ys (blank (length xs)) (indexOf size xs ys)
+pub index-of : (size : ℕ) (xs ys : List Float) → 1 ≤ size → 1 ≤ length xs → Inside xs ys → Index size xs ys (blank (length xs)) (indexOf size xs ys)
 unfolding indexOf Points
 index-of size xs ys n1 some inside =
     let a = length-replicate {A = ℕ} (length xs) 0 in

@@ -1,0 +1,305 @@
+-- Of a build that is accepted, in columns that hold it, what a box and a ring answer: a Cartesian box lists exactly the entries between its normalised corners,
+-- each once; so does a box of longitudes between the edges after the rule, and each half of one that is split. A ring lists entries that pass the distance test,
+-- each once, and every one that passes it inside the four rounded edges. Nothing is asked but that the numbers of the question are taken (any other is 01's 9), and
+-- neither is ever refused 11. Assumes nothing.
+use mathlib.Core.Path.{_≡_, refl, ap, ap₂, sym, _∙_, subst}
+use mathlib.Core.Bool.{Bool, true, false, cond, _&&_}
+use mathlib.Core.List.{List, _++_}
+use Prim.Native.Nat.{ℕ, zero, suc, _+_, _<_, _≤_}
+use native.Mathlib.Omega.{arith}
+use native.Mathlib.Nat.{le-refl}
+use borrow.Author.Tests.{leb-true, le-leb}
+use lib.Dec.{T, eqb, leb}
+use lib.ListN.{length, getD, length-map, List·getD-map}
+use lib.Ieee.{Float, nan, binary64, add, sub, mul, neg, le}
+use Rattle.floats.specs.Distance.{sqDist}
+use Rattle.floats.specs.Fraction.{is-true, yes-of}
+use Rattle.floats.specs.Unit.{In01}
+use Rattle.range.specs.declared.CoordinateSystem.{CoordinateSystem}
+use Rattle.range.specs.declared.CoordinateSystem.the-variants.{LatLng, Cartesian}
+use Rattle.range.specs.declared.DataRange.{DataRange}
+use Rattle.range.specs.Range.{normalized, mercatorX, converted}
+use Rattle.kdsort.specs.Cols.{cols}
+use Rattle.kdsort.specs.Indexes.{blank}
+use Rattle.kdsort.specs.Tree.{Index}
+use Rattle.kdbush.specs.declared.Query.{Query}
+use Rattle.kdbush.specs.declared.Query.the-variants.{Range, Within}
+use Rattle.kdbush.specs.Bounds.{and-both}
+use Rattle.kdbush.specs.Members.{In, Distinct}
+use Rattle.kdbush.specs.Query.{passesQ, queryOk}
+use Rattle.kdbush.specs.Reply.{countOk}
+use Rattle.tables.specs.declared.Entry.{Entry}
+use Rattle.tables.specs.declared.Options.{Options}
+use Rattle.tables.specs.declared.State.{State}
+use Rattle.tables.specs.Bounds.{options-are}
+use Rattle.tables.specs.Entries.{Table, entry, none, xsOf, ysOf}
+use Rattle.tables.specs.Options.{optionsOk, tableCount, zoomUsed}
+use Rattle.tables.specs.Sound.{tableOk, packed, stateOk, used-between}
+use Rattle.tables.specs.State.{lenOf}
+use Rattle.asking.specs.declared.Answer.the-variants.{Listed, NoRoom, Box, Spoiled}
+use Rattle.asking.specs.Answers.{answerNumber, fitted}
+use Rattle.asking.specs.Asked.{Asked, refused, told, answerOf}
+use Rattle.asking.specs.Columns.{indexRoom, roomOf, room-index, idsAt, coordsAt}
+use Rattle.boxes.specs.Inside.{Indexed, Passes, Exactly, Around, cartesian-box, longitude-box, split-box, ring-around}
+use Rattle.boxes.specs.Lists.{boxAsked, ringAsked}
+use Rattle.boxes.specs.Rule.{halfCircle, ruled, boxOk}
+use Rattle.supercluster.specs.Build.{Lent, need, slotsOf}
+use Rattle.supercluster.specs.Load.{Holds}
+use Rattle.supercluster.specs.Ready.{Accepted}
+use Rattle.supercluster.specs.Running.{table-inside}
+use Rattle.builds.specs.Came.{tableAt as built}
+use Rattle.builds.specs.OwnPlace.{index-of}
+use Rattle.builds.specs.RightAt.{right-at}
+use Rattle.answers.specs.Stored.{stateBy, columnsBy, long-is, state-sound, ids-are, coords-are}
+
+-- ---- a state that is sound over some room is sound over more
+
+packed-more : (s : State) (a b : ℕ) → a ≤ b → (k at : ℕ) → packed s a k at ≡ true → packed s b k at ≡ true
+unfolding packed
+packed-more s a b h zero at e = le-leb at b (omega (arith, leb-true at a e))
+packed-more s a b h (suc k) at e =
+    let z = s .options .«min_zoom» + k in
+    let w = and-both (tableOk s z at) (packed s a k (at + lenOf s z)) e in
+    rw (w .0, packed-more s a b h k (at + lenOf s z) (w .1))
+
+pub sound-more : (s : State) (a b : ℕ) → stateOk s a ≡ true → a ≤ b → stateOk s b ≡ true
+unfolding stateOk
+sound-more s a b e h =
+    let first = optionsOk (s .options) && countOk (s .count) && eqb (lenOf s (s .options .«max_zoom» + 1)) (s .count) in
+    let w = and-both first (packed s a (tableCount (s .options)) 0) e in
+    rw (w .0, packed-more s a b h (tableCount (s .options)) 0 (w .1))
+
+-- ---- what is said of an entry and of a list of places, over a table
+
+-- the entry lies between the edges: min <= coordinate <= max on both axes
+pub record Lies (w s e n : Float) (a : Entry) : Type 0 where
+  pub west : T (le w (a .x))
+  pub east : T (le (a .x) e)
+  pub south : T (le s (a .y))
+  pub north : T (le (a .y) n)
+
+-- the list has each entry of the table that lies between the edges, once, and no other; and each of them has x and y in [0,1]
+pub record Boxes (w s e n : Float) (t : Table) (l : List ℕ) : Type 0 where
+  pub inside : (p : ℕ) → In p l → (p < length t) × Lies w s e n (entry t p)
+  pub every : (p : ℕ) → p < length t → Lies w s e n (entry t p) → In p l
+  pub single : Distinct l
+  pub unit : (p : ℕ) → In p l → In01 (entry t p .x) × In01 (entry t p .y)
+
+-- the entry passes the distance test: the rounded squared distance is at most radius * radius
+abbrev pub Near : Float → Float → Float → Entry → Type 0
+Near x y r a = T (le (sqDist (a .x) (a .y) x y) (mul binary64 r r))
+
+-- each entry of the list passes the distance test, is in it once, and has x and y in [0,1]; each that passes it inside the four rounded edges is in it
+pub record Rings (x y r : Float) (t : Table) (l : List ℕ) : Type 0 where
+  pub inside : (p : ℕ) → In p l → (p < length t) × Near x y r (entry t p)
+  pub every : (p : ℕ) → p < length t → Near x y r (entry t p) → Lies (sub binary64 x r) (sub binary64 y r) (add binary64 x r) (add binary64 y r) (entry t p) → In p l
+  pub single : Distinct l
+  pub unit : (p : ℕ) → In p l → In01 (entry t p .x) × In01 (entry t p .y)
+
+-- ---- from the coordinates of a table to its entries
+
+module _ (t : Table) (p : ℕ) where
+  x-at : getD (xsOf t) p nan ≡ entry t p .x
+  x-at = List·getD-map (λ e. e .x) t p none
+
+  y-at : getD (ysOf t) p nan ≡ entry t p .y
+  y-at = List·getD-map (λ e. e .y) t p none
+
+  unit-at : In01 (getD (xsOf t) p nan) × In01 (getD (ysOf t) p nan) → In01 (entry t p .x) × In01 (entry t p .y)
+  unit-at u = (subst (λ (v : Float). In01 v) x-at (u .0), subst (λ (v : Float). In01 v) y-at (u .1))
+
+  -- what passes the test of a query passes it by the entry's own numbers
+  passes-at : (q : Query) → Passes q (xsOf t) (ysOf t) p → passesQ q (entry t p .x) (entry t p .y) ≡ true
+  passes-at q e = sym (ap₂ (passesQ q) x-at y-at) ∙ e
+
+  at-passes : (q : Query) → passesQ q (entry t p .x) (entry t p .y) ≡ true → Passes q (xsOf t) (ysOf t) p
+  at-passes q e = ap₂ (passesQ q) x-at y-at ∙ e
+
+module _ (w s e n : Float) (a : Entry) where
+  pub lies : passesQ (Range w s e n) (a .x) (a .y) ≡ true → Lies w s e n a
+  lies h =
+      let A = le w (a .x) in
+      let B = le (a .x) e in
+      let C = le s (a .y) in
+      let i = and-both (A && B && C) (le (a .y) n) h in
+      let j = and-both (A && B) C (i .0) in
+      let k = and-both A B (j .0) in
+      record { west = yes-of (k .0); east = yes-of (k .1); south = yes-of (j .1); north = yes-of (i .1) }
+
+  lies-passes : Lies w s e n a → passesQ (Range w s e n) (a .x) (a .y) ≡ true
+  lies-passes l = rw (is-true (le w (a .x)) (l .west), is-true (le (a .x) e) (l .east), is-true (le s (a .y)) (l .south), is-true (le (a .y) n) (l .north))
+
+pub boxes-of : (w s e n : Float) (t : Table) (m : ℕ) (l : List ℕ) → m ≡ length t → Exactly (Range w s e n) m (xsOf t) (ysOf t) l → Boxes w s e n t l
+boxes-of w s e n t m l h x =
+    record {
+      inside = λ p i. let q = x .inside p i in (omega (arith, q .0, h), lies w s e n (entry t p) (passes-at t p (Range w s e n) (q .1)));
+      every = λ p k i. x .every p (omega (arith, k, h)) (at-passes t p (Range w s e n) (lies-passes w s e n (entry t p) i));
+      single = x .single;
+      unit = λ p i. unit-at t p (x .unit p i);
+    }
+
+rings-of : (x y r : Float) (t : Table) (m : ℕ) (l : List ℕ) → m ≡ length t → Around x y r m (xsOf t) (ysOf t) l → Rings x y r t l
+rings-of x y r t m l h a =
+    record {
+      inside = λ p i. let q = a .inside p i in (omega (arith, q .0, h), yes-of (passes-at t p (Within x y r) (q .1)));
+      every = λ p k d i.
+          let ex = sym (x-at t p) in
+          let ey = sym (y-at t p) in
+          a .every p (omega (arith, k, h))
+          (record {
+            passes = at-passes t p (Within x y r) (is-true _ d);
+            west = subst (λ (v : Float). T (le (sub binary64 x r) v)) ex (i .west);
+            east = subst (λ (v : Float). T (le v (add binary64 x r))) ex (i .east);
+            south = subst (λ (v : Float). T (le (sub binary64 y r) v)) ey (i .south);
+            north = subst (λ (v : Float). T (le v (add binary64 y r))) ey (i .north);
+          });
+      single = a .single;
+      unit = λ p i. unit-at t p (a .unit p i);
+    }
+
+-- ---- the questions of a build
+
+-- a box and a ring, asked of the state that a build replies and the columns that it leaves
+abbrev pub boxBy : Options → List Float → List Float → Lent → ℕ → Float → Float → Float → Float → Asked
+boxBy o xs ys l zoom w s e n = boxAsked (stateBy o xs ys) (columnsBy o xs ys l .ids) (columnsBy o xs ys l .coords) zoom w s e n
+
+abbrev pub ringBy : Options → List Float → List Float → Lent → ℕ → Float → Float → Float → Asked
+ringBy o xs ys l zoom x y radius = ringAsked (stateBy o xs ys) (columnsBy o xs ys l .ids) (columnsBy o xs ys l .coords) zoom x y radius
+
+-- the table of the zoom used
+abbrev pub usedBy : Options → List Float → List Float → ℕ → Table
+usedBy o xs ys zoom = built o xs ys (zoomUsed o zoom)
+
+-- an answer that is told whole is not 11
+pub fits-somehow : (k room : ℕ) → fitted k room ≡ Spoiled → ⊥
+fits-somehow k room = go (leb k room)
+  where
+    go : (b : Bool) → cond b (Listed k) (NoRoom k) ≡ Spoiled → ⊥
+    go true e = omega (arith, ap answerNumber e)
+    go false e = omega (arith, ap answerNumber e)
+
+-- ---- of a build that is accepted
+
+module _ (o : Options) (xs ys : List Float) (a : Accepted o xs ys) where
+  abbrev size : ℕ
+  size = o .«node_size»
+
+  -- the zoom used is one of a table that is built
+  pub between : (zoom : ℕ) → (o .«min_zoom» ≤ zoomUsed o zoom) × (zoomUsed o zoom ≤ o .«max_zoom» + 1)
+  between zoom = used-between o zoom (options-are o (a .options) .zooms)
+
+  -- the index of a table is one of its entries' coordinates
+  pub slots-index : (z : ℕ) → o .«min_zoom» ≤ z → z ≤ o .«max_zoom» + 1
+      → Index (o .«node_size») (xsOf (built o xs ys z)) (ysOf (built o xs ys z)) (blank (length (xsOf (built o xs ys z)))) (slotsOf (o .«node_size») (built o xs ys z))
+  unfolding slotsOf
+  slots-index z h k =
+      let t = built o xs ys z in
+      let R = right-at o xs ys a z h k in
+      let some : 1 ≤ length (xsOf t) = omega (arith, R .some, length-map t (λ e. e .x)) in
+      index-of size (xsOf t) (ysOf t) (options-are o (a .options) .size-from) some (table-inside t (R .unit))
+
+  -- in columns that hold it
+  module _ (l : Lent) (r : Holds (need o (length xs)) l) where
+    -- the state passes the check over the two columns of the index
+    pub index-sound : stateOk (stateBy o xs ys) (indexRoom (columnsBy o xs ys l .ids) (columnsBy o xs ys l .coords)) ≡ true
+    index-sound =
+        let c = columnsBy o xs ys l in
+        sound-more (stateBy o xs ys) (roomOf c) (indexRoom (c .ids) (c .coords)) (state-sound o xs ys a l r) (room-index c (roomOf c) (le-refl (roomOf c)))
+
+    -- the table of each zoom stands in the columns with the index built from it
+    pub table-indexed : (z : ℕ) → o .«min_zoom» ≤ z → z ≤ o .«max_zoom» + 1
+        → Indexed (stateBy o xs ys) (columnsBy o xs ys l .ids) (columnsBy o xs ys l .coords) z (xsOf (built o xs ys z)) (ysOf (built o xs ys z))
+    table-indexed z h k =
+        let t = built o xs ys z in
+        let e : slotsOf size t ≡ cols (idsAt (stateBy o xs ys) (columnsBy o xs ys l .ids) z) (coordsAt (stateBy o xs ys) (columnsBy o xs ys l .coords) z) =
+        ap₂ cols (sym (ids-are o xs ys a l r z h k)) (sym (coords-are o xs ys a l r z h k)) in
+        record {
+          long = length-map t (λ e. e .x) ∙ sym (long-is o xs ys a z h k);
+          unit = table-inside t (right-at o xs ys a z h k .unit);
+          lent = blank (length (xsOf t));
+          index = subst (Index size (xsOf t) (ysOf t) (blank (length (xsOf t)))) e (slots-index z h k);
+        }
+
+    module _ (zoom : ℕ) where
+      indexed : Indexed (stateBy o xs ys) (columnsBy o xs ys l .ids) (columnsBy o xs ys l .coords) (zoomUsed o zoom) (xsOf (usedBy o xs ys zoom)) (ysOf (usedBy o xs ys zoom))
+      indexed = table-indexed (zoomUsed o zoom) (between zoom .0) (between zoom .1)
+
+      long : lenOf (stateBy o xs ys) (zoomUsed o zoom) ≡ length (usedBy o xs ys zoom)
+      long = long-is o xs ys a (zoomUsed o zoom) (between zoom .0) (between zoom .1)
+
+      module _ (w s e n : Float) where
+        module _ (fine : boxOk (o .«coordinate_system») w s e n ≡ true) where
+          -- Cartesian: exactly the entries between the normalised corners, each once
+          pub cartesian-listed : (d : DataRange) → o .«coordinate_system» ≡ Cartesian d
+              → (p : List ℕ) × (boxBy o xs ys l zoom w s e n ≡ told true p) × Boxes (normalized d w) (normalized d s) (normalized d e) (normalized d n) (usedBy o xs ys zoom) p
+          cartesian-listed d c =
+              let t = usedBy o xs ys zoom in
+              let x = cartesian-box (stateBy o xs ys) (columnsBy o xs ys l .ids) (columnsBy o xs ys l .coords) zoom (xsOf t) (ysOf t) index-sound indexed w s e n fine d c in
+              (x .0, x .1, boxes-of _ _ _ _ t _ (x .0) long (x .2))
+
+          -- longitudes: exactly the entries between the edges after the rule, each once
+          pub longitude-listed : o .«coordinate_system» ≡ LatLng → ruled w e .split ≡ false
+              → (p : List ℕ) × (boxBy o xs ys l zoom w s e n ≡ told true p) × Boxes (mercatorX (ruled w e .w)) s (mercatorX (ruled w e .e)) n (usedBy o xs ys zoom) p
+          unfolding converted
+          longitude-listed c f =
+              let t = usedBy o xs ys zoom in
+              let x = longitude-box (stateBy o xs ys) (columnsBy o xs ys l .ids) (columnsBy o xs ys l .coords) zoom (xsOf t) (ysOf t) index-sound indexed w s e n fine c f in
+              (x .0, x .1, boxes-of _ _ _ _ t _ (x .0) long (x .2))
+
+          -- or, where it is split, those of (w, 180) and then those of (-180, e), each half put through the rule again; in a half each entry is listed once
+          pub split-listed : o .«coordinate_system» ≡ LatLng → ruled w e .split ≡ true
+              → let one = ruled (ruled w e .w) halfCircle in
+              let two = ruled (neg halfCircle) (ruled w e .e) in
+              (p : List ℕ) × (q : List ℕ) × (boxBy o xs ys l zoom w s e n ≡ told true (p ++ q))
+              × Boxes (mercatorX (one .w)) s (mercatorX (one .e)) n (usedBy o xs ys zoom) p × Boxes (mercatorX (two .w)) s (mercatorX (two .e)) n (usedBy o xs ys zoom) q
+          unfolding converted
+          split-listed c f =
+              let t = usedBy o xs ys zoom in
+              let x = split-box (stateBy o xs ys) (columnsBy o xs ys l .ids) (columnsBy o xs ys l .coords) zoom (xsOf t) (ysOf t) index-sound indexed w s e n fine c f in
+              (x .0, x .1, x .2, boxes-of _ _ _ _ t _ (x .0) long (x .3), boxes-of _ _ _ _ t _ (x .1) long (x .4))
+
+          -- so every box that is taken is answered whole
+          pub box-told : (p : List ℕ) × (boxBy o xs ys l zoom w s e n ≡ told true p)
+          box-told = by (o .«coordinate_system») refl
+            where
+              split : (b : Bool) → ruled w e .split ≡ b → o .«coordinate_system» ≡ LatLng → (p : List ℕ) × (boxBy o xs ys l zoom w s e n ≡ told true p)
+              split true f c = let x = split-listed c f in (x .0 ++ x .1, x .2)
+              split false f c = let x = longitude-listed c f in (x .0, x .1)
+
+              by : (c : CoordinateSystem) → o .«coordinate_system» ≡ c → (p : List ℕ) × (boxBy o xs ys l zoom w s e n ≡ told true p)
+              by LatLng c = split (ruled w e .split) refl c
+              by (Cartesian d) c = let x = cartesian-listed d c in (x .0, x .1)
+
+        -- any other is 9
+        pub box-refused : boxOk (o .«coordinate_system») w s e n ≡ false → boxBy o xs ys l zoom w s e n ≡ refused Box
+        unfolding boxAsked
+        box-refused f = rw (index-sound, f)
+
+        -- no box is refused 11
+        pub box-not-spoiled : (room : ℕ) → answerOf (boxBy o xs ys l zoom w s e n) room ≡ Spoiled → ⊥
+        box-not-spoiled room = by (boxOk (o .«coordinate_system») w s e n) refl
+          where
+            by : (b : Bool) → boxOk (o .«coordinate_system») w s e n ≡ b → answerOf (boxBy o xs ys l zoom w s e n) room ≡ Spoiled → ⊥
+            by true f h = let x = box-told f in fits-somehow (length (x .0)) room (sym (ap (λ (q : Asked). answerOf q room) (x .1)) ∙ h)
+            by false f h = let x = sym (ap (λ (q : Asked). answerOf q room) (box-refused f)) ∙ h in omega (arith, ap answerNumber x)
+
+      module _ (x y radius : Float) where
+        -- a ring lists entries that pass the distance test, each once, and each that passes it inside the four rounded edges
+        pub ring-listed : queryOk (Within x y radius) ≡ true → (p : List ℕ) × (ringBy o xs ys l zoom x y radius ≡ told true p) × Rings x y radius (usedBy o xs ys zoom) p
+        ring-listed fine =
+            let t = usedBy o xs ys zoom in
+            let g = ring-around (stateBy o xs ys) (columnsBy o xs ys l .ids) (columnsBy o xs ys l .coords) zoom (xsOf t) (ysOf t) index-sound indexed x y radius fine in
+            (g .0, g .1, rings-of x y radius t _ (g .0) long (g .2))
+
+        -- any other is 9
+        pub ring-refused : queryOk (Within x y radius) ≡ false → ringBy o xs ys l zoom x y radius ≡ refused Box
+        unfolding ringAsked
+        ring-refused f = rw (index-sound, f)
+
+        -- no ring is refused 11
+        pub ring-not-spoiled : (room : ℕ) → answerOf (ringBy o xs ys l zoom x y radius) room ≡ Spoiled → ⊥
+        ring-not-spoiled room = by (queryOk (Within x y radius)) refl
+          where
+            by : (b : Bool) → queryOk (Within x y radius) ≡ b → answerOf (ringBy o xs ys l zoom x y radius) room ≡ Spoiled → ⊥
+            by true f h = let g = ring-listed f in fits-somehow (length (g .0)) room (sym (ap (λ (q : Asked). answerOf q room) (g .1)) ∙ h)
+            by false f h = let g = sym (ap (λ (q : Asked). answerOf q room) (ring-refused f)) ∙ h in omega (arith, ap answerNumber g)

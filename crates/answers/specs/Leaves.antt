@@ -1,0 +1,179 @@
+-- Of a build that is accepted and whose converted points are binary64 numbers, of each of its clusters: its leaves with a limit of 1 or more are its lamps after the
+-- first `offset`, up to the limit; with limit 0 they are all its lamps at offset 0, and none at a larger one. So a larger limit never changes what a smaller one of 1 or
+-- more listed. Assumes nothing.
+use mathlib.Core.Path.{_≡_, refl, ap, ap₂, sym, _∙_, subst}
+use mathlib.Core.Logic.{⊎-elim}
+use mathlib.Core.Bool.{Bool, true, false, cond}
+use mathlib.Core.List.{List, [], _∷_, _++_, append-nil, append-assoc}
+use Prim.Native.Nat.{ℕ, zero, suc, _+_, _-_, _<_, _≤_, min}
+use native.Mathlib.Omega.{arith}
+use lib.Dec.{eqb}
+use lib.ListN.{length, take, drop, length-append, drop-of-length-le}
+use lib.Seq.{take-nil, take-take}
+use lib.Ieee.{Float}
+use Rattle.tables.specs.declared.Options.{Options}
+use Rattle.tables.specs.declared.State.{State}
+use Rattle.tables.specs.Bounds.{options-are}
+use Rattle.tables.specs.Entries.{Table, entry}
+use Rattle.tables.specs.Ids.{originOf, tableOf}
+use Rattle.groups.specs.Sums.{one, sum, range}
+use Rattle.asking.specs.Asked.{Asked, told}
+use Rattle.asking.specs.Columns.{Columns, roomOf}
+use Rattle.asking.specs.declared.Target.{Target}
+use Rattle.walks.specs.Children.{atTarget}
+use Rattle.walks.specs.Leaves.{Trip, went, walk, lamps, listed, leavesAt, leavesOf}
+use Rattle.supercluster.specs.Build.{Lent, need}
+use Rattle.supercluster.specs.Load.{Holds}
+use Rattle.supercluster.specs.Ready.{Accepted}
+use Rattle.builds.specs.Came.{tableAt as built}
+use Rattle.builds.specs.Fitting.{Fitting}
+use Rattle.lamps.specs.Owner.{lampsOf, owner}
+use Rattle.lamps.specs.Owners.{lamps-long, num-owned}
+use Rattle.answers.specs.Stored.{stateBy, columnsBy}
+use Rattle.answers.specs.Clusters.{above, target-is, not-childless}
+use Rattle.answers.specs.Page.{skippedBy, listedBy, paged, Going, listed-most, paged-none, paged-more, paged-full, paged-going}
+use Rattle.answers.specs.Walks.{Rules, walks}
+
+-- ---- what a walk comes to, by its limit and offset
+
+-- two trips that went the same way
+same-n : (m n : ℕ) (p q : List ℕ) → went m p ≡ went n q → m ≡ n
+same-n m n p q e = cc e
+
+same-out : (m n : ℕ) (p q : List ℕ) → went m p ≡ went n q → p ≡ q
+same-out m n p q e = cc e
+
+-- a limit of 1 or more: the page
+module _ (limit offset : ℕ) where
+  abbrev Pages : ℕ → List ℕ → List ℕ → Trip (List ℕ) → Type 0
+  Pages n out ls t = t ≡ paged limit offset n out ls
+
+  skips : (n : ℕ) (out ls : List ℕ) → n + length ls ≤ offset → went (n + length ls) out ≡ paged limit offset n out ls
+  skips n out ls h =
+      let e : n + length ls ≡ skippedBy limit offset n ls = omega arith in
+      let d : drop (offset - n) ls ≡ [] = drop-of-length-le ls {i = offset - n} (omega arith) in
+      ap₂ went e (sym (ap (λ (q : List ℕ). out ++ take (limit - length out) q) d ∙ ap (λ (q : List ℕ). out ++ q) (take-nil (limit - length out)) ∙ append-nil out))
+
+  lists : (n : ℕ) (out : List ℕ) (id : ℕ) → Going limit offset n out → offset ≤ n → went n (out ++ (id ∷ [])) ≡ paged limit offset n out (id ∷ [])
+  lists n out id g h =
+      let v = g .few in
+      let u = g .most in
+      let e : n ≡ skippedBy limit offset n (id ∷ []) = omega arith in
+      let z : offset - n ≡ 0 = omega arith in
+      let m : limit - length out ≡ suc (limit - length out - 1) = omega arith in
+      ap₂ went e (sym (ap₂ (λ (p s : ℕ). out ++ take p (drop s (id ∷ []))) m z ∙ ap (λ (t : List ℕ). out ++ (id ∷ t)) (take-nil (limit - length out - 1))))
+
+  page-rules : Rules limit offset (Going limit offset) Pages
+  page-rules =
+      record {
+        whole = λ n out ls t e. (skippedBy limit offset n ls, listedBy limit offset n out ls, e);
+        none = λ n out g. sym (paged-none limit offset n out (g .most));
+        skip = λ n out ls g s h. skips n out ls h;
+        list = lists;
+        stop = λ n out ls ms m p g s e f. e ∙ paged-full limit offset n out ls ms g (ap length (sym (same-out _ _ _ _ e)) ∙ f);
+        go = λ n out ls m p g s e f. (
+          subst (λ (x : ℕ). Going limit offset x p) (sym (same-n _ _ _ _ e))
+              (subst (λ (x : List ℕ). Going limit offset (skippedBy limit offset n ls) x) (sym (same-out _ _ _ _ e))
+              (paged-going limit offset n out ls g (λ w. f (ap length (same-out _ _ _ _ e) ∙ w)))),
+          (let w = ap length (same-out _ _ _ _ e) in let v = listed-most limit offset n out ls in omega arith),
+        );
+        more = λ n out ls ms m p t g s e f w. w ∙ ap₂ (λ (x : ℕ) (y : List ℕ). paged limit offset x y ms) (same-n _ _ _ _ e) (same-out _ _ _ _ e) ∙ paged-more limit offset n out ls ms (g .most);
+      }
+
+-- limit 0 at offset 0: all
+abbrev AllOf : ℕ → List ℕ → List ℕ → Trip (List ℕ) → Type 0
+AllOf n out ls t = t ≡ went 0 (out ++ ls)
+
+all-rules : Rules 0 0 (λ n out. n ≡ 0) AllOf
+all-rules =
+    record {
+      whole = λ n out ls t e. (0, out ++ ls, e);
+      none = λ n out g. ap₂ went g (sym (append-nil out));
+      skip = λ n out ls g s h. absurd (omega arith);
+      list = λ n out id g h. ap (λ (x : ℕ). went x (out ++ (id ∷ []))) g;
+      stop = λ n out ls ms m p g s e f. absurd (let w = ap length (same-out _ _ _ _ e) in let v = length-append out ls in omega arith);
+      go = λ n out ls m p g s e f. (same-n _ _ _ _ e, (let w = ap length (same-out _ _ _ _ e) in let v = length-append out ls in omega arith));
+      more = λ n out ls ms m p t g s e f w. w ∙ ap (λ (x : List ℕ). went 0 (x ++ ms)) (same-out _ _ _ _ e) ∙ ap (went 0) (append-assoc out ls ms);
+    }
+
+-- limit 0 at a larger offset: none
+module _ (offset : ℕ) where
+  abbrev Early : ℕ → List ℕ → Type 0
+  Early n out = (n < offset) × (out ≡ [])
+
+  abbrev NoneOf : ℕ → List ℕ → List ℕ → Trip (List ℕ) → Type 0
+  NoneOf n out ls t = (m : ℕ) × (t ≡ went m [])
+
+  none-rules : Rules 0 offset Early NoneOf
+  none-rules =
+      record {
+        whole = λ n out ls t e. (e .0, [], e .1);
+        none = λ n out g. (n, ap (went n) (g .1));
+        skip = λ n out ls g s h. (n + length ls, ap (went (n + length ls)) (g .1));
+        list = λ n out id g h. absurd (let w = g .0 in omega arith);
+        stop = λ n out ls ms m p g s e f. e;
+        go = λ n out ls m p g s e f. absurd (f (ap length (same-out _ _ _ _ (e .1))));
+        more = λ n out ls ms m p t g s e f w. absurd (f (ap length (same-out _ _ _ _ (e .1))));
+      }
+
+-- ---- the leaves of a cluster
+
+ones-few : (p : ℕ → Bool) (lo n : ℕ) → sum (λ k. one (p k)) (range lo n) ≤ n
+ones-few p lo zero = omega arith
+ones-few p lo (suc n) = let a = ones-few p (suc lo) n in let b = few (p lo) in omega arith
+  where
+    few : (b : Bool) → one b ≤ 1
+    few true = omega arith
+    few false = omega arith
+
+module _ (o : Options) (xs ys : List Float) (a : Accepted o xs ys) (l : Lent) (r : Holds (need o (length xs)) l) (f : Fitting (o .«coordinate_system») xs ys)
+    (z j : ℕ) (h : o .«min_zoom» ≤ z) (k : z ≤ o .«max_zoom» + 1) (q : j < length (built o xs ys z)) (b : length xs ≤ entry (built o xs ys z) j .id) where
+  abbrev S : State
+  S = stateBy o xs ys
+
+  abbrev C : Columns
+  C = columnsBy o xs ys l
+
+  abbrev Id : ℕ
+  Id = entry (built o xs ys z) j .id
+
+  abbrev Ls : List ℕ
+  Ls = lampsOf o xs ys z j
+
+  -- not more than there are lamps
+  few : 0 + length (lampsOf o xs ys z j) ≤ length xs
+  few =
+      let e = lamps-long o xs ys a f z h k j q in
+      let d = num-owned o xs ys a f z h k j q in
+      let w = ones-few (λ i. eqb (owner o xs ys z i) j) 0 (length xs) in
+      omega arith
+
+  deep : 32 ≤ 32 + tableOf (length xs) (entry (built o xs ys z) j .id)
+  deep = omega arith
+
+  module _ (limit offset : ℕ) where
+    abbrev walked : Trip (List ℕ)
+    walked = walk lamps (stateBy o xs ys) (columnsBy o xs ys l) limit offset 32 Id (tableOf (length xs) Id) (originOf (length xs) Id) 0 []
+
+    leaves-by : leavesOf (stateBy o xs ys) (columnsBy o xs ys l) (entry (built o xs ys z) j .id) limit offset ≡ listed walked
+    unfolding leavesOf leavesAt
+    leaves-by = ap (λ (t : Target). atTarget t (λ u i. leavesAt S C Id limit offset u i)) (target-is o xs ys a l r f z j h k q b) ∙ rw (not-childless o xs ys a l r f z j h k q b)
+
+  -- with a limit of 1 or more: after the first `offset`, up to the limit
+  pub leaves-page : (limit offset : ℕ) → 1 ≤ limit
+      → leavesOf (stateBy o xs ys) (columnsBy o xs ys l) (entry (built o xs ys z) j .id) limit offset ≡ told true (take limit (drop offset (lampsOf o xs ys z j)))
+  leaves-page limit offset m =
+      let w = walks o xs ys a l r f limit offset (Going limit offset) (Pages limit offset) (page-rules limit offset) 32 z j h k q b deep 0 []
+      (record { few = m; most = omega arith; begun = λ v. absurd (omega arith) }) few in
+      let e : limit - 0 ≡ limit = omega arith in
+      let d : offset - 0 ≡ offset = omega arith in
+      leaves-by limit offset ∙ ap listed w ∙ ap (told true) (ap₂ (λ (x y : ℕ). take x (drop y Ls)) e d)
+
+  -- with limit 0: all at offset 0, none at a larger one
+  pub leaves-all : leavesOf (stateBy o xs ys) (columnsBy o xs ys l) (entry (built o xs ys z) j .id) 0 0 ≡ told true (lampsOf o xs ys z j)
+  leaves-all = leaves-by 0 0 ∙ ap listed (walks o xs ys a l r f 0 0 (λ n out. n ≡ 0) AllOf all-rules 32 z j h k q b deep 0 [] refl few)
+
+  pub leaves-none : (offset : ℕ) → 1 ≤ offset → leavesOf (stateBy o xs ys) (columnsBy o xs ys l) (entry (built o xs ys z) j .id) 0 offset ≡ told true []
+  leaves-none offset m =
+      let w = walks o xs ys a l r f 0 offset (Early offset) (NoneOf offset) (none-rules offset) 32 z j h k q b deep 0 [] (m, refl) few in
+      leaves-by 0 offset ∙ ap listed (w .1)
