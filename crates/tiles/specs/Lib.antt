@@ -5,4 +5,3 @@ pub mod Used
 pub mod Ends
 pub mod Built
 pub mod Replies
-pub mod Worked

@@ -4,4 +4,3 @@ pub mod Expansion
 pub mod Leaves
 pub mod Column
 pub mod Replies
-pub mod Worked

@@ -3,12 +3,9 @@
 use mathlib.Core.List.{List, [], _∷_, _++_}
 use mathlib.Core.Path.{_≡_, refl, ap, _∙_}
 use Prim.Native.Nat.{ℕ}
-use lib.Ieee.{div, ofInt, ofBits, toBits, add, sub, mul, le, lt, isNan}
-use Rattle.range.specs.Range.{offsetOf, scaleOf, normalized, inBounds, systemInBounds, converted}
+use lib.Ieee.{div, ofInt, ofBits, toBits, isNan}
 use Rattle.kdbush.specs.declared.BuildReply.the-variants.{Done}
-use Rattle.kdbush.specs.Reply.{firstOutside}
-use Rattle.tables.specs.Options.{optionsOk}
-use Rattle.supercluster.specs.Build.{convertedAll, checked}
+use Rattle.supercluster.specs.Build.{Lent, checked, loaded}
 use Rattle.listing.specs.Bytes.{bytes}
 use Rattle.listing.specs.Digits.{decimalOf}
 use Rattle.listing.specs.Text.{Place, Input, line, pointsText, text, headIs, xsOf, ysOf}
@@ -17,6 +14,7 @@ use Rattle.report.specs.Hex.{hexOf}
 use Rattle.report.specs.Lines.{tableText, tablesText, refusalText}
 use Rattle.report.specs.Report.{columns, answerText, buildText, linesOf}
 use Rattle.worked.specs.Tables.{b, at, options, xs, ys, shown, tables-are}
+use Rattle.worked.specs.Build.{built, accepted}
 
 abbrev place : ℕ → ℕ → Place
 place x y = record { x = x; y = y }
@@ -79,8 +77,12 @@ unfolding example ys b ofInt ofBits div
 ys-are = refl
 
 reply-is : checked (options 64) xs ys columns ≡ Done
-unfolding checked columns optionsOk systemInBounds inBounds firstOutside convertedAll converted normalized offsetOf scaleOf add sub mul div ofBits le lt options xs ys b
-reply-is = refl
+unfolding columns
+reply-is = accepted columns refl
+
+-- so the build that the lister makes of it, in any columns, is the worked build
+pub example-built : (l : Lent) → loaded (optionsOf (headIs example)) (xsOf example) (ysOf example) l ≡ built l
+example-built l i = loaded (options-are i) (xs-are i) (ys-are i) l
 
 shown-text : tablesText 2 shown ≡ sevenLines
 unfolding tablesText tableText shown sevenLines b at ofBits toBits isNan decimalOf hexOf

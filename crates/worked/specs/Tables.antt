@@ -13,7 +13,7 @@ use Rattle.kdsort.specs.Cols.{swapCo, swapIds}
 use Rattle.kdsort.specs.Shape.{shape, split}
 use Rattle.kdsort.specs.Select.{up, down, passes, parted, sel, selected}
 use Rattle.kdsort.specs.Sort.{filled, sorted, indexed}
-use Rattle.kdbush.specs.declared.BuildReply.the-variants.{Done, Tables}
+use Rattle.kdbush.specs.declared.BuildReply.the-variants.{Tables}
 use Rattle.kdbush.specs.Slots.{scanned, slots}
 use Rattle.kdbush.specs.Run.{places}
 use Rattle.kdbush.specs.Reply.{firstOutside}
@@ -84,12 +84,7 @@ starts-are = refl
 unfoldable pub zeros : ℕ → Lent
 zeros n = lent (replicate n zero) (replicate n zero) (replicate n 0) (replicate n 0) (replicate n 0) (replicate n 0) (replicate n 0) (replicate (n + n) zero) (replicate n 0)
 
--- columns of 12 entries are long enough
-pub accepted : loaded (options 64) xs ys (zeros 12) .reply .reply ≡ Done
-unfolding loaded checked optionsOk systemInBounds inBounds firstOutside convertedAll converted normalized offsetOf scaleOf add sub mul div ofBits le lt options xs ys b zeros
-accepted = refl
-
--- and one less is refused 4
+-- columns of 12 entries are long enough (Build), and one less is refused 4
 pub too-short : loaded (options 64) xs ys (zeros 11) .reply .reply ≡ Tables
 unfolding loaded checked optionsOk systemInBounds inBounds firstOutside convertedAll converted normalized offsetOf scaleOf add sub mul div ofBits le lt options xs ys b zeros
 too-short = refl

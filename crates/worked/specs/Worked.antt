@@ -1,25 +1,94 @@
--- 01's lines marked P, as one proved table: those that a build alone can show, and the seven lines that the lister prints. Assumes nothing.
-use mathlib.Core.Path.{_≡_, refl}
+-- 01's lines marked P as one proved table, in 01's order and words, before them the lines that the table lister prints. What is asked of the worked build is asked
+-- of the state and the columns that `load` replies and leaves of 01's four lamps, in any columns that are long enough. Assumes nothing.
+use mathlib.Core.Path.{_≡_, refl, sym, subst}
+use mathlib.Core.Bool.{true}
+use mathlib.Core.List.{[], _∷_}
 use lib.IntN.{pos, negsuc}
 use lib.Ieee.{neg}
 use Rattle.floats.specs.Numbers.{half}
 use Rattle.floats.specs.Away.{away, half-away, minus-half-away}
+use Rattle.kdbush.specs.declared.BuildReply.the-variants.{Done}
+use Rattle.tables.specs.declared.State.{State}
 use Rattle.tables.specs.Ids.{originOf, tableOf}
-use Rattle.listing.specs.Text.{text}
-use Rattle.report.specs.Report.{linesOf}
-use Rattle.worked.specs.Printed.{example, exampleText, sevenLines, text-is, lines-are}
+use Rattle.asking.specs.Asked.{told}
+use Rattle.asking.specs.Columns.{Columns}
+use Rattle.walks.specs.declared.Expansion.the-variants.{At}
+use Rattle.walks.specs.Children.{childrenOf}
+use Rattle.walks.specs.Expansion.{zoomOf}
+use Rattle.walks.specs.Leaves.{leavesOf}
+use Rattle.tiles.specs.Asked.{asked, told as tile·told}
+use Rattle.supercluster.specs.Build.{Lent, roomy, Outcome, loaded}
+use Rattle.listing.specs.Text.{text, headIs, xsOf, ysOf}
+use Rattle.listing.specs.Values.{optionsOf}
+use Rattle.report.specs.Report.{columns as zeros, linesOf}
+use Rattle.worked.specs.Build.{built, stateIn, eight, columnsIn, state, held, built-is}
+use Rattle.worked.specs.Walks.{Refused, children-5, leaves-10-0, leaves-3-1, leaves-0-0, leaves-0-1, zoom-5, zoom-6, refused-3, refused-4, refused-7, refused-134}
+use Rattle.worked.specs.Tiles.{tile-000}
+use Rattle.worked.specs.Printed.{example, example-built, exampleText, sevenLines, text-is, lines-are}
 
-pub record Worked : Type 0 where
+-- the table, of a state s and the eight columns c
+pub record Worked (s : State) (c : Columns) : Type 0 where
+  -- Input min_zoom=0 .. count=4, points (16384,32768), (20480,32768), (26624,32768) twice, prints: seven lines
+  pub written : text example ≡ exampleText
+  pub printed : linesOf example ≡ sevenLines
   -- id 70 decodes to origin 2, table 2; id 5 to origin 0, table 1
-  pub id-70 : (originOf 4 70 ≡ 2) × (tableOf 4 70 ≡ 2)
-  pub id-5 : (originOf 4 5 ≡ 0) × (tableOf 4 5 ≡ 1)
+  pub id-70 : (originOf (s .count) 70 ≡ 2) × (tableOf (s .count) 70 ≡ 2)
+  pub id-5 : (originOf (s .count) 5 ≡ 0) × (tableOf (s .count) 5 ≡ 1)
+  -- children of 5 are entries 0 and 1 of table 1
+  pub children-of-5 : childrenOf s c 5 ≡ told true (0 ∷ 1 ∷ [])
+  -- leaves of 5: limit 10 offset 0 gives 0,1,2,3; limit 3 offset 1 gives 1,2,3
+  pub leaves-limit-10 : leavesOf s c 5 10 0 ≡ told true (0 ∷ 1 ∷ 2 ∷ 3 ∷ [])
+  pub leaves-limit-3 : leavesOf s c 5 3 1 ≡ told true (1 ∷ 2 ∷ 3 ∷ [])
+  -- limit 0: offset 0 gives all four, offset 1 none
+  pub leaves-all : leavesOf s c 5 0 0 ≡ told true (0 ∷ 1 ∷ 2 ∷ 3 ∷ [])
+  pub leaves-none : leavesOf s c 5 0 1 ≡ told true []
+  -- expansion zoom of 5 is 1, of 6 is 2
+  pub expansion-of-5 : zoomOf s c 5 ≡ At 1
+  pub expansion-of-6 : zoomOf s c 6 ≡ At 2
+  -- id 3 refused 6; id 4 refused 6; id 7 refused 5; id 134 refused 6
+  pub id-3 : Refused s c 3 6
+  pub id-4 : Refused s c 4 6
+  pub id-7 : Refused s c 7 5
+  pub id-134 : Refused s c 134 6
+  -- tile (0,0,0) lists entry 0 at (176,256)
+  pub tile : asked s c 0 0 0 ≡ tile·told true (record { place = 0; x = pos 176; y = pos 256 } ∷ [])
   -- 0.5 rounds to 1, -0.5 to -1
   pub half-up : away half ≡ pos 1
   pub half-down : away (neg half) ≡ negsuc 0
-  -- the input of the lister's example is the writing of its numbers, and this is what is printed for it
-  pub written : text example ≡ exampleText
-  pub printed : linesOf example ≡ sevenLines
 
-pub worked : Worked
-unfolding neg
-worked = record { id-70 = (refl, refl); id-5 = (refl, refl); half-up = half-away; half-down = minus-half-away; written = text-is; printed = lines-are }
+-- over the state and the columns that Build shows
+table : (l : Lent) → Worked state (held l)
+unfolding neg state
+table l =
+    record {
+      written = text-is;
+      printed = lines-are;
+      id-70 = (refl, refl);
+      id-5 = (refl, refl);
+      children-of-5 = children-5 l;
+      leaves-limit-10 = leaves-10-0 l;
+      leaves-limit-3 = leaves-3-1 l;
+      leaves-all = leaves-0-0 l;
+      leaves-none = leaves-0-1 l;
+      expansion-of-5 = zoom-5 l;
+      expansion-of-6 = zoom-6 l;
+      id-3 = refused-3 l;
+      id-4 = refused-4 l;
+      id-7 = refused-7 l;
+      id-134 = refused-134 l;
+      tile = tile-000 l;
+      half-up = half-away;
+      half-down = minus-half-away;
+    }
+
+-- and those are what `load` replies and leaves
+pub worked : (l : Lent) → roomy 12 l ≡ true → (built l .reply .reply ≡ Done) × Worked (stateIn l) (columnsIn l)
+worked l h = subst (λ (o : Outcome). (o .reply .reply ≡ Done) × Worked (o .reply .state) (eight (o .columns))) (sym (built-is l h)) (refl, table l)
+
+-- so of the lister's example, in the lister's columns of 1,152 zeros
+abbrev pub listed : Outcome
+listed = loaded (optionsOf (headIs example)) (xsOf example) (ysOf example) zeros
+
+pub worked-in-lister : Worked (listed .reply .state) (eight (listed .columns))
+unfolding zeros
+worked-in-lister = subst (λ (o : Outcome). Worked (o .reply .state) (eight (o .columns))) (sym (example-built zeros)) (worked zeros refl .1)

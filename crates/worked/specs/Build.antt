@@ -1,0 +1,112 @@
+-- 01's worked build as `load` leaves it: in columns of 12 entries or more, whatever they held, the build is accepted, and this is its state and what stands in the
+-- columns of entries and of the index. The state is sound over them. Assumes nothing.
+use mathlib.Core.Path.{_≡_, refl, ap, _∙_}
+use mathlib.Core.Bool.{Bool, true, cond}
+use mathlib.Core.List.{List, _∷_}
+use Prim.Native.Nat.{ℕ, _/_, _≤_, min}
+use native.Mathlib.Omega.{arith}
+use borrow.Author.Tests.{le-leb}
+use lib.ListN.{drop, replicate}
+use lib.Ieee.{add, sub, mul, div, ofBits, le, lt, eq}
+use Rattle.range.specs.Range.{offsetOf, scaleOf, normalized, inBounds, systemInBounds, converted}
+use Rattle.kdsort.specs.Shape.{shape, split}
+use Rattle.kdsort.specs.Sort.{filled, sorted, indexed}
+use Rattle.kdbush.specs.declared.BuildReply.the-variants.{Done, Tables}
+use Rattle.kdbush.specs.Reply.{firstOutside}
+use Rattle.tables.specs.declared.State.{State}
+use Rattle.tables.specs.Options.{optionsOk}
+use Rattle.tables.specs.Sound.{packed, stateOk}
+use Rattle.tables.specs.Entries.{Table, never, unset}
+use Rattle.supercluster.specs.Build.{indexOf, slotsOf, convertedAll, joined, joinedIds, joinedCo, Lent, written, starts, lens, stateOf, roomy, checked, Outcome, outcome, byReply, loaded}
+use Rattle.asking.specs.Columns.{Columns, columns, roomOf}
+use Rattle.worked.specs.Tables.{b, at, options, xs, ys, shown, tables-are}
+
+-- ---- the build, and what a question is lent of it
+
+-- what `load` replies and leaves of 01's four lamps, in these columns
+abbrev pub built : Lent → Outcome
+built l = loaded (options 64) xs ys l
+
+-- its state
+abbrev pub stateIn : Lent → State
+stateIn l = built l .reply .state
+
+-- six columns of entries and two of the index, as a question is lent them
+abbrev pub eight : Lent → Columns
+eight c = columns (c .x) (c .y) (c .seen) (c .id) (c .parent) (c .num) (c .ids) (c .coords)
+
+abbrev pub columnsIn : Lent → Columns
+columnsIn l = eight (built l .columns)
+
+-- ---- what they are
+
+-- four lamps; table 2 starts at 0, table 1 at 4, table 0 at 6
+unfoldable pub state : State
+state = record { options = options 64; count = 4; starts = 6 ∷ 4 ∷ 0 ∷ replicate 29 0; lens = 1 ∷ 2 ∷ 4 ∷ replicate 29 0 }
+
+-- the seven entries that 01 prints, column by column; the slots of each index name the places in order; past these the old contents
+unfoldable pub after : Lent → Lent
+after l =
+    let h = b 0x3fe0000000000000 in
+    let p = b 0x3fd0000000000000 in
+    let q = b 0x3fd4000000000000 in
+    let r = b 0x3fda000000000000 in
+    let u = b 0x3fd2000000000000 in
+    let v = b 0x3fd6000000000000 in
+    record {
+      x = p ∷ q ∷ r ∷ r ∷ u ∷ r ∷ v ∷ drop 7 (l .x);
+      y = h ∷ h ∷ h ∷ h ∷ h ∷ h ∷ h ∷ drop 7 (l .y);
+      seen = 1 ∷ 1 ∷ 1 ∷ 1 ∷ 0 ∷ 0 ∷ never ∷ drop 7 (l .seen);
+      id = 0 ∷ 1 ∷ 2 ∷ 3 ∷ 6 ∷ 70 ∷ 5 ∷ drop 7 (l .id);
+      parent = 6 ∷ 6 ∷ 70 ∷ 70 ∷ 5 ∷ 5 ∷ unset ∷ drop 7 (l .parent);
+      num = 1 ∷ 1 ∷ 1 ∷ 1 ∷ 2 ∷ 2 ∷ 4 ∷ drop 7 (l .num);
+      ids = 0 ∷ 1 ∷ 2 ∷ 3 ∷ 0 ∷ 1 ∷ 0 ∷ drop 7 (l .ids);
+      coords = p ∷ h ∷ q ∷ h ∷ r ∷ h ∷ r ∷ h ∷ u ∷ h ∷ r ∷ h ∷ v ∷ h ∷ drop 14 (l .coords);
+      near = 0 ∷ 0 ∷ 0 ∷ 0 ∷ drop 4 (l .near);
+    }
+
+-- and as a question is lent them
+abbrev pub held : Lent → Columns
+held l = eight (after l)
+
+-- columns of 12 entries are long enough
+pub accepted : (l : Lent) → roomy 12 l ≡ true → checked (options 64) xs ys l ≡ Done
+unfolding checked optionsOk systemInBounds inBounds firstOutside convertedAll converted normalized offsetOf scaleOf add sub mul div ofBits le lt options xs ys b
+accepted l h = ap (λ (c : Bool). cond c Done Tables) h
+
+-- the tables that 01 prints, packed in the columns, each with its index
+state-of-shown : stateOf (options 64) 4 shown ≡ state
+unfolding starts lens shown state options
+state-of-shown = refl
+
+written-shown : (l : Lent) → written 64 4 shown l ≡ after l
+unfolding written joined joinedIds joinedCo slotsOf indexOf indexed sorted filled shape split shown at after ofBits b
+written-shown l = refl
+
+-- the build is accepted, and leaves just these
+pub built-is : (l : Lent) → roomy 12 l ≡ true → built l ≡ outcome (record { reply = Done; state = state }) (after l)
+unfolding loaded options xs
+built-is l h =
+    ap (byReply (options 64) xs ys l) (accepted l h)
+    ∙ ap (λ (ts : List Table). outcome (record { reply = Done; state = stateOf (options 64) 4 ts }) (written 64 4 ts l)) tables-are
+    ∙ (λ i. outcome (record { reply = Done; state = state-of-shown i }) (written-shown l i))
+
+-- ---- the state is sound over them
+
+-- each of the eight columns holds the seven entries
+both : (n c d : ℕ) → n ≤ c → n ≤ d → n ≤ min c d
+both n c d h k = omega arith
+
+halved : (n : ℕ) → 14 ≤ n → 7 ≤ n / 2
+halved n h = omega arith
+
+room-is : (l : Lent) → 7 ≤ roomOf (held l)
+unfolding after
+room-is l =
+    both 7 _ _
+    (both 7 _ _ (both 7 _ _ (omega arith) (omega arith)) (both 7 _ _ (omega arith) (omega arith)))
+    (both 7 _ _ (both 7 _ _ (omega arith) (omega arith)) (both 7 _ _ (omega arith) (halved _ (omega arith))))
+
+pub sound : (l : Lent) → stateOk state (roomOf (held l)) ≡ true
+unfolding stateOk packed optionsOk systemInBounds inBounds offsetOf scaleOf ofBits le lt eq sub state options b
+sound l = le-leb 7 (roomOf (held l)) (room-is l)

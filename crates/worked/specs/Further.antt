@@ -1,0 +1,108 @@
+-- 01's lines that are not marked P, computed from the definitions too: the largest max_zoom, options that are refused, a lone lamp at (1, 0.5), which tile (0,0,0)
+-- lists twice and counts once; and of 'Easy to get wrong' the four lamps with min_points 3, and both edge strips at z = 0. Assumes nothing.
+use mathlib.Core.Path.{_≡_, refl, ap}
+use mathlib.Core.Bool.{Bool, true, cond}
+use mathlib.Core.List.{[], _∷_, map}
+use Prim.Native.Nat.{ℕ}
+use lib.ListN.{replicate}
+use lib.IntN.{pos}
+use lib.Ieee.{neg, add, sub, mul, div, ofInt, ofBits, le, lt, eq}
+use Rattle.floats.specs.Numbers.{zero, half, one}
+use Rattle.floats.specs.Away.{away}
+use Rattle.range.specs.Range.{offsetOf, scaleOf, normalized, inBounds, systemInBounds, converted}
+use Rattle.kdsort.specs.Cols.{swapCo, swapIds}
+use Rattle.kdsort.specs.Shape.{shape, split}
+use Rattle.kdsort.specs.Select.{up, down, passes, parted, sel, selected}
+use Rattle.kdsort.specs.Sort.{filled, sorted, indexed}
+use Rattle.kdbush.specs.declared.BuildReply.the-variants.{Done, Tables}
+use Rattle.kdbush.specs.Slots.{scanned, slots}
+use Rattle.kdbush.specs.Run.{places}
+use Rattle.kdbush.specs.Reply.{buildNumber, firstOutside}
+use Rattle.tables.specs.declared.Options.{Options}
+use Rattle.tables.specs.Options.{optionsOk}
+use Rattle.tables.specs.Entries.{idsOf, numsOf}
+use Rattle.tables.specs.Radius.{radiusAt}
+use Rattle.tables.specs.Rows.{rows}
+use Rattle.tables.specs.Sound.{packed, stateOk}
+use Rattle.zoom.specs.Zoom.{more, absorbOne, absorb, copyOne, copyAll, visit, scanOne, scanFrom, cluster}
+use Rattle.supercluster.specs.Build.{indexOf, slotsOf, run, convertedAll, finest, tablesOf, joined, joinedIds, joinedCo, starts, lens, Lent, written, roomy, checked, Outcome, loaded}
+use Rattle.asking.specs.declared.Answer.the-variants.{NoRoom}
+use Rattle.tiling.specs.declared.Tally.the-variants.{Sum}
+use Rattle.tiling.specs.Tile.{here, east, west, visited, listed, whole, rounded}
+use Rattle.tiling.specs.Tally.{member, distinct, total, tallyOf}
+use Rattle.tiles.specs.Tallied.{tallied}
+use Rattle.tiles.specs.Asked.{Asked, told, asked, outcome, outcomeOf, tiled}
+use Rattle.worked.specs.Tables.{b, options, xs, ys, zeros}
+use Rattle.worked.specs.Build.{eight}
+
+-- ---- max_zoom 30 built, 31 refused 1; node_size 0 refused 1
+
+-- 01's options with another max_zoom and min_points
+unfoldable pub with : ℕ → ℕ → Options
+unfolding options
+with z k =
+    let o = options 64 in
+    record {
+      «min_zoom» = o .«min_zoom»;
+      «max_zoom» = z;
+      «min_points» = k;
+      radius = o .radius;
+      extent = o .extent;
+      «node_size» = o .«node_size»;
+      «coordinate_system» = o .«coordinate_system»;
+    }
+
+-- 32 tables of four lamps
+pub zoom-30 : (l : Lent) → roomy 128 l ≡ true → checked (with 30 2) xs ys l ≡ Done
+unfolding checked optionsOk systemInBounds inBounds firstOutside convertedAll converted normalized offsetOf scaleOf add sub mul div ofBits le lt with options xs ys b
+zoom-30 l h = ap (λ (c : Bool). cond c Done Tables) h
+
+pub zoom-31 : (l : Lent) → buildNumber (checked (with 31 2) xs ys l) ≡ 1
+unfolding checked optionsOk systemInBounds inBounds offsetOf scaleOf sub ofBits le lt with options b
+zoom-31 l = refl
+
+pub size-0 : (l : Lent) → buildNumber (checked (options 0) xs ys l) ≡ 1
+unfolding checked optionsOk systemInBounds inBounds offsetOf scaleOf sub ofBits le lt options b
+size-0 l = refl
+
+-- ---- with min_points 3 all four lamps stay single down to table 0
+
+pub single : (map idsOf (tablesOf (with 1 3) xs ys) ≡ replicate 3 (0 ∷ 1 ∷ 2 ∷ 3 ∷ [])) × (map numsOf (tablesOf (with 1 3) xs ys) ≡ replicate 3 (replicate 4 1))
+unfolding tablesOf run convertedAll finest slotsOf indexOf radiusAt cluster scanFrom scanOne visit copyAll copyOne absorb absorbOne more converted normalized offsetOf scaleOf filled sorted indexed selected sel parted passes up down swapCo swapIds add sub mul div ofInt ofBits le lt eq shape split scanned slots places with options xs ys b
+single = (refl, refl)
+
+-- ---- a lone lamp at (1, 0.5)
+
+abbrev pub lone : Outcome
+lone = loaded (options 64) (one ∷ []) (half ∷ []) (zeros 3)
+
+-- at (512,256), and again at (0,256)
+pub tile-of-lone : asked (lone .reply .state) (eight (lone .columns)) 0 0 0
+    ≡ told true (record { place = 0; x = pos 512; y = pos 256 } ∷ record { place = 0; x = pos 0; y = pos 256 } ∷ [])
+unfolding loaded checked zeros written joined joinedIds joinedCo starts lens tablesOf run convertedAll finest slotsOf indexOf radiusAt cluster scanFrom scanOne visit copyAll copyOne absorb absorbOne more converted normalized offsetOf scaleOf filled sorted indexed selected sel parted passes up down swapCo swapIds firstOutside asked stateOk packed optionsOk systemInBounds inBounds visited here east west listed whole rounded away neg add sub mul div ofInt ofBits le lt eq shape split scanned slots places rows options b
+tile-of-lone = refl
+
+-- the shortest column has room for one of the two
+pub lone-no-room : tiled (lone .reply .state) (eight (lone .columns)) 0 0 0 (9 ∷ 9 ∷ []) (pos 9 ∷ []) (pos 9 ∷ pos 9 ∷ [])
+    ≡ outcome (NoRoom 2) (0 ∷ 9 ∷ []) (pos 512 ∷ []) (pos 256 ∷ pos 9 ∷ [])
+lone-no-room = ap (λ (a : Asked). outcomeOf a (9 ∷ 9 ∷ []) (pos 9 ∷ []) (pos 9 ∷ pos 9 ∷ [])) tile-of-lone
+
+-- listed twice, and counted once
+pub tally-of-lone : tallied (lone .reply .state) (eight (lone .columns)) 0 0 0 ≡ Sum 1
+unfolding loaded checked zeros written joined joinedIds joinedCo starts lens tablesOf run convertedAll finest slotsOf indexOf radiusAt cluster scanFrom scanOne visit copyAll copyOne absorb absorbOne more converted normalized offsetOf scaleOf filled sorted indexed selected sel parted passes up down swapCo swapIds firstOutside tallied tallyOf total distinct member stateOk packed optionsOk systemInBounds inBounds visited here east west listed whole rounded away neg add sub mul div ofInt ofBits le lt eq shape split scanned slots places rows options b
+tally-of-lone = refl
+
+-- ---- lamps at (0, 0.5) and (1, 0.5): each is listed in the tile, and once more by the other strip
+
+abbrev pub two : Outcome
+two = loaded (options 64) (zero ∷ one ∷ []) (half ∷ half ∷ []) (zeros 6)
+
+pub tile-of-two : asked (two .reply .state) (eight (two .columns)) 0 0 0
+    ≡ told true
+    (record { place = 0; x = pos 0; y = pos 256 }
+    ∷ record { place = 1; x = pos 512; y = pos 256 }
+    ∷ record { place = 1; x = pos 0; y = pos 256 }
+    ∷ record { place = 0; x = pos 512; y = pos 256 }
+    ∷ [])
+unfolding loaded checked zeros written joined joinedIds joinedCo starts lens tablesOf run convertedAll finest slotsOf indexOf radiusAt cluster scanFrom scanOne visit copyAll copyOne absorb absorbOne more converted normalized offsetOf scaleOf filled sorted indexed selected sel parted passes up down swapCo swapIds firstOutside asked stateOk packed optionsOk systemInBounds inBounds visited here east west listed whole rounded away neg add sub mul div ofInt ofBits le lt eq shape split scanned slots places rows options b
+tile-of-two = refl

@@ -1,0 +1,46 @@
+-- 01's P line on a tile, over the state and the columns of the worked build (Build), computed from the definitions; what the tile leaves in output columns, and its
+-- tally. Assumes nothing.
+use mathlib.Core.Path.{_≡_, ap}
+use mathlib.Core.Bool.{Bool, true, cond, not}
+use mathlib.Core.List.{[], _∷_}
+use lib.IntN.{pos}
+use lib.Ieee.{neg, add, sub, mul, div, ofInt, ofBits, le, lt, eq}
+use Rattle.floats.specs.Away.{away}
+use Rattle.kdsort.specs.Shape.{shape, split}
+use Rattle.kdbush.specs.Slots.{scanned, slots}
+use Rattle.kdbush.specs.Run.{places}
+use Rattle.tables.specs.Rows.{rows}
+use Rattle.asking.specs.declared.Answer.the-variants.{Listed, Tile, Spoiled}
+use Rattle.tiling.specs.declared.Tally.the-variants.{Sum, Spoiled as Tally·Spoiled}
+use Rattle.tiling.specs.Tile.{here, east, west, visited, listed, whole, rounded}
+use Rattle.tiling.specs.Tally.{member, distinct, total, tallyOf}
+use Rattle.tiles.specs.Tallied.{tallied}
+use Rattle.tiles.specs.Asked.{Asked, refused, told, asked, outcome, outcomeOf, tiled}
+use Rattle.supercluster.specs.Build.{Lent}
+use Rattle.worked.specs.Tables.{b, options}
+use Rattle.worked.specs.Build.{state, after, held, sound}
+
+module _ (l : Lent) where
+  -- the state being sound
+  asks : Asked → Bool → Asked
+  asks a s = cond (not s) (refused Spoiled) a
+
+  -- entry 0 at (176,256)
+  pub tile-000 : asked state (held l) 0 0 0 ≡ told true (record { place = 0; x = pos 176; y = pos 256 } ∷ [])
+  unfolding asked visited here east west listed whole rounded away neg add sub mul div ofInt ofBits le lt eq shape split scanned slots places rows options state after b asks
+  tile-000 = ap (asks (told true (record { place = 0; x = pos 176; y = pos 256 } ∷ []))) (sound l)
+
+  -- in columns of two: the first item, and then what stood there
+  pub tile-columns : tiled state (held l) 0 0 0 (9 ∷ 9 ∷ []) (pos 9 ∷ pos 9 ∷ []) (pos 9 ∷ pos 9 ∷ [])
+      ≡ outcome (Listed 1) (0 ∷ 9 ∷ []) (pos 176 ∷ pos 9 ∷ []) (pos 256 ∷ pos 9 ∷ [])
+  tile-columns = ap (λ (a : Asked). outcomeOf a (9 ∷ 9 ∷ []) (pos 9 ∷ pos 9 ∷ []) (pos 9 ∷ pos 9 ∷ [])) tile-000
+
+  -- there is one tile at zoom 0
+  pub no-tile : asked state (held l) 0 1 0 ≡ refused Tile
+  unfolding asked asks
+  no-tile = ap (asks (refused Tile)) (sound l)
+
+  -- its four lamps
+  pub tally-000 : tallied state (held l) 0 0 0 ≡ Sum 4
+  unfolding tallied tallyOf total distinct member visited here east west listed whole rounded away neg add sub mul div ofInt ofBits le lt eq shape split scanned slots places rows options state after b
+  tally-000 = ap (λ (s : Bool). cond (not s) Tally·Spoiled (Sum 4)) (sound l)
