@@ -1,0 +1,57 @@
+-- Demand 3: one owner for every lamp. What is said here is said of a state and its columns, as `load` replies and leaves them and as a question is lent them:
+-- their tables, `tableAt s c z` from the finest, max_zoom + 1, down to min_zoom, and what `leaves` answers of them. That it holds of every accepted build is shown in
+-- Proved. Definitions only.
+use mathlib.Core.Path.{_≡_}
+use mathlib.Core.Logic.{_↔_}
+use mathlib.Core.Bool.{true}
+use mathlib.Core.List.{List}
+use Prim.Native.Nat.{ℕ, suc, _+_, _<_, _≤_}
+use lib.Dec.{eqb}
+use lib.ListN.{length, take}
+use Rattle.tables.specs.declared.State.{State}
+use Rattle.tables.specs.Entries.{Table, entry}
+use Rattle.groups.specs.Sums.{one, sum, count, range}
+use Rattle.asking.specs.Asked.{told}
+use Rattle.asking.specs.Columns.{Columns, tableAt}
+use Rattle.walks.specs.Leaves.{leavesOf}
+use Rattle.lamps.specs.Owner.{up}
+
+-- the tables that the state names
+pub record Between (s : State) (z : ℕ) : Type 0 where
+  pub low : s .options .«min_zoom» ≤ z
+  pub high : z ≤ s .options .«max_zoom» + 1
+
+-- the entry at j of table z is a cluster
+pub record IsCluster (s : State) (c : Columns) (z j : ℕ) : Type 0 where
+  pub between : Between s z
+  pub place : j < length (tableAt s c z)
+  pub many : 1 < entry (tableAt s c z) j .num
+
+-- the lamps ls are those that the place j of a table owns, each once; `own l` is the place that owns the lamp l, of n lamps
+pub record Owned (n : ℕ) (own : ℕ → ℕ) (j : ℕ) (ls : List ℕ) : Type 0 where
+  -- a lamp is in the list once where j owns it, and is not in it otherwise
+  pub each : (l : ℕ) → l < n → count l ls ≡ one (eqb (own l) j)
+  -- nothing else is in it
+  pub only : (l : ℕ) → n ≤ l → count l ls ≡ 0
+
+-- own z l is the place in table z of the one owner of the lamp l
+pub record Owners (s : State) (c : Columns) (own : ℕ → ℕ → ℕ) : Type 0 where
+  -- in the finest table a lamp owns itself
+  pub first : (l : ℕ) → own (s .options .«max_zoom» + 1) l ≡ l
+  -- the owner is an entry of the table
+  pub there : (z l : ℕ) → Between s z → l < s .count → own z l < length (tableAt s c z)
+  -- and exactly one entry is the owner: that with the id of the cluster which absorbed the owner before, or, where none did, with that owner's own id
+  pub climbs : (z l q : ℕ) → s .options .«min_zoom» ≤ z → z ≤ s .options .«max_zoom» → l < s .count → q < length (tableAt s c z)
+      → (entry (tableAt s c z) q .id ≡ up (entry (tableAt s c (suc z)) (own (suc z) l))) ↔ (q ≡ own z l)
+  -- an entry's num is the number of lamps that it owns
+  pub counts : (z j : ℕ) → Between s z → j < length (tableAt s c z) → entry (tableAt s c z) j .num ≡ sum (λ l. one (eqb (own z l) j)) (range 0 (s .count))
+  -- the entries of a table own all lamps together
+  pub together : (z : ℕ) → Between s z → sum (λ j. entry (tableAt s c z) j .num) (range 0 (length (tableAt s c z))) ≡ s .count
+  -- lamps that share an owner share one at every smaller zoom
+  pub shares : (z w l m : ℕ) → Between s z → w ≤ z → own z l ≡ own z m → own w l ≡ own w m
+  -- a cluster's leaves with offset 0 and a limit of at least its num are the lamps that it owns, each once
+  pub leaves : (z j limit : ℕ) → IsCluster s c z j → entry (tableAt s c z) j .num ≤ limit
+      → (ls : List ℕ) × (leavesOf s c (entry (tableAt s c z) j .id) limit 0 ≡ told true ls) × (length ls ≡ entry (tableAt s c z) j .num) × Owned (s .count) (own z) j ls
+  -- a larger limit never changes what a smaller one of 1 or more listed at the same offset
+  pub prefix : (z j m n offset : ℕ) → IsCluster s c z j → 1 ≤ m → m ≤ n
+      → (ls : List ℕ) × (leavesOf s c (entry (tableAt s c z) j .id) n offset ≡ told true ls) × (leavesOf s c (entry (tableAt s c z) j .id) m offset ≡ told true (take m ls))

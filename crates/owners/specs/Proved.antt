@@ -1,0 +1,160 @@
+-- Every build that `load` accepts has one owner for every lamp: `one-owner`. The one thing asked besides is that the given ys are binary64 numbers, as whatever an f64
+-- column holds is; in antt a value of type Float may have any number of digits. Assumes nothing.
+use mathlib.Core.Path.{_≡_, refl, ap, ap₂, sym, _∙_, subst}
+use mathlib.Core.Logic.{_↔_, _⊎_, inl, inr, ⊎-elim}
+use mathlib.Core.Bool.{Bool, true, false}
+use mathlib.Core.List.{List, [], _∷_}
+use Prim.Native.Nat.{ℕ, zero, suc, _+_, _-_, _<_, _≤_}
+use native.Mathlib.Omega.{arith}
+use lib.Dec.{eqb}
+use lib.ListN.{length, getD, take, drop}
+use lib.Seq.{take-all, take-take}
+use lib.Ieee.{Float, nan}
+use Rattle.range.specs.declared.CoordinateSystem.{CoordinateSystem}
+use Rattle.range.specs.declared.CoordinateSystem.the-variants.{LatLng, Cartesian}
+use Rattle.kdbush.specs.declared.BuildReply.{BuildReply}
+use Rattle.kdbush.specs.declared.BuildReply.the-variants.{Done, Options as No·Options, Count, Point, Tables}
+use Rattle.tables.specs.declared.Options.{Options}
+use Rattle.tables.specs.declared.State.{State}
+use Rattle.tables.specs.Bounds.{options-are}
+use Rattle.tables.specs.Entries.{Table, entry}
+use Rattle.zoom.specs.Lamps.{total}
+use Rattle.groups.specs.Sums.{one, sum, range}
+use Rattle.asking.specs.Asked.{Asked, told}
+use Rattle.asking.specs.Columns.{Columns, tableAt}
+use Rattle.walks.specs.Leaves.{leavesOf}
+use Rattle.supercluster.specs.Build.{Lent, Outcome, need, checked, byReply, loaded}
+use Rattle.supercluster.specs.Load.{Holds, accepted, holds}
+use Rattle.supercluster.specs.Ready.{Accepted}
+use Rattle.builds.specs.Came.{tableAt as built}
+use Rattle.builds.specs.Fitting.{Fits64, Fitting, fitting-cartesian, fitting-longitude}
+use Rattle.builds.specs.Identities.{Known, identities}
+use Rattle.builds.specs.RightAt.{right-at}
+use Rattle.lamps.specs.Owner.{up, owner, lampsOf}
+use Rattle.lamps.specs.Owners.{owner-first, owner-in, owns, owns-none, lamps-long, num-owned, owners-share}
+use Rattle.lamps.specs.Climb.{owner-climbs}
+use Rattle.answers.specs.Stored.{columnsOf, stateBy, columnsBy, table-is}
+use Rattle.answers.specs.Leaves.{leaves-page}
+use Rattle.owners.specs.Owners.{Between, IsCluster, Owned, Owners}
+
+-- the nums of a table, by its places
+sum-shift : (g : ℕ → ℕ) (lo n : ℕ) → sum (λ j. g (suc j)) (range lo n) ≡ sum g (range (suc lo) n)
+sum-shift g lo zero = refl
+sum-shift g lo (suc n) = let e = sum-shift g (suc lo) n in omega arith
+
+total-sum : (t : Table) → sum (λ j. entry t j .num) (range 0 (length t)) ≡ total t
+unfolding total
+total-sum [] = refl
+total-sum (e ∷ t) = let a = sum-shift (λ j. entry (e ∷ t) j .num) 0 (length t) in let b = total-sum t in omega arith
+
+-- ys that are binary64 numbers are enough in both coordinate systems
+fitting : (c : CoordinateSystem) (xs ys : List Float) → ((k : ℕ) → k < length xs → Fits64 (getD ys k nan)) → Fitting c xs ys
+fitting LatLng xs ys f = fitting-longitude xs ys f
+fitting (Cartesian d) xs ys f = fitting-cartesian d xs ys
+
+module _ (o : Options) (xs ys : List Float) (a : Accepted o xs ys) (l : Lent) (r : Holds (need o (length xs)) l) (f : Fitting (o .«coordinate_system») xs ys) where
+  abbrev S : State
+  S = stateBy o xs ys
+
+  abbrev C : Columns
+  C = columnsBy o xs ys l
+
+  is : (z : ℕ) → Between (stateBy o xs ys) z → built o xs ys z ≡ tableAt (stateBy o xs ys) (columnsBy o xs ys l) z
+  is z b = sym (table-is o xs ys a l r z (b .low) (b .high))
+
+  in-built : (z j : ℕ) → Between (stateBy o xs ys) z → j < length (tableAt (stateBy o xs ys) (columnsBy o xs ys l) z) → j < length (built o xs ys z)
+  in-built z j b h = subst (λ (t : Table). j < length t) (sym (is z b)) h
+
+  -- a cluster of the columns is one of the build
+  module _ (z j : ℕ) (w : IsCluster (stateBy o xs ys) (columnsBy o xs ys l) z j) where
+    place : j < length (built o xs ys z)
+    place = in-built z j (w .between) (w .place)
+
+    above : length xs ≤ entry (built o xs ys z) j .id
+    above = by (identities o xs ys a f z (w .between .low) (w .between .high) j place)
+      where
+        many : 1 < entry (built o xs ys z) j .num
+        many = subst (λ (t : Table). 1 < entry t j .num) (sym (is z (w .between))) (w .many)
+
+        by : Known o xs ys z (entry (built o xs ys z) j) → length xs ≤ entry (built o xs ys z) j .id
+        by (inl v) = absurd (let e = v .num in let m = many in omega arith)
+        by (inr v) = v .above
+
+    page : (limit offset : ℕ) → 1 ≤ limit → leavesOf (stateBy o xs ys) (columnsBy o xs ys l) (entry (tableAt (stateBy o xs ys) (columnsBy o xs ys l) z) j .id) limit offset ≡ told true (take limit (drop offset (lampsOf o xs ys z j)))
+    page limit offset m =
+        subst (λ (t : Table). leavesOf S C (entry t j .id) limit offset ≡ told true (take limit (drop offset (lampsOf o xs ys z j)))) (is z (w .between))
+        (leaves-page o xs ys a l r f z j (w .between .low) (w .between .high) place above limit offset m)
+
+    long : entry (tableAt (stateBy o xs ys) (columnsBy o xs ys l) z) j .num ≡ length (lampsOf o xs ys z j)
+    long = subst (λ (t : Table). entry t j .num ≡ length (lampsOf o xs ys z j)) (is z (w .between)) (lamps-long o xs ys a f z (w .between .low) (w .between .high) j place)
+
+  -- each lamp is listed once where j owns it
+  owned : (z j : ℕ) → IsCluster (stateBy o xs ys) (columnsBy o xs ys l) z j → Owned (length xs) (λ k. owner o xs ys z k) j (lampsOf o xs ys z j)
+  owned z j w =
+      record {
+        each = λ k h. owns o xs ys a f z (w .between .low) (w .between .high) k h j (place z j w);
+        only = λ k h. owns-none o xs ys a f z (w .between .low) (w .between .high) k h j (place z j w);
+      }
+
+  all-leaves : (z j limit : ℕ) → IsCluster (stateBy o xs ys) (columnsBy o xs ys l) z j → entry (tableAt (stateBy o xs ys) (columnsBy o xs ys l) z) j .num ≤ limit
+      → (ls : List ℕ) × (leavesOf (stateBy o xs ys) (columnsBy o xs ys l) (entry (tableAt (stateBy o xs ys) (columnsBy o xs ys l) z) j .id) limit 0 ≡ told true ls)
+      × (length ls ≡ entry (tableAt (stateBy o xs ys) (columnsBy o xs ys l) z) j .num) × Owned (length xs) (λ k. owner o xs ys z k) j ls
+  all-leaves z j limit w h =
+      let e = long z j w in
+      let m = w .many in
+      let L = lampsOf o xs ys z j in
+      (L, page z j w limit 0 (omega arith) ∙ ap (told true) (take-all limit L (omega arith)), sym e, owned z j w)
+
+  fewer : (z j m n offset : ℕ) → IsCluster (stateBy o xs ys) (columnsBy o xs ys l) z j → 1 ≤ m → m ≤ n
+      → (ls : List ℕ) × (leavesOf (stateBy o xs ys) (columnsBy o xs ys l) (entry (tableAt (stateBy o xs ys) (columnsBy o xs ys l) z) j .id) n offset ≡ told true ls)
+      × (leavesOf (stateBy o xs ys) (columnsBy o xs ys l) (entry (tableAt (stateBy o xs ys) (columnsBy o xs ys l) z) j .id) m offset ≡ told true (take m ls))
+  fewer z j m n offset w h k =
+      let L = drop offset (lampsOf o xs ys z j) in
+      (take n L, page z j w n offset (omega arith), page z j w m offset h ∙ ap (told true) (sym (take-take m n L k)))
+
+  all-together : (z : ℕ) → Between (stateBy o xs ys) z → sum (λ j. entry (tableAt (stateBy o xs ys) (columnsBy o xs ys l) z) j .num) (range 0 (length (tableAt (stateBy o xs ys) (columnsBy o xs ys l) z))) ≡ length xs
+  all-together z b =
+      subst (λ (t : Table). sum (λ j. entry t j .num) (range 0 (length t)) ≡ length xs) (is z b) (total-sum (built o xs ys z) ∙ right-at o xs ys a z (b .low) (b .high) .lamps)
+
+  -- demand 3 of a build
+  owners : Owners (stateBy o xs ys) (columnsBy o xs ys l) (owner o xs ys)
+  owners =
+      record {
+        first = owner-first o xs ys;
+        there = λ z k b h. subst (λ (t : Table). owner o xs ys z k < length t) (is z b) (owner-in o xs ys a f z (b .low) (b .high) k h);
+        climbs = climbing;
+        counts = λ z j b h. subst (λ (t : Table). entry t j .num ≡ sum (λ k. one (eqb (owner o xs ys z k) j)) (range 0 (length xs))) (is z b) (num-owned o xs ys a f z (b .low) (b .high) j (in-built z j b h));
+        together = all-together;
+        shares = λ z w k m b h e. owners-share o xs ys z w (b .high) h k m e;
+        leaves = all-leaves;
+        prefix = fewer;
+      }
+    where
+      climbing : (z k q : ℕ) → o .«min_zoom» ≤ z → z ≤ o .«max_zoom» → k < length xs → q < length (tableAt S C z)
+          → (entry (tableAt S C z) q .id ≡ up (entry (tableAt S C (suc z)) (owner o xs ys (suc z) k))) ↔ (q ≡ owner o xs ys z k)
+      climbing z k q h m n w =
+          let b : Between S z = record { low = h; high = omega arith } in
+          let d : Between S (suc z) = record { low = omega arith; high = omega arith } in
+          subst (λ (t : Table). (entry t q .id ≡ up (entry (tableAt S C (suc z)) (owner o xs ys (suc z) k))) ↔ (q ≡ owner o xs ys z k)) (is z b)
+          (subst (λ (t : Table). (entry (built o xs ys z) q .id ≡ up (entry t (owner o xs ys (suc z) k))) ↔ (q ≡ owner o xs ys z k)) (is (suc z) d)
+          (owner-climbs o xs ys a f z h m k n q (in-built z q b w)))
+
+-- ---- of every build that `load` accepts
+
+-- an outcome that replies no refusal is that of an accepted build
+done-only : (o : Options) (xs ys : List Float) (l : Lent) (r : BuildReply) → byReply o xs ys l r .reply .reply ≡ Done → r ≡ Done
+done-only o xs ys l Done e = refl
+done-only o xs ys l No·Options e = e
+done-only o xs ys l Count e = e
+done-only o xs ys l (Point i) e = e
+done-only o xs ys l Tables e = e
+
+-- what `load` replies and leaves has one owner for every lamp, where it replies no refusal
+pub one-owner : (o : Options) (xs ys : List Float) (l : Lent) → loaded o xs ys l .reply .reply ≡ Done → ((k : ℕ) → k < length xs → Fits64 (getD ys k nan))
+    → Owners (loaded o xs ys l .reply .state) (columnsOf (loaded o xs ys l .columns)) (owner o xs ys)
+unfolding loaded
+one-owner o xs ys l e f =
+    let d = done-only o xs ys l (checked o xs ys l) e in
+    let a = accepted o xs ys l d in
+    subst (λ (x : Outcome). Owners (x .reply .state) (columnsOf (x .columns)) (owner o xs ys)) (sym (ap (byReply o xs ys l) d))
+    (owners o xs ys (a .0) l (holds (need o (length xs)) l (a .1)) (fitting (o .«coordinate_system») xs ys f))

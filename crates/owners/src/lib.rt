@@ -1,0 +1,1 @@
+// One owner for every lamp: definitions and laws only, in specs.
