@@ -1,7 +1,7 @@
 -- Of a build that is accepted: the search for the children of a cluster answers what `within` answered around its origin, so none of its slots is past the
 -- table, and the children are the members of the cluster in the order of the answers. Assumes nothing.
-use mathlib.Core.Path.{_≡_, refl, ap, ap₂, sym, _∙_, subst}
-use mathlib.Core.Bool.{Bool, true, false, cond}
+use mathlib.Core.Path.{_≡_, refl, ap, ap₂, _∙_}
+use mathlib.Core.Bool.{Bool, true, false}
 use mathlib.Core.List.{List, [], _∷_}
 use Prim.Native.Nat.{ℕ, _+_, _-_, _<_, _≤_}
 use native.Mathlib.Omega.{arith}
@@ -14,21 +14,20 @@ use Rattle.kdbush.specs.declared.Query.the-variants.{Within}
 use Rattle.kdbush.specs.All.{AllBelow}
 use Rattle.kdbush.specs.Promise.{Promised, all-whole, all-sound}
 use Rattle.kdbush.specs.Query.{queryOk}
-use Rattle.kdbush.specs.Reply.{walk, found}
+use Rattle.kdbush.specs.Reply.{walk}
 use Rattle.kdbush.specs.Run.{places, sound, whole}
 use Rattle.tables.specs.declared.Options.{Options}
 use Rattle.tables.specs.declared.State.{State}
 use Rattle.tables.specs.Bounds.{options-are}
 use Rattle.tables.specs.Entries.{Table, entry}
-use Rattle.tables.specs.Ids.{originOf, tableOf}
 use Rattle.tables.specs.Radius.{radiusAt, radius-fine}
-use Rattle.tables.specs.State.{startOf, lenOf}
+use Rattle.tables.specs.State.{lenOf}
 use Rattle.zoom.specs.Keeps.{all-at}
 use Rattle.zoom.specs.Near.{query-fine}
 use Rattle.zoom.specs.Sound.{Body}
 use Rattle.groups.specs.Sums.{keep}
-use Rattle.asking.specs.Around.{ringOf, slotsOf as around-slots, slotsAround}
-use Rattle.asking.specs.Columns.{Columns, tableAt, idsAt, coordsAt}
+use Rattle.asking.specs.Around.{slotsOf as around-slots}
+use Rattle.asking.specs.Columns.{Columns, idsAt, coordsAt}
 use Rattle.kids.specs.Kids.{kidsOf, placesAround, kidsAt, cleanAt}
 use Rattle.supercluster.specs.Build.{Lent, need, slotsOf}
 use Rattle.supercluster.specs.Load.{Holds}
@@ -37,7 +36,7 @@ use Rattle.supercluster.specs.Right.{Right}
 use Rattle.supercluster.specs.Running.{slots-promised}
 use Rattle.builds.specs.Came.{tableAt as built}
 use Rattle.builds.specs.RightAt.{right-at}
-use Rattle.lamps.specs.Owner.{answersAt, membersOf}
+use Rattle.lamps.specs.Owner.{answersAt}
 use Rattle.answers.specs.Stored.{stateBy, columnsBy, long-is, table-is, ids-are, coords-are}
 
 -- the children of a list of places are those that pass the test

@@ -2,25 +2,23 @@
 -- on into it; it has two children or more, its members in the order of the answers; and it expands at the zoom after the one that made it. Assumes nothing.
 use mathlib.Core.Path.{_≡_, refl, ap, ap₂, sym, _∙_, subst}
 use mathlib.Core.Logic.{inl, inr}
-use mathlib.Core.Bool.{Bool, true, false, cond}
+use mathlib.Core.Bool.{Bool, true, false}
 use mathlib.Core.List.{List, [], _∷_, append-nil}
 use Prim.Native.Nat.{ℕ, suc, _+_, _-_, _<_, _≤_}
 use native.Mathlib.Omega.{arith}
-use borrow.Author.Tests.{le-leb, lt-leb, le-ltb, eq-eqb, ne-eqb}
-use lib.Dec.{leb, ltb, eqb}
+use borrow.Author.Tests.{le-leb, lt-leb, le-ltb, ne-eqb}
 use lib.ListN.{length}
 use lib.Ieee.{Float}
 use Rattle.tables.specs.declared.Entry.{Entry}
 use Rattle.tables.specs.declared.Options.{Options}
 use Rattle.tables.specs.declared.State.{State}
-use Rattle.tables.specs.Bounds.{options-are}
-use Rattle.tables.specs.Entries.{Table, entry}
+use Rattle.tables.specs.Entries.{entry}
 use Rattle.tables.specs.Ids.{originOf, tableOf}
 use Rattle.tables.specs.State.{lenOf}
 use Rattle.groups.specs.Groups.{Group, joined, entryOf}
 use Rattle.groups.specs.OneZoom.{Joined, Fits}
 use Rattle.groups.specs.Sums.{count, Hit, hit}
-use Rattle.asking.specs.Asked.{Asked, told}
+use Rattle.asking.specs.Asked.{told}
 use Rattle.asking.specs.Columns.{Columns, roomOf, tableAt}
 use Rattle.asking.specs.Ids.{targetOf, onward}
 use Rattle.asking.specs.declared.Target.{Target}
@@ -28,7 +26,6 @@ use Rattle.asking.specs.declared.Target.the-variants.{At}
 use Rattle.kids.specs.Kids.{kidsAt, cleanAt, childless}
 use Rattle.walks.specs.Children.{atTarget, childrenAt, childrenOf}
 use Rattle.walks.specs.Expansion.{sole, fetchedAt, afterFetch, expand, zoomAt, zoomOf}
-use Rattle.walks.specs.declared.Expansion.{Expansion}
 use Rattle.walks.specs.declared.Expansion.the-variants.{At as Expands·At}
 use Rattle.supercluster.specs.Build.{Lent, need}
 use Rattle.supercluster.specs.Load.{Holds}
@@ -41,7 +38,7 @@ use Rattle.builds.specs.Places.{groupAt}
 use Rattle.lamps.specs.Owner.{gather, lampsOf, membersOf}
 use Rattle.lamps.specs.Owners.{lamps-long, group-id, group-fits}
 use Rattle.lamps.specs.Copies.{Clustered, clustered, members-are}
-use Rattle.answers.specs.Stored.{stateBy, columnsBy, state-sound, long-is, table-is}
+use Rattle.answers.specs.Stored.{stateBy, columnsBy, state-sound, long-is}
 use Rattle.answers.specs.Children.{clean, kids-at}
 
 module _ (o : Options) (xs ys : List Float) (a : Accepted o xs ys) (l : Lent) (r : Holds (need o (length xs)) l) (f : Fitting (o .«coordinate_system») xs ys) where

@@ -2,23 +2,21 @@
 -- first `offset`, up to the limit; with limit 0 they are all its lamps at offset 0, and none at a larger one. So a larger limit never changes what a smaller one of 1 or
 -- more listed. Assumes nothing.
 use mathlib.Core.Path.{_≡_, refl, ap, ap₂, sym, _∙_, subst}
-use mathlib.Core.Logic.{⊎-elim}
-use mathlib.Core.Bool.{Bool, true, false, cond}
+use mathlib.Core.Bool.{Bool, true, false}
 use mathlib.Core.List.{List, [], _∷_, _++_, append-nil, append-assoc}
-use Prim.Native.Nat.{ℕ, zero, suc, _+_, _-_, _<_, _≤_, min}
+use Prim.Native.Nat.{ℕ, zero, suc, _+_, _-_, _<_, _≤_}
 use native.Mathlib.Omega.{arith}
 use lib.Dec.{eqb}
 use lib.ListN.{length, take, drop, length-append, drop-of-length-le}
-use lib.Seq.{take-nil, take-take}
+use lib.Seq.{take-nil}
 use lib.Ieee.{Float}
 use Rattle.tables.specs.declared.Options.{Options}
 use Rattle.tables.specs.declared.State.{State}
-use Rattle.tables.specs.Bounds.{options-are}
-use Rattle.tables.specs.Entries.{Table, entry}
+use Rattle.tables.specs.Entries.{entry}
 use Rattle.tables.specs.Ids.{originOf, tableOf}
 use Rattle.groups.specs.Sums.{one, sum, range}
-use Rattle.asking.specs.Asked.{Asked, told}
-use Rattle.asking.specs.Columns.{Columns, roomOf}
+use Rattle.asking.specs.Asked.{told}
+use Rattle.asking.specs.Columns.{Columns}
 use Rattle.asking.specs.declared.Target.{Target}
 use Rattle.walks.specs.Children.{atTarget}
 use Rattle.walks.specs.Leaves.{Trip, went, walk, lamps, listed, leavesAt, leavesOf}
@@ -30,7 +28,7 @@ use Rattle.builds.specs.Fitting.{Fitting}
 use Rattle.lamps.specs.Owner.{lampsOf, owner}
 use Rattle.lamps.specs.Owners.{lamps-long, num-owned}
 use Rattle.answers.specs.Stored.{stateBy, columnsBy}
-use Rattle.answers.specs.Clusters.{above, target-is, not-childless}
+use Rattle.answers.specs.Clusters.{target-is, not-childless}
 use Rattle.answers.specs.Page.{skippedBy, listedBy, paged, Going, listed-most, paged-none, paged-more, paged-full, paged-going}
 use Rattle.answers.specs.Walks.{Rules, walks}
 

@@ -1,12 +1,12 @@
 -- A page of a list of lamps: after the first `offset`, up to `limit` of them. What a walk has skipped and listed after a list of lamps, and after two one after
 -- the other. Assumes nothing.
-use mathlib.Core.Path.{_≡_, refl, ap, ap₂, sym, _∙_, subst}
+use mathlib.Core.Path.{_≡_, ap, ap₂, sym, _∙_}
 use mathlib.Core.Logic.{⊎-elim}
 use mathlib.Core.List.{List, [], _∷_, _++_, append-nil, append-assoc}
 use Prim.Native.Nat.{ℕ, zero, suc, _+_, _-_, _<_, _≤_, min}
 use native.Mathlib.Omega.{arith}
-use lib.ListN.{length, take, drop, length-append, length-drop, length-take, drop-of-length-le}
-use lib.Seq.{drop-append-le, drop-append-add, take-nil, drop-nil, length-take-le}
+use lib.ListN.{length, take, drop, length-append, length-drop, drop-of-length-le}
+use lib.Seq.{drop-append-le, drop-append-add, take-nil, drop-nil}
 use Rattle.groups.specs.Sums.{below}
 use Rattle.walks.specs.Leaves.{Trip, went}
 

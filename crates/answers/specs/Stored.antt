@@ -10,7 +10,6 @@ use borrow.Author.Tests.{le-leb, eq-eqb}
 use lib.ListN.{length, getD, take, drop, length-append, length-map}
 use lib.Seq.{drop-drop, drop-append-seam, take-append-seam}
 use lib.Ieee.{Float}
-use Rattle.kdsort.specs.Cols.{Cols}
 use Rattle.kdbush.specs.All.{All, all-map}
 use Rattle.tables.specs.declared.Options.{Options}
 use Rattle.tables.specs.declared.State.{State}
@@ -23,7 +22,7 @@ use Rattle.tables.specs.Sound.{packed, stateOk}
 use Rattle.zoom.specs.Keeps.{cluster-long}
 use Rattle.groups.specs.Sums.{below}
 use Rattle.asking.specs.Columns.{Columns, columns, roomOf, tableAt, idsAt, coordsAt}
-use Rattle.supercluster.specs.Build.{Plan, planOf, run, slotsOf, zoomed, zoomsOf, tablesOf, joined, joinedIds, joinedCo, over, stateOf, Lent, written, need}
+use Rattle.supercluster.specs.Build.{Plan, planOf, run, slotsOf, zoomsOf, tablesOf, joined, joinedIds, joinedCo, stateOf, Lent, written, need}
 use Rattle.supercluster.specs.Fill.{lamps, lamps-length}
 use Rattle.supercluster.specs.Held.{Laid, heldAt, held, built-laid, built-held}
 use Rattle.supercluster.specs.Load.{Holds, rowsIn}

@@ -1,41 +1,38 @@
 -- Of a build that is accepted and whose converted points are binary64 numbers: no question for children, leaves or an expansion zoom is refused 11, whatever the
 -- id, the limit, the offset and the room. Assumes nothing.
-use mathlib.Core.Path.{_≡_, refl, ap, ap₂, sym, _∙_, subst}
+use mathlib.Core.Path.{_≡_, refl, ap, sym, _∙_, subst}
 use mathlib.Core.Logic.{_⊎_, inl, inr, ⊎-elim}
 use mathlib.Core.Bool.{Bool, true, false, cond, not, _&&_}
 use mathlib.Core.List.{List, [], _∷_}
 use Prim.Native.Nat.{ℕ, zero, suc, _+_, _-_, _<_, _≤_}
 use native.Mathlib.Omega.{arith}
-use borrow.Author.Tests.{ltb-false, leb-true, leb-false, eqb-true, eqb-false, not-false}
+use borrow.Author.Tests.{ltb-false, leb-true, leb-false, eqb-true, eqb-false}
 use lib.Dec.{leb, ltb, eqb}
 use lib.ListN.{length, take, drop}
 use lib.Ieee.{Float}
 use Rattle.kdbush.specs.All.{All, AllBelow}
 use Rattle.tables.specs.declared.Options.{Options}
 use Rattle.tables.specs.declared.State.{State}
-use Rattle.tables.specs.Bounds.{options-are}
-use Rattle.tables.specs.Entries.{Table, entry, unset}
+use Rattle.tables.specs.Entries.{entry, unset}
 use Rattle.tables.specs.Ids.{originOf, tableOf}
 use Rattle.tables.specs.Sound.{stateOk}
 use Rattle.tables.specs.State.{lenOf}
-use Rattle.groups.specs.Sums.{below, put, keep}
-use Rattle.asking.specs.declared.Answer.{Answer}
+use Rattle.groups.specs.Sums.{below, keep}
 use Rattle.asking.specs.declared.Answer.the-variants.{NoTree, NoCluster, Spoiled}
 use Rattle.asking.specs.declared.Target.{Target}
-use Rattle.asking.specs.declared.Target.the-variants.{At, Spoiled as Target·Spoiled, NoTree as Target·NoTree, NoCluster as Target·NoCluster}
+use Rattle.asking.specs.declared.Target.the-variants.{At, NoTree as Target·NoTree, NoCluster as Target·NoCluster}
 use Rattle.asking.specs.Asked.{Asked, refused, told, answerOf}
-use Rattle.asking.specs.Columns.{Columns, roomOf, tableAt}
+use Rattle.asking.specs.Columns.{Columns, roomOf}
 use Rattle.asking.specs.Ids.{isBuilt, targetOf}
 use Rattle.kids.specs.Kids.{kidsAt, cleanAt, childless}
 use Rattle.walks.specs.Children.{atTarget, childrenAt, childrenOf}
-use Rattle.walks.specs.Expansion.{sole, fetchedAt, afterFetch, expand, zoomAt, zoomOf}
+use Rattle.walks.specs.Expansion.{fetchedAt, expand, zoomAt, zoomOf}
 use Rattle.walks.specs.Leaves.{leavesAt, leavesOf}
 use Rattle.walks.specs.declared.Expansion.{Expansion}
 use Rattle.walks.specs.declared.Expansion.the-variants.{At as Expands·At, NoTree as Expands·NoTree, NoCluster as Expands·NoCluster, Spoiled as Expands·Spoiled}
 use Rattle.supercluster.specs.Build.{Lent, need}
 use Rattle.supercluster.specs.Load.{Holds}
 use Rattle.supercluster.specs.Ready.{Accepted}
-use Rattle.supercluster.specs.Right.{Right}
 use Rattle.builds.specs.Came.{tableAt as built}
 use Rattle.builds.specs.Fitting.{Fitting}
 use Rattle.builds.specs.Parents.{Alone, Under, parents}
@@ -44,7 +41,7 @@ use Rattle.lamps.specs.Owner.{answersAt, lampsOf}
 use Rattle.answers.specs.Stored.{stateBy, columnsBy, state-sound, long-is}
 use Rattle.answers.specs.Boxed.{fits-somehow}
 use Rattle.answers.specs.Children.{around-below, clean, kids-at}
-use Rattle.answers.specs.Clusters.{children-are, expansion-is}
+use Rattle.answers.specs.Clusters.{expansion-is}
 use Rattle.answers.specs.Walks.{all-keep, keep-passes}
 use Rattle.answers.specs.Leaves.{leaves-page, leaves-all, leaves-none}
 

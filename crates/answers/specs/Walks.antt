@@ -4,10 +4,10 @@ use mathlib.Core.Path.{_≡_, refl, ap, ap₂, sym, _∙_, subst}
 use mathlib.Core.Logic.{⊎-elim, inl, inr}
 use mathlib.Core.Bool.{Bool, true, false, cond}
 use mathlib.Core.List.{List, [], _∷_, _++_, map}
-use Prim.Native.Nat.{ℕ, zero, suc, _+_, _-_, _<_, _≤_}
+use Prim.Native.Nat.{ℕ, zero, suc, _+_, _<_, _≤_}
 use native.Mathlib.Omega.{arith}
-use borrow.Author.Tests.{lt-ltb, le-ltb, le-leb, lt-leb, eq-eqb, ne-eqb, eqb-true, eqb-false}
-use lib.Dec.{leb, ltb, eqb}
+use borrow.Author.Tests.{lt-ltb, le-ltb, le-leb, lt-leb, ne-eqb, eqb-true, eqb-false}
+use lib.Dec.{eqb}
 use lib.ListN.{length, length-append}
 use lib.Ieee.{Float}
 use Rattle.kdbush.specs.All.{All, AllBelow}
@@ -20,11 +20,9 @@ use Rattle.tables.specs.Ids.{originOf, tableOf}
 use Rattle.zoom.specs.Keeps.{all-at}
 use Rattle.zoom.specs.Sound.{Body}
 use Rattle.groups.specs.Sums.{below, put, keep}
-use Rattle.asking.specs.Columns.{Columns, roomOf, tableAt}
-use Rattle.asking.specs.Ids.{onward}
+use Rattle.asking.specs.Columns.{Columns, tableAt}
 use Rattle.asking.specs.declared.Target.{Target}
-use Rattle.asking.specs.declared.Target.the-variants.{At}
-use Rattle.kids.specs.Kids.{kidsAt, cleanAt}
+use Rattle.kids.specs.Kids.{kidsAt}
 use Rattle.walks.specs.Leaves.{Trip, went, enter, visit, after, steps, walk, lamps}
 use Rattle.supercluster.specs.Build.{Lent, need}
 use Rattle.supercluster.specs.Load.{Holds}
@@ -33,10 +31,9 @@ use Rattle.builds.specs.Came.{tableAt as built}
 use Rattle.builds.specs.Fitting.{Fitting}
 use Rattle.builds.specs.Identities.{Known, identities}
 use Rattle.builds.specs.RightAt.{right-at}
-use Rattle.supercluster.specs.Right.{Right}
 use Rattle.lamps.specs.Owner.{gather, lampsOf, membersOf}
 use Rattle.lamps.specs.Owners.{lamps-long}
-use Rattle.lamps.specs.Copies.{Clustered, clustered, lamps-of-lamp}
+use Rattle.lamps.specs.Copies.{clustered, lamps-of-lamp}
 use Rattle.answers.specs.Stored.{stateBy, columnsBy, table-is}
 use Rattle.answers.specs.Children.{around-below}
 use Rattle.answers.specs.Clusters.{above, top, inside, onward-is, no-spoiled-slot, kids-are, two-members}

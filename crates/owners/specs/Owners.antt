@@ -9,7 +9,7 @@ use Prim.Native.Nat.{ℕ, suc, _+_, _<_, _≤_}
 use lib.Dec.{eqb}
 use lib.ListN.{length, take}
 use Rattle.tables.specs.declared.State.{State}
-use Rattle.tables.specs.Entries.{Table, entry}
+use Rattle.tables.specs.Entries.{entry}
 use Rattle.groups.specs.Sums.{one, sum, count, range}
 use Rattle.asking.specs.Asked.{told}
 use Rattle.asking.specs.Columns.{Columns, tableAt}

@@ -1,11 +1,12 @@
 -- Every build that `load` accepts has one owner for every lamp: `one-owner`. The one thing asked besides is that the given ys are binary64 numbers, as whatever an f64
 -- column holds is; in antt a value of type Float may have any number of digits. Assumes nothing.
-use mathlib.Core.Path.{_≡_, refl, ap, ap₂, sym, _∙_, subst}
-use mathlib.Core.Logic.{_↔_, _⊎_, inl, inr, ⊎-elim}
-use mathlib.Core.Bool.{Bool, true, false}
-use mathlib.Core.List.{List, [], _∷_}
-use Prim.Native.Nat.{ℕ, zero, suc, _+_, _-_, _<_, _≤_}
+use mathlib.Core.Path.{_≡_, refl, ap, sym, _∙_, subst}
+use mathlib.Core.Logic.{_↔_, inl, inr}
+use mathlib.Core.Bool.{true}
+use mathlib.Core.List.{List, [], _∷_, _++_}
+use Prim.Native.Nat.{ℕ, zero, suc, _<_, _≤_}
 use native.Mathlib.Omega.{arith}
+use borrow.Author.Tests.{le-leb}
 use lib.Dec.{eqb}
 use lib.ListN.{length, getD, take, drop}
 use lib.Seq.{take-all, take-take}
@@ -16,11 +17,11 @@ use Rattle.kdbush.specs.declared.BuildReply.{BuildReply}
 use Rattle.kdbush.specs.declared.BuildReply.the-variants.{Done, Options as No·Options, Count, Point, Tables}
 use Rattle.tables.specs.declared.Options.{Options}
 use Rattle.tables.specs.declared.State.{State}
-use Rattle.tables.specs.Bounds.{options-are}
 use Rattle.tables.specs.Entries.{Table, entry}
 use Rattle.zoom.specs.Lamps.{total}
 use Rattle.groups.specs.Sums.{one, sum, range}
-use Rattle.asking.specs.Asked.{Asked, told}
+use Rattle.asking.specs.declared.Answer.the-variants.{Listed}
+use Rattle.asking.specs.Asked.{Asked, told, answerOf, columnOf}
 use Rattle.asking.specs.Columns.{Columns, tableAt}
 use Rattle.walks.specs.Leaves.{leavesOf}
 use Rattle.supercluster.specs.Build.{Lent, Outcome, need, checked, byReply, loaded}
@@ -158,3 +159,11 @@ one-owner o xs ys l e f =
     let a = accepted o xs ys l d in
     subst (λ (x : Outcome). Owners (x .reply .state) (columnsOf (x .columns)) (owner o xs ys)) (sym (ap (byReply o xs ys l) d))
     (owners o xs ys (a .0) l (holds (need o (length xs)) l (a .1)) (fitting (o .«coordinate_system») xs ys f))
+
+-- given room: an answer that goes to its end is the number of its items, and they stand at the front of the column, before what it held
+pub given-room : (q : Asked) (ls out : List ℕ) → q ≡ told true ls → length ls ≤ length out
+    → (answerOf q (length out) ≡ Listed (length ls)) × (columnOf q out ≡ ls ++ drop (length ls) out)
+given-room q ls out e h = (
+  ap (λ (x : Asked). answerOf x (length out)) e ∙ rw (le-leb (length ls) (length out) h),
+  ap (λ (x : Asked). columnOf x out) e ∙ ap (λ (x : List ℕ). x ++ drop (length ls) out) (take-all (length out) ls h),
+)
