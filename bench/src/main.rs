@@ -5,7 +5,6 @@ mod index;
 mod load;
 mod memory;
 mod points;
-#[cfg(feature = "questions")]
 mod questions;
 mod rounds;
 mod table;
@@ -43,9 +42,8 @@ fn main() -> ExitCode {
             return usage();
         }
     };
-    let measured = index::run(&size).and_then(|()| load::run(&size));
-    #[cfg(feature = "questions")]
-    let measured = measured.and_then(|()| questions::run(&size));
+    let measured =
+        index::run(&size).and_then(|()| load::run(&size)).and_then(|()| questions::run(&size));
     match measured {
         Ok(()) => ExitCode::SUCCESS,
         Err(difference) => {

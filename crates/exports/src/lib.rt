@@ -1,4 +1,4 @@
-// The public functions by C names, for Rust and C: numbers and slices only. A slice is passed as a pointer and a length, a `&mut usize` as a pointer.
+// The public functions by C names, for Rust and C: numbers and slices only. A slice is passed as a pointer and a length, a `&mut usize` or a `&[u32; 32]` as a pointer.
 // Each answers 01's number of the reply, 0 where there is no refusal, and leaves what the reply carries in `carried`, 0 where it carries nothing.
 use kdbush::Query;
 use kdbush::SearchReply;
@@ -7,14 +7,23 @@ use range::CoordinateSystem;
 use range::DataRange;
 use range::Setting;
 use tables::Options;
+use tables::State;
 ghost use mathlib.Core.Path.{_≡_};
 ghost use lib.ListN.{length};
 ghost use Rattle.kdbush.specs.Reply.{buildNumber, buildCarried, built, checked, searchNumber, searchCarried, searched, columnAfter, stepNumber, firstStep, afterStep};
 ghost use Rattle.exports.specs.Numbers.{slotOf};
-ghost use Rattle.exports.specs.Given.{settingOf, systemOf, optionsOf};
+ghost use Rattle.exports.specs.Given.{settingOf, systemOf, given, stateOf};
+ghost use Rattle.exports.specs.Told.{said, zoomSaid, tallySaid, told, toldOf, tileTold, tileOf};
 ghost use Rattle.kdbush.specs.Run.{filled};
 ghost use Rattle.supercluster.specs.Build.{lent, loaded};
 ghost use Rattle.kdsort.specs.Cols.{cols};
+ghost use Rattle.asking.specs.Columns.{columns};
+ghost use Rattle.boxes.specs.Lists.{boxAsked, ringAsked};
+ghost use Rattle.walks.specs.Children.{childrenOf};
+ghost use Rattle.walks.specs.Leaves.{leavesOf};
+ghost use Rattle.walks.specs.Expansion.{zoomOf};
+ghost use Rattle.tiles.specs.Asked.{tiled};
+ghost use Rattle.tiles.specs.Tallied.{tallied};
 
 // The number of a search's reply.
 fn search_number(r: SearchReply) -> u32
@@ -249,6 +258,58 @@ fn system(
     CoordinateSystem::LatLng
 }
 
+// The options.
+fn options(
+    min_zoom: u8,
+    max_zoom: u8,
+    min_points: u8,
+    radius: f64,
+    extent: f64,
+    node_size: usize,
+    cartesian: bool,
+    min_x: f64,
+    min_y: f64,
+    max_x: f64,
+    max_y: f64,
+    offset_given: bool,
+    offset: f64,
+    scale_given: bool,
+    scale: f64,
+) -> Options
+    ensures { λ r. ⌜ r ≡ given «min_zoom» «max_zoom» «min_points» radius extent «node_size» cartesian «min_x» «min_y» «max_x» «max_y» «offset_given» offset «scale_given» scale ⌝ }
+{
+    let coordinate_system = system(
+        cartesian,
+        min_x,
+        min_y,
+        max_x,
+        max_y,
+        setting(offset_given, offset),
+        setting(scale_given, scale),
+    );
+    Options {
+        min_zoom,
+        max_zoom,
+        min_points,
+        radius,
+        extent,
+        node_size,
+        coordinate_system,
+    }
+}
+
+// The state of a build.
+fn state(options: Options, count: u32, starts: &[u32; 32], lens: &[u32; 32]) -> State
+    ensures { λ r. ⌜ r ≡ stateOf options count (now (starts .entry)) (now (lens .entry)) ⌝ }
+{
+    State {
+        options,
+        count,
+        starts: *starts,
+        lens: *lens,
+    }
+}
+
 // Writes the 32 numbers of a state, as many as fit.
 fn store(values: [u32; 32], out: &mut [u32])
     ensures { λ _. ⌜ now (out .exit) ≡ filled values (now (out .entry)) ⌝ }
@@ -295,30 +356,29 @@ pub extern "C" fn supercluster_load(
     lens: &mut [u32],
     carried: &mut usize,
 ) -> u32
-    ensures { λ r. ⌜ r ≡ buildNumber ((loaded (optionsOf «min_zoom» «max_zoom» «min_points» radius extent «node_size» (systemOf cartesian «min_x» «min_y» «max_x» «max_y» (settingOf «offset_given» offset) (settingOf «scale_given» scale))) (now (xs .entry)) (now (ys .entry)) (lent (now (x .entry)) (now (y .entry)) (now (seen .entry)) (now (id .entry)) (now (parent .entry)) (now (num .entry)) (now (ids .entry)) (now (coords .entry)) (now (near .entry)))) .reply .reply) ⌝ }
-    ensures { λ _. ⌜ now (carried .exit) ≡ buildCarried ((loaded (optionsOf «min_zoom» «max_zoom» «min_points» radius extent «node_size» (systemOf cartesian «min_x» «min_y» «max_x» «max_y» (settingOf «offset_given» offset) (settingOf «scale_given» scale))) (now (xs .entry)) (now (ys .entry)) (lent (now (x .entry)) (now (y .entry)) (now (seen .entry)) (now (id .entry)) (now (parent .entry)) (now (num .entry)) (now (ids .entry)) (now (coords .entry)) (now (near .entry)))) .reply .reply) ⌝ }
-    ensures { λ _. ⌜ now (starts .exit) ≡ filled ((loaded (optionsOf «min_zoom» «max_zoom» «min_points» radius extent «node_size» (systemOf cartesian «min_x» «min_y» «max_x» «max_y» (settingOf «offset_given» offset) (settingOf «scale_given» scale))) (now (xs .entry)) (now (ys .entry)) (lent (now (x .entry)) (now (y .entry)) (now (seen .entry)) (now (id .entry)) (now (parent .entry)) (now (num .entry)) (now (ids .entry)) (now (coords .entry)) (now (near .entry)))) .reply .state .starts) (now (starts .entry)) ⌝ }
-    ensures { λ _. ⌜ now (lens .exit) ≡ filled ((loaded (optionsOf «min_zoom» «max_zoom» «min_points» radius extent «node_size» (systemOf cartesian «min_x» «min_y» «max_x» «max_y» (settingOf «offset_given» offset) (settingOf «scale_given» scale))) (now (xs .entry)) (now (ys .entry)) (lent (now (x .entry)) (now (y .entry)) (now (seen .entry)) (now (id .entry)) (now (parent .entry)) (now (num .entry)) (now (ids .entry)) (now (coords .entry)) (now (near .entry)))) .reply .state .lens) (now (lens .entry)) ⌝ }
-    ensures { λ _. ⌜ lent (now (x .exit)) (now (y .exit)) (now (seen .exit)) (now (id .exit)) (now (parent .exit)) (now (num .exit)) (now (ids .exit)) (now (coords .exit)) (now (near .exit)) ≡ (loaded (optionsOf «min_zoom» «max_zoom» «min_points» radius extent «node_size» (systemOf cartesian «min_x» «min_y» «max_x» «max_y» (settingOf «offset_given» offset) (settingOf «scale_given» scale))) (now (xs .entry)) (now (ys .entry)) (lent (now (x .entry)) (now (y .entry)) (now (seen .entry)) (now (id .entry)) (now (parent .entry)) (now (num .entry)) (now (ids .entry)) (now (coords .entry)) (now (near .entry)))) .columns ⌝ }
+    ensures { λ r. ⌜ r ≡ buildNumber ((loaded (given «min_zoom» «max_zoom» «min_points» radius extent «node_size» cartesian «min_x» «min_y» «max_x» «max_y» «offset_given» offset «scale_given» scale) (now (xs .entry)) (now (ys .entry)) (lent (now (x .entry)) (now (y .entry)) (now (seen .entry)) (now (id .entry)) (now (parent .entry)) (now (num .entry)) (now (ids .entry)) (now (coords .entry)) (now (near .entry)))) .reply .reply) ⌝ }
+    ensures { λ _. ⌜ now (carried .exit) ≡ buildCarried ((loaded (given «min_zoom» «max_zoom» «min_points» radius extent «node_size» cartesian «min_x» «min_y» «max_x» «max_y» «offset_given» offset «scale_given» scale) (now (xs .entry)) (now (ys .entry)) (lent (now (x .entry)) (now (y .entry)) (now (seen .entry)) (now (id .entry)) (now (parent .entry)) (now (num .entry)) (now (ids .entry)) (now (coords .entry)) (now (near .entry)))) .reply .reply) ⌝ }
+    ensures { λ _. ⌜ now (starts .exit) ≡ filled ((loaded (given «min_zoom» «max_zoom» «min_points» radius extent «node_size» cartesian «min_x» «min_y» «max_x» «max_y» «offset_given» offset «scale_given» scale) (now (xs .entry)) (now (ys .entry)) (lent (now (x .entry)) (now (y .entry)) (now (seen .entry)) (now (id .entry)) (now (parent .entry)) (now (num .entry)) (now (ids .entry)) (now (coords .entry)) (now (near .entry)))) .reply .state .starts) (now (starts .entry)) ⌝ }
+    ensures { λ _. ⌜ now (lens .exit) ≡ filled ((loaded (given «min_zoom» «max_zoom» «min_points» radius extent «node_size» cartesian «min_x» «min_y» «max_x» «max_y» «offset_given» offset «scale_given» scale) (now (xs .entry)) (now (ys .entry)) (lent (now (x .entry)) (now (y .entry)) (now (seen .entry)) (now (id .entry)) (now (parent .entry)) (now (num .entry)) (now (ids .entry)) (now (coords .entry)) (now (near .entry)))) .reply .state .lens) (now (lens .entry)) ⌝ }
+    ensures { λ _. ⌜ lent (now (x .exit)) (now (y .exit)) (now (seen .exit)) (now (id .exit)) (now (parent .exit)) (now (num .exit)) (now (ids .exit)) (now (coords .exit)) (now (near .exit)) ≡ (loaded (given «min_zoom» «max_zoom» «min_points» radius extent «node_size» cartesian «min_x» «min_y» «max_x» «max_y» «offset_given» offset «scale_given» scale) (now (xs .entry)) (now (ys .entry)) (lent (now (x .entry)) (now (y .entry)) (now (seen .entry)) (now (id .entry)) (now (parent .entry)) (now (num .entry)) (now (ids .entry)) (now (coords .entry)) (now (near .entry)))) .columns ⌝ }
 {
-    let coordinate_system = system(
-        cartesian,
-        min_x,
-        min_y,
-        max_x,
-        max_y,
-        setting(offset_given, offset),
-        setting(scale_given, scale),
-    );
-    let o = Options {
+    let o = options(
         min_zoom,
         max_zoom,
         min_points,
         radius,
         extent,
         node_size,
-        coordinate_system,
-    };
+        cartesian,
+        min_x,
+        min_y,
+        max_x,
+        max_y,
+        offset_given,
+        offset,
+        scale_given,
+        scale,
+    );
     let loaded = supercluster::load(o, xs, ys, x, y, seen, id, parent, num, ids, coords, near);
     let state = loaded.state;
     let first = state.starts;
@@ -327,5 +387,481 @@ pub extern "C" fn supercluster_load(
     store(long, lens);
     let r = loaded.reply;
     *carried = r.carried();
+    r.number()
+}
+
+// The places of the table of the zoom used in the box from (w, south) to (e, n).
+#[no_mangle]
+pub extern "C" fn supercluster_box(
+    min_zoom: u8,
+    max_zoom: u8,
+    min_points: u8,
+    radius: f64,
+    extent: f64,
+    node_size: usize,
+    cartesian: bool,
+    min_x: f64,
+    min_y: f64,
+    max_x: f64,
+    max_y: f64,
+    offset_given: bool,
+    offset: f64,
+    scale_given: bool,
+    scale: f64,
+    count: u32,
+    starts: &[u32; 32],
+    lens: &[u32; 32],
+    ids: &[u32],
+    coords: &[f64],
+    zoom: u8,
+    w: f64,
+    south: f64,
+    e: f64,
+    n: f64,
+    out: &mut [u32],
+    carried: &mut usize,
+) -> u32
+    ensures { λ r. ⌜ told r (now (carried .exit)) (now (out .exit))
+        ≡ toldOf (boxAsked (stateOf (given «min_zoom» «max_zoom» «min_points» radius extent «node_size» cartesian «min_x» «min_y» «max_x» «max_y» «offset_given» offset «scale_given» scale)
+        count (now (starts .entry)) (now (lens .entry)))
+        (now (ids .entry)) (now (coords .entry)) zoom w south e n) (now (out .entry)) ⌝ }
+{
+    let o = options(
+        min_zoom,
+        max_zoom,
+        min_points,
+        radius,
+        extent,
+        node_size,
+        cartesian,
+        min_x,
+        min_y,
+        max_x,
+        max_y,
+        offset_given,
+        offset,
+        scale_given,
+        scale,
+    );
+    let s = state(o, count, starts, lens);
+    let r = boxes::list_box(s, ids, coords, zoom, w, south, e, n, out);
+    *carried = r.carried();
+    r.number()
+}
+
+// The places of the table of the zoom used within a ring.
+#[no_mangle]
+pub extern "C" fn supercluster_ring(
+    min_zoom: u8,
+    max_zoom: u8,
+    min_points: u8,
+    radius: f64,
+    extent: f64,
+    node_size: usize,
+    cartesian: bool,
+    min_x: f64,
+    min_y: f64,
+    max_x: f64,
+    max_y: f64,
+    offset_given: bool,
+    offset: f64,
+    scale_given: bool,
+    scale: f64,
+    count: u32,
+    starts: &[u32; 32],
+    lens: &[u32; 32],
+    ids: &[u32],
+    coords: &[f64],
+    zoom: u8,
+    ring_x: f64,
+    ring_y: f64,
+    ring_radius: f64,
+    out: &mut [u32],
+    carried: &mut usize,
+) -> u32
+    ensures { λ r. ⌜ told r (now (carried .exit)) (now (out .exit))
+        ≡ toldOf (ringAsked (stateOf (given «min_zoom» «max_zoom» «min_points» radius extent «node_size» cartesian «min_x» «min_y» «max_x» «max_y» «offset_given» offset «scale_given» scale)
+        count (now (starts .entry)) (now (lens .entry)))
+        (now (ids .entry)) (now (coords .entry)) zoom «ring_x» «ring_y» «ring_radius») (now (out .entry)) ⌝ }
+{
+    let o = options(
+        min_zoom,
+        max_zoom,
+        min_points,
+        radius,
+        extent,
+        node_size,
+        cartesian,
+        min_x,
+        min_y,
+        max_x,
+        max_y,
+        offset_given,
+        offset,
+        scale_given,
+        scale,
+    );
+    let s = state(o, count, starts, lens);
+    let r = boxes::list_ring(s, ids, coords, zoom, ring_x, ring_y, ring_radius, out);
+    *carried = r.carried();
+    r.number()
+}
+
+// The places of the children of the cluster cid.
+#[no_mangle]
+pub extern "C" fn supercluster_children(
+    min_zoom: u8,
+    max_zoom: u8,
+    min_points: u8,
+    radius: f64,
+    extent: f64,
+    node_size: usize,
+    cartesian: bool,
+    min_x: f64,
+    min_y: f64,
+    max_x: f64,
+    max_y: f64,
+    offset_given: bool,
+    offset: f64,
+    scale_given: bool,
+    scale: f64,
+    count: u32,
+    starts: &[u32; 32],
+    lens: &[u32; 32],
+    x: &[f64],
+    y: &[f64],
+    seen: &[u8],
+    id: &[u32],
+    parent: &[u32],
+    num: &[u32],
+    ids: &[u32],
+    coords: &[f64],
+    cid: u32,
+    out: &mut [u32],
+    carried: &mut usize,
+) -> u32
+    ensures { λ r. ⌜ told r (now (carried .exit)) (now (out .exit))
+        ≡ toldOf (childrenOf (stateOf (given «min_zoom» «max_zoom» «min_points» radius extent «node_size» cartesian «min_x» «min_y» «max_x» «max_y» «offset_given» offset «scale_given» scale)
+        count (now (starts .entry)) (now (lens .entry)))
+        (columns (now (x .entry)) (now (y .entry)) (now (seen .entry)) (now (id .entry)) (now (parent .entry)) (now (num .entry)) (now (ids .entry)) (now (coords .entry)))
+        cid) (now (out .entry)) ⌝ }
+{
+    let o = options(
+        min_zoom,
+        max_zoom,
+        min_points,
+        radius,
+        extent,
+        node_size,
+        cartesian,
+        min_x,
+        min_y,
+        max_x,
+        max_y,
+        offset_given,
+        offset,
+        scale_given,
+        scale,
+    );
+    let s = state(o, count, starts, lens);
+    let r = walks::children(s, x, y, seen, id, parent, num, ids, coords, cid, out);
+    *carried = r.carried();
+    r.number()
+}
+
+// The ids of the lamps of the cluster cid: at most limit of them, after the first skip.
+#[no_mangle]
+pub extern "C" fn supercluster_leaves(
+    min_zoom: u8,
+    max_zoom: u8,
+    min_points: u8,
+    radius: f64,
+    extent: f64,
+    node_size: usize,
+    cartesian: bool,
+    min_x: f64,
+    min_y: f64,
+    max_x: f64,
+    max_y: f64,
+    offset_given: bool,
+    offset: f64,
+    scale_given: bool,
+    scale: f64,
+    count: u32,
+    starts: &[u32; 32],
+    lens: &[u32; 32],
+    x: &[f64],
+    y: &[f64],
+    seen: &[u8],
+    id: &[u32],
+    parent: &[u32],
+    num: &[u32],
+    ids: &[u32],
+    coords: &[f64],
+    cid: u32,
+    limit: u32,
+    skip: u32,
+    out: &mut [u32],
+    carried: &mut usize,
+) -> u32
+    ensures { λ r. ⌜ told r (now (carried .exit)) (now (out .exit))
+        ≡ toldOf (leavesOf (stateOf (given «min_zoom» «max_zoom» «min_points» radius extent «node_size» cartesian «min_x» «min_y» «max_x» «max_y» «offset_given» offset «scale_given» scale)
+        count (now (starts .entry)) (now (lens .entry)))
+        (columns (now (x .entry)) (now (y .entry)) (now (seen .entry)) (now (id .entry)) (now (parent .entry)) (now (num .entry)) (now (ids .entry)) (now (coords .entry)))
+        cid limit skip) (now (out .entry)) ⌝ }
+{
+    let o = options(
+        min_zoom,
+        max_zoom,
+        min_points,
+        radius,
+        extent,
+        node_size,
+        cartesian,
+        min_x,
+        min_y,
+        max_x,
+        max_y,
+        offset_given,
+        offset,
+        scale_given,
+        scale,
+    );
+    let s = state(o, count, starts, lens);
+    let r = walks::leaves(
+        s,
+        x,
+        y,
+        seen,
+        id,
+        parent,
+        num,
+        ids,
+        coords,
+        cid,
+        limit,
+        skip,
+        out,
+    );
+    *carried = r.carried();
+    r.number()
+}
+
+// The zoom at which the cluster cid falls apart, as what is carried.
+#[no_mangle]
+pub extern "C" fn supercluster_expansion_zoom(
+    min_zoom: u8,
+    max_zoom: u8,
+    min_points: u8,
+    radius: f64,
+    extent: f64,
+    node_size: usize,
+    cartesian: bool,
+    min_x: f64,
+    min_y: f64,
+    max_x: f64,
+    max_y: f64,
+    offset_given: bool,
+    offset: f64,
+    scale_given: bool,
+    scale: f64,
+    count: u32,
+    starts: &[u32; 32],
+    lens: &[u32; 32],
+    x: &[f64],
+    y: &[f64],
+    seen: &[u8],
+    id: &[u32],
+    parent: &[u32],
+    num: &[u32],
+    ids: &[u32],
+    coords: &[f64],
+    cid: u32,
+    carried: &mut usize,
+) -> u32
+    ensures { λ r. ⌜ said r (now (carried .exit))
+        ≡ zoomSaid (zoomOf (stateOf (given «min_zoom» «max_zoom» «min_points» radius extent «node_size» cartesian «min_x» «min_y» «max_x» «max_y» «offset_given» offset «scale_given» scale)
+        count (now (starts .entry)) (now (lens .entry)))
+        (columns (now (x .entry)) (now (y .entry)) (now (seen .entry)) (now (id .entry)) (now (parent .entry)) (now (num .entry)) (now (ids .entry)) (now (coords .entry)))
+        cid) ⌝ }
+{
+    let o = options(
+        min_zoom,
+        max_zoom,
+        min_points,
+        radius,
+        extent,
+        node_size,
+        cartesian,
+        min_x,
+        min_y,
+        max_x,
+        max_y,
+        offset_given,
+        offset,
+        scale_given,
+        scale,
+    );
+    let s = state(o, count, starts, lens);
+    let r = walks::expansion_zoom(s, x, y, seen, id, parent, num, ids, coords, cid);
+    *carried = r.carried() as usize;
+    r.number()
+}
+
+// The entries that the tile (z, tile_x, tile_y) lists: their places in the table of the zoom used, and their places in the tile.
+#[no_mangle]
+pub extern "C" fn supercluster_tile(
+    min_zoom: u8,
+    max_zoom: u8,
+    min_points: u8,
+    radius: f64,
+    extent: f64,
+    node_size: usize,
+    cartesian: bool,
+    min_x: f64,
+    min_y: f64,
+    max_x: f64,
+    max_y: f64,
+    offset_given: bool,
+    offset: f64,
+    scale_given: bool,
+    scale: f64,
+    count: u32,
+    starts: &[u32; 32],
+    lens: &[u32; 32],
+    x: &[f64],
+    y: &[f64],
+    seen: &[u8],
+    id: &[u32],
+    parent: &[u32],
+    num: &[u32],
+    ids: &[u32],
+    coords: &[f64],
+    z: u8,
+    tile_x: u32,
+    tile_y: u32,
+    places: &mut [u32],
+    px: &mut [i64],
+    py: &mut [i64],
+    carried: &mut usize,
+) -> u32
+    ensures { λ r. ⌜ tileTold r (now (carried .exit)) (now (places .exit)) (now (px .exit)) (now (py .exit))
+        ≡ tileOf (tiled (stateOf (given «min_zoom» «max_zoom» «min_points» radius extent «node_size» cartesian «min_x» «min_y» «max_x» «max_y» «offset_given» offset «scale_given» scale)
+        count (now (starts .entry)) (now (lens .entry)))
+        (columns (now (x .entry)) (now (y .entry)) (now (seen .entry)) (now (id .entry)) (now (parent .entry)) (now (num .entry)) (now (ids .entry)) (now (coords .entry)))
+        z «tile_x» «tile_y» (now (places .entry)) (now (px .entry)) (now (py .entry))) ⌝ }
+{
+    let o = options(
+        min_zoom,
+        max_zoom,
+        min_points,
+        radius,
+        extent,
+        node_size,
+        cartesian,
+        min_x,
+        min_y,
+        max_x,
+        max_y,
+        offset_given,
+        offset,
+        scale_given,
+        scale,
+    );
+    let s = state(o, count, starts, lens);
+    let r = tiles::tile(
+        s,
+        x,
+        y,
+        seen,
+        id,
+        parent,
+        num,
+        ids,
+        coords,
+        z,
+        tile_x,
+        tile_y,
+        places,
+        px,
+        py,
+    );
+    *carried = r.carried();
+    r.number()
+}
+
+// The sum of num over the distinct entries that the tile (z, tile_x, tile_y) lists, as what is carried.
+#[no_mangle]
+pub extern "C" fn supercluster_tally(
+    min_zoom: u8,
+    max_zoom: u8,
+    min_points: u8,
+    radius: f64,
+    extent: f64,
+    node_size: usize,
+    cartesian: bool,
+    min_x: f64,
+    min_y: f64,
+    max_x: f64,
+    max_y: f64,
+    offset_given: bool,
+    offset: f64,
+    scale_given: bool,
+    scale: f64,
+    count: u32,
+    starts: &[u32; 32],
+    lens: &[u32; 32],
+    x: &[f64],
+    y: &[f64],
+    seen: &[u8],
+    id: &[u32],
+    parent: &[u32],
+    num: &[u32],
+    ids: &[u32],
+    coords: &[f64],
+    z: u8,
+    tile_x: u32,
+    tile_y: u32,
+    carried: &mut usize,
+) -> u32
+    ensures { λ r. ⌜ said r (now (carried .exit))
+        ≡ tallySaid (tallied (stateOf (given «min_zoom» «max_zoom» «min_points» radius extent «node_size» cartesian «min_x» «min_y» «max_x» «max_y» «offset_given» offset «scale_given» scale)
+        count (now (starts .entry)) (now (lens .entry)))
+        (columns (now (x .entry)) (now (y .entry)) (now (seen .entry)) (now (id .entry)) (now (parent .entry)) (now (num .entry)) (now (ids .entry)) (now (coords .entry)))
+        z «tile_x» «tile_y») ⌝ }
+{
+    let o = options(
+        min_zoom,
+        max_zoom,
+        min_points,
+        radius,
+        extent,
+        node_size,
+        cartesian,
+        min_x,
+        min_y,
+        max_x,
+        max_y,
+        offset_given,
+        offset,
+        scale_given,
+        scale,
+    );
+    let s = state(o, count, starts, lens);
+    let r = tiles::tally(
+        s,
+        x,
+        y,
+        seen,
+        id,
+        parent,
+        num,
+        ids,
+        coords,
+        z,
+        tile_x,
+        tile_y,
+    );
+    *carried = r.value() as usize;
     r.number()
 }

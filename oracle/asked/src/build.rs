@@ -74,15 +74,15 @@ impl Build {
 /// Numbers of points, and how many builds each has in the short form and in the full one.
 fn sizes() -> [(Vec<usize>, [usize; 2]); 4] {
     [
-        ((1..=64).collect(), [4, 30]),
-        ((65..=700).step_by(9).collect(), [1, 4]),
-        ((65..=700).collect(), [0, 4]),
-        (vec![1, 2, 3, 5, 8], [24, 120]),
+        ((1..=64).collect(), [4, 150]),
+        ((65..=700).step_by(9).collect(), [1, 20]),
+        ((65..=700).collect(), [0, 20]),
+        (vec![1, 2, 3, 5, 8], [24, 600]),
     ]
 }
 
 /// How many builds have their lamps on the edges of tiles, in the short form and in the full one.
-const ON_EDGES: [usize; 2] = [150, 800];
+const ON_EDGES: [usize; 2] = [150, 4_800];
 
 /// Every build of a form, half of them with options as users have them and half with any; and those with lamps
 /// on the edges of tiles.

@@ -2,15 +2,13 @@
 //! ../README.md.
 
 mod index;
-#[cfg(feature = "questions")]
 mod questions;
 mod tables;
 
 use groups as report;
 use std::{env, process::ExitCode};
 
-const USAGE: &str = "usage: inprocess index|tables|questions [--full]
-       (questions: built with the feature of that name)";
+const USAGE: &str = "usage: inprocess index|tables|questions [--full]";
 
 /// How much is compared.
 #[derive(Clone, Copy, PartialEq, Eq)]
@@ -27,9 +25,7 @@ fn main() -> ExitCode {
         ["index", "--full"] => index::run(Form::Full),
         ["tables"] => tables::run(Form::Short),
         ["tables", "--full"] => tables::run(Form::Full),
-        #[cfg(feature = "questions")]
         ["questions"] => questions::run(Form::Short),
-        #[cfg(feature = "questions")]
         ["questions", "--full"] => questions::run(Form::Full),
         _ => {
             eprintln!("{USAGE}");

@@ -4,13 +4,10 @@
 
 mod linked;
 mod load;
-#[cfg(feature = "questions")]
 mod questions;
 
-#[cfg(feature = "questions")]
-pub use questions::Asked;
-
 pub use load::{load, Columns, Lengths, Lent as LentColumns, State, COLUMNS, ZOOMS};
+pub use questions::Asked;
 
 /// A reply: 01's number of it, and the number that it carries.
 #[derive(Clone, Copy, Debug, PartialEq, Eq)]

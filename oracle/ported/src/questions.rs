@@ -1,5 +1,4 @@
-//! The questions to a build, over a lent state and lent columns. Built with the feature `questions`, once
-//! the library has their functions.
+//! The questions to a build, over a lent state and lent columns.
 
 use crate::{
     load::{NOT_GIVEN, NO_RANGE},

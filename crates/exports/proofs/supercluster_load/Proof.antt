@@ -1,23 +1,21 @@
 -- `exports::supercluster_load` meets its contract: it is the public function, its options made from numbers, its reply and its state as numbers.
 -- Assumes nothing.
-use mathlib.Core.Path.{_≡_, ap, _∙_}
+use mathlib.Core.Path.{ap, _∙_}
 use Prim.Native.Nat.{ℕ}
 use denote.Ref.{now}
 use borrow.Author.Needs.{needs}
-use Rattle.range.specs.declared.Setting.{Setting}
-use Rattle.range.specs.declared.CoordinateSystem.{CoordinateSystem}
+use Rattle.tables.specs.declared.Options.{Options}
 use Rattle.kdbush.specs.Reply.{buildNumber, buildCarried}
 use Rattle.kdbush.specs.Run.{filled}
 use Rattle.supercluster.specs.Build.{Outcome, outcome, Lent, lent, loaded}
-use Rattle.exports.specs.Given.{settingOf, systemOf, optionsOf}
 use Rattle.exports.proofs.supercluster_load.Statement.{statement}
 use Rattle.exports.proofs.supercluster_load.Tie as tie
 
-abbrev start-of : tie.After-system → tie.Start
-start-of y = y .before .before .before .before .before .before .before .before .before .before .before .before .before .before .before .before
+abbrev options-of : tie.After-load → tie.After-options
+options-of w = w .before .before .before .before .before .before .before .before .before .before
 
-abbrev system-of : tie.After-load → tie.After-system
-system-of w = w .before .before .before .before .before .before .before .before .before .before
+abbrev start-of : tie.After-options → tie.Start
+start-of y = y .before .before .before .before .before .before .before .before .before .before .before .before .before .before
 
 abbrev load-of : tie.After-store → tie.After-load
 load-of s = s .before .before .before .before .before .before .before .before .before .before .before .before .before .before .before .before .before .before .before .before .before .before
@@ -25,33 +23,16 @@ load-of s = s .before .before .before .before .before .before .before .before .b
 abbrev first-store : tie.After-store2 → tie.After-store
 first-store s = s .before .before .before .before .before
 
--- the coordinate system that is passed on
-system-is : (y : tie.After-system)
-    → y .system .result ≡ (let a = start-of y .args in systemOf (a .cartesian) (a .min-x) (a .min-y) (a .max-x) (a .max-y) (settingOf (a .offset-given) (a .offset)) (settingOf (a .scale-given) (a .scale)))
-system-is y =
-    let a = start-of y .args in
-    y .system .ensures
-    ∙ ap (λ (s : Setting). systemOf (a .cartesian) (a .min-x) (a .min-y) (a .max-x) (a .max-y) s (y .before .setting2 .result)) (y .before .before .setting .ensures)
-    ∙ ap (λ (s : Setting). systemOf (a .cartesian) (a .min-x) (a .min-y) (a .max-x) (a .max-y) (settingOf (a .offset-given) (a .offset)) s) (y .before .setting2 .ensures)
-
 -- the columns as they came
 abbrev columns : tie.Start → Lent
 columns s = let a = s .args in lent (now (a .x)) (now (a .y)) (now (a .seen)) (now (a .id)) (now (a .parent)) (now (a .num)) (now (a .ids)) (now (a .coords)) (now (a .near))
 
 -- what `load` is asked for
-abbrev asked : tie.Start → CoordinateSystem → Outcome
-asked s y =
-    let a = s .args in
-    loaded (optionsOf (a .min-zoom) (a .max-zoom) (a .min-points) (a .radius) (a .extent) (a .node-size) y) (now (a .xs)) (now (a .ys)) (columns s)
+abbrev asked : tie.Start → Options → Outcome
+asked s o = let a = s .args in loaded o (now (a .xs)) (now (a .ys)) (columns s)
 
-setting-requires : tie.Need-setting-requires
-setting-requires c κs = search needs
-
-setting-requires-2 : tie.Need-setting-requires-2
-setting-requires-2 c κs = search needs
-
-system-requires : tie.Need-system-requires
-system-requires c κs = search needs
+options-requires : tie.Need-options-requires
+options-requires c κs = search needs
 
 load-requires : tie.Need-load-requires
 load-requires c κs = search needs
@@ -106,10 +87,10 @@ returns c =
     let two = c .before .before .before .before in
     let one = first-store two in
     let w = load-of one in
-    let y = system-of w in
+    let y = options-of w in
     let s = start-of y in
     let a = s .args in
-    let e = w .load .ensures ∙ ap (asked s) (system-is y) in (
+    let e = w .load .ensures ∙ ap (asked s) (y .options .ensures) in (
       c .number .ensures ∙ ap (λ (q : Outcome). buildNumber (q .reply .reply)) e,
       (
         c .before .carried .ensures ∙ ap (λ (q : Outcome). buildCarried (q .reply .reply)) e,
@@ -124,9 +105,7 @@ pub supercluster-load-spec : {M : Type 1} → statement M
 supercluster-load-spec =
     tie.close
     (tie.spec
-    setting-requires
-    setting-requires-2
-    system-requires
+    options-requires
     load-requires
     store-requires
     store-requires-2

@@ -1,0 +1,35 @@
+-- Replies as a C caller sees them, put together from what the functions below promise. Assumes nothing.
+use mathlib.Core.Path.{_≡_, ap, _∙_}
+use mathlib.Core.List.{List}
+use Prim.Native.Nat.{ℕ}
+use lib.ListN.{length}
+use lib.IntN.{ℤ}
+use Rattle.tables.specs.declared.Options.{Options}
+use Rattle.tables.specs.declared.State.{State}
+use Rattle.asking.specs.declared.Answer.{Answer}
+use Rattle.asking.specs.Answers.{answerNumber, answerCarried}
+use Rattle.asking.specs.Asked.{Asked, answerOf, columnOf}
+use Rattle.tiles.specs.Asked.{Outcome, outcome}
+use Rattle.exports.specs.Given.{stateOf}
+use Rattle.exports.specs.Told.{said, told, toldOf, tileTold, tileOf}
+
+-- the state that is passed on
+pub state-is : (s : State) (o p : Options) (n : ℕ) (starts lens : List ℕ) → s ≡ stateOf o n starts lens → o ≡ p → s ≡ stateOf p n starts lens
+state-is s o p n starts lens e f = e ∙ ap (λ (q : Options). stateOf q n starts lens) f
+
+pub said-is : {n m k l : ℕ} → n ≡ m → k ≡ l → said n k ≡ said m l
+said-is {m = m} {k = k} e f = ap (λ (i : ℕ). said i k) e ∙ ap (λ (i : ℕ). said m i) f
+
+pub told-is : (out : List ℕ) (a b : Asked) {n k : ℕ} {r : Answer} {l : List ℕ} → n ≡ answerNumber r → k ≡ answerCarried r → r ≡ answerOf a (length out) → l ≡ columnOf a out → a ≡ b
+    → told n k l ≡ toldOf b out
+told-is out a b {k = k} {r = r} {l = l} e f g h q =
+    ap (λ (i : ℕ). told i k l) e
+    ∙ ap (λ (i : ℕ). told (answerNumber r) i l) f
+    ∙ ap (λ (t : Answer). told (answerNumber t) (answerCarried t) l) g
+    ∙ ap (λ (t : List ℕ). told (answerNumber (answerOf a (length out))) (answerCarried (answerOf a (length out))) t) h
+    ∙ ap (λ (t : Asked). toldOf t out) q
+
+pub tile-told-is : {n k : ℕ} {r : Answer} {places : List ℕ} {xs ys : List ℤ} {o : Outcome} → n ≡ answerNumber r → k ≡ answerCarried r → outcome r places xs ys ≡ o
+    → tileTold n k places xs ys ≡ tileOf o
+tile-told-is {k = k} {r = r} {places = places} {xs = xs} {ys = ys} e f g =
+    ap (λ (i : ℕ). tileTold i k places xs ys) e ∙ ap (λ (i : ℕ). tileTold (answerNumber r) i places xs ys) f ∙ ap tileOf g

@@ -1,0 +1,43 @@
+-- `exports::options` meets its contract. Assumes nothing.
+use mathlib.Core.Path.{ap, _∙_}
+use borrow.Author.Needs.{needs}
+use Rattle.range.specs.declared.Setting.{Setting}
+use Rattle.range.specs.declared.CoordinateSystem.{CoordinateSystem}
+use Rattle.tables.specs.declared.Options.{Options}
+use Rattle.exports.specs.Given.{settingOf, systemOf}
+use Rattle.exports.proofs.options.Statement.{statement}
+use Rattle.exports.proofs.options.Tie as tie
+
+-- the options, with this coordinate system
+abbrev made : tie.Start → CoordinateSystem → Options
+made s y =
+    let a = s .args in
+    record {
+      «min_zoom» = a .min-zoom;
+      «max_zoom» = a .max-zoom;
+      «min_points» = a .min-points;
+      radius = a .radius;
+      extent = a .extent;
+      «node_size» = a .node-size;
+      «coordinate_system» = y;
+    }
+
+setting-requires : tie.Need-setting-requires
+setting-requires c κs = search needs
+
+setting-requires-2 : tie.Need-setting-requires-2
+setting-requires-2 c κs = search needs
+
+system-requires : tie.Need-system-requires
+system-requires c κs = search needs
+
+returns : tie.Need-returns
+returns c =
+    let s = c .before .before .before in
+    let a = s .args in
+    let y = c .system .ensures ∙ ap (λ (v : Setting). systemOf (a .cartesian) (a .min-x) (a .min-y) (a .max-x) (a .max-y) v (c .before .setting2 .result)) (c .before .before .setting .ensures)
+    ∙ ap (λ (v : Setting). systemOf (a .cartesian) (a .min-x) (a .min-y) (a .max-x) (a .max-y) (settingOf (a .offset-given) (a .offset)) v) (c .before .setting2 .ensures) in
+    ap (made s) y
+
+pub options-spec : {M : Type 1} → statement M
+options-spec = tie.close (tie.spec setting-requires setting-requires-2 system-requires returns)
