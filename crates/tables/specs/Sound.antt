@@ -14,9 +14,13 @@ use Rattle.tables.specs.Options.{optionsOk, tableCount, raised, zoomUsed
 use Rattle.tables.specs.Bounds.{InBounds, options-are}
 use Rattle.tables.specs.State.{startOf, lenOf}
 
+-- a table of len entries that starts at `start` starts at `at` and has 1 to n entries
+abbrev pub isTable : ℕ → ℕ → ℕ → ℕ → Bool
+isTable start len n at = eqb start at && leb 1 len && leb len n
+
 -- the table of zoom z starts at `at` and has 1 to N entries
 abbrev pub tableOk : State → ℕ → ℕ → Bool
-tableOk s z at = eqb (startOf s z) at && leb 1 (lenOf s z) && leb (lenOf s z) (s .count)
+tableOk s z at = isTable (startOf s z) (lenOf s z) (s .count) at
 
 -- k tables are left, that of min_zoom + k - 1 and then each smaller one: each starts where the one before ends, and the last ends within the columns
 unfoldable pub packed : State → ℕ → ℕ → ℕ → Bool

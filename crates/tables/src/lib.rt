@@ -6,7 +6,7 @@ ghost use Prim.Native.Nat.{_<_, _≤_};
 ghost use lib.ListN.{length, set};
 ghost use Rattle.tables.specs.Options.{optionsOk, zoomsOk, radiusOk, extentOk, tableCount, raised, zoomUsed};
 ghost use Rattle.tables.specs.State.{newState, withTable, startOf, lenOf};
-ghost use Rattle.tables.specs.Sound.{tableOk, packed, stateOk};
+ghost use Rattle.tables.specs.Sound.{isTable, packed, stateOk};
 ghost use Rattle.tables.specs.Entries.{entry};
 ghost use Rattle.tables.specs.Rows.{rows, Even};
 ghost use Rattle.tables.specs.Ids.{clusterId, originOf, tableOf};
@@ -116,6 +116,19 @@ impl Options {
     }
 }
 
+// Whether a table of len entries that starts at `start` starts at `at` and has 1 to n entries.
+fn is_table(start: u32, len: u32, n: u32, at: usize) -> bool
+    ensures { λ r. ⌜ r ≡ isTable start len n at ⌝ }
+{
+    if start as usize != at {
+        return false;
+    }
+    if len < 1 {
+        return false;
+    }
+    len <= n
+}
+
 impl State {
     // Where the table of a zoom starts, and how many entries it has.
     pub fn start_of(self, zoom: usize) -> usize
@@ -132,36 +145,24 @@ impl State {
         self.lens[zoom] as usize
     }
 
-    // Whether the table of a zoom starts at `at` and has 1 to N entries.
-    fn table_ok(self, zoom: usize, at: usize) -> bool
-        requires { ⌜ zoom < 32 ⌝ }
-        ensures { λ r. ⌜ r ≡ tableOk self zoom at ⌝ }
-    {
-        if self.start_of(zoom) != at {
-            return false;
-        }
-        let n = self.len_of(zoom);
-        if n < 1 {
-            return false;
-        }
-        n <= self.count as usize
-    }
-
     // Whether the tables are packed from 0 on, the largest zoom first, within columns of cap entries.
     fn is_packed(self, cap: usize) -> bool
         requires { ⌜ (self .options .«min_zoom» ≤ self .options .«max_zoom») × (self .options .«max_zoom» ≤ 30) × (self .count ≤ 1048576) ⌝ }
         ensures { λ r. ⌜ r ≡ packed self cap (tableCount (self .options)) 0 ⌝ }
     {
         let o = self.options;
+        let starts = self.starts;
+        let lens = self.lens;
         let low = o.min_zoom as usize;
         let mut left = o.table_count();
         let mut at = 0;
         while 0 < left {
             left -= 1;
-            if !self.table_ok(low + left, at) {
+            let len = lens[low + left];
+            if !is_table(starts[low + left], len, self.count, at) {
                 return false;
             }
-            at += self.len_of(low + left);
+            at += len as usize;
         }
         at <= cap
     }
