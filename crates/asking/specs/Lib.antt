@@ -6,3 +6,4 @@ pub mod Columns
 pub mod Ids
 pub mod Reached
 pub mod Around
+pub mod Replies

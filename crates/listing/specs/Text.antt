@@ -132,6 +132,11 @@ pub record Refuses (s : List ℕ) (xs ys xs′ ys′ : List Float) : Type 0 wher
   pub same-x : xs′ ≡ xs
   pub same-y : ys′ ≡ ys
 
+-- 01's number of a reply; 0 where there is no refusal
+abbrev pub parsedNumber : Parsed → ℕ
+parsedNumber (Read h) = 0
+parsedNumber Refused = 12
+
 abbrev pub Parsing : List ℕ → List Float → List Float → Parsed → List Float → List Float → Type 0
 Parsing s xs ys (Read h) xs′ ys′ = Reads s xs ys h xs′ ys′
 Parsing s xs ys Refused xs′ ys′ = Refuses s xs ys xs′ ys′

@@ -9,7 +9,8 @@ use lib.Seq.{length-take-le}
 use Rattle.floats.specs.Replies.{same-reply}
 use Rattle.supercluster.specs.Build.{over}
 use Rattle.listing.specs.OneInput.{text-one}
-use Rattle.listing.specs.Text.{Input}
+use Rattle.listing.specs.Text.{Input, parsedNumber}
+use Rattle.listing.specs.declared.Parsed.the-variants.{Refused}
 use Rattle.report.specs.Lines.{refusalText}
 use Rattle.report.specs.Report.{linesOf, Lending, left, Reports, read, refused}
 
@@ -30,4 +31,4 @@ counts l o o′ r n e =
 pub report-counts : (s : List ℕ) (d : Lending) (r : ℕ) (d′ : Lending) → Reports s d r d′ → (r ≤ length (d′ .out)) × (r ≡ length (take r (d′ .out)))
 unfolding left
 report-counts s d r d′ (read i v e n l) = counts (linesOf i) (d .out) (d′ .out) r n (ap (λ (q : Lending). q .out) l)
-report-counts s d r d′ (refused no′ n l) = counts (refusalText 12 0) (d .out) (d′ .out) r n (ap (λ (q : Lending). q .out) l)
+report-counts s d r d′ (refused no′ n l) = counts (refusalText (parsedNumber Refused) 0) (d .out) (d′ .out) r n (ap (λ (q : Lending). q .out) l)

@@ -12,8 +12,9 @@ use Rattle.kdbush.specs.declared.BuildReply.the-variants.{Done, Options as No·
 use Rattle.kdbush.specs.Reply.{buildNumber, buildCarried}
 use Rattle.tables.specs.declared.Options.{Options}
 use Rattle.supercluster.specs.Build.{Lent, lent, checked, tablesOf, over, loaded}
+use Rattle.listing.specs.declared.Parsed.the-variants.{Refused}
 use Rattle.listing.specs.Values.{optionsOf}
-use Rattle.listing.specs.Text.{Input, text, Valid, headIs, xsOf, ysOf}
+use Rattle.listing.specs.Text.{Input, text, Valid, headIs, xsOf, ysOf, parsedNumber}
 use Rattle.report.specs.Lines.{tablesText, refusalText}
 
 -- the lister's columns: 1,152 entries, and 2,304 index coordinates
@@ -56,5 +57,5 @@ left i d =
 -- the answer to the text s is how many bytes are printed: for the input that s is the writing of, or the refusal 12 where there is none
 pub data Reports (s : List ℕ) (d : Lending) (answer : ℕ) (d′ : Lending) : Type 0 where
   read : (i : Input) → Valid i → s ≡ text i → answer ≡ length (linesOf i) → d′ ≡ left i d → Reports s d answer d′
-  refused : ((i : Input) → Valid i → s ≡ text i → ⊥) → answer ≡ length (refusalText 12 0) → d′ ≡ lending (d .px) (d .py) (d .columns) (over (refusalText 12 0) (d .out))
+  refused : ((i : Input) → Valid i → s ≡ text i → ⊥) → answer ≡ length (refusalText (parsedNumber Refused) 0) → d′ ≡ lending (d .px) (d .py) (d .columns) (over (refusalText (parsedNumber Refused) 0) (d .out))
       → Reports s d answer d′

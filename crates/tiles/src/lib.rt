@@ -156,9 +156,9 @@ fn tally_used(
         (visitsFor s (columns (now (x .entry)) (now (y .entry)) (now (seen .entry)) (now (id .entry)) (now (parent .entry)) (now (num .entry)) (now (ids .entry)) (now (coords .entry))) z tx ty) ⌝ }
 {
     let o = s.options;
-    let u = index(o.zoom_used(z));
-    let a = s.start_of(u);
-    let e = a + s.len_of(u);
+    let used = index(o.zoom_used(z));
+    let a = s.start_of(used);
+    let e = a + s.len_of(used);
     let c = 2 * a;
     let d = 2 * e;
     tiling::add_up(

@@ -10,3 +10,4 @@ pub mod Lists
 pub mod Marks
 pub mod Tally
 pub mod Counting
+pub mod Replies

@@ -9,7 +9,7 @@ use Rattle.asking.specs.Asked.{answerOf, columnOf}
 use Rattle.asking.specs.Columns.{Columns}
 use Rattle.walks.specs.declared.Expansion.{Expansion}
 use Rattle.walks.specs.Children.{childrenOf}
-use Rattle.walks.specs.Expansion.{zoomOf}
+use Rattle.walks.specs.Expansion.{expansionNumber, expansionCarried, zoomOf}
 use Rattle.walks.specs.Leaves.{leavesOf}
 
 pub children-replies : (s : State) (c : Columns) (id room : ℕ) (r t : Answer) → r ≡ answerOf (childrenOf s c id) room → t ≡ answerOf (childrenOf s c id) room → r ≡ t
@@ -28,3 +28,10 @@ leaves-replies s c id limit offset room r t = same-reply
 pub leaves-columns : (s : State) (c : Columns) (id limit offset : ℕ) (out u v : List ℕ) → u ≡ columnOf (leavesOf s c id limit offset) out
     → v ≡ columnOf (leavesOf s c id limit offset) out → u ≡ v
 leaves-columns s c id limit offset out u v = same-reply
+
+-- the methods of an expansion
+pub number-replies : (e : Expansion) (r t : ℕ) → r ≡ expansionNumber e → t ≡ expansionNumber e → r ≡ t
+number-replies e r t = same-reply
+
+pub carried-replies : (e : Expansion) (r t : ℕ) → r ≡ expansionCarried e → t ≡ expansionCarried e → r ≡ t
+carried-replies e r t = same-reply
