@@ -4,3 +4,4 @@ pub mod Narrows
 pub mod Firsts
 pub mod Replies
 pub mod Leaves
+pub mod Turns

@@ -42,7 +42,7 @@ pub sole : (m : ℕ) (pre : List ℕ) (c : ℕ) (post : List ℕ) → m ∷ [] �
 sole m [] c post e = (cc, cc)
 sole m (x ∷ pre) c post e = let f : [] ≡ pre ++ c ∷ post = cc in absurd (no-nil pre c post f)
 
-scanned-rest : (s : Search) (i k : ℕ) (pre : List ℕ) (c : ℕ) (post : List ℕ) → scanned s i k ≡ pre ++ c ∷ post
+pub scanned-rest : (s : Search) (i k : ℕ) (pre : List ℕ) (c : ℕ) (post : List ℕ) → scanned s i k ≡ pre ++ c ∷ post
     → (i ≤ c) × (c < i + k) × (scanned s (c + 1) (i + k - (c + 1)) ≡ post)
 unfolding scanned
 scanned-rest s i zero pre c post e = absurd (no-nil pre c post e)
@@ -139,7 +139,7 @@ pub record On (q : Query) (size n : ℕ) (co : List Float) (cur : Step) : Type 0
 
 module _ (q : Query) (size n : ℕ) (co : List Float) where
   -- a walk that has a slot is not refused
-  goes : (pre : List ℕ) (c : ℕ) (post : List ℕ) → walk q size n co ≡ pre ++ c ∷ post → (coordsOk size n (length co) && queryOk q) ≡ true
+  pub goes : (pre : List ℕ) (c : ℕ) (post : List ℕ) → walk q size n co ≡ pre ++ c ∷ post → (coordsOk size n (length co) && queryOk q) ≡ true
   goes pre c post e = go (coordsOk size n (length co) && queryOk q) refl e
     where
       go : (b : Bool) → (coordsOk size n (length co) && queryOk q) ≡ b → cond b (answers q co size n) [] ≡ pre ++ c ∷ post → (coordsOk size n (length co) && queryOk q) ≡ true
@@ -147,7 +147,7 @@ module _ (q : Query) (size n : ℕ) (co : List Float) where
       go false h f = absurd (no-nil pre c post f)
 
   -- the slot is in the index, and what follows it is what is left
-  walk-follows : (pre : List ℕ) (c : ℕ) (post : List ℕ) → walk q size n co ≡ pre ++ c ∷ post → (c < n) × (restOf q co size n c ≡ post)
+  pub walk-follows : (pre : List ℕ) (c : ℕ) (post : List ℕ) → walk q size n co ≡ pre ++ c ∷ post → (c < n) × (restOf q co size n c ≡ post)
   walk-follows pre c post e =
       follows q co size n pre c post (sym (ap (λ (b : Bool). cond b (answers q co size n) []) (goes pre c post e)) ∙ e)
 

@@ -10,7 +10,8 @@ ghost use Rattle.kdbush.specs.Query.{passesQ, queryOk};
 ghost use Rattle.kdbush.specs.Slots.{over, when, scanned, slots, below};
 ghost use Rattle.kdbush.specs.Run.{ran, run, places};
 ghost use Rattle.kdbush.specs.Cursor.{headOf, rest, leafEnd};
-ghost use Rattle.kdbush.specs.Reply.{buildNumber, buildCarried, nodeSizeOk, countOk, coordsOk, firstOutside, checked, built, listed, listedColumn, searched, columnAfter, firstStep, afterStep};
+ghost use Rattle.kdbush.specs.Reply.{buildNumber, buildCarried, nodeSizeOk, countOk, coordsOk, firstOutside, checked, built, listed, listedColumn, searched, columnAfter, nextStep, firstStep, afterStep};
+ghost use Rattle.kdbush.specs.Pages.{begun, onwardOf, aheadOf, tailOf, steppedOf, loneOf};
 
 // What is asked of an index: the entries of a box, or those around a place.
 pub enum Query {
@@ -78,6 +79,26 @@ pub enum Step {
     Done,
     Box,
     Spoiled,
+}
+
+// From where a walk goes on: from its start, after a slot, or not at all.
+pub enum Onward {
+    Start,
+    After(usize),
+    Nothing,
+}
+
+// Where a walk stands that is read a page at a time: how many slots the page has, how many of them were read, and from where it goes on after the page.
+pub struct Pages {
+    pub len: usize,
+    pub at: usize,
+    pub onward: Onward,
+}
+
+// A step of such a walk, and where it stands afterwards.
+pub struct Turned {
+    pub step: Step,
+    pub pages: Pages,
 }
 
 // The first point outside [0,1], if there is one.
@@ -652,5 +673,97 @@ pub fn after(q: Query, node_size: usize, n: usize, coords: &[f64], c: usize) -> 
     match next_in(q, coords, node_size + 1, 0, n, 0, c) {
         Next::Slot(i) => Step::Slot(i),
         Next::Done => Step::Done,
+    }
+}
+
+// Begins a walk that is read a page at a time. Nothing is looked for yet.
+pub fn begin() -> Pages
+    ensures { λ r. ⌜ r ≡ begun ⌝ }
+{
+    Pages {
+        len: 0,
+        at: 0,
+        onward: Onward::Start,
+    }
+}
+
+// A step of the cursor as a step of a walk with an empty page. A walk that is refused is done.
+fn stepped(s: Step) -> Turned
+    ensures { λ r. ⌜ r ≡ steppedOf s ⌝ }
+{
+    let Step::Slot(i) = s else {
+        return Turned {
+            step: Step::Done,
+            pages: Pages {
+                len: 0,
+                at: 0,
+                onward: Onward::Nothing,
+            },
+        };
+    };
+    Turned {
+        step: Step::Slot(i),
+        pages: Pages {
+            len: 0,
+            at: 0,
+            onward: Onward::After(i),
+        },
+    }
+}
+
+// The next slot of a walk whose page is read, by the cursor.
+fn lone(q: Query, node_size: usize, n: usize, coords: &[f64], from: Onward) -> Turned
+    ensures { λ r. ⌜ r ≡ loneOf (onwardOf q «node_size» n (now (coords .entry)) from) ⌝ }
+{
+    match from {
+        Onward::Start => stepped(first(q, node_size, n, coords)),
+        Onward::After(c) => stepped(after(q, node_size, n, coords, c)),
+        Onward::Nothing => stepped(Step::Done),
+    }
+}
+
+// Turns the page: the next slot of a walk whose page is read.
+fn turn(
+    q: Query,
+    node_size: usize,
+    n: usize,
+    coords: &[f64],
+    page: &mut [usize],
+    from: Onward,
+) -> Turned
+    ensures { λ r. ⌜ r .step ≡ nextStep Step.Done (onwardOf q «node_size» n (now (coords .entry)) from) ⌝ }
+    ensures { λ r. ⌜ aheadOf q «node_size» n (now (coords .entry)) (now (page .exit)) (r .pages) ≡ tailOf (onwardOf q «node_size» n (now (coords .entry)) from) ⌝ }
+{
+    lone(q, node_size, n, coords, from)
+}
+
+// The next slot of a walk that is read a page at a time, over any lent page; the page is turned where it is read. The walk is done where it is refused.
+pub fn next_slot(
+    q: Query,
+    node_size: usize,
+    n: usize,
+    coords: &[f64],
+    page: &mut [usize],
+    p: Pages,
+) -> Turned
+    ensures { λ r. ⌜ r .step ≡ nextStep Step.Done (aheadOf q «node_size» n (now (coords .entry)) (now (page .entry)) p) ⌝ }
+    ensures { λ r. ⌜ aheadOf q «node_size» n (now (coords .entry)) (now (page .exit)) (r .pages) ≡ tailOf (aheadOf q «node_size» n (now (coords .entry)) (now (page .entry)) p) ⌝ }
+{
+    let at = p.at;
+    let onward = p.onward;
+    if p.len <= at {
+        return turn(q, node_size, n, coords, page, onward);
+    }
+    if page.len() <= at {
+        return turn(q, node_size, n, coords, page, onward);
+    }
+    let c = page[at];
+    Turned {
+        step: Step::Slot(c),
+        pages: Pages {
+            len: p.len,
+            at: at + 1,
+            onward,
+        },
     }
 }

@@ -1,0 +1,88 @@
+-- How a page is turned: each way out of a reader's step is its definition's case. Assumes nothing.
+use mathlib.Core.Path.{_≡_, refl, sym, ap, _∙_}
+use mathlib.Core.Bool.{Bool, true, false, cond}
+use mathlib.Core.List.{List, [], _∷_, _++_}
+use Prim.Native.Nat.{ℕ, suc, _+_, _-_, _≤_, _<_}
+use native.Mathlib.Omega.{arith}
+use native.Mathlib.Numerals.{add-one}
+use lib.ListN.{length, getD, take, drop, length-take, drop-of-length-le}
+use lib.Seq.{drop-cons, getD-take}
+use lib.Ieee.{Float}
+use Rattle.kdbush.specs.declared.Query.{Query}
+use Rattle.kdbush.specs.declared.Step.{Step}
+use Rattle.kdbush.specs.declared.Step.the-variants.{Slot, Done, Box, Spoiled}
+use Rattle.kdbush.specs.declared.Onward.{Onward}
+use Rattle.kdbush.specs.declared.Onward.the-variants.{Start, After, Nothing}
+use Rattle.kdbush.specs.declared.Pages.{Pages}
+use Rattle.kdbush.specs.declared.Turned.{Turned}
+use Rattle.kdbush.specs.Query.{queryOk}
+use Rattle.kdbush.specs.Reply.{coordsOk, nextStep, ending, walk, walkAfter, firstStep, afterStep}
+use Rattle.kdbush.specs.Pages.{onwardOf, aheadOf, tailOf, steppedOf, loneOf, onward-follows}
+
+-- ---- by the cursor
+
+-- a step that is no slot ends the walk
+pub stepped-end : (s : Step) → ((i : ℕ) → s ≡ Slot i → ⊥) → record { step = Done; pages = record { len = 0; at = 0; onward = Nothing } } ≡ steppedOf s
+stepped-end (Slot i) h = absurd (h i refl)
+stepped-end Done h = refl
+stepped-end Box h = refl
+stepped-end Spoiled h = refl
+
+-- however the walk ends, it is done
+stepped-ending : (a b : Bool) (l : List ℕ) → steppedOf (nextStep (cond a (cond b Done Box) Spoiled) l) ≡ loneOf l
+stepped-ending a b (i ∷ l) = refl
+stepped-ending true true [] = refl
+stepped-ending true false [] = refl
+stepped-ending false b [] = refl
+
+module _ (q : Query) (size n : ℕ) (co : List Float) where
+  pub lone-first : (t : Turned) (s : Step) → s ≡ firstStep q size n co → t ≡ steppedOf s → t ≡ loneOf (walk q size n co)
+  unfolding firstStep
+  lone-first t s e f = f ∙ ap steppedOf e ∙ stepped-ending (coordsOk size n (length co)) (queryOk q) (walk q size n co)
+
+  pub lone-after : (c : ℕ) (t : Turned) (s : Step) → s ≡ afterStep q size n co c → t ≡ steppedOf s → t ≡ loneOf (walkAfter q size n co c)
+  unfolding afterStep
+  lone-after c t s e f = f ∙ ap steppedOf e ∙ stepped-ending (coordsOk size n (length co)) (queryOk q) (walkAfter q size n co c)
+
+  -- with no page
+  lone-ahead : (from : Onward) (page l : List ℕ) → onwardOf q size n co from ≡ l
+      → (loneOf l .step ≡ nextStep Done l) × (aheadOf q size n co page (loneOf l .pages) ≡ tailOf l)
+  unfolding aheadOf
+  lone-ahead from page [] e = (refl, refl)
+  lone-ahead from page (i ∷ l) e = (refl, onward-follows q size n co from [] i l e)
+
+  pub turn-lone : (from : Onward) (page : List ℕ) (t : Turned) → t ≡ loneOf (onwardOf q size n co from)
+      → (t .step ≡ nextStep Done (onwardOf q size n co from)) × (aheadOf q size n co page (t .pages) ≡ tailOf (onwardOf q size n co from))
+  turn-lone from page t e =
+      let w = lone-ahead from page (onwardOf q size n co from) refl in
+      (ap (λ (x : Turned). x .step) e ∙ w .0, ap (λ (x : Turned). aheadOf q size n co page (x .pages)) e ∙ w .1)
+
+  -- ---- the page
+
+  -- the page is read: what is ahead is what the walk has after it
+  pub read-out : (page : List ℕ) (p : Pages) → p .len ≤ p .at → aheadOf q size n co page p ≡ onwardOf q size n co (p .onward)
+  unfolding aheadOf
+  read-out page p h =
+      ap (λ (l : List ℕ). l ++ onwardOf q size n co (p .onward)) (drop-of-length-le (take (p .len) page) {i = p .at} (omega (arith, length-take (p .len) page)))
+
+  pub past-page : (page : List ℕ) (p : Pages) → length page ≤ p .at → aheadOf q size n co page p ≡ onwardOf q size n co (p .onward)
+  unfolding aheadOf
+  past-page page p h =
+      ap (λ (l : List ℕ). l ++ onwardOf q size n co (p .onward)) (drop-of-length-le (take (p .len) page) {i = p .at} (omega (arith, length-take (p .len) page)))
+
+  -- a step by a turn of the page
+  pub by-turn : (page page' : List ℕ) (p : Pages) (t : Turned) → aheadOf q size n co page p ≡ onwardOf q size n co (p .onward)
+      → (t .step ≡ nextStep Done (onwardOf q size n co (p .onward))) × (aheadOf q size n co page' (t .pages) ≡ tailOf (onwardOf q size n co (p .onward)))
+      → (t .step ≡ nextStep Done (aheadOf q size n co page p)) × (aheadOf q size n co page' (t .pages) ≡ tailOf (aheadOf q size n co page p))
+  by-turn page page' p t e w = (w .0 ∙ ap (nextStep Done) (sym e), w .1 ∙ ap tailOf (sym e))
+
+  -- a step on the page
+  pub on-page : (page : List ℕ) (p : Pages) → p .at < p .len → p .at < length page
+      → (Slot (getD page (p .at) 0) ≡ nextStep Done (aheadOf q size n co page p))
+      × (aheadOf q size n co page (record { len = p .len; at = p .at + 1; onward = p .onward }) ≡ tailOf (aheadOf q size n co page p))
+  unfolding aheadOf
+  on-page page p h k =
+      let a = drop-cons (take (p .len) page) (p .at) 0 (omega (arith, length-take (p .len) page)) in
+      let b : drop (p .at) (take (p .len) page) ≡ getD page (p .at) 0 ∷ drop (p .at + 1) (take (p .len) page) = rw (add-one (p .at), ← getD-take (p .len) page (p .at) 0 h) a in
+      let f = ap (λ (l : List ℕ). l ++ onwardOf q size n co (p .onward)) b in
+      (sym (ap (nextStep Done) f), sym (ap tailOf f))
