@@ -8,8 +8,6 @@ use lib.Ieee.{Float}
 use Rattle.vectors.specs.Same.{samePlaces, sameFloats, doneIs}
 use Rattle.vectors.specs.declared.Function.{Function}
 use Rattle.vectors.specs.declared.Function.the-variants.{Range as Function·Range, Within as Function·Within}
-use Rattle.vectors.specs.declared.Verdict.{Verdict}
-use Rattle.vectors.specs.declared.Verdict.the-variants.{Agrees, Differs, Malformed, End}
 use Rattle.kdsort.specs.Cols.{cols}
 use Rattle.kdbush.specs.declared.Query.{Query}
 use Rattle.kdbush.specs.declared.Query.the-variants.{Range, Within}
@@ -63,10 +61,3 @@ walksTo q size n ids co m want = walked (afterStep q size n co) ids want m 0 (fi
 abbrev pub functionOf : Query → Function
 functionOf (Range a b c d) = Function·Range
 functionOf (Within a b c) = Function·Within
-
--- the first that differs stays
-abbrev pub earlierOf : Verdict → Function → Verdict
-earlierOf (Differs g) f = Differs g
-earlierOf Agrees f = Differs f
-earlierOf Malformed f = Differs f
-earlierOf End f = Differs f

@@ -23,7 +23,7 @@ ghost use lib.ListN.{length};
 ghost use Rattle.vectors.specs.Tallies.{endingIs};
 ghost use Rattle.kdbush.specs.Reply.{searched, columnAfter};
 ghost use Rattle.replay_index.specs.Read.{queryOf};
-ghost use Rattle.replay_index.specs.Same.{buildsTo, foundIs, listsTo, slotOf, overIs, walksTo, functionOf, earlierOf};
+ghost use Rattle.replay_index.specs.Same.{buildsTo, foundIs, listsTo, slotOf, overIs, walksTo, functionOf};
 
 // A query, or words that are none.
 enum Asked {
@@ -285,18 +285,6 @@ fn replay_query(node_size: usize, n: usize, ids: &[u32], coords: &[f64], last: b
     Verdict::Agrees
 }
 
-// The verdict on a case, once one more of its functions differs: the first stays.
-fn earlier(verdict: Verdict, function: Function) -> Verdict
-    ensures { λ r. ⌜ r ≡ earlierOf verdict function ⌝ }
-{
-    match verdict {
-        Verdict::Differs(f) => Verdict::Differs(f),
-        Verdict::Agrees => Verdict::Differs(function),
-        Verdict::Malformed => Verdict::Differs(function),
-        Verdict::End => Verdict::Differs(function),
-    }
-}
-
 // Reads and asks the k queries of a case, to the end of its line also where one differs.
 fn replay_queries(
     built: Verdict,
@@ -311,7 +299,7 @@ fn replay_queries(
     while i < k {
         match replay_query(node_size, n, ids, coords, i + 1 == k) {
             Verdict::Agrees => {}
-            Verdict::Differs(function) => verdict = earlier(verdict, function),
+            Verdict::Differs(function) => verdict = vectors::earlier(verdict, function),
             Verdict::Malformed => return Verdict::Malformed,
             Verdict::End => return Verdict::Malformed,
         }

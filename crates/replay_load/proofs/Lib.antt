@@ -1,3 +1,2 @@
 -- The laws that the proofs of several functions cite.
-pub mod Laws
 pub mod Kept

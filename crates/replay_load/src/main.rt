@@ -11,6 +11,7 @@
 use range::CoordinateSystem;
 use range::DataRange;
 use range::Setting;
+use stored::Chosen;
 use supercluster::Loaded;
 use tables::Entry;
 use tables::Options;
@@ -31,26 +32,7 @@ ghost use lib.ListN.{length};
 ghost use Rattle.vectors.specs.Tallies.{endingIs};
 ghost use Rattle.tables.specs.Rows.{Even};
 ghost use Rattle.supercluster.specs.Build.{lent, outcome};
-ghost use Rattle.replay_load.specs.Read.{settingOf, systemOf};
 ghost use Rattle.replay_load.specs.Same.{sameSetting, sameRange, sameSystem, sameOptions, sameState, sameTables, sameIndexes, agreesWith, loadsTo, zerosIn};
-
-// An offset or a scale, or words that are none.
-enum Settled {
-    Setting(Setting),
-    Bad,
-}
-
-// The range of a case, or words that are none.
-enum Ranged {
-    Range(DataRange),
-    Bad,
-}
-
-// The options of a case, or words that are none.
-enum Chosen {
-    Options(Options),
-    Bad,
-}
 
 // An entry, or words that are none.
 enum Given {
@@ -62,98 +44,6 @@ enum Given {
 const OLD: u32 = 0xa5a5_a5a5;
 
 const OLD_BYTE: u8 = 0xa5;
-
-// A number that is given, where `given` is not 0, or else derived.
-fn setting_of(given: usize, v: f64) -> Setting
-    ensures { λ r. ⌜ r ≡ settingOf given v ⌝ }
-{
-    if given == 0 {
-        return Setting::Derived;
-    }
-    Setting::Given(v)
-}
-
-// Reads an offset or a scale.
-fn read_setting() -> Settled {
-    let Count::Is(given) = vectors::next_count(1, false) else {
-        return Settled::Bad;
-    };
-    let Pattern::Bits(bits) = vectors::next_bits(false) else {
-        return Settled::Bad;
-    };
-    Settled::Setting(setting_of(given, vectors::float_of(bits)))
-}
-
-// Reads a range.
-fn read_range() -> Ranged {
-    let Pattern::Bits(a) = vectors::next_bits(false) else {
-        return Ranged::Bad;
-    };
-    let Pattern::Bits(b) = vectors::next_bits(false) else {
-        return Ranged::Bad;
-    };
-    let Pattern::Bits(c) = vectors::next_bits(false) else {
-        return Ranged::Bad;
-    };
-    let Pattern::Bits(d) = vectors::next_bits(false) else {
-        return Ranged::Bad;
-    };
-    let Settled::Setting(offset) = read_setting() else {
-        return Ranged::Bad;
-    };
-    let Settled::Setting(scale) = read_setting() else {
-        return Ranged::Bad;
-    };
-    Ranged::Range(DataRange {
-        min_x: vectors::float_of(a),
-        min_y: vectors::float_of(b),
-        max_x: vectors::float_of(c),
-        max_y: vectors::float_of(d),
-        offset,
-        scale,
-    })
-}
-
-// Cartesian with this range, where `cartesian` is not 0, or else longitude.
-fn system_of(cartesian: usize, range: DataRange) -> CoordinateSystem
-    ensures { λ r. ⌜ r ≡ systemOf cartesian range ⌝ }
-{
-    if cartesian == 0 {
-        return CoordinateSystem::LatLng;
-    }
-    CoordinateSystem::Cartesian { range }
-}
-
-// Reads the options after the two zooms.
-fn read_options(min_zoom: u8, max_zoom: u8) -> Chosen {
-    let Byte::Is(min_points) = vectors::next_byte(false) else {
-        return Chosen::Bad;
-    };
-    let Pattern::Bits(radius) = vectors::next_bits(false) else {
-        return Chosen::Bad;
-    };
-    let Pattern::Bits(extent) = vectors::next_bits(false) else {
-        return Chosen::Bad;
-    };
-    let Pattern::Bits(node_size) = vectors::next_bits(false) else {
-        return Chosen::Bad;
-    };
-    let Count::Is(cartesian) = vectors::next_count(1, false) else {
-        return Chosen::Bad;
-    };
-    let Ranged::Range(range) = read_range() else {
-        return Chosen::Bad;
-    };
-    Chosen::Options(Options {
-        min_zoom,
-        max_zoom,
-        min_points,
-        radius: vectors::float_of(radius),
-        extent: vectors::float_of(extent),
-        node_size: node_size as usize,
-        coordinate_system: system_of(cartesian, range),
-    })
-}
 
 // Reads an entry.
 fn read_entry() -> Given {
@@ -668,7 +558,7 @@ fn replay_tables(o: Options, min_zoom: usize, max_zoom: usize, xs: &[f64], ys: &
 fn replay_points(min_zoom: usize, max_zoom: usize) -> Verdict
     requires { ⌜ («min_zoom» ≤ «max_zoom») × («max_zoom» ≤ 30) ⌝ }
 {
-    let Chosen::Options(o) = read_options(min_zoom as u8, max_zoom as u8) else {
+    let Chosen::Options(o) = stored::read_options(min_zoom as u8, max_zoom as u8) else {
         return Verdict::Malformed;
     };
     let Count::Is(n) = vectors::next_count(64, false) else {

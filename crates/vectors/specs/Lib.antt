@@ -3,3 +3,4 @@ pub mod Words
 pub mod Tallies
 pub mod Same
 pub mod Equal
+pub mod Chain

@@ -3,11 +3,20 @@ use Prim.Native.Nat.{ℕ, _+_, _≤_, _<_}
 use native.Mathlib.Omega.{arith}
 use mathlib.Core.Path.{_≡_, refl}
 use Rattle.vectors.specs.declared.Function.{Function}
+use Rattle.vectors.specs.declared.Verdict.{Verdict}
+use Rattle.vectors.specs.declared.Verdict.the-variants.{Agrees, Differs, Malformed as Verdict·Malformed, End}
 use Rattle.vectors.specs.declared.First.{First}
 use Rattle.vectors.specs.declared.First.the-variants.{Nothing, At}
 use Rattle.vectors.specs.declared.Tally.{Tally}
 use Rattle.vectors.specs.declared.Ending.{Ending}
 use Rattle.vectors.specs.declared.Ending.the-variants.{Finished, Malformed, TooMany}
+
+-- the first that differs stays
+abbrev pub earlierOf : Verdict → Function → Verdict
+earlierOf (Differs g) f = Differs g
+earlierOf Agrees f = Differs f
+earlierOf Verdict·Malformed f = Differs f
+earlierOf End f = Differs f
 
 -- the first difference, with one more at a case
 abbrev pub firstOf : First → ℕ → Function → First

@@ -1,5 +1,6 @@
 // What the programs share that replay stored vectors: a vector's words are 16 lowercase hexadecimal digits, a number's or the bits of an f64.
-// Proved: a word is read exactly as io::hex would write it, every pattern of a NaN is read as NaN, and two floats agree where they are equal or both NaN.
+// Proved: a word is read exactly as io::hex would write it, every pattern of a NaN is read as NaN, a number with a sign is the one that its bits stand for, and two floats
+// agree where they are equal or both NaN.
 // Proved too: the tally of a replay counts each case once, and names the first that differs. What is written is only proved to be safe.
 // Proved of what is read and compared: a word's number is what its 17 bytes spell, a count is within its limit, two columns are compared to their ends.
 // Assumed: nothing beyond the contracts of `floats`, `kdbush` and `io`. What standard input gives is not modelled: a function that reads it is only proved to be safe.
@@ -10,9 +11,11 @@ ghost use mathlib.Core.Path.{_≡_};
 ghost use Prim.Native.Nat.{_+_, _*_, _≤_, _<_};
 ghost use lib.ListN.{length};
 ghost use lib.Ieee.{binary64, nanBits, ofBits};
+ghost use mir.Syntax.{w64};
+ghost use mir.Val.{toZ};
 ghost use Rattle.vectors.specs.Words.{digitIs, patternIs, wordIs, countIs, agreeing};
-ghost use Rattle.vectors.specs.Same.{samePlaces, sameFloats, doneIs};
-ghost use Rattle.vectors.specs.Tallies.{firstOf, withAgreed, withDiffered};
+ghost use Rattle.vectors.specs.Same.{samePlaces, sameLongs, sameFloats, doneIs};
+ghost use Rattle.vectors.specs.Tallies.{earlierOf, firstOf, withAgreed, withDiffered};
 
 // The value of a hexadecimal digit, or a byte that is none.
 enum Digit {
@@ -52,7 +55,18 @@ pub enum Byte {
     Bad,
 }
 
-// The functions that vectors have answers of: those of `range`, those of `kdbush`, that of `supercluster`, and that of `report`.
+// The questions to a build.
+pub enum Question {
+    Box,
+    Ring,
+    Children,
+    Leaves,
+    Expansion,
+    Tile,
+    Tally,
+}
+
+// The functions that vectors have answers of: those of `range`, those of `kdbush`, that of `supercluster`, that of `report`, and the questions.
 pub enum Function {
     Normalize,
     Denormalize,
@@ -63,6 +77,7 @@ pub enum Function {
     Cursor,
     Load,
     Report,
+    Asked(Question),
 }
 
 // What became of a case: the answers agree, or this function's is the first that does not; it is not of the form; there is none.
@@ -152,6 +167,16 @@ pub fn float_of(bits: u64) -> f64
         return 0.0 / 0.0;
     }
     f64::from_bits(bits)
+}
+
+// The number with a sign that 64 bits stand for.
+pub fn long_of(bits: u64) -> i64
+    ensures { λ r. ⌜ r ≡ toZ w64 bits ⌝ }
+{
+    if bits < 0x8000_0000_0000_0000 {
+        return bits as i64;
+    }
+    -1 - ((0xffff_ffff_ffff_ffff - bits) as i64)
 }
 
 // Whether two floats are equal, the two zeros too, or both NaN.
@@ -341,6 +366,69 @@ pub fn read_places(m: usize, last: bool, places: &mut [u32]) -> bool
     true
 }
 
+// Reads m numbers with a sign into their column; the last of them ends its line where `last`.
+pub fn read_longs(m: usize, last: bool, column: &mut [i64]) -> bool
+    requires { ⌜ m ≤ length (now column) ⌝ }
+{
+    let mut i = 0;
+    while i < m {
+        let Pattern::Bits(bits) = next_bits(last & (i + 1 == m)) else {
+            return false;
+        };
+        column[i] = long_of(bits);
+        i += 1;
+    }
+    true
+}
+
+// Reads how many floats there are and then these, as many as the column holds at the most.
+pub fn next_floats(column: &mut [f64]) -> Count
+    ensures { λ r. ⌜ countIs (length (now (column .entry))) r ⌝ }
+{
+    let Count::Is(n) = next_count(column.len(), false) else {
+        return Count::Bad;
+    };
+    let mut i = 0;
+    while i < n {
+        if !read_float(column, i) {
+            return Count::Bad;
+        }
+        i += 1;
+    }
+    Count::Is(n)
+}
+
+// The same of bytes.
+pub fn next_bytes(column: &mut [u8]) -> Count
+    ensures { λ r. ⌜ countIs (length (now (column .entry))) r ⌝ }
+{
+    let Count::Is(n) = next_count(column.len(), false) else {
+        return Count::Bad;
+    };
+    let mut i = 0;
+    while i < n {
+        let Byte::Is(b) = next_byte(false) else {
+            return Count::Bad;
+        };
+        column[i] = b;
+        i += 1;
+    }
+    Count::Is(n)
+}
+
+// The same of places.
+pub fn next_places(column: &mut [u32]) -> Count
+    ensures { λ r. ⌜ countIs (length (now (column .entry))) r ⌝ }
+{
+    let Count::Is(n) = next_count(column.len(), false) else {
+        return Count::Bad;
+    };
+    if read_places(n, false, column) {
+        return Count::Is(n);
+    }
+    Count::Bad
+}
+
 // Whether two columns of places are the same, to their ends.
 pub fn same_places(want: &[u32], got: &[u32]) -> bool
     ensures { λ r. ⌜ r ≡ samePlaces (now (want .entry)) (now (got .entry)) ⌝ }
@@ -361,6 +449,23 @@ pub fn same_places(want: &[u32], got: &[u32]) -> bool
 // Whether two columns of bytes are the same, to their ends.
 pub fn same_bytes(want: &[u8], got: &[u8]) -> bool
     ensures { λ r. ⌜ r ≡ samePlaces (now (want .entry)) (now (got .entry)) ⌝ }
+{
+    if want.len() != got.len() {
+        return false;
+    }
+    let mut i = 0;
+    while i < want.len() {
+        if want[i] != got[i] {
+            return false;
+        }
+        i += 1;
+    }
+    true
+}
+
+// Whether two columns of numbers with a sign are the same, to their ends.
+pub fn same_longs(want: &[i64], got: &[i64]) -> bool
+    ensures { λ r. ⌜ r ≡ sameLongs (now (want .entry)) (now (got .entry)) ⌝ }
 {
     if want.len() != got.len() {
         return false;
@@ -402,6 +507,18 @@ pub fn is_done(reply: BuildReply) -> bool
         BuildReply::Count => false,
         BuildReply::Point(i) => false,
         BuildReply::Tables => false,
+    }
+}
+
+// The verdict on a case, once one more of its functions differs: the first stays.
+pub fn earlier(verdict: Verdict, function: Function) -> Verdict
+    ensures { λ r. ⌜ r ≡ earlierOf verdict function ⌝ }
+{
+    match verdict {
+        Verdict::Differs(f) => Verdict::Differs(f),
+        Verdict::Agrees => Verdict::Differs(function),
+        Verdict::Malformed => Verdict::Differs(function),
+        Verdict::End => Verdict::Differs(function),
     }
 }
 
@@ -452,6 +569,33 @@ fn say_number(text: &[u8], n: u64) {
     io::print_decimal(STDOUT_FILENO, n);
 }
 
+// Writes a question's name.
+fn say_question(question: Question) {
+    match question {
+        Question::Box => {
+            io::write_all(STDOUT_FILENO, b"box");
+        }
+        Question::Ring => {
+            io::write_all(STDOUT_FILENO, b"ring");
+        }
+        Question::Children => {
+            io::write_all(STDOUT_FILENO, b"children");
+        }
+        Question::Leaves => {
+            io::write_all(STDOUT_FILENO, b"leaves");
+        }
+        Question::Expansion => {
+            io::write_all(STDOUT_FILENO, b"expansion zoom");
+        }
+        Question::Tile => {
+            io::write_all(STDOUT_FILENO, b"tile");
+        }
+        Question::Tally => {
+            io::write_all(STDOUT_FILENO, b"tally");
+        }
+    }
+}
+
 // Writes a function's name.
 fn say_function(function: Function) {
     match function {
@@ -482,6 +626,7 @@ fn say_function(function: Function) {
         Function::Report => {
             io::write_all(STDOUT_FILENO, b"report");
         }
+        Function::Asked(question) => say_question(question),
     }
 }
 

@@ -1,6 +1,6 @@
 -- `replay_load::agrees` meets its contract: the comparisons in a row are the definition's. Assumes nothing.
 use Rattle.replay_load.specs.Same.{agreesWith}
-use Rattle.replay_load.proofs.Laws.{row-no, row-yes}
+use Rattle.vectors.specs.Chain.{row-no, row-yes}
 use Rattle.replay_load.proofs.agrees.Statement.{statement}
 use Rattle.replay_load.proofs.agrees.Tie as tie
 

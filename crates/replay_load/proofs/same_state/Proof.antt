@@ -1,7 +1,7 @@
 -- `replay_load::same_state` meets its contract: the comparisons in a row are the definition's. Assumes nothing.
 use borrow.Author.Needs.{needs}
 use Rattle.replay_load.specs.Same.{sameState}
-use Rattle.replay_load.proofs.Laws.{row-no, row-yes, number-no, number-yes}
+use Rattle.vectors.specs.Chain.{row-no, row-yes, number-no, number-yes}
 use Rattle.replay_load.proofs.same_state.Statement.{statement}
 use Rattle.replay_load.proofs.same_state.Tie as tie
 

@@ -1,7 +1,7 @@
 -- `replay_load::same_tables` meets its contract: the comparisons in a row are the definition's. Assumes nothing.
 use borrow.Author.Needs.{needs}
 use Rattle.replay_load.specs.Same.{sameTables}
-use Rattle.replay_load.proofs.Laws.{row-no, row-yes}
+use Rattle.vectors.specs.Chain.{row-no, row-yes}
 use Rattle.replay_load.proofs.same_tables.Statement.{statement}
 use Rattle.replay_load.proofs.same_tables.Tie as tie
 

@@ -14,7 +14,8 @@ use cases::Case;
 use questions::{Out, Outcome, Question, State};
 use std::io::{self, Write};
 
-/// The most entries in a column, questions in a case, and items in an answer or an output column.
+/// The most entries in a column, questions in a case, and items in an answer or an output column; of coordinates
+/// there are two to an entry.
 const MOST: usize = 64;
 
 /// Writes the cases.
@@ -48,7 +49,6 @@ fn words(Case { build, questions }: &Case) -> Vec<u64> {
     words.push(bounded(questions.len()));
     for (question, rooms) in questions {
         words.extend(question_words(question));
-        words.extend(rooms.map(bounded));
         words.extend(answer_words(build, question, rooms));
     }
     words
@@ -65,84 +65,77 @@ fn bits(v: f64) -> u64 {
     if v.is_nan() { f64::NAN } else { v }.to_bits()
 }
 
-/// N, and `zoom start len` for each zoom at which one of the two is not 0.
+/// N, where the table of each zoom starts, and how long each is.
 fn state_words(state: &State) -> Vec<u64> {
-    let tables = state.starts.iter().zip(&state.lens).enumerate();
-    let tables = tables.filter(|(_, (start, len))| **start != 0 || **len != 0);
-    let words: Vec<[u64; 3]> = tables
-        .map(|(zoom, (start, len))| [zoom as u64, u64::from(*start), u64::from(*len)])
-        .collect();
-    let mut all = vec![u64::from(state.count), words.len() as u64];
-    all.extend(words.into_iter().flatten());
-    all
-}
-
-/// The entries, each with the slot at its position, and the lengths of the columns: what is past one is 0.
-fn column_words(columns: &Columns) -> Vec<u64> {
-    let Columns { x, y, seen, id, parent, num, ids, coords } = columns;
-    let lengths = [
-        x.len(),
-        y.len(),
-        seen.len(),
-        id.len(),
-        parent.len(),
-        num.len(),
-        ids.len(),
-        coords.len().div_ceil(2),
-    ];
-    let most = lengths.into_iter().max().unwrap_or(0);
-    let mut words = vec![bounded(most)];
-    let float = |column: &[f64], at: usize| column.get(at).map_or(0, |v| bits(*v));
-    let whole = |column: &[u32], at: usize| column.get(at).map_or(0, |v| u64::from(*v));
-    for at in 0..most {
-        words.extend([float(x, at), float(y, at), seen.get(at).map_or(0, |v| u64::from(*v))]);
-        words.extend([id, parent, num, ids].map(|column| whole(column, at)));
-        words.extend([float(coords, 2 * at), float(coords, 2 * at + 1)]);
-    }
-    words.extend(lengths[..7].iter().map(|length| *length as u64));
-    words.push(coords.len() as u64);
+    let mut words = vec![u64::from(state.count)];
+    words.extend(state.starts.map(u64::from));
+    words.extend(state.lens.map(u64::from));
     words
 }
 
-/// The kind of a question and its five words: zeros stand where it has fewer.
-fn question_words(question: &Question) -> [u64; 6] {
+/// The eight columns, each with its length before it.
+fn column_words(columns: &Columns) -> Vec<u64> {
+    let Columns { x, y, seen, id, parent, num, ids, coords } = columns;
+    let floats = |column: &[f64]| column.iter().map(|v| bits(*v)).collect::<Vec<_>>();
+    let wholes = |column: &[u32]| column.iter().map(|v| u64::from(*v)).collect::<Vec<_>>();
+    let seen = seen.iter().map(|v| u64::from(*v)).collect();
+    let entries =
+        [floats(x), floats(y), seen, wholes(id), wholes(parent), wholes(num), wholes(ids)];
+    let mut words = Vec::new();
+    for column in entries {
+        words.push(bounded(column.len()));
+        words.extend(column);
+    }
+    assert!(coords.len() <= 2 * MOST, "{} coordinates are too many for a case", coords.len());
+    words.push(coords.len() as u64);
+    words.extend(floats(coords));
+    words
+}
+
+/// The kind of a question and its words.
+fn question_words(question: &Question) -> Vec<u64> {
     match *question {
-        Question::Box { zoom, corners: [w, s, e, n] } => {
-            [0, u64::from(zoom), bits(w), bits(s), bits(e), bits(n)]
+        Question::Box { zoom, corners } => {
+            let corners = corners.map(bits);
+            [&[0, u64::from(zoom)], &corners[..]].concat()
         }
-        Question::Ring { zoom, circle: [x, y, radius] } => {
-            [1, u64::from(zoom), bits(x), bits(y), bits(radius), 0]
+        Question::Ring { zoom, circle } => {
+            let circle = circle.map(bits);
+            [&[1, u64::from(zoom)], &circle[..]].concat()
         }
-        Question::Children { id } => [2, u64::from(id), 0, 0, 0, 0],
+        Question::Children { id } => vec![2, u64::from(id)],
         Question::Leaves { id, limit, offset } => {
-            [3, u64::from(id), u64::from(limit), u64::from(offset), 0, 0]
+            vec![3, u64::from(id), u64::from(limit), u64::from(offset)]
         }
-        Question::ExpansionZoom { id } => [4, u64::from(id), 0, 0, 0, 0],
-        Question::Tile { z, x, y } => [5, u64::from(z), u64::from(x), u64::from(y), 0, 0],
-        Question::Tally { z, x, y } => [6, u64::from(z), u64::from(x), u64::from(y), 0, 0],
+        Question::ExpansionZoom { id } => vec![4, u64::from(id)],
+        Question::Tile { z, x, y } => vec![5, u64::from(z), u64::from(x), u64::from(y)],
+        Question::Tally { z, x, y } => vec![6, u64::from(z), u64::from(x), u64::from(y)],
     }
 }
 
-/// The number of the reply, what it carries, and the items that are left in the output columns.
+/// The lengths of the output columns, the number of the reply, what it carries, and the items that are left in
+/// the columns, column by column: only the reply where there are none.
 fn answer_words(build: &Build, question: &Question, rooms: &Rooms) -> Vec<u64> {
     let outcome = question.answered(&build.state, &build.columns.lent());
     let (mut places, mut x, mut y) = (vec![0; rooms[0]], vec![0; rooms[1]], vec![0; rooms[2]]);
     let reply = outcome.told(&mut Out { places: &mut places, x: &mut x, y: &mut y });
-    let mut words = vec![u64::from(reply.number), reply.carried];
+    let reply = [u64::from(reply.number), reply.carried];
     match outcome {
         Outcome::List(answer) => {
             let left = answer.left(rooms[0]);
-            words.push(bounded(left.len()));
+            let mut words = vec![bounded(rooms[0]), reply[0], reply[1], bounded(left.len())];
             words.extend(left.iter().map(|place| u64::from(*place)));
+            words
         }
         Outcome::Tile(answer) => {
             let left = answer.left(*rooms.iter().min().expect("three rooms"));
-            words.push(bounded(left.len()));
-            words.extend(
-                left.iter().flat_map(|item| [u64::from(item.place), item.x as u64, item.y as u64]),
-            );
+            let mut words = rooms.map(bounded).to_vec();
+            words.extend([reply[0], reply[1], bounded(left.len())]);
+            words.extend(left.iter().map(|item| u64::from(item.place)));
+            words.extend(left.iter().map(|item| item.x as u64));
+            words.extend(left.iter().map(|item| item.y as u64));
+            words
         }
-        Outcome::Number(_) => words.push(0),
+        Outcome::Number(_) => reply.to_vec(),
     }
-    words
 }

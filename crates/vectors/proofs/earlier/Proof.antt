@@ -1,7 +1,7 @@
--- `replay_index::earlier` meets its contract, by the cases of the verdict. Assumes nothing.
+-- `vectors::earlier` meets its contract, by the cases of the verdict. Assumes nothing.
 use borrow.Author.Needs.{needs}
-use Rattle.replay_index.proofs.earlier.Statement.{statement}
-use Rattle.replay_index.proofs.earlier.Tie as tie
+use Rattle.vectors.proofs.earlier.Statement.{statement}
+use Rattle.vectors.proofs.earlier.Tie as tie
 
 enum-known-verdict : tie.Need-enum-known-verdict
 enum-known-verdict c = search needs

@@ -1,4 +1,4 @@
--- Laws of comparisons in a row, over plain values. Assumes nothing.
+-- Laws of comparisons in a row, over plain values, for the programs that compare. Assumes nothing.
 use mathlib.Core.Bool.{Bool, true, false, not, _&&_}
 use mathlib.Core.Path.{_≡_, refl, sym, _∙_}
 use Prim.Native.Nat.{ℕ}

@@ -1,7 +1,7 @@
--- `replay_load::system_of` meets its contract. Assumes nothing.
+-- `stored::system_of` meets its contract. Assumes nothing.
 use borrow.Author.Tests.{eq-eqb, ne-eqb}
-use Rattle.replay_load.proofs.system_of.Statement.{statement}
-use Rattle.replay_load.proofs.system_of.Tie as tie
+use Rattle.stored.proofs.system_of.Statement.{statement}
+use Rattle.stored.proofs.system_of.Tie as tie
 
 returns : tie.Need-returns
 returns c = simp (eq-eqb _ _ (c .if1 .taken))

@@ -1,0 +1,67 @@
+-- How the comparisons of the code are those of the definitions, over plain values. Assumes nothing.
+use mathlib.Core.Bool.{Bool, true, false, not}
+use mathlib.Core.List.{List}
+use mathlib.Core.Path.{_≡_, ap, sym, subst, _∙_}
+use Prim.Native.Nat.{ℕ}
+use lib.IntN.{ℤ}
+use lib.ListN.{length}
+use Rattle.tables.specs.declared.State.{State}
+use Rattle.asking.specs.declared.Answer.{Answer}
+use Rattle.asking.specs.Answers.{answerNumber, answerCarried}
+use Rattle.asking.specs.Asked.{Asked, answerOf, columnOf}
+use Rattle.asking.specs.Columns.{Columns}
+use Rattle.walks.specs.declared.Expansion.{Expansion}
+use Rattle.walks.specs.Expansion.{expansionNumber, expansionCarried}
+use Rattle.tiling.specs.declared.Tally.{Tally}
+use Rattle.tiling.specs.Tally.{tallyNumber, tallyValue}
+use Rattle.tiles.specs.Asked.{Outcome, outcome}
+use Rattle.vectors.specs.Chain.{row-no, row-yes}
+use Rattle.vectors.specs.Same.{samePlaces}
+use Rattle.replay_questions.specs.declared.Listing.{Listing}
+use Rattle.replay_questions.specs.declared.Reply.{Reply}
+use Rattle.replay_questions.specs.Same.{askedOf, sameReply, sameTile, listsTo, zoomsTo, tilesTo, sumsTo}
+
+-- a question of a known form
+pub asks : (p q : Listing) (s : State) (c : Columns) (out : List ℕ) (r : Answer) (o : List ℕ) → p ≡ q → r ≡ answerOf (askedOf q s c) (length out) → o ≡ columnOf (askedOf q s c) out
+    → (r ≡ answerOf (askedOf p s c) (length out)) × (o ≡ columnOf (askedOf p s c) out)
+asks p q s c out r o e g h =
+    (g ∙ ap (λ (v : Listing). answerOf (askedOf v s c) (length out)) (sym e), h ∙ ap (λ (v : Listing). columnOf (askedOf v s c) out) (sym e))
+
+-- a reply whose number and value are n and k, compared: r
+module _ (reply : Reply) (n k : ℕ) (r : Bool) (h : r ≡ sameReply reply n k) where
+  told : (m l : ℕ) → n ≡ m → k ≡ l → r ≡ sameReply reply m l
+  told m l a b = h ∙ ap (λ (v : ℕ). sameReply reply v k) a ∙ ap (λ (v : ℕ). sameReply reply m v) b
+
+  pub zoom-told : (e d : Expansion) → e ≡ d → n ≡ expansionNumber e → k ≡ expansionCarried e → r ≡ zoomsTo reply d
+  unfolding zoomsTo
+  zoom-told e d g a b = told (expansionNumber e) (expansionCarried e) a b ∙ ap (λ (v : Expansion). sameReply reply (expansionNumber v) (expansionCarried v)) g
+
+  pub sum-told : (e d : Tally) → e ≡ d → n ≡ tallyNumber e → k ≡ tallyValue e → r ≡ sumsTo reply d
+  unfolding sumsTo
+  sum-told e d g a b = told (tallyNumber e) (tallyValue e) a b ∙ ap (λ (v : Tally). sameReply reply (tallyNumber v) (tallyValue v)) g
+
+  -- a question that lists came to a, and is answered with w
+  module _ (w : Answer) (i : n ≡ answerNumber w) (j : k ≡ answerCarried w) where
+    answered : r ≡ sameReply reply (answerNumber w) (answerCarried w)
+    answered = told (answerNumber w) (answerCarried w) i j
+
+    listed : (v : Answer) → w ≡ v → r ≡ sameReply reply (answerNumber v) (answerCarried v)
+    listed v g = answered ∙ ap (λ (u : Answer). sameReply reply (answerNumber u) (answerCarried u)) g
+
+    pub lists-no : (want : List ℕ) (a : Asked) (out : List ℕ) → w ≡ answerOf a (length out) → not r ≡ true → false ≡ listsTo reply want a out
+    unfolding listsTo
+    lists-no want a out g f = row-no r _ _ (listed (answerOf a (length out)) g) f
+
+    pub lists-yes : (want : List ℕ) (a : Asked) (out got : List ℕ) (q : Bool) → w ≡ answerOf a (length out) → not r ≡ false → got ≡ columnOf a out → q ≡ samePlaces want got → q ≡ listsTo reply want a out
+    unfolding listsTo
+    lists-yes want a out got q g f e p = row-yes r _ q _ (listed (answerOf a (length out)) g) f (p ∙ ap (samePlaces want) e)
+
+    -- a tile left these columns
+    module _ (want : List ℕ) (wx wy : List ℤ) (places : List ℕ) (xs ys : List ℤ) (o : Outcome) (e : outcome w places xs ys ≡ o) where
+      pub tile-no : not r ≡ true → false ≡ tilesTo reply want wx wy o
+      unfolding tilesTo
+      tile-no f = row-no r _ _ answered f ∙ ap (tilesTo reply want wx wy) e
+
+      pub tile-yes : (q : Bool) → not r ≡ false → q ≡ sameTile want wx wy places xs ys → q ≡ tilesTo reply want wx wy o
+      unfolding tilesTo
+      tile-yes q f p = row-yes r _ q _ answered f p ∙ ap (tilesTo reply want wx wy) e

@@ -1,0 +1,77 @@
+-- `replay_questions::replay_index` is safe: a column is lent as far as it was read. Assumes nothing.
+use native.Mathlib.Omega.{arith}
+use mathlib.Core.Path.{sym, subst}
+use lib.Seq.{length-take-le}
+use Rattle.vectors.specs.Words.{countIs}
+use borrow.Author.Needs.{needs}
+use Rattle.replay_questions.proofs.replay_index.Statement.{statement}
+use Rattle.replay_questions.proofs.replay_index.Tie as tie
+
+slice-aggregate-next-places : tie.Need-slice-aggregate-next-places
+slice-aggregate-next-places c = search needs
+
+next-places-requires : tie.Need-next-places-requires
+next-places-requires c κs = search needs
+
+enum-known-n : tie.Need-enum-known-n
+enum-known-n c = search needs
+
+enum-told : tie.Need-enum-told
+enum-told c = search needs
+
+returns : tie.Need-returns
+returns c = search needs
+
+slice-aggregate-next-floats : tie.Need-slice-aggregate-next-floats
+slice-aggregate-next-floats c = search needs
+
+next-floats-requires : tie.Need-next-floats-requires
+next-floats-requires c κs = search needs
+
+enum-known-m : tie.Need-enum-known-m
+enum-known-m c = search needs
+
+enum-told-2 : tie.Need-enum-told-2
+enum-told-2 c = search needs
+
+returns-2 : tie.Need-returns-2
+returns-2 c = search needs
+
+array-share-prefix-ids : tie.Need-array-share-prefix-ids
+array-share-prefix-ids c = omega (arith, subst (countIs _) (c .before .before .before .before .before .before .before .n .given .1) (c .before .before .before .before .before .before .before .before .before .before .next-places .ensures), c .before .before .before .before .before .before .before .before .before .before .next-places .kept)
+
+slice-aggregate-replay-questions : tie.Need-slice-aggregate-replay-questions
+slice-aggregate-replay-questions c = sym (length-take-le _ _ (array-share-prefix-ids (c .before)))
+
+array-share-prefix-coords : tie.Need-array-share-prefix-coords
+array-share-prefix-coords c = omega (arith, subst (countIs _) (c .before .before .m .given .1) (c .before .before .before .before .before .next-floats .ensures), c .before .before .before .before .before .next-floats .kept)
+
+slice-aggregate-replay-questions-2 : tie.Need-slice-aggregate-replay-questions-2
+slice-aggregate-replay-questions-2 c = sym (length-take-le _ _ (array-share-prefix-coords (c .before)))
+
+replay-questions-requires : tie.Need-replay-questions-requires
+replay-questions-requires c κs = search needs
+
+returns-3 : tie.Need-returns-3
+returns-3 c = search needs
+
+pub replay-index-spec : {M : Type 1} → statement M
+replay-index-spec =
+    tie.close
+    (tie.spec
+    slice-aggregate-next-places
+    next-places-requires
+    enum-known-n
+    enum-told
+    returns
+    slice-aggregate-next-floats
+    next-floats-requires
+    enum-known-m
+    enum-told-2
+    returns-2
+    array-share-prefix-ids
+    slice-aggregate-replay-questions
+    array-share-prefix-coords
+    slice-aggregate-replay-questions-2
+    replay-questions-requires
+    returns-3)

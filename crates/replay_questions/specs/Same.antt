@@ -1,0 +1,63 @@
+-- What the comparisons are: of the answer to a question, by the definition that the public function cites, with what is expected. Definitions only.
+use Prim.Native.Nat.{ℕ}
+use mathlib.Core.Bool.{Bool, _&&_}
+use mathlib.Core.List.{List}
+use lib.Dec.{eqb}
+use lib.IntN.{ℤ}
+use lib.ListN.{length}
+use Rattle.tables.specs.declared.State.{State}
+use Rattle.asking.specs.Answers.{answerNumber, answerCarried}
+use Rattle.asking.specs.Asked.{Asked, answerOf, columnOf}
+use Rattle.asking.specs.Columns.{Columns}
+use Rattle.boxes.specs.Lists.{boxAsked, ringAsked}
+use Rattle.walks.specs.declared.Expansion.{Expansion}
+use Rattle.walks.specs.Children.{childrenOf}
+use Rattle.walks.specs.Leaves.{leavesOf}
+use Rattle.walks.specs.Expansion.{expansionNumber, expansionCarried}
+use Rattle.tiling.specs.declared.Tally.{Tally}
+use Rattle.tiling.specs.Tally.{tallyNumber, tallyValue}
+use Rattle.tiles.specs.Asked.{Outcome}
+use Rattle.vectors.specs.declared.Question.{Question}
+use Rattle.vectors.specs.declared.Question.the-variants.{Box as Question·Box, Ring as Question·Ring, Children as Question·Children, Leaves as Question·Leaves}
+use Rattle.vectors.specs.Same.{samePlaces, sameLongs}
+use Rattle.replay_questions.specs.declared.Listing.{Listing}
+use Rattle.replay_questions.specs.declared.Listing.the-variants.{Box, Ring, Children, Leaves}
+use Rattle.replay_questions.specs.declared.Reply.{Reply}
+
+-- what a question that lists comes to
+unfoldable pub askedOf : Listing → State → Columns → Asked
+askedOf (Box zoom w south e n) s c = boxAsked s (c .ids) (c .coords) zoom w south e n
+askedOf (Ring zoom x y radius) s c = ringAsked s (c .ids) (c .coords) zoom x y radius
+askedOf (Children id) s c = childrenOf s c id
+askedOf (Leaves id limit offset) s c = leavesOf s c id limit offset
+
+-- its name
+abbrev pub questionOf : Listing → Question
+questionOf (Box zoom w south e n) = Question·Box
+questionOf (Ring zoom x y radius) = Question·Ring
+questionOf (Children id) = Question·Children
+questionOf (Leaves id limit offset) = Question·Leaves
+
+-- the number of a reply and what it carries are those expected
+unfoldable pub sameReply : Reply → ℕ → ℕ → Bool
+sameReply want number carried = eqb (want .number) number && eqb (want .carried) carried
+
+-- a question that lists: its answer, and the column afterwards
+unfoldable pub listsTo : Reply → List ℕ → Asked → List ℕ → Bool
+listsTo reply want a out =
+    sameReply reply (answerNumber (answerOf a (length out))) (answerCarried (answerOf a (length out))) && samePlaces want (columnOf a out)
+
+-- an expansion zoom, and a tally
+unfoldable pub zoomsTo : Reply → Expansion → Bool
+zoomsTo reply e = sameReply reply (expansionNumber e) (expansionCarried e)
+
+unfoldable pub sumsTo : Reply → Tally → Bool
+sumsTo reply t = sameReply reply (tallyNumber t) (tallyValue t)
+
+-- a tile: its answer, and the three columns afterwards
+unfoldable pub sameTile : List ℕ → List ℤ → List ℤ → List ℕ → List ℤ → List ℤ → Bool
+sameTile want wx wy places xs ys = samePlaces want places && (sameLongs wx xs && sameLongs wy ys)
+
+unfoldable pub tilesTo : Reply → List ℕ → List ℤ → List ℤ → Outcome → Bool
+tilesTo reply want wx wy o =
+    sameReply reply (answerNumber (o .answer)) (answerCarried (o .answer)) && sameTile want wx wy (o .places) (o .xs) (o .ys)

@@ -1,0 +1,2 @@
+-- What the contracts of the readers cite.
+pub mod Read

@@ -1,0 +1,123 @@
+// What the programs share that replay builds and questions: how a case gives the options of a build, in words as `vectors` reads them.
+//     min_points radius extent node_size cartesian min_x min_y max_x max_y offset_given offset scale_given scale
+// Proved: 0 stands for what is derived, and for longitude, and 1 for what is given, and for Cartesian; nothing here fails.
+// Assumed: what standard input gives is not modelled, so that the functions that read are only proved to be safe.
+use range::CoordinateSystem;
+use range::DataRange;
+use range::Setting;
+use tables::Options;
+use vectors::Byte;
+use vectors::Count;
+use vectors::Pattern;
+ghost use mathlib.Core.Path.{_≡_};
+ghost use Rattle.stored.specs.Read.{settingOf, systemOf};
+
+// An offset or a scale, or words that are none.
+enum Settled {
+    Setting(Setting),
+    Bad,
+}
+
+// The range of a case, or words that are none.
+enum Ranged {
+    Range(DataRange),
+    Bad,
+}
+
+// The options of a case, or words that are none.
+pub enum Chosen {
+    Options(Options),
+    Bad,
+}
+
+// A number that is given, where `given` is not 0, or else derived.
+fn setting_of(given: usize, v: f64) -> Setting
+    ensures { λ r. ⌜ r ≡ settingOf given v ⌝ }
+{
+    if given == 0 {
+        return Setting::Derived;
+    }
+    Setting::Given(v)
+}
+
+// Reads an offset or a scale.
+fn read_setting() -> Settled {
+    let Count::Is(given) = vectors::next_count(1, false) else {
+        return Settled::Bad;
+    };
+    let Pattern::Bits(bits) = vectors::next_bits(false) else {
+        return Settled::Bad;
+    };
+    Settled::Setting(setting_of(given, vectors::float_of(bits)))
+}
+
+// Reads a range.
+fn read_range() -> Ranged {
+    let Pattern::Bits(a) = vectors::next_bits(false) else {
+        return Ranged::Bad;
+    };
+    let Pattern::Bits(b) = vectors::next_bits(false) else {
+        return Ranged::Bad;
+    };
+    let Pattern::Bits(c) = vectors::next_bits(false) else {
+        return Ranged::Bad;
+    };
+    let Pattern::Bits(d) = vectors::next_bits(false) else {
+        return Ranged::Bad;
+    };
+    let Settled::Setting(offset) = read_setting() else {
+        return Ranged::Bad;
+    };
+    let Settled::Setting(scale) = read_setting() else {
+        return Ranged::Bad;
+    };
+    Ranged::Range(DataRange {
+        min_x: vectors::float_of(a),
+        min_y: vectors::float_of(b),
+        max_x: vectors::float_of(c),
+        max_y: vectors::float_of(d),
+        offset,
+        scale,
+    })
+}
+
+// Cartesian with this range, where `cartesian` is not 0, or else longitude.
+fn system_of(cartesian: usize, range: DataRange) -> CoordinateSystem
+    ensures { λ r. ⌜ r ≡ systemOf cartesian range ⌝ }
+{
+    if cartesian == 0 {
+        return CoordinateSystem::LatLng;
+    }
+    CoordinateSystem::Cartesian { range }
+}
+
+// Reads the options after the two zooms.
+pub fn read_options(min_zoom: u8, max_zoom: u8) -> Chosen {
+    let Byte::Is(min_points) = vectors::next_byte(false) else {
+        return Chosen::Bad;
+    };
+    let Pattern::Bits(radius) = vectors::next_bits(false) else {
+        return Chosen::Bad;
+    };
+    let Pattern::Bits(extent) = vectors::next_bits(false) else {
+        return Chosen::Bad;
+    };
+    let Pattern::Bits(node_size) = vectors::next_bits(false) else {
+        return Chosen::Bad;
+    };
+    let Count::Is(cartesian) = vectors::next_count(1, false) else {
+        return Chosen::Bad;
+    };
+    let Ranged::Range(range) = read_range() else {
+        return Chosen::Bad;
+    };
+    Chosen::Options(Options {
+        min_zoom,
+        max_zoom,
+        min_points,
+        radius: vectors::float_of(radius),
+        extent: vectors::float_of(extent),
+        node_size: node_size as usize,
+        coordinate_system: system_of(cartesian, range),
+    })
+}
