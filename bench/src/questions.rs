@@ -1,6 +1,7 @@
 //! The questions to a build: the port beside the untouched Rust's own calls, over the same tables. The tables are
 //! the port's, and stand in the Rust's public fields too, so that both answer the same. The Rust's calls make
-//! features, but for the ring, which is its search alone; so is a box once more.
+//! features, but for the ring, which is its search alone; so is a box once more. Last come both searches alone on
+//! both sides.
 
 use crate::{
     clock::timed,
@@ -11,8 +12,9 @@ use crate::{
 use builds::untouched::{unloaded, Supercluster};
 use options::USUAL;
 use oracle_untouched::KDBush;
-use ported::{Asked, Columns, State, ZOOMS};
+use ported::{Asked, Columns, Lent, State, ZOOMS};
 use splitmix::Splitmix;
+use std::f64::consts::PI;
 
 /// About how many answers a box or a ring has, and how many of them are in one measurement.
 const AREAS: [[usize; 2]; 4] = [[1, 20_000], [12, 10_000], [200, 2_000], [3_000, 200]];
@@ -83,6 +85,15 @@ impl Both {
         Asked { options: &USUAL, count, starts, lens, x, y, seen, id, parent, num, ids, coords }
     }
 
+    /// The index of the finest table.
+    fn finest(&self) -> Lent<'_> {
+        let zoom = usize::from(FINEST);
+        let (start, count) = (self.starts[zoom] as usize, self.lens[zoom] as usize);
+        let ids = &self.columns.ids[start..start + count];
+        let coords = &self.columns.coords[2 * start..2 * (start + count)];
+        Lent { node_size: USUAL.node_size, count, ids, coords }
+    }
+
     /// Ids of clusters with a num from one number to another, by chance; no more than there are.
     fn clusters(&self, nums: [u32; 2], most: usize, source: &mut Splitmix) -> Vec<u32> {
         let length: usize = self.lens.iter().map(|length| *length as usize).sum();
@@ -144,24 +155,34 @@ impl Bench {
         let (asked, rust) = (self.both.asked(), &self.both.rust);
         let mut out = vec![0; self.count];
         for [answers, most] in AREAS {
-            let half = (answers as f64 / self.count as f64).sqrt() / 2.0;
+            let area = answers as f64 / self.count as f64;
+            let (half, radius) = (area.sqrt() / 2.0, (area / PI).sqrt());
             let spots: Vec<[f64; 2]> =
                 (0..most / self.fewer).map(|_| [source.unit(), source.unit()]).collect();
-            let corners = |[x, y]: [f64; 2]| [x - half, y - half, x + half, y + half];
-            let port = |spot| asked.in_box(FINEST, corners(spot), &mut out).carried;
-            let theirs =
-                |spot| rust.get_clusters(corners(spot), FINEST).map_or(0, |found| found.len());
-            self.line("box", &spots, port, theirs)?;
-            let index = &rust.trees[&usize::from(FINEST)];
-            let port = |spot| asked.in_box(FINEST, corners(spot), &mut out).carried;
-            self.line("box, beside the search alone", &spots, port, |spot| {
-                let [min_x, min_y, max_x, max_y] = corners(spot);
-                index.range(min_x, min_y, max_x, max_y).len()
+            let port = |spot| asked.in_box(FINEST, corners(spot, half), &mut out).carried;
+            self.line("box", &spots, port, |spot| {
+                rust.get_clusters(corners(spot, half), FINEST).map_or(0, |found| found.len())
             })?;
-            let port = |[x, y]: [f64; 2]| asked.ring(FINEST, [x, y, half], &mut out).carried;
-            self.line("ring", &spots, port, |[x, y]| index.within(x, y, half).len())?;
+            let index = &rust.trees[&usize::from(FINEST)];
+            let port = |spot| asked.in_box(FINEST, corners(spot, half), &mut out).carried;
+            self.line("box, beside the search alone", &spots, port, |spot| {
+                searched(index, corners(spot, half))
+            })?;
+            let port = |[x, y]: [f64; 2]| asked.ring(FINEST, [x, y, radius], &mut out).carried;
+            self.line("ring", &spots, port, |[x, y]| index.within(x, y, radius).len())?;
+            self.searches(&spots, half, radius)?;
         }
         Ok(())
+    }
+
+    /// The searches alone.
+    fn searches(&self, spots: &[[f64; 2]], half: f64, radius: f64) -> Result<(), String> {
+        let (finest, index) = (self.both.finest(), &self.both.rust.trees[&usize::from(FINEST)]);
+        let mut out = vec![0; self.count];
+        let port = |spot| finest.range(corners(spot, half), &mut out).carried;
+        self.line("range alone", spots, port, |spot| searched(index, corners(spot, half)))?;
+        let port = |[x, y]: [f64; 2]| finest.within([x, y, radius], &mut out).carried;
+        self.line("within alone", spots, port, |[x, y]| index.within(x, y, radius).len())
     }
 
     /// Children and expansion zooms.
@@ -236,6 +257,16 @@ impl Bench {
         table::line(what, &format!("{answers:.1}"), questions.len(), &measured.times);
         Ok(())
     }
+}
+
+/// The box around a spot, with half its side.
+fn corners([x, y]: [f64; 2], half: f64) -> [f64; 4] {
+    [x - half, y - half, x + half, y + half]
+}
+
+/// How many the Rust's search finds in a box.
+fn searched(index: &KDBush, [min_x, min_y, max_x, max_y]: [f64; 4]) -> usize {
+    index.range(min_x, min_y, max_x, max_y).len()
 }
 
 /// Asks every question; the sum of what each counts, and how long that took.
