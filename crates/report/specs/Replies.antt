@@ -9,8 +9,8 @@ use lib.Seq.{length-take-le}
 use Rattle.floats.specs.Replies.{same-reply}
 use Rattle.supercluster.specs.Build.{over}
 use Rattle.listing.specs.OneInput.{text-one}
-use Rattle.listing.specs.Text.{Input, parsedNumber}
 use Rattle.listing.specs.declared.Parsed.the-variants.{Refused}
+use Rattle.listing.specs.Text.{Input, parsedNumber}
 use Rattle.report.specs.Lines.{refusalText}
 use Rattle.report.specs.Report.{linesOf, Lending, left, Reports, read, refused}
 

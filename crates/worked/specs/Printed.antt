@@ -6,9 +6,10 @@ use Prim.Native.Nat.{ℕ}
 use lib.Ieee.{div, ofInt, ofBits, toBits, isNan}
 use Rattle.kdbush.specs.declared.BuildReply.the-variants.{Done}
 use Rattle.supercluster.specs.Build.{Lent, checked, loaded}
+use Rattle.listing.specs.declared.Parsed.the-variants.{Refused}
 use Rattle.listing.specs.Bytes.{bytes}
 use Rattle.listing.specs.Digits.{decimalOf}
-use Rattle.listing.specs.Text.{Place, Input, line, pointsText, text, headIs, xsOf, ysOf}
+use Rattle.listing.specs.Text.{Place, Input, line, pointsText, text, headIs, xsOf, ysOf, parsedNumber}
 use Rattle.listing.specs.Values.{optionsOf}
 use Rattle.report.specs.Hex.{hexOf}
 use Rattle.report.specs.Lines.{tableText, tablesText, refusalText}
@@ -98,7 +99,7 @@ lines-are =
 
 -- ---- the lines of refusals
 
-pub no-text : refusalText 12 0 ≡ bytes "refusal=12\n"
+pub no-text : refusalText (parsedNumber Refused) 0 ≡ bytes "refusal=12\n"
 unfolding decimalOf
 no-text = refl
 

@@ -4,6 +4,7 @@ mod attempt;
 mod differences;
 mod index_vectors;
 mod judge;
+mod lines_of_01;
 mod lister_vectors;
 mod listing;
 mod load_vectors;
@@ -12,7 +13,6 @@ mod question_vectors;
 mod questions;
 mod range_vectors;
 mod report;
-mod worked;
 
 use asked::Form;
 use std::{
@@ -37,7 +37,7 @@ fn main() -> ExitCode {
     let words: Vec<String> = env::args().skip(1).collect();
     let words: Vec<&str> = words.iter().map(String::as_str).collect();
     match words.as_slice() {
-        ["worked"] => worked::run(),
+        ["worked"] => lines_of_01::run(),
         ["differences", page] => match fs::read_to_string(page) {
             Ok(text) => differences::run(&text),
             Err(why) => fail(&format!("{page}: {why}")),
