@@ -4,4 +4,5 @@ pub mod Narrows
 pub mod Firsts
 pub mod Replies
 pub mod Leaves
+pub mod Stores
 pub mod Turns

@@ -1,12 +1,13 @@
 -- How a page is turned: each way out of a reader's step is its definition's case. Assumes nothing.
 use mathlib.Core.Path.{_≡_, refl, sym, ap, _∙_}
-use mathlib.Core.Bool.{Bool, true, false, cond}
+use mathlib.Core.Bool.{Bool, true, false, cond, _&&_}
 use mathlib.Core.List.{List, [], _∷_, _++_}
 use Prim.Native.Nat.{ℕ, suc, _+_, _-_, _≤_, _<_}
 use native.Mathlib.Omega.{arith}
 use native.Mathlib.Numerals.{add-one}
 use lib.ListN.{length, getD, take, drop, length-take, drop-of-length-le}
-use lib.Seq.{drop-cons, getD-take}
+use lib.Seq.{drop-cons, getD-take, take-suc, append-snoc}
+use borrow.Author.Tests.{lt-ltb, le-ltb}
 use lib.Ieee.{Float}
 use Rattle.kdbush.specs.declared.Query.{Query}
 use Rattle.kdbush.specs.declared.Step.{Step}
@@ -16,8 +17,13 @@ use Rattle.kdbush.specs.declared.Onward.the-variants.{Start, After, Noth
 use Rattle.kdbush.specs.declared.Pages.{Pages}
 use Rattle.kdbush.specs.declared.Turned.{Turned}
 use Rattle.kdbush.specs.Query.{queryOk}
-use Rattle.kdbush.specs.Reply.{coordsOk, nextStep, ending, walk, walkAfter, firstStep, afterStep}
-use Rattle.kdbush.specs.Pages.{onwardOf, aheadOf, tailOf, steppedOf, loneOf, onward-follows}
+use Rattle.kdbush.specs.Reply.{coordsOk, nextStep, walk, walkAfter, firstStep, afterStep}
+use Rattle.kdbush.specs.Bounds.{both-true}
+use Rattle.kdbush.specs.Slots.{answers}
+use Rattle.kdbush.specs.Cursor.{restOf}
+use Rattle.kdbush.specs.Pages.{onwardOf, aheadOf, tailOf, steppedOf, loneOf, Stored, stored, store, onward-follows}
+use Rattle.kdbush.proofs.Replies.{second-false}
+use Rattle.kdbush.proofs.Stores.{none-more, page-filled}
 
 -- ---- by the cursor
 
@@ -86,3 +92,61 @@ module _ (q : Query) (size n : ℕ) (co : List Float) where
       let b : drop (p .at) (take (p .len) page) ≡ getD page (p .at) 0 ∷ drop (p .at + 1) (take (p .len) page) = rw (add-one (p .at), ← getD-take (p .len) page (p .at) 0 h) a in
       let f = ap (λ (l : List ℕ). l ++ onwardOf q size n co (p .onward)) b in
       (sym (ap (nextStep Done) f), sym (ap tailOf f))
+
+  -- ---- a new page
+
+  -- what a walk has that is refused
+  refused : (coordsOk size n (length co) && queryOk q) ≡ false → (from : Onward) → onwardOf q size n co from ≡ []
+  refused e Start = rw e
+  refused e (After c) = rw e
+  refused e Nothing = refl
+
+  pub page-refused : (coordsOk size n (length co) && queryOk q) ≡ false → (from : Onward) (page : List ℕ) → stored 0 page ≡ store 0 (onwardOf q size n co from) page
+  page-refused e from page = none-more 0 page ∙ sym (ap (λ (l : List ℕ). store 0 l page) (refused e from))
+
+  pub page-start : (coordsOk size n (length co) && queryOk q) ≡ true → (page : List ℕ) (x : Stored) → x ≡ store 0 (answers q co size n) page → x ≡ store 0 (walk q size n co) page
+  page-start e page x f = f ∙ sym (ap (λ (b : Bool). store 0 (cond b (answers q co size n) []) page) e)
+
+  pub page-after : (coordsOk size n (length co) && queryOk q) ≡ true → (c : ℕ) → c < n → (page : List ℕ) (x : Stored) → x ≡ store 0 (restOf q co size n c) page
+      → x ≡ store 0 (walkAfter q size n co c) page
+  page-after e c h page x f = f ∙ sym (ap (λ (b : Bool). store 0 (cond b (restOf q co size n c) []) page) (both-true e (lt-ltb c n h)))
+
+  pub page-past : (coordsOk size n (length co) && queryOk q) ≡ true → (c : ℕ) → n ≤ c → (page : List ℕ) → stored 0 page ≡ store 0 (walkAfter q size n co c) page
+  page-past e c h page = none-more 0 page ∙ sym (ap (λ (b : Bool). store 0 (cond b (restOf q co size n c) []) page) (second-false e (le-ltb c n h)))
+
+  -- a page that holds the front of a list, where the walk goes on with the rest: its first slot, and what is ahead then
+  page-opens : (l o : List ℕ) (k : ℕ) (more : List ℕ) (onward : Onward) → 0 < k → k ≤ length o → l ≡ take k o ++ more → onwardOf q size n co onward ≡ more
+      → (Slot (getD o 0 0) ≡ nextStep Done l) × (aheadOf q size n co o (record { len = k; at = 1; onward = onward }) ≡ tailOf l)
+  unfolding aheadOf
+  page-opens l o k more onward h r e f =
+      let a = drop-cons (take k o) 0 0 (omega (arith, length-take k o)) in
+      let b : take k o ≡ getD o 0 0 ∷ drop 1 (take k o) = rw (← getD-take k o 0 0 h) a in
+      let g : l ≡ getD o 0 0 ∷ (drop 1 (take k o) ++ more) = e ∙ ap (λ (m : List ℕ). m ++ more) b in
+      (sym (ap (nextStep Done) g), ap (λ (m : List ℕ). drop 1 (take k o) ++ m) f ∙ sym (ap tailOf g))
+
+  module _ (from : Onward) (page o : List ℕ) (k : ℕ) (e : stored k o ≡ store 0 (onwardOf q size n co from) page) where
+    abbrev todo : List ℕ
+    todo = onwardOf q size n co from
+
+    -- nothing is left
+    pub turn-none : k ≡ 0 → 0 < length page → (t : Turned) → t ≡ steppedOf Done → (t .step ≡ nextStep Done todo) × (aheadOf q size n co o (t .pages) ≡ tailOf todo)
+    turn-none z h t f =
+        let w = page-filled todo page k o e in
+        let y : todo ≡ [] = w .joins ∙ ap (λ (j : ℕ). take j o ++ w .over) z ∙ w .whole (omega (arith, w .same)) in
+        turn-lone from o t (f ∙ sym (ap loneOf y))
+
+    -- the page has the rest of the walk
+    pub turn-part : 0 < k → k < length o → (Slot (getD o 0 0) ≡ nextStep Done todo) × (aheadOf q size n co o (record { len = k; at = 1; onward = Nothing }) ≡ tailOf todo)
+    turn-part h r = let w = page-filled todo page k o e in page-opens todo o k (w .over) Nothing h (w .room) (w .joins) (sym (w .whole r))
+
+    -- the page is full, and the walk goes on after its last slot
+    pub turn-full : 0 < k → (Slot (getD o 0 0) ≡ nextStep Done todo) × (aheadOf q size n co o (record { len = k; at = 1; onward = After (getD o (k - 1) 0) }) ≡ tailOf todo)
+    turn-full h =
+        let w = page-filled todo page k o e in
+        let j : suc (k - 1) ≡ k = omega arith in
+        let a : take k o ≡ take (k - 1) o ++ (getD o (k - 1) 0 ∷ []) = ap (λ (i : ℕ). take i o) (sym j) ∙ take-suc o (k - 1) 0 (omega (arith, w .room)) in
+        let b : todo ≡ take (k - 1) o ++ getD o (k - 1) 0 ∷ w .over = w .joins ∙ ap (λ (m : List ℕ). m ++ w .over) a ∙ append-snoc (take (k - 1) o) (getD o (k - 1) 0) (w .over) in
+        page-opens todo o k (w .over) (After (getD o (k - 1) 0)) h (w .room) (w .joins) (onward-follows q size n co from (take (k - 1) o) (getD o (k - 1) 0) (w .over) b)
+
+    pub page-room : k ≤ length o
+    page-room = page-filled todo page k o e .room

@@ -1,21 +1,22 @@
 -- A walk that is read a page at a time: what is ahead of a reader, for every content of the page, and the laws that a caller's loop goes by. Assumes nothing.
 --
--- A caller's loop. `let mut p = begin();` and in the loop `let t = next_slot(q, size, n, coords, page, p); p = t.pages; let s = t.step; let Step::Slot(c) = s else { .. };`.
--- With l = aheadOf q size n coords page p at the loop's head: the invariant is AllBelow n l × (any fold over l ≡ the same fold over the walk), and the measure
--- is length l. It starts by `ahead-begun` and `walk-below`. At a slot `next-slot` gives l ≡ c ∷ l', where l' is what is ahead afterwards: c is below n and l' keeps
--- the invariant by `below-next`, and l' is shorter. At any other step `next-end` gives l ≡ []. The page's contents and its length are never asked for.
+-- A caller's loop. `let mut page = [0usize; 64]; let mut p = begin();` and in the loop `let t = next_slot(q, size, n, coords, &mut page, p); p = t.pages;
+-- let s = t.step; let Step::Slot(c) = s else { .. };`. With l = aheadOf q size n coords page p at the loop's head: the invariant is AllBelow n l × (any fold over
+-- l ≡ the same fold over the walk), and the measure is length l. It starts by `ahead-begun` and `walk-below`. At a slot `next-slot` gives l ≡ c ∷ l', where l' is
+-- what is ahead afterwards: c is below n and l' keeps the invariant by `below-next`, and l' is shorter. At any other step `next-end` gives l ≡ []. The page's
+-- contents and its length are never asked for; where the page is a local array the invariant also has length page ≡ 64, which the call keeps, so that it can be lent.
 use mathlib.Core.Bool.{Bool, true, false, cond, _&&_}
 use mathlib.Core.Path.{_≡_, refl, sym, ap, _∙_, subst}
 use mathlib.Core.Logic.{⊎-elim}
 use mathlib.Core.List.{List, [], _∷_, _++_}
-use Prim.Native.Nat.{ℕ, zero, suc, _+_, _-_, _≤_, _<_}
+use Prim.Native.Nat.{ℕ, _+_, _-_, _≤_, _<_}
 use native.Mathlib.Omega.{arith}
-use borrow.Author.Tests.{lt-ltb, le-ltb, eq-eqb, ne-eqb, ltb-true, ltb-false, eqb-false}
+use borrow.Author.Tests.{lt-ltb, le-ltb, ne-eqb, ltb-true, ltb-false, eqb-false}
 use lib.Dec.{ltb, eqb}
 use lib.Ieee.{Float}
-use lib.ListN.{length, getD, take, drop}
+use lib.ListN.{length, set, take, drop}
 use lib.Seq.{append-snoc}
-use Rattle.kdsort.specs.Shape.{Shape, leaf, node, shape, Spans, all, both, spans}
+use Rattle.kdsort.specs.Shape.{Shape, node, shape, Spans, all, both, spans}
 use Rattle.kdbush.specs.declared.Query.{Query}
 use Rattle.kdbush.specs.declared.Step.{Step}
 use Rattle.kdbush.specs.declared.Step.the-variants.{Slot, Done, Box, Spoiled}
@@ -24,11 +25,10 @@ use Rattle.kdbush.specs.declared.Onward.the-variants.{Start, After, Noth
 use Rattle.kdbush.specs.declared.Pages.{Pages}
 use Rattle.kdbush.specs.declared.Turned.{Turned}
 use Rattle.kdbush.specs.Query.{queryOk}
-use Rattle.kdbush.specs.Bounds.{and-both}
 use Rattle.kdbush.specs.All.{All, AllBelow}
-use Rattle.kdbush.specs.Slots.{Search, when, scanned, slots, over, answers}
+use Rattle.kdbush.specs.Slots.{Search, when, scanned, slots, over}
 use Rattle.kdbush.specs.Cursor.{rest, restOf}
-use Rattle.kdbush.specs.Reply.{coordsOk, nextStep, ending, walk, walkAfter}
+use Rattle.kdbush.specs.Reply.{coordsOk, nextStep, walk, walkAfter}
 use Rattle.kdbush.specs.Walk.{split, no-nil, when-all, rest-follows, scanned-rest, walk-follows, goes}
 
 -- ---- what is ahead
@@ -62,6 +62,19 @@ steppedOf Spoiled = record { step = Done; pages = record { len = 0; at = 0; onwa
 -- the first step of a list
 abbrev pub loneOf : List ℕ → Turned
 loneOf l = steppedOf (nextStep Done l)
+
+-- how many slots a page has, beside the page
+pub data Stored : Type 0 where
+  stored : ℕ → List ℕ → Stored
+
+-- the slots of a list one after the other, the page having `at` before them: each goes to its position, until the page is full
+unfoldable pub store : ℕ → List ℕ → List ℕ → Stored
+store at [] page = stored at page
+store at (i ∷ l) page =
+    elim (ltb at (length page)) [
+      | true ↦ store (at + 1) l (set page at i)
+      | false ↦ stored at page
+    ]
 
 -- ---- what a caller's loop goes by
 

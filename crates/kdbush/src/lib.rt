@@ -11,7 +11,7 @@ ghost use Rattle.kdbush.specs.Slots.{over, when, scanned, slots, below};
 ghost use Rattle.kdbush.specs.Run.{ran, run, places};
 ghost use Rattle.kdbush.specs.Cursor.{headOf, rest, leafEnd};
 ghost use Rattle.kdbush.specs.Reply.{buildNumber, buildCarried, nodeSizeOk, countOk, coordsOk, firstOutside, checked, built, listed, listedColumn, searched, columnAfter, nextStep, firstStep, afterStep};
-ghost use Rattle.kdbush.specs.Pages.{begun, onwardOf, aheadOf, tailOf, steppedOf, loneOf};
+ghost use Rattle.kdbush.specs.Pages.{begun, onwardOf, aheadOf, tailOf, steppedOf, loneOf, stored, store};
 
 // What is asked of an index: the entries of a box, or those around a place.
 pub enum Query {
@@ -722,7 +722,166 @@ fn lone(q: Query, node_size: usize, n: usize, coords: &[f64], from: Onward) -> T
     }
 }
 
-// Turns the page: the next slot of a walk whose page is read.
+// Stores the slots from `from` up to hi that are answered, from position at on, until the page is full. How many slots the page has then.
+fn fill_from(
+    q: Query,
+    coords: &[f64],
+    from: usize,
+    hi: usize,
+    at: usize,
+    page: &mut [usize],
+) -> usize
+    requires { ⌜ 2 * hi ≤ length (now coords) ⌝ }
+    ensures { λ r. ⌜ stored r (now (page .exit)) ≡ store at (scanned (over q (now (coords .entry))) from (hi - from)) (now (page .entry)) ⌝ }
+{
+    let mut k = at;
+    let mut i = from;
+    while i < hi {
+        if page.len() <= k {
+            return k;
+        }
+        if !test_at(q, coords, i) {
+            i += 1;
+            continue;
+        }
+        page[k] = i;
+        k += 1;
+        i += 1;
+    }
+    k
+}
+
+// Stores the slots that are answered from lo up to hi, until the page is full.
+fn fill_in(
+    q: Query,
+    coords: &[f64],
+    most: usize,
+    lo: usize,
+    hi: usize,
+    axis: usize,
+    at: usize,
+    page: &mut [usize],
+) -> usize
+    requires { ⌜ (2 * hi ≤ length (now coords)) × (lo ≤ hi) × (axis < 2) ⌝ }
+    ensures { λ r. ⌜ stored r (now (page .exit)) ≡ store at (slots (over q (now (coords .entry))) axis (shape most lo hi)) (now (page .entry)) ⌝ }
+{
+    if page.len() <= at {
+        return at;
+    }
+    if hi - lo <= most {
+        return fill_from(q, coords, lo, hi, at, page);
+    }
+    let m = lo + (hi - lo - 1) / 2;
+    if test_at(q, coords, m) {
+        page[at] = m;
+        return fill_below(q, coords, most, lo, hi, axis, at + 1, page);
+    }
+    fill_below(q, coords, most, lo, hi, axis, at, page)
+}
+
+// Stores the slots that are answered in the parts of an interval that is split, until the page is full: the right part, then the left.
+fn fill_below(
+    q: Query,
+    coords: &[f64],
+    most: usize,
+    lo: usize,
+    hi: usize,
+    axis: usize,
+    at: usize,
+    page: &mut [usize],
+) -> usize
+    requires { ⌜ (2 * hi ≤ length (now coords)) × (lo < hi) × (axis < 2) ⌝ }
+    ensures { λ r. ⌜ stored r (now (page .exit)) ≡ store at (below (over q (now (coords .entry))) axis most lo hi) (now (page .entry)) ⌝ }
+{
+    let m = lo + (hi - lo - 1) / 2;
+    if right_at(q, coords, axis, m) {
+        let k = fill_in(q, coords, most, m + 1, hi, 1 - axis, at, page);
+        return fill_left(q, coords, most, lo, m, axis, k, page);
+    }
+    fill_left(q, coords, most, lo, m, axis, at, page)
+}
+
+// Stores the slots that are answered in the part left of the median m, until the page is full.
+fn fill_left(
+    q: Query,
+    coords: &[f64],
+    most: usize,
+    lo: usize,
+    m: usize,
+    axis: usize,
+    at: usize,
+    page: &mut [usize],
+) -> usize
+    requires { ⌜ (2 * m + 1 < length (now coords)) × (lo ≤ m) × (axis < 2) ⌝ }
+    ensures { λ r. ⌜ stored r (now (page .exit)) ≡ store at (when (over q (now (coords .entry)) .left axis m) (slots (over q (now (coords .entry))) (1 - axis) (shape most lo m))) (now (page .entry)) ⌝ }
+{
+    if left_at(q, coords, axis, m) {
+        return fill_in(q, coords, most, lo, m, 1 - axis, at, page);
+    }
+    at
+}
+
+// Stores the slots that are answered after the slot c, from lo up to hi, from the page's start on, until it is full.
+fn fill_rest(
+    q: Query,
+    coords: &[f64],
+    most: usize,
+    lo: usize,
+    hi: usize,
+    axis: usize,
+    c: usize,
+    page: &mut [usize],
+) -> usize
+    requires { ⌜ (2 * hi ≤ length (now coords)) × (lo ≤ c) × (c < hi) × (axis < 2) ⌝ }
+    ensures { λ r. ⌜ stored r (now (page .exit)) ≡ store 0 (rest (over q (now (coords .entry))) axis (shape most lo hi) c) (now (page .entry)) ⌝ }
+{
+    if hi - lo <= most {
+        return fill_from(q, coords, c + 1, hi, 0, page);
+    }
+    let m = lo + (hi - lo - 1) / 2;
+    if c < m {
+        return fill_rest(q, coords, most, lo, m, 1 - axis, c, page);
+    }
+    if c == m {
+        return fill_below(q, coords, most, lo, hi, axis, 0, page);
+    }
+    let k = fill_rest(q, coords, most, m + 1, hi, 1 - axis, c, page);
+    fill_left(q, coords, most, lo, m, axis, k, page)
+}
+
+// Stores what a walk has from where it goes on, until the page is full. A walk that is refused has nothing.
+fn fill_page(
+    q: Query,
+    node_size: usize,
+    n: usize,
+    coords: &[f64],
+    from: Onward,
+    page: &mut [usize],
+) -> usize
+    ensures { λ r. ⌜ stored r (now (page .exit)) ≡ store 0 (onwardOf q «node_size» n (now (coords .entry)) from) (now (page .entry)) ⌝ }
+{
+    if !coords_ok(node_size, n, coords.len()) {
+        return 0;
+    }
+    if !query_ok(q) {
+        return 0;
+    }
+    match from {
+        Onward::Start => {
+            let v = narrow(q, coords, node_size + 1, n);
+            fill_in(q, coords, node_size + 1, v.lo, v.hi, v.axis, 0, page)
+        }
+        Onward::After(c) => {
+            if n <= c {
+                return 0;
+            }
+            fill_rest(q, coords, node_size + 1, 0, n, 0, c, page)
+        }
+        Onward::Nothing => 0,
+    }
+}
+
+// Turns the page: the next slot of a walk whose page is read. With a page of no slots it goes by the cursor.
 fn turn(
     q: Query,
     node_size: usize,
@@ -734,7 +893,33 @@ fn turn(
     ensures { λ r. ⌜ r .step ≡ nextStep Step.Done (onwardOf q «node_size» n (now (coords .entry)) from) ⌝ }
     ensures { λ r. ⌜ aheadOf q «node_size» n (now (coords .entry)) (now (page .exit)) (r .pages) ≡ tailOf (onwardOf q «node_size» n (now (coords .entry)) from) ⌝ }
 {
-    lone(q, node_size, n, coords, from)
+    if page.len() == 0 {
+        return lone(q, node_size, n, coords, from);
+    }
+    let k = fill_page(q, node_size, n, coords, from, page);
+    if k == 0 {
+        return stepped(Step::Done);
+    }
+    let c = page[0];
+    if k < page.len() {
+        return Turned {
+            step: Step::Slot(c),
+            pages: Pages {
+                len: k,
+                at: 1,
+                onward: Onward::Nothing,
+            },
+        };
+    }
+    let last = page[k - 1];
+    Turned {
+        step: Step::Slot(c),
+        pages: Pages {
+            len: k,
+            at: 1,
+            onward: Onward::After(last),
+        },
+    }
 }
 
 // The next slot of a walk that is read a page at a time, over any lent page; the page is turned where it is read. The walk is done where it is refused.

@@ -1,5 +1,5 @@
 -- `kdbush::lone` meets its contract, by from where the walk goes on. Assumes nothing.
-use mathlib.Core.Path.{_≡_, sym, ap, _∙_}
+use mathlib.Core.Path.{sym, ap, _∙_}
 use borrow.Author.Needs.{needs}
 use denote.Ref.{now}
 use Rattle.kdbush.specs.declared.Onward.{Onward}

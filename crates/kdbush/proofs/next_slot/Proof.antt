@@ -1,6 +1,5 @@
 -- `kdbush::next_slot` meets its contract: a slot of the page, or the page is turned. Assumes nothing.
 use borrow.Author.Needs.{needs}
-use native.Mathlib.Omega.{arith}
 use denote.Ref.{now}
 use Rattle.kdbush.proofs.Turns.{read-out, past-page, by-turn, on-page}
 use Rattle.kdbush.proofs.next_slot.Statement.{statement}
