@@ -1,20 +1,20 @@
--- A step of a walk that is no slot has nothing ahead of it. Assumes nothing.
-use mathlib.Core.Path.{_≡_, refl}
+-- A step of a walk that is no slot: nothing was ahead of it. Assumes nothing.
+use mathlib.Core.Path.{_≡_, subst}
 use mathlib.Core.Logic.{⊎-elim}
 use mathlib.Core.List.{List, [], _∷_}
 use Prim.Native.Nat.{ℕ}
 use native.Mathlib.Omega.{arith}
-use lib.Ieee.{Float}
 use types.Run.{OneOf}
 use denote.Enum.Declared.{tagOf}
 use Rattle.kdbush.proofs.Step.{the-type}
-use Rattle.kdbush.specs.declared.Query.{Query}
 use Rattle.kdbush.specs.declared.Step.{Step}
-use Rattle.kdbush.specs.declared.Step.the-variants.{Slot, Done, Box, Spoiled}
-use Rattle.kdbush.specs.Walk.{ahead}
+use Rattle.kdbush.specs.declared.Step.the-variants.{Slot, Done}
+use Rattle.kdbush.specs.Reply.{nextStep}
+use Rattle.kdbush.specs.Pages.{next-end}
 
-pub no-more : (q : Query) (size n : ℕ) (co : List Float) (cur : Step) → OneOf (1 ∷ 2 ∷ 3 ∷ []) (tagOf the-type cur) → ahead q size n co cur ≡ []
-no-more q size n co (Slot c) h = ⊎-elim (λ e. absurd (omega (arith, e))) (λ w. ⊎-elim (λ e. absurd (omega (arith, e))) (λ e. absurd (omega (arith, e))) w) h
-no-more q size n co Done h = refl
-no-more q size n co Box h = refl
-no-more q size n co Spoiled h = refl
+no-slot : (s : Step) → OneOf (1 ∷ 2 ∷ 3 ∷ []) (tagOf the-type s) → (i : ℕ) → s ≡ Slot i → ⊥
+no-slot s h i e =
+    ⊎-elim (λ e. omega (arith, e)) (λ w. ⊎-elim (λ e. omega (arith, e)) (λ e. omega (arith, e)) w) (subst (λ (r : Step). OneOf (1 ∷ 2 ∷ 3 ∷ []) (tagOf the-type r)) e h)
+
+pub no-more : (l : List ℕ) (s : Step) → OneOf (1 ∷ 2 ∷ 3 ∷ []) (tagOf the-type s) → s ≡ nextStep Done l → l ≡ []
+no-more l s h e = next-end l s (no-slot s h) e

@@ -76,7 +76,7 @@ pub counted-ends : (t : Table) (k s : ℕ) (ps qs m : List ℕ) (b : Bool) (a u 
     → held b a u o ≡ counted t k s (ps ++ qs) m
 counted-ends t k s ps qs m b a u o g e = let f : held false a u o ≡ counted t k s ps m = rw g at e in rw (counted-append, ← f, g)
 
--- ---- a turn by the cursor
+-- ---- a turn of the walk
 
 pub counted-none : (t : Table) (k s : ℕ) (m : List ℕ) → held true k s m ≡ counted t k s [] m
 unfolding counted

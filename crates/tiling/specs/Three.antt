@@ -1,4 +1,4 @@
--- A tile's three searches by the cursor, one after the other, are what the tile finds: each walk goes over its whole answer, and what one leaves the next goes on
+-- A tile's three searches, one after the other, are what the tile finds: each walk goes over its whole answer, and what one leaves the next goes on
 -- from. Assumes nothing.
 use mathlib.Core.Path.{_≡_, sym, ap, _∙_, subst}
 use mathlib.Core.Bool.{true}

@@ -1,4 +1,4 @@
--- One turn of a walk by the cursor over what a search finds: the end, an entry that cannot be listed, or one more item. Assumes nothing.
+-- One turn of a walk over what a search finds: the end, an entry that cannot be listed, or one more item. Assumes nothing.
 use mathlib.Core.Path.{_≡_, refl, sym, ap, _∙_}
 use mathlib.Core.Bool.{Bool, true, false, cond, _&&_}
 use mathlib.Core.List.{List, [], _∷_}
@@ -28,7 +28,7 @@ use Rattle.tiling.specs.Tile.{Visit, visitsOf, visits, listable, namedAt
 use Rattle.tiling.specs.Finite.{walk-whole}
 use Rattle.tiling.specs.Runs.{Left, left, run}
 
--- what the cursor goes over for a search of a table of n entries
+-- what the walk goes over for a search of a table of n entries
 abbrev pub walked : Search → ℕ → List ℕ → List Float → List Visit
 walked g n ids co = visitsOf g (when (g .made) (places ids (walk (g .query) (g .«node_size») n co)))
 

@@ -273,9 +273,13 @@ fn list_by(
     let size = g.node_size;
     let n = x.len();
     let mut k = at;
-    let mut cur = kdbush::first(q, size, n, coords);
+    let mut page = [0usize; 64];
+    let mut pages = kdbush::begin();
     loop {
-        let Step::Slot(c) = cur else {
+        let t = kdbush::next_slot(q, size, n, coords, &mut page, pages);
+        pages = t.pages;
+        let s = t.step;
+        let Step::Slot(c) = s else {
             return Ran::All(k);
         };
         let p = ids[c];
@@ -284,7 +288,6 @@ fn list_by(
         };
         put_item(item_of(g, p, e), k, out, px, py);
         k += 1;
-        cur = kdbush::after(q, size, n, coords, c);
     }
 }
 
@@ -397,9 +400,13 @@ fn tally_by(
     let q = g.query;
     let size = g.node_size;
     let n = x.len();
-    let mut cur = kdbush::first(q, size, n, coords);
+    let mut page = [0usize; 64];
+    let mut pages = kdbush::begin();
     loop {
-        let Step::Slot(c) = cur else {
+        let u = kdbush::next_slot(q, size, n, coords, &mut page, pages);
+        pages = u.pages;
+        let s = u.step;
+        let Step::Slot(c) = s else {
             return Running {
                 whole: true,
                 count: k,
@@ -416,7 +423,6 @@ fn tally_by(
         };
         t = add_once(marks, index(p), e.num, t);
         k += 1;
-        cur = kdbush::after(q, size, n, coords, c);
     }
 }
 

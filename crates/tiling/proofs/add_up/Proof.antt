@@ -1,4 +1,4 @@
--- `tiling::add_up` meets its contract: each search by the cursor is its visits, and the three tallies follow each other. Assumes nothing.
+-- `tiling::add_up` meets its contract: the walk of each search is its visits, and the three tallies follow each other. Assumes nothing.
 use mathlib.Core.Path.{_≡_, refl, ap, _∙_}
 use mathlib.Core.Bool.{true, false}
 use mathlib.Core.List.{List}

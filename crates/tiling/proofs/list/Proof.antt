@@ -1,4 +1,4 @@
--- `tiling::list` meets its contract: each search by the cursor is its visits, and the three follow each other. Assumes nothing.
+-- `tiling::list` meets its contract: the walk of each search is its visits, and the three follow each other. Assumes nothing.
 use mathlib.Core.Path.{_≡_, ap, _∙_}
 use mathlib.Core.List.{List}
 use Prim.Native.Nat.{ℕ, _+_, _≤_}

@@ -1,6 +1,6 @@
--- `tiling::tally_by` meets its contract: at the head of the loop what is ahead of the cursor, counted after what is counted, gives the whole tally. The measure is what
+-- `tiling::tally_by` meets its contract: at the head of the loop what is ahead of the walk, counted after what is counted, gives the whole tally. The measure is what
 -- is ahead. Assumes nothing.
-use mathlib.Core.Path.{_≡_, sym, ap, _∙_}
+use mathlib.Core.Path.{_≡_, refl, sym, ap, _∙_, subst}
 use mathlib.Core.Bool.{true, cond}
 use mathlib.Core.List.{List, _∷_}
 use Prim.Native.Nat.{ℕ, _+_, _*_, _<_, _≤_}
@@ -9,10 +9,12 @@ use lib.ListN.{length, getD}
 use denote.Ref.{now}
 use borrow.Author.Needs.{needs}
 use borrow.Author.Tests.{not-true, not-false}
-use Rattle.kdbush.specs.declared.Step.{Step}
+use Rattle.kdbush.specs.declared.Pages.{Pages}
+use Rattle.kdbush.specs.All.{AllBelow}
 use Rattle.kdbush.specs.Run.{places}
 use Rattle.kdbush.specs.Reply.{walk}
-use Rattle.kdbush.specs.Walk.{On, ahead, on-first, on-slot, on-next, walk-length}
+use Rattle.kdbush.specs.Walk.{walk-length}
+use Rattle.kdbush.specs.Pages.{aheadOf, ahead-begun, next-slot, below-next, walk-below}
 use Rattle.tables.specs.Entries.{Table}
 use Rattle.tables.specs.Rows.{rows, rows-length}
 use Rattle.tiling.specs.Tile.{Visit}
@@ -24,12 +26,13 @@ use Rattle.tiling.proofs.tally_by.Statement.{statement}
 use Rattle.tiling.proofs.tally_by.Tie as tie
 
 abbrev Inv-loop : tie.InvT-loop
-Inv-loop x y seen id parent num ids coords marks₀ k₀ t₀ q size n cur₀ marks k t cur =
-    On q size n coords cur × (k + length (ahead q size n coords cur) ≤ k₀ + n) × (t ≤ k * 4294967295)
-    × (counted (rows x y seen id parent num) k t (places ids (ahead q size n coords cur)) marks ≡ counted (rows x y seen id parent num) k₀ t₀ (places ids (walk q size n coords)) marks₀)
+Inv-loop x y seen id parent num ids coords marks₀ k₀ t₀ q size n page₀ pages₀ marks k t page pages =
+    AllBelow n (aheadOf q size n coords page pages) × (k + length (aheadOf q size n coords page pages) ≤ k₀ + n) × (t ≤ k * 4294967295)
+    × (counted (rows x y seen id parent num) k t (places ids (aheadOf q size n coords page pages)) marks ≡ counted (rows x y seen id parent num) k₀ t₀ (places ids (walk q size n coords)) marks₀)
+    × (length page ≡ 64)
 
 abbrev μ-loop : tie.MeasureT-loop
-μ-loop x y seen id parent num ids coords marks₀ k₀ t₀ q size n cur₀ marks k t cur = length (ahead q size n coords cur)
+μ-loop x y seen id parent num ids coords marks₀ k₀ t₀ q size n page₀ pages₀ marks k t page pages = length (aheadOf q size n coords page pages)
 
 -- ---- the start, and the head of the loop
 
@@ -48,8 +51,12 @@ begin l = asked-of l .before .before .before .before .before .before .before .be
 abbrev table : Start → Table
 table s = let a = s .args in rows (now (a .x)) (now (a .y)) (now (a .seen)) (now (a .id)) (now (a .parent)) (now (a .num))
 
-abbrev slots : Start → Step → List ℕ
-slots s = let a = s .args in ahead (a .g .query) (a .g .«node_size») (length (now (a .x))) (now (a .coords))
+abbrev slots : Start → List ℕ → Pages → List ℕ
+slots s = let a = s .args in aheadOf (a .g .query) (a .g .«node_size») (length (now (a .x))) (now (a .coords))
+
+-- what is ahead at the head
+abbrev ahead : Loop → List ℕ
+ahead l = slots (begin l) (l .loop .page) (l .loop .pages)
 
 -- the tally that the contract names, of a list of visits
 abbrev of-visits : Start → List Visit → Held
@@ -59,7 +66,7 @@ abbrev all-visits : Start → List Visit
 all-visits s = let a = s .args in walked (a .g) (length (now (a .x))) (now (a .ids)) (now (a .coords))
 
 -- once the search is made
-whole : (l : Loop) → counted (table (begin l)) (l .loop .k) (l .loop .t) (places (now (begin l .args .ids)) (slots (begin l) (l .loop .cur))) (l .loop .marks) ≡ of-visits (begin l) (all-visits (begin l))
+whole : (l : Loop) → counted (table (begin l)) (l .loop .k) (l .loop .t) (places (now (begin l .args .ids)) (ahead l)) (l .loop .marks) ≡ of-visits (begin l) (all-visits (begin l))
 whole l =
     let s = begin l in
     let a = s .args in
@@ -67,22 +74,40 @@ whole l =
     ∙ ap (λ (ps : List ℕ). counted (table s) (a .r .count) (a .r .sum) ps (now (a .marks))) (sym (places-of (a .g) _))
     ∙ ap (of-visits s) (sym (walked-made (a .g) (length (now (a .x))) (now (a .ids)) (now (a .coords)) (not-false (a .g .made) (asked-of l .if1 .left))))
 
--- ---- a slot
+-- ---- a step
+
+abbrev Turn : Type 0
+Turn = tie.After-pages Inv-loop μ-loop
+
+abbrev loop-of : Turn → Loop
+loop-of t = t .before .before .before .before
+
+-- what is ahead after it
+abbrev onward : Turn → List ℕ
+onward t = let u = t .before .before .next-slot in slots (begin (loop-of t)) (u .last .1 .1 .1 .1 .0) (u .result .pages)
 
 abbrev Found : Type 0
-Found = tie.After-cur Inv-loop μ-loop
+Found = tie.After-s Inv-loop μ-loop
 
-abbrev loop-of : Found → Loop
-loop-of f = f .before .before
+abbrev turn-of : Found → Turn
+turn-of f = f .before .before
+
+abbrev head-of : Found → Loop
+head-of f = loop-of (turn-of f)
 
 abbrev slot : Found → ℕ
-slot f = f .cur .given .0 .0
+slot f = f .s .given .0 .0
 
-slot-in : (f : Found) → slot f < length (now (begin (loop-of f) .args .x))
-slot-in f =
-    let l = loop-of f in
-    let a = begin l .args in
-    on-slot (a .g .query) (a .g .«node_size») (length (now (a .x))) (now (a .coords)) (l .loop .cur) (slot f) (f .cur .given .1) (l .loop .inv .0)
+moves : (f : Found) → ahead (head-of f) ≡ slot f ∷ onward (turn-of f)
+moves f =
+    let t = turn-of f in
+    let u = t .before .before .next-slot in
+    next-slot (ahead (loop-of t)) (onward t) (u .result .step) (slot f) (f .s .given .1) (u .ensures .0) (u .ensures .1)
+
+below : (f : Found) → (slot f < length (now (begin (head-of f) .args .x))) × AllBelow (length (now (begin (head-of f) .args .x))) (onward (turn-of f))
+below f =
+    let l = head-of f in
+    below-next (length (now (begin l .args .x))) (ahead l) (slot f) (onward (turn-of f)) (moves f) (l .loop .inv .0)
 
 abbrev Read : Type 0
 Read = tie.After-entry-named Inv-loop μ-loop
@@ -99,30 +124,12 @@ abbrev read-of : tie.After-known-told2 Inv-loop μ-loop → Read
 read-of c = c .before .before .before
 
 fine-at : (k : tie.After-known-told2 Inv-loop μ-loop) → let f = found-of (read-of k) in
-    Fine (table (begin (loop-of f))) (getD (now (begin (loop-of f) .args .ids)) (slot f) 0) (k .before .e .given .0 .0)
+    Fine (table (begin (head-of f))) (getD (now (begin (head-of f) .args .ids)) (slot f) 0) (k .before .e .given .0 .0)
 fine-at k =
     let r = read-of k in
     let f = found-of r in
-    let s = begin (loop-of f) in
+    let s = begin (head-of f) in
     named-fine (table s) (getD (now (s .args .ids)) (slot f) 0) (k .before .e .given .0 .0) (sym (r .entry-named .ensures) ∙ k .before .e .given .1)
-
--- ---- the next step
-
-abbrev Next : Type 0
-Next = tie.After-after Inv-loop μ-loop
-
-abbrev found-at : Next → Found
-found-at c = found-of (read-of (known-of (c .before .before)))
-
-moves : (c : Next) → let f = found-at c in
-    let l = loop-of f in
-    let a = begin l .args in
-    On (a .g .query) (a .g .«node_size») (length (now (a .x))) (now (a .coords)) (c .after .result) × (slots (begin l) (l .loop .cur) ≡ slot f ∷ slots (begin l) (c .after .result))
-moves c =
-    let f = found-at c in
-    let l = loop-of f in
-    let a = begin l .args in
-    on-next (a .g .query) (a .g .«node_size») (length (now (a .x))) (now (a .coords)) (l .loop .cur) (slot f) (c .after .result) (f .cur .given .1) (l .loop .inv .0) (c .after .ensures)
 
 -- ---- the parts
 
@@ -136,39 +143,47 @@ returns c =
       s .pre .1 .1 .1,
     )
 
-first-requires : tie.Need-first-requires Inv-loop μ-loop
-first-requires c κs = search needs
+begin-requires : tie.Need-begin-requires Inv-loop μ-loop
+begin-requires c κs = search needs
 
 loop-holds : tie.Need-loop-holds Inv-loop μ-loop
 loop-holds c =
     let s = c .before .before .before .before .before .before .before .before .before .before .before in
     let a = s .args in
-    let h = on-first (a .g .query) (a .g .«node_size») (length (now (a .x))) (now (a .coords)) (c .first .result) (c .first .ensures) in (
-      h .0,
-      omega (arith, ap length (h .1), walk-length (a .g .query) (a .g .«node_size») (length (now (a .x))) (now (a .coords))),
+    let w = walk (a .g .query) (a .g .«node_size») (length (now (a .x))) (now (a .coords)) in
+    let h : slots s _ (c .begin .result) ≡ w = ap (slots s _) (c .begin .ensures) ∙ ahead-begun (a .g .query) (a .g .«node_size») (length (now (a .x))) (now (a .coords)) _ in (
+      subst (λ (l : List ℕ). AllBelow (length (now (a .x))) l) (sym h) (walk-below (a .g .query) (a .g .«node_size») (length (now (a .x))) (now (a .coords))),
+      omega (arith, ap length h, walk-length (a .g .query) (a .g .«node_size») (length (now (a .x))) (now (a .coords))),
       s .pre .1 .1 .1,
-      ap (λ (l : List ℕ). counted (table s) (a .r .count) (a .r .sum) (places (now (a .ids)) l) (now (a .marks))) (h .1),
+      ap (λ (l : List ℕ). counted (table s) (a .r .count) (a .r .sum) (places (now (a .ids)) l) (now (a .marks))) h,
+      refl,
     )
 
-enum-known-cur : tie.Need-enum-known-cur Inv-loop μ-loop
-enum-known-cur c = search needs
+slice-aggregate-next-slot : tie.Need-slice-aggregate-next-slot Inv-loop μ-loop
+slice-aggregate-next-slot c = sym (c .before .loop .inv .4)
+
+next-slot-requires : tie.Need-next-slot-requires Inv-loop μ-loop
+next-slot-requires c κs = search needs
+
+enum-known-s : tie.Need-enum-known-s Inv-loop μ-loop
+enum-known-s c = search needs
 
 returns-2 : tie.Need-returns-2 Inv-loop μ-loop
 returns-2 c =
-    let l = c .before in
+    let u = c .before .before .before .next-slot in
+    let l = loop-of (c .before) in
     let s = begin l in
-    let a = s .args in
-    let e = no-more (a .g .query) (a .g .«node_size») (length (now (a .x))) (now (a .coords)) (l .loop .cur) (c .match .keys2) in
-    (count-end (table s) (now (a .ids)) (l .loop .k) (l .loop .t) (slots s (l .loop .cur)) (l .loop .marks) e ∙ whole l, omega (arith, l .loop .inv .1), l .loop .inv .2)
+    let e = no-more (ahead l) (u .result .step) (c .match .keys2) (u .ensures .0) in
+    (count-end (table s) (now (s .args .ids)) (l .loop .k) (l .loop .t) (ahead l) (l .loop .marks) e ∙ whole l, omega (arith, l .loop .inv .1), l .loop .inv .2)
 
 mul-p : tie.Need-mul-p Inv-loop μ-loop
-mul-p c = let f = c .before in let s = begin (loop-of f) in omega (arith, slot-in f, s .pre .1 .0, s .good)
+mul-p c = let f = c .before in let s = begin (head-of f) in omega (arith, below f .0, s .pre .1 .0, s .good)
 
 shared-slice-read-p : tie.Need-shared-slice-read-p Inv-loop μ-loop
-shared-slice-read-p c = let f = c .before .before in omega (arith, slot-in f, begin (loop-of f) .pre .1 .0)
+shared-slice-read-p c = let f = c .before .before in omega (arith, below f .0, begin (head-of f) .pre .1 .0)
 
 entry-named-requires : tie.Need-entry-named-requires Inv-loop μ-loop
-entry-named-requires c κs = begin (loop-of (c .before .before)) .pre .0
+entry-named-requires c κs = begin (head-of (c .before .before)) .pre .0
 
 enum-known-e : tie.Need-enum-known-e Inv-loop μ-loop
 enum-known-e c = search needs
@@ -180,10 +195,9 @@ returns-3 : tie.Need-returns-3 Inv-loop μ-loop
 returns-3 c =
     let r = c .before .before in
     let f = found-of r in
-    let l = loop-of f in
-    let s = begin l in
-    let a = s .args in (
-      count-bad (table s) (now (a .ids)) (l .loop .k) (l .loop .t) (slots s (l .loop .cur)) (l .loop .marks) (slot f) _ (ap (slots s) (f .cur .given .1))
+    let l = head-of f in
+    let s = begin l in (
+      count-bad (table s) (now (s .args .ids)) (l .loop .k) (l .loop .t) (ahead l) (l .loop .marks) (slot f) (onward (turn-of f)) (moves f)
           (sym (r .entry-named .ensures) ∙ c .enum-told .given .1)
           ∙ whole l,
       omega (arith, l .loop .inv .1),
@@ -197,7 +211,7 @@ add-once-requires : tie.Need-add-once-requires Inv-loop μ-loop
 add-once-requires c κs =
     let k = known-of c in
     let f = found-of (read-of k) in
-    let l = loop-of f in
+    let l = head-of f in
     let s = begin l in
     let a = s .args in
     omega (
@@ -213,35 +227,33 @@ add-once-requires c κs =
 
 add-k : tie.Need-add-k Inv-loop μ-loop
 add-k c =
-    let l = loop-of (found-of (read-of (known-of (c .before)))) in
+    let l = head-of (found-of (read-of (known-of (c .before)))) in
     omega (arith, begin l .pre .1 .1, l .loop .inv .1)
 
-after-requires : tie.Need-after-requires Inv-loop μ-loop
-after-requires c κs = search needs
-
 loop-less : tie.Need-loop-less Inv-loop μ-loop
-loop-less c = omega (arith, ap length (moves c .1))
+loop-less c = omega (arith, ap length (moves (found-of (read-of (known-of (c .before))))))
 
 loop-again : tie.Need-loop-again Inv-loop μ-loop
 loop-again c =
-    let i = c .before .before in
+    let i = c .before in
     let k = known-of i in
     let r = read-of k in
     let f = found-of r in
-    let l = loop-of f in
+    let t = turn-of f in
+    let l = loop-of t in
     let s = begin l in
     let a = s .args in
     let g = k .before .e .given in
-    let h = moves c in
-    let w = c .before .add-once in (
-      h .0,
-      omega (arith, ap length (h .1), l .loop .inv .1),
+    let w = c .add-once in (
+      below f .1,
+      omega (arith, ap length (moves f), l .loop .inv .1),
       omega (arith, w .ensures .2, l .loop .inv .2),
-      count-next (table s) (now (a .ids)) (l .loop .k) (l .loop .t) (slots s (l .loop .cur)) (l .loop .marks) (slot f) (slots s (c .after .result)) (h .1)
+      count-next (table s) (now (a .ids)) (l .loop .k) (l .loop .t) (ahead l) (l .loop .marks) (slot f) (onward t) (moves f)
           (g .0 .0) (sym (r .entry-named .ensures) ∙ g .1) (w .result) (w .last .0)
           (w .ensures .0 ∙ ap (λ (v : ℕ). cond (marked (l .loop .marks) v) (l .loop .t) (l .loop .t + g .0 .0 .num)) (i .index .ensures))
           (w .ensures .1 ∙ ap (λ (v : ℕ). marking v (l .loop .marks)) (i .index .ensures))
           ∙ l .loop .inv .3,
+      t .before .before .next-slot .kept .1 .1 .1 .1 .0 ∙ l .loop .inv .4,
     )
 
 pub tally-by-spec : {M : Type 1} → statement M
@@ -251,9 +263,11 @@ tally-by-spec =
     Inv-loop
     μ-loop
     returns
-    first-requires
+    begin-requires
     loop-holds
-    enum-known-cur
+    slice-aggregate-next-slot
+    next-slot-requires
+    enum-known-s
     returns-2
     mul-p
     shared-slice-read-p
@@ -264,6 +278,5 @@ tally-by-spec =
     index-requires
     add-once-requires
     add-k
-    after-requires
     loop-less
     loop-again)
