@@ -36,14 +36,18 @@ fn main() -> ExitCode {
     let size = match words.as_slice() {
         [] => WHOLE,
         ["--quick"] => QUICK,
+        ["--questions"] => return ended(questions::run(&WHOLE)),
         // What the benchmark runs of itself, in a process of its own.
         ["peak", side, shape, count] => return peak(side, shape, count),
         _ => {
             return usage();
         }
     };
-    let measured =
-        index::run(&size).and_then(|()| load::run(&size)).and_then(|()| questions::run(&size));
+    ended(index::run(&size).and_then(|()| load::run(&size)).and_then(|()| questions::run(&size)))
+}
+
+/// The exit status of what was measured: a difference between the two sides is an error.
+fn ended(measured: Result<(), String>) -> ExitCode {
     match measured {
         Ok(()) => ExitCode::SUCCESS,
         Err(difference) => {
@@ -65,6 +69,6 @@ fn peak(side: &str, shape: &str, count: &str) -> ExitCode {
 }
 
 fn usage() -> ExitCode {
-    eprintln!("usage: bench [--quick]");
+    eprintln!("usage: bench [--quick | --questions]");
     ExitCode::from(2)
 }
