@@ -1,16 +1,19 @@
--- The ring around an entry of a table, in which the children of a cluster made there are: the slots that it answers, and a walk over them by the cursor. Where
--- the entry's place is no finite number the search is none that kdbush takes, and `walk` has no slots. Assumes nothing.
-use mathlib.Core.Path.{_≡_, refl}
+-- The ring around an entry of a table, in which the children of a cluster made there are: the slots that it answers, and a walk over them that is read a
+-- page at a time. Where the entry's place is no finite number the search is none that kdbush takes, and `walk` has no slots. Assumes nothing.
+use mathlib.Core.Path.{_≡_, ap, _∙_}
 use mathlib.Core.List.{List, [], _∷_}
 use Prim.Native.Nat.{ℕ, _+_, _-_, _*_, _<_, _≤_}
 use lib.ListN.{length}
 use lib.Ieee.{Float}
 use Rattle.kdbush.specs.declared.Query.{Query}
 use Rattle.kdbush.specs.declared.Query.the-variants.{Within}
-use Rattle.kdbush.specs.declared.Step.{Step}
-use Rattle.kdbush.specs.declared.Step.the-variants.{Slot, Done, Box, Spoiled}
-use Rattle.kdbush.specs.Reply.{walk, firstStep, afterStep}
-use Rattle.kdbush.specs.Walk.{On, ahead, on-first, on-slot, on-next, walk-length}
+use Rattle.kdbush.specs.declared.Step.the-variants.{Slot, Done}
+use Rattle.kdbush.specs.declared.Pages.{Pages}
+use Rattle.kdbush.specs.declared.Turned.{Turned}
+use Rattle.kdbush.specs.All.{AllBelow}
+use Rattle.kdbush.specs.Reply.{walk, nextStep}
+use Rattle.kdbush.specs.Walk.{walk-length}
+use Rattle.kdbush.specs.Pages.{begun, aheadOf, tailOf, ahead-begun, walk-below, next-slot, below-next, next-end}
 use Rattle.tables.specs.declared.State.{State}
 use Rattle.tables.specs.State.{startOf, lenOf}
 use Rattle.tables.specs.Entries.{Table, entry}
@@ -52,31 +55,35 @@ slotsAround s c z o = slotsOf (ringOf s (tableAt s c z) z o) (c .coords)
 abbrev pub InRing : Ring → List Float → Type 0
 InRing g coords = 2 * (g .start + g .len) ≤ length coords
 
--- the step stands in the walk; what is ahead of it
-abbrev pub OnRing : Ring → List Float → Step → Type 0
-OnRing g coords cur = On (queryOf g) (g .«node_size») (g .len) (coordsOf g coords) cur
-
-abbrev pub aheadIn : Ring → List Float → Step → List ℕ
-aheadIn g coords cur = ahead (queryOf g) (g .«node_size») (g .len) (coordsOf g coords) cur
+-- what is ahead of a walk that is read a page at a time
+abbrev pub aheadIn : Ring → List Float → List ℕ → Pages → List ℕ
+aheadIn g coords page p = aheadOf (queryOf g) (g .«node_size») (g .len) (coordsOf g coords) page p
 
 module _ (g : Ring) (coords : List Float) where
-  pub ring-first : (cur : Step) → cur ≡ firstStep (queryOf g) (g .«node_size») (g .len) (coordsOf g coords) → OnRing g coords cur × (aheadIn g coords cur ≡ slotsOf g coords)
+  -- of a walk that begins all slots are ahead
+  pub ring-begun : (page : List ℕ) (p : Pages) → p ≡ begun → aheadIn g coords page p ≡ slotsOf g coords
   unfolding slotsOf
-  ring-first cur e = on-first (queryOf g) (g .«node_size») (g .len) (coordsOf g coords) cur e
+  ring-begun page p e =
+      ap (aheadIn g coords page) e ∙ ahead-begun (queryOf g) (g .«node_size») (g .len) (coordsOf g coords) page
 
-  pub ring-slot : (cur : Step) (c : ℕ) → cur ≡ Slot c → OnRing g coords cur → c < g .len
-  ring-slot cur c e o = on-slot (queryOf g) (g .«node_size») (g .len) (coordsOf g coords) cur c e o
+  -- each slot is one of the ring's table
+  pub ring-below : AllBelow (g .len) (slotsOf g coords)
+  unfolding slotsOf
+  ring-below = walk-below (queryOf g) (g .«node_size») (g .len) (coordsOf g coords)
 
-  pub ring-next : (cur : Step) (c : ℕ) (cur' : Step) → cur ≡ Slot c → OnRing g coords cur
-      → cur' ≡ afterStep (queryOf g) (g .«node_size») (g .len) (coordsOf g coords) c → OnRing g coords cur' × (aheadIn g coords cur ≡ c ∷ aheadIn g coords cur')
-  ring-next cur c cur' e o f = on-next (queryOf g) (g .«node_size») (g .len) (coordsOf g coords) cur c cur' e o f
+  -- a step of the walk
+  module _ (page : List ℕ) (p : Pages) (t : Turned) (f : t .step ≡ nextStep Done (aheadIn g coords page p)) where
+    -- at a slot: what was ahead is the slot, which lies in the table, and then what is ahead now
+    pub ring-next : (page' : List ℕ) → aheadIn g coords page' (t .pages) ≡ tailOf (aheadIn g coords page p) → (c : ℕ) → t .step ≡ Slot c → AllBelow (g .len) (aheadIn g coords page p)
+        → (aheadIn g coords page p ≡ c ∷ aheadIn g coords page' (t .pages)) × (c < g .len) × AllBelow (g .len) (aheadIn g coords page' (t .pages))
+    ring-next page' e c d b =
+        let h = next-slot (aheadIn g coords page p) (aheadIn g coords page' (t .pages)) (t .step) c d f e in
+        let w = below-next (g .len) (aheadIn g coords page p) c (aheadIn g coords page' (t .pages)) h b in
+        (h, w .0, w .1)
 
-  -- at a step that is no slot nothing is ahead
-  pub ring-end : (cur : Step) → ((i : ℕ) → cur ≡ Slot i → ⊥) → aheadIn g coords cur ≡ []
-  ring-end (Slot c) h = absurd (h c refl)
-  ring-end Done h = refl
-  ring-end Box h = refl
-  ring-end Spoiled h = refl
+    -- at a step that is no slot: nothing was ahead
+    pub ring-end : ((i : ℕ) → t .step ≡ Slot i → ⊥) → aheadIn g coords page p ≡ []
+    ring-end h = next-end (aheadIn g coords page p) (t .step) h f
 
   pub slots-few : length (slotsOf g coords) ≤ g .len
   unfolding slotsOf

@@ -1,13 +1,16 @@
 // What every question to a build rests on: its answer, the lent columns and the parts of them that hold one table, where a cluster's id leads, and the ring
 // around an entry, in which its children are. A question looks at the state first (`State::is_sound`); what is asked here of a caller follows from that.
+use kdbush::Pages;
 use kdbush::Query;
-use kdbush::Step;
+use kdbush::Turned;
 use tables::Entry;
 use tables::State;
 ghost use mathlib.Core.Path.{_≡_};
 ghost use Prim.Native.Nat.{_+_, _*_, _<_, _≤_, min};
 ghost use lib.ListN.{length, set};
-ghost use Rattle.kdbush.specs.Reply.{firstStep, afterStep};
+ghost use Rattle.kdbush.specs.declared.Step.the-variants.{Done};
+ghost use Rattle.kdbush.specs.Reply.{nextStep};
+ghost use Rattle.kdbush.specs.Pages.{tailOf};
 ghost use Rattle.tables.specs.Entries.{entry};
 ghost use Rattle.tables.specs.Rows.{rows};
 ghost use Rattle.tables.specs.Columns.{part};
@@ -16,7 +19,7 @@ ghost use Rattle.asking.specs.Answers.{answerNumber, answerCarried, fitt
 ghost use Rattle.asking.specs.Columns.{columns, roomOf, indexRoom, Held};
 ghost use Rattle.asking.specs.Ids.{isBuilt, targetOf, onward};
 ghost use Rattle.asking.specs.Reached.{Reached};
-ghost use Rattle.asking.specs.Around.{ringOf, queryOf, coordsOf, InRing};
+ghost use Rattle.asking.specs.Around.{ringOf, InRing, aheadIn};
 
 // The answer of a question that lists, in 01's words: how many items, or a refusal. `Listed` and `NoRoom` carry the whole length.
 pub enum Answer {
@@ -259,10 +262,11 @@ pub fn ring_of(
     }
 }
 
-// The first slot in a ring.
-pub fn first(g: Ring, coords: &[f64]) -> Step
+// The next slot of a walk over a ring that is read a page at a time.
+pub fn next_in(g: Ring, coords: &[f64], page: &mut [usize], p: Pages) -> Turned
     requires { ⌜ InRing g (now coords) ⌝ }
-    ensures { λ r. ⌜ r ≡ firstStep (queryOf g) (g .«node_size») (g .len) (coordsOf g (now (coords .entry))) ⌝ }
+    ensures { λ r. ⌜ r .step ≡ nextStep Done (aheadIn g (now (coords .entry)) (now (page .entry)) p) ⌝ }
+    ensures { λ r. ⌜ aheadIn g (now (coords .entry)) (now (page .exit)) (r .pages) ≡ tailOf (aheadIn g (now (coords .entry)) (now (page .entry)) p) ⌝ }
 {
     let from = 2 * g.start;
     let to = from + 2 * g.len;
@@ -271,20 +275,5 @@ pub fn first(g: Ring, coords: &[f64]) -> Step
         qy: g.y,
         radius: g.radius,
     };
-    kdbush::first(q, g.node_size, g.len, &coords[from..to])
-}
-
-// The slot in a ring after the slot c.
-pub fn after(g: Ring, coords: &[f64], c: usize) -> Step
-    requires { ⌜ InRing g (now coords) ⌝ }
-    ensures { λ r. ⌜ r ≡ afterStep (queryOf g) (g .«node_size») (g .len) (coordsOf g (now (coords .entry))) c ⌝ }
-{
-    let from = 2 * g.start;
-    let to = from + 2 * g.len;
-    let q = Query::Within {
-        qx: g.x,
-        qy: g.y,
-        radius: g.radius,
-    };
-    kdbush::after(q, g.node_size, g.len, &coords[from..to], c)
+    kdbush::next_slot(q, g.node_size, g.len, &coords[from..to], page, p)
 }

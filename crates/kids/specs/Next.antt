@@ -1,18 +1,16 @@
--- The children of a cluster one at a time, by the cursor: what is ahead of a step is searched for the next child, and after it lie the children that follow.
--- Assumes nothing.
+-- The children of a cluster one at a time: what is ahead of a walk is searched for the next child, and after it lie the children that follow. Assumes nothing.
 use mathlib.Core.Bool.{Bool, true, false}
 use mathlib.Core.Path.{_≡_, refl, sym, ap, subst, _∙_}
-use mathlib.Core.List.{List, [], _∷_, _++_}
+use mathlib.Core.List.{List, [], _∷_}
 use Prim.Native.Nat.{ℕ, _+_, _*_, _<_, _≤_}
 use native.Mathlib.Omega.{arith}
 use borrow.Author.Tests.{lt-ltb, le-ltb, eq-eqb, ne-eqb, ltb-true}
 use lib.Dec.{ltb, eqb}
-use lib.ListN.{length, getD, length-append}
+use lib.ListN.{length, getD}
 use lib.Ieee.{Float}
-use Rattle.kdbush.specs.declared.Step.{Step}
-use Rattle.kdbush.specs.declared.Step.the-variants.{Slot, Done, Box, Spoiled}
+use Rattle.kdbush.specs.declared.Pages.{Pages}
+use Rattle.kdbush.specs.All.{All, AllBelow}
 use Rattle.kdbush.specs.Run.{places, sound, whole, filled}
-use Rattle.kdbush.specs.Reply.{afterStep}
 use Rattle.kdbush.specs.Walk.{no-nil}
 use Rattle.tables.specs.declared.Entry.{Entry}
 use Rattle.tables.specs.declared.State.{State}
@@ -23,11 +21,11 @@ use Rattle.tables.specs.Columns.{part}
 use Rattle.asking.specs.declared.Ring.{Ring}
 use Rattle.asking.specs.Columns.{Columns, roomOf, tableAt, Held, held, held-fewer, room-index, index-held}
 use Rattle.asking.specs.Reached.{Reached, near}
-use Rattle.asking.specs.Around.{ringOf, queryOf, coordsOf, slotsOf, OnRing, aheadIn, ring-next}
+use Rattle.asking.specs.Around.{ringOf, slotsOf, aheadIn}
 use Rattle.kids.specs.declared.Child.{Child}
 use Rattle.kids.specs.declared.Child.the-variants.{At, Done as Child·Done, Spoiled as Child·Spoiled}
 use Rattle.kids.specs.declared.Kids.{Kids}
-use Rattle.kids.specs.declared.Kids.the-variants.{All, Spoiled as Kids·Spoiled}
+use Rattle.kids.specs.declared.Kids.the-variants.{All as Kids·All, Spoiled as Kids·Spoiled}
 use Rattle.kids.specs.Kids.{kidsOf, kidsAt, cleanAt, kidsReply}
 
 -- ---- the columns that a walk is lent
@@ -104,7 +102,7 @@ kids-below t id n (q ∷ ps) p l e = go (ltb q n) refl (eqb (entry t q .parent) 
         omega (arith, ltb-true q n u)
 
 -- what a reply says
-pub all-is : (b : Bool) (n k : ℕ) → All k ≡ kidsReply b n → (b ≡ true) × (k ≡ n)
+pub all-is : (b : Bool) (n k : ℕ) → Kids·All k ≡ kidsReply b n → (b ≡ true) × (k ≡ n)
 all-is true n k e = (refl, cc)
 all-is false n k e = let z : _≡_ {A = ℕ} 0 1 = cc in absurd (omega arith)
 
@@ -112,30 +110,43 @@ pub spoiled-is : (b : Bool) (n : ℕ) → Kids·Spoiled ≡ kidsReply b n → b 
 spoiled-is true n e = let z : _≡_ {A = ℕ} 0 1 = cc in absurd (omega arith)
 spoiled-is false n e = refl
 
+-- what a search among slots for the next child comes to: the child's place and entry, with the slots after it; or there is none; or a slot that names a place
+-- past the table comes before it
+pub data Next : Type 0 where
+  child : ℕ → Entry → List ℕ → Next
+  none : Next
+  past : Next
+
 -- the first child among slots of a table of n entries, whose slots name the places ids
-unfoldable pub nextOf : Table → List ℕ → ℕ → ℕ → List ℕ → Child
-nextOf t ids n id [] = Child·Done
+unfoldable pub nextOf : Table → List ℕ → ℕ → ℕ → List ℕ → Next
+nextOf t ids n id [] = none
 nextOf t ids n id (i ∷ is) =
     elim (ltb (getD ids i 0) n) [
-      | true ↦ elim (eqb (entry t (getD ids i 0) .parent) id) [ true ↦ At i (getD ids i 0) (entry t (getD ids i 0)) | false ↦ nextOf t ids n id is ]
-      | false ↦ Child·Spoiled
+      | true ↦ elim (eqb (entry t (getD ids i 0) .parent) id) [ true ↦ child (getD ids i 0) (entry t (getD ids i 0)) is | false ↦ nextOf t ids n id is ]
+      | false ↦ past
     ]
 
-abbrev pub nextIn : Ring → Columns → ℕ → List ℕ → Child
+abbrev pub nextIn : Ring → Columns → ℕ → List ℕ → Next
 nextIn g c id is = nextOf (tableIn g c) (idsIn g c) (g .len) id is
 
+-- what the code's reply says, with the page that it leaves: after the child lies what is ahead of the walk
+abbrev pub childIn : Ring → List Float → List ℕ → Child → Next
+childIn g coords page (At to p e) = child p e (aheadIn g coords page to)
+childIn g coords page Child·Done = none
+childIn g coords page Child·Spoiled = past
+
 module _ (t : Table) (ids : List ℕ) (n id : ℕ) where
-  pub next-none : nextOf t ids n id [] ≡ Child·Done
+  pub next-none : nextOf t ids n id [] ≡ none
   unfolding nextOf
   next-none = refl
 
   module _ (i : ℕ) (is : List ℕ) (p : ℕ) (e : p ≡ getD ids i 0) where
-    pub next-past : n ≤ p → nextOf t ids n id (i ∷ is) ≡ Child·Spoiled
+    pub next-past : n ≤ p → nextOf t ids n id (i ∷ is) ≡ past
     unfolding nextOf
     next-past h = rw (le-ltb (getD ids i 0) n (rw e at h), nextOf)
 
     module _ (y : Entry) (q : y ≡ entry t p) (h : p < n) where
-      pub next-kid : y .parent ≡ id → nextOf t ids n id (i ∷ is) ≡ At i p y
+      pub next-kid : y .parent ≡ id → nextOf t ids n id (i ∷ is) ≡ child p y is
       unfolding nextOf
       next-kid k =
           let w : y ≡ entry t (getD ids i 0) = q ∙ ap (entry t) e in
@@ -154,101 +165,65 @@ module _ (t : Table) (ids : List ℕ) (n id : ℕ) where
   abbrev C : List ℕ → Bool
   C is = whole n (places ids is)
 
-  -- the child p at the slot i, with the slots before it, of which none is a child's, and those after it
-  record Reaches (is : List ℕ) (i p : ℕ) (e : Entry) : Type 0 where
-    pre : List ℕ
-    post : List ℕ
-    joins : is ≡ pre ++ i ∷ post
-    kids : K is ≡ p ∷ K post
-    clean : C is ≡ C post
-    found : e ≡ entry t p
+  -- the child p, whose entry is e, comes first among slots, and the children after it are those of the slots l
+  pub record Follows (is : List ℕ) (p : ℕ) (e : Entry) (l : List ℕ) : Type 0 where
+    pub less : length l < length is
+    pub below : AllBelow n is → AllBelow n l
+    pub kids : K is ≡ p ∷ K l
+    pub clean : C is ≡ C l
+    pub found : e ≡ entry t p
 
-  abbrev Told : Child → List ℕ → Type 0
-  Told (At i p e) is = Reaches is i p e
-  Told Child·Done is = (K is ≡ []) × (C is ≡ true)
-  Told Child·Spoiled is = (K is ≡ []) × (C is ≡ false)
+  abbrev Told : Next → List ℕ → Type 0
+  Told (child p e l) is = Follows is p e l
+  Told none is = (K is ≡ []) × (C is ≡ true)
+  Told past is = (K is ≡ []) × (C is ≡ false)
 
-  lift : (i : ℕ) (is : List ℕ) → K (i ∷ is) ≡ K is → C (i ∷ is) ≡ C is → (r : Child) → Told r is → Told r (i ∷ is)
-  lift i is k c (At j p e) w =
-      record { pre = i ∷ w .pre; post = w .post; joins = ap (λ (l : List ℕ). i ∷ l) (w .joins); kids = k ∙ w .kids; clean = c ∙ w .clean; found = w .found }
-  lift i is k c Child·Done w = (k ∙ w .0, c ∙ w .1)
-  lift i is k c Child·Spoiled w = (k ∙ w .0, c ∙ w .1)
+  lift : (i : ℕ) (is : List ℕ) → K (i ∷ is) ≡ K is → C (i ∷ is) ≡ C is → (r : Next) → Told r is → Told r (i ∷ is)
+  unfolding All
+  lift i is k c (child p e l) w =
+      record { less = omega (arith, w .less); below = λ b. w .below (b .1); kids = k ∙ w .kids; clean = c ∙ w .clean; found = w .found }
+  lift i is k c none w = (k ∙ w .0, c ∙ w .1)
+  lift i is k c past w = (k ∙ w .0, c ∙ w .1)
 
   told : (is : List ℕ) → Told (nextOf t ids n id is) is
-  unfolding nextOf kidsOf sound whole places
+  unfolding nextOf kidsOf sound whole places All
   told [] = (refl, refl)
   told (i ∷ is) = go (ltb (getD ids i 0) n) refl (eqb (entry t (getD ids i 0) .parent) id) refl (told is)
     where
       go : (a : Bool) → ltb (getD ids i 0) n ≡ a → (b : Bool) → eqb (entry t (getD ids i 0) .parent) id ≡ b → Told (nextOf t ids n id is) is → Told (nextOf t ids n id (i ∷ is)) (i ∷ is)
       go false e b f w =
-          let r : Child·Spoiled ≡ nextOf t ids n id (i ∷ is) = rw (e, nextOf) in
+          let r : past ≡ nextOf t ids n id (i ∷ is) = rw (e, nextOf) in
           let k : K (i ∷ is) ≡ [] = rw (e, sound, kidsOf) in
           let c : C (i ∷ is) ≡ false = rw (e, whole) in
-          subst (λ (x : Child). Told x (i ∷ is)) r (k, c)
+          subst (λ (x : Next). Told x (i ∷ is)) r (k, c)
       go true e true f w =
-          let r : At i (getD ids i 0) (entry t (getD ids i 0)) ≡ nextOf t ids n id (i ∷ is) = rw (e, f, nextOf) in
+          let r : child (getD ids i 0) (entry t (getD ids i 0)) is ≡ nextOf t ids n id (i ∷ is) = rw (e, f, nextOf) in
           let k : K (i ∷ is) ≡ getD ids i 0 ∷ K is = rw (e, sound, f, kidsOf) in
           let c : C (i ∷ is) ≡ C is = rw (e, whole) in
-          subst (λ (x : Child). Told x (i ∷ is)) r (record { pre = []; post = is; joins = refl; kids = k; clean = c; found = refl })
+          subst (λ (x : Next). Told x (i ∷ is)) r (record { less = omega arith; below = λ b. b .1; kids = k; clean = c; found = refl })
       go true e false f w =
           let r : nextOf t ids n id is ≡ nextOf t ids n id (i ∷ is) = rw (e, f, nextOf) in
           let k : K (i ∷ is) ≡ K is = rw (e, sound, f, kidsOf) in
           let c : C (i ∷ is) ≡ C is = rw (e, whole) in
-          subst (λ (x : Child). Told x (i ∷ is)) r (lift i is k c (nextOf t ids n id is) w)
+          subst (λ (x : Next). Told x (i ∷ is)) r (lift i is k c (nextOf t ids n id is) w)
 
--- ---- a walk over them by the cursor
+-- ---- a walk over them that is read a page at a time
 
-module _ (g : Ring) (coords : List Float) where
-  -- a step ahead of which a slot is first stands at the slot
-  stand : (from : Step) (i : ℕ) (post : List ℕ) → OnRing g coords from → aheadIn g coords from ≡ i ∷ post → OnRing g coords (Slot i) × (aheadIn g coords (Slot i) ≡ i ∷ post)
-  stand (Slot c) i post o e =
-      let q : c ≡ i = cc in
-      (subst (λ (x : ℕ). OnRing g coords (Slot x)) q o, subst (λ (x : ℕ). aheadIn g coords (Slot x) ≡ i ∷ post) q e)
-  stand Done i post o e = absurd (no-nil [] i post e)
-  stand Box i post o e = absurd (no-nil [] i post e)
-  stand Spoiled i post o e = absurd (no-nil [] i post e)
+-- the child p, whose entry is e, is the first among slots of a ring, and the children after it are those of the slots l'
+abbrev pub Further : Ring → Columns → ℕ → List ℕ → ℕ → Entry → List ℕ → Type 0
+Further g c id l p e l' = Follows (tableIn g c) (idsIn g c) (g .len) id l p e l'
 
-  -- where a slot is ahead of a step, the walk comes to it, with what lies after it
-  reach : (pre : List ℕ) (i : ℕ) (post : List ℕ) (from : Step) → OnRing g coords from → aheadIn g coords from ≡ pre ++ i ∷ post
-      → OnRing g coords (Slot i) × (aheadIn g coords (Slot i) ≡ i ∷ post)
-  reach [] i post from o e = stand from i post o e
-  reach (x ∷ pre) i post from o e =
-      let to = afterStep (queryOf g) (g .«node_size») (g .len) (coordsOf g coords) x in
-      let w = stand from x (pre ++ i ∷ post) o e in
-      let h = ring-next g coords (Slot x) x to refl (w .0) refl in
-      reach pre i post to (h .0) (cc (h .1, w .1))
+-- what a reply says of the slots l, which were ahead, and of those that are ahead with the page that it leaves
+module _ (g : Ring) (c : Columns) (id : ℕ) (l page : List ℕ) (r : Child) (w : childIn g (c .coords) page r ≡ nextIn g c id l) where
+  said : (x : Child) → r ≡ x → Told (tableIn g c) (idsIn g c) (g .len) id (childIn g (c .coords) page x) l
+  said x e =
+      subst (λ (q : Next). Told (tableIn g c) (idsIn g c) (g .len) id q l) (sym w ∙ ap (childIn g (c .coords) page) e) (told (tableIn g c) (idsIn g c) (g .len) id l)
 
--- the child p, whose entry is e, lies ahead of a step, and the children after it ahead of another
-pub record Further (g : Ring) (c : Columns) (id : ℕ) (from : Step) (p : ℕ) (e : Entry) (to : Step) : Type 0 where
-  pub on : OnRing g (c .coords) to
-  pub less : length (aheadIn g (c .coords) to) < length (aheadIn g (c .coords) from)
-  pub kids : kidsIn g c id (aheadIn g (c .coords) from) ≡ p ∷ kidsIn g c id (aheadIn g (c .coords) to)
-  pub clean : cleanIn g c (aheadIn g (c .coords) from) ≡ cleanIn g c (aheadIn g (c .coords) to)
-  pub found : e ≡ entry (tableIn g c) p
+  pub kid-next : (to : Pages) (p : ℕ) (y : Entry) → r ≡ At to p y → Further g c id l p y (aheadIn g (c .coords) page to)
+  kid-next to p y e = said (At to p y) e
 
-module _ (g : Ring) (c : Columns) (id : ℕ) (from : Step) (r : Child) (w : r ≡ nextIn g c id (aheadIn g (c .coords) from)) where
-  pub kid-next : OnRing g (c .coords) from → (i p : ℕ) (y : Entry) → r ≡ At i p y → (to : Step) → to ≡ afterStep (queryOf g) (g .«node_size») (g .len) (coordsOf g (c .coords)) i
-      → Further g c id from p y to
-  kid-next o i p y e to f =
-      let is = aheadIn g (c .coords) from in
-      let x = subst (λ (q : Child). Told (tableIn g c) (idsIn g c) (g .len) id q is) (sym w ∙ e) (told (tableIn g c) (idsIn g c) (g .len) id is) in
-      let h = reach g (c .coords) (x .pre) i (x .post) from o (x .joins) in
-      let n = ring-next g (c .coords) (Slot i) i to refl (h .0) f in
-      let q : x .post ≡ aheadIn g (c .coords) to = cc (h .1, n .1) in
-      record {
-        on = n .0;
-        less = omega (arith, ap length (x .joins), length-append (x .pre) (i ∷ x .post), ap length q);
-        kids = x .kids ∙ ap (λ (l : List ℕ). p ∷ kidsIn g c id l) q;
-        clean = x .clean ∙ ap (λ (l : List ℕ). cleanIn g c l) q;
-        found = x .found;
-      }
+  pub kid-done : r ≡ Child·Done → (kidsIn g c id l ≡ []) × (cleanIn g c l ≡ true)
+  kid-done e = said Child·Done e
 
-  pub kid-done : r ≡ Child·Done → (kidsIn g c id (aheadIn g (c .coords) from) ≡ []) × (cleanIn g c (aheadIn g (c .coords) from) ≡ true)
-  kid-done e =
-      let is = aheadIn g (c .coords) from in
-      subst (λ (q : Child). Told (tableIn g c) (idsIn g c) (g .len) id q is) (sym w ∙ e) (told (tableIn g c) (idsIn g c) (g .len) id is)
-
-  pub kid-spoiled : r ≡ Child·Spoiled → (kidsIn g c id (aheadIn g (c .coords) from) ≡ []) × (cleanIn g c (aheadIn g (c .coords) from) ≡ false)
-  kid-spoiled e =
-      let is = aheadIn g (c .coords) from in
-      subst (λ (q : Child). Told (tableIn g c) (idsIn g c) (g .len) id q is) (sym w ∙ e) (told (tableIn g c) (idsIn g c) (g .len) id is)
+  pub kid-spoiled : r ≡ Child·Spoiled → (kidsIn g c id l ≡ []) × (cleanIn g c l ≡ false)
+  kid-spoiled e = said Child·Spoiled e

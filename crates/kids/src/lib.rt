@@ -1,20 +1,23 @@
 // The children of a cluster, one at a time and into a column: what the questions that walk from cluster to cluster rest on.
 use asking::Ring;
+use kdbush::Pages;
 use kdbush::Step;
 use tables::Entry;
 ghost use mathlib.Core.Path.{_≡_};
 ghost use Prim.Native.Nat.{_+_};
 ghost use lib.ListN.{length};
+ghost use Rattle.kdbush.specs.All.{AllBelow};
 ghost use Rattle.kdbush.specs.Run.{filled};
 ghost use Rattle.asking.specs.Columns.{columns};
-ghost use Rattle.asking.specs.Around.{slotsOf, OnRing, aheadIn};
+ghost use Rattle.asking.specs.Around.{slotsOf, aheadIn};
 ghost use Rattle.kids.specs.Kids.{kidsReply};
-ghost use Rattle.kids.specs.Next.{Lent, kidsIn, cleanIn, nextIn};
+ghost use Rattle.kids.specs.Next.{Lent, kidsIn, cleanIn, nextIn, childIn};
 
-// The next child of a cluster, by its slot, its place and its entry; or none is left; or a slot that names a place past the table comes before it.
+// The next child of a cluster: where the walk stands after it, its place and its entry; or none is left; or a slot that names a place past the table comes
+// before it.
 pub enum Child {
     At {
-        slot: usize,
+        pages: Pages,
         place: u32,
         entry: Entry,
     },
@@ -28,7 +31,7 @@ pub enum Kids {
     Spoiled,
 }
 
-// The first child of the cluster cid from the step `from` of a walk over the ring on.
+// The first child of the cluster cid among the slots that are ahead of a walk over the ring.
 pub fn next_child(
     g: Ring,
     x: &[f64],
@@ -40,17 +43,21 @@ pub fn next_child(
     ids: &[u32],
     coords: &[f64],
     cid: u32,
-    from: Step,
+    page: &mut [usize],
+    from: Pages,
 ) -> Child
     requires { ⌜ Lent (g .start + g .len) (columns (now x) (now y) (now seen) (now id) (now parent) (now num) (now ids) (now coords)) ⌝ }
-    requires { ⌜ OnRing g (now coords) from ⌝ }
-    ensures { λ r. ⌜ r ≡ nextIn g (columns (now (x .entry)) (now (y .entry)) (now (seen .entry)) (now (id .entry)) (now (parent .entry)) (now (num .entry)) (now (ids .entry)) (now (coords .entry))) cid (aheadIn g (now (coords .entry)) from) ⌝ }
+    requires { ⌜ AllBelow (g .len) (aheadIn g (now coords) (now page) from) ⌝ }
+    ensures { λ r. ⌜ childIn g (now (coords .entry)) (now (page .exit)) r ≡ nextIn g (columns (now (x .entry)) (now (y .entry)) (now (seen .entry)) (now (id .entry)) (now (parent .entry)) (now (num .entry)) (now (ids .entry)) (now (coords .entry))) cid (aheadIn g (now (coords .entry)) (now (page .entry)) from) ⌝ }
 {
     let start = g.start;
     let len = g.len;
-    let mut cur = from;
+    let mut at = from;
     loop {
-        let Step::Slot(slot) = cur else {
+        let t = asking::next_in(g, coords, page, at);
+        let step = t.step;
+        let pages = t.pages;
+        let Step::Slot(slot) = step else {
             return Child::Done;
         };
         let i = start + slot;
@@ -60,9 +67,13 @@ pub fn next_child(
         }
         let entry = asking::entry_in(start, len, x, y, seen, id, parent, num, place as usize);
         if entry.parent == cid {
-            return Child::At { slot, place, entry };
+            return Child::At {
+                pages,
+                place,
+                entry,
+            };
         }
-        cur = asking::after(g, coords, slot);
+        at = pages;
     }
 }
 
@@ -86,15 +97,29 @@ pub fn list_kids(
         × (now (out .exit) ≡ filled (kidsIn g (columns (now (x .entry)) (now (y .entry)) (now (seen .entry)) (now (id .entry)) (now (parent .entry)) (now (num .entry)) (now (ids .entry)) (now (coords .entry))) cid (slotsOf g (now (coords .entry)))) (now (out .entry))) ⌝ }
 {
     let mut k = 0;
-    let mut from = asking::first(g, coords);
+    let mut page = [0usize; 64];
+    let mut from = kdbush::begin();
     loop {
-        match next_child(g, x, y, seen, id, parent, num, ids, coords, cid, from) {
+        match next_child(
+            g,
+            x,
+            y,
+            seen,
+            id,
+            parent,
+            num,
+            ids,
+            coords,
+            cid,
+            &mut page,
+            from,
+        ) {
             Child::Done => return Kids::All(k),
             Child::Spoiled => return Kids::Spoiled,
-            Child::At { slot, place, .. } => {
+            Child::At { pages, place, .. } => {
                 asking::put_at(out, k, place);
                 k += 1;
-                from = asking::after(g, coords, slot);
+                from = pages;
             }
         }
     }

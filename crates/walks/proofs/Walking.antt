@@ -1,21 +1,20 @@
--- The loop over the children of one cluster in the walk over lamps: what lies ahead of the cursor, from where the loop stands, gives what all the children gave
+-- The loop over the children of one cluster in the walk over lamps: what lies ahead of it, from where the loop stands, gives what all the children gave
 -- from the start. Assumes nothing.
 use mathlib.Core.Bool.{Bool, true, false, cond, _&&_}
-use mathlib.Core.Path.{_≡_, refl, sym, ap, _∙_}
+use mathlib.Core.Path.{_≡_, refl, sym, ap, subst, _∙_}
 use mathlib.Core.List.{List, [], _∷_, map}
 use Prim.Native.Nat.{ℕ, zero, suc, _+_, _<_, _≤_}
 use native.Mathlib.Omega.{arith}
 use borrow.Author.Tests.{eq-eqb, ne-eqb}
 use lib.Dec.{eqb}
 use lib.ListN.{length}
-use Rattle.kdbush.specs.declared.Step.{Step}
-use Rattle.kdbush.specs.Reply.{firstStep}
+use Rattle.kdbush.specs.All.{AllBelow}
 use Rattle.tables.specs.declared.Entry.{Entry}
 use Rattle.tables.specs.declared.State.{State}
 use Rattle.tables.specs.Entries.{entry}
 use Rattle.asking.specs.declared.Ring.{Ring}
 use Rattle.asking.specs.Columns.{Columns, tableAt}
-use Rattle.asking.specs.Around.{ringOf, queryOf, coordsOf, slotsOf, OnRing, aheadIn, ring-first}
+use Rattle.asking.specs.Around.{ringOf, slotsOf, ring-below}
 use Rattle.kids.specs.Kids.{kidsAt, cleanAt, childless}
 use Rattle.kids.specs.Next.{tableIn, kidsIn, cleanIn, kids-around, clean-around, Further}
 use Rattle.walks.specs.declared.Sofar.{Sofar}
@@ -38,34 +37,34 @@ module _ (s : State) (c : Columns) (limit offset id t o : ℕ) (was : Sofar) (ou
   abbrev S : ℕ → List ℕ → Sofar → List ℕ → Trip Col
   S f l so out = steps column s c limit offset (walk column s c limit offset f) t (cleanAt s c t o) (map (entry (tableAt s c t)) l) (so .skipped) (col (so .listed) out)
 
-  -- the children ahead of a step
-  abbrev kidsAhead : Step → List ℕ
-  kidsAhead from = kidsIn g c id (aheadIn g (c .coords) from)
+  -- the children among slots that are ahead
+  abbrev kidsAhead : List ℕ → List ℕ
+  kidsAhead ah = kidsIn g c id ah
 
   -- a child was met; or none was, and all are ahead
   abbrev Met : Bool → List ℕ → Type 0
   Met true l = length K ≡ 0 → ⊥
   Met false l = l ≡ K
 
-  pub record Walking (out : List ℕ) (any : Bool) (so : Sofar) (from : Step) : Type 0 where
-    pub on : OnRing g (c .coords) from
+  -- where the loop stands, with the slots that are ahead
+  pub record Walking (out : List ℕ) (any : Bool) (so : Sofar) (ah : List ℕ) : Type 0 where
+    pub below : AllBelow (g .len) ah
     pub same : length out ≡ length out₀
-    pub clean : cleanIn g c (aheadIn g (c .coords) from) ≡ cleanAt s c t o
-    pub met : Met any (kidsAhead from)
-    pub whole : (f : ℕ) → 32 ≤ f + 1 + t → S f (kidsAhead from) so out ≡ S f K was out₀
+    pub clean : cleanIn g c ah ≡ cleanAt s c t o
+    pub met : Met any (kidsAhead ah)
+    pub whole : (f : ℕ) → 32 ≤ f + 1 + t → S f (kidsAhead ah) so out ≡ S f K was out₀
 
   abbrev Ended : Walk → List ℕ → Type 0
   Ended r out = Walked s c limit offset id t o (was .skipped) (col (was .listed) out₀) r out
 
   module _ (eg : g ≡ ringOf s (tableAt s c t) t o) where
-    pub walking-first : (from : Step) → from ≡ firstStep (queryOf g) (g .«node_size») (g .len) (coordsOf g (c .coords)) → Walking out₀ false was from
-    walking-first from e =
-        let h = ring-first g (c .coords) from e in
-        let k : kidsAhead from ≡ K = ap (kidsIn g c id) (h .1) ∙ kids-around s c t o g eg id in
+    pub walking-first : (ah : List ℕ) → ah ≡ slotsOf g (c .coords) → Walking out₀ false was ah
+    walking-first ah e =
+        let k : kidsAhead ah ≡ K = ap (kidsIn g c id) e ∙ kids-around s c t o g eg id in
         record {
-          on = h .0;
+          below = subst (AllBelow (g .len)) (sym e) (ring-below g (c .coords));
           same = refl;
-          clean = ap (cleanIn g c) (h .1) ∙ clean-around s c t o g eg;
+          clean = ap (cleanIn g c) e ∙ clean-around s c t o g eg;
           met = k;
           whole = λ f h. ap (λ (l : List ℕ). S f l was out₀) k;
         }
@@ -94,8 +93,8 @@ module _ (s : State) (c : Columns) (limit offset id t o : ℕ) (was : Sofar) (ou
   peopled : (length K ≡ 0 → ⊥) → false ≡ childless s c id t o
   peopled h = sym (ap (λ (b : Bool). cleanAt s c t o && b) (ne-eqb (length K) 0 h) ∙ and-false (cleanAt s c t o))
 
-  module _ (l : t < 32) (out : List ℕ) (any : Bool) (so : Sofar) (from : Step) (w : Walking out any so from) where
-    module _ (h : (kidsAhead from ≡ []) × (cleanIn g c (aheadIn g (c .coords) from) ≡ false)) where
+  module _ (l : t < 32) (out : List ℕ) (any : Bool) (so : Sofar) (ah : List ℕ) (w : Walking out any so ah) where
+    module _ (h : (kidsAhead ah ≡ []) × (cleanIn g c ah ≡ false)) where
       pub walking-spoiled : Ended (Broke (so .listed)) out
       unfolding steps
       walking-spoiled =
@@ -104,7 +103,7 @@ module _ (s : State) (c : Columns) (limit offset id t o : ℕ) (was : Sofar) (ou
           (λ f i. sym (ap (λ (x : List ℕ). S f x so out) (h .0) ∙ simp b) ∙ w .whole f i)
           (spoiled b) (sym (simp b))
 
-    module _ (h : (kidsAhead from ≡ []) × (cleanIn g c (aheadIn g (c .coords) from) ≡ true)) where
+    module _ (h : (kidsAhead ah ≡ []) × (cleanIn g c ah ≡ true)) where
       ok : cleanAt s c t o ≡ true
       ok = sym (w .clean) ∙ h .1
 
@@ -114,13 +113,13 @@ module _ (s : State) (c : Columns) (limit offset id t o : ℕ) (was : Sofar) (ou
 
       pub walking-done : any ≡ true → Ended (Went so) out
       walking-done a =
-          let m : Met true (kidsAhead from) = rw a at (w .met) in
+          let m : Met true (kidsAhead ah) = rw a at (w .met) in
           ends l (Went so) out last (some m) (peopled m)
 
       pub walking-none : any ≡ false → Ended (Childless (so .listed)) out
       unfolding steps walk
       walking-none a =
-          let k : kidsAhead from ≡ K = rw a at (w .met) in
+          let k : kidsAhead ah ≡ K = rw a at (w .met) in
           let m : length K ≡ 0 = ap length (sym k ∙ h .0) in
           let e : K ≡ [] = none-is K m in
           let x : went (so .skipped) (col (so .listed) out) ≡ went (was .skipped) (col (was .listed) out₀) = last 32 (omega arith) ∙ ap (λ (y : List ℕ). S 32 y was out₀) e ∙ simp ok in
@@ -134,8 +133,8 @@ module _ (s : State) (c : Columns) (limit offset id t o : ℕ) (was : Sofar) (ou
 
     -- at the child p, whose visit comes to r and leaves out'
     module _ (eg : g ≡ ringOf s (tableAt s c t) t o) (p : ℕ) (e : Entry) (r : Walk) (out' : List ℕ)
-        (v : Visited s c limit offset t e (so .skipped) (col (so .listed) out) r out') (to : Step) (z : Further g c id from p e to) where
-      met-some : (a : Bool) → Met a (kidsAhead from) → length K ≡ 0 → ⊥
+        (v : Visited s c limit offset t e (so .skipped) (col (so .listed) out) r out') (to : List ℕ) (z : Further g c id ah p e to) where
+      met-some : (a : Bool) → Met a (kidsAhead ah) → length K ≡ 0 → ⊥
       met-some true m = m
       met-some false m = λ i. omega (arith, ap length (sym (z .kids) ∙ m), i)
 
@@ -165,7 +164,7 @@ module _ (s : State) (c : Columns) (limit offset id t o : ℕ) (was : Sofar) (ou
         pub walking-on : (so' .listed ≡ limit → ⊥) → length out' ≡ length out → Walking out' true so' to
         walking-on y i =
             record {
-              on = z .on;
+              below = z .below (w .below);
               same = i ∙ w .same;
               clean = sym (z .clean) ∙ w .clean;
               met = full;

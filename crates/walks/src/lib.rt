@@ -395,9 +395,23 @@ fn walk_into(
     let g = asking::ring_of(s, leg.cap, leg.table, origin, x, y, seen, id, parent, num);
     let mut any = false;
     let mut so = was;
-    let mut from = asking::first(g, coords);
+    let mut page = [0usize; 64];
+    let mut from = kdbush::begin();
     loop {
-        match kids::next_child(g, x, y, seen, id, parent, num, ids, coords, cid, from) {
+        match kids::next_child(
+            g,
+            x,
+            y,
+            seen,
+            id,
+            parent,
+            num,
+            ids,
+            coords,
+            cid,
+            &mut page,
+            from,
+        ) {
             Child::Spoiled => return Walk::Broke(so.listed),
             Child::Done => {
                 if any {
@@ -405,7 +419,11 @@ fn walk_into(
                 }
                 return Walk::Childless(so.listed);
             }
-            Child::At { slot, entry: e, .. } => {
+            Child::At {
+                pages,
+                entry: e,
+                ..
+            } => {
                 let w = match fate_of(leg.offset, so.skipped, e.num) {
                     Fate::Entered => {
                         enter(s, x, y, seen, id, parent, num, ids, coords, e, leg, so, out)
@@ -422,7 +440,7 @@ fn walk_into(
                         }
                         any = true;
                         so = next;
-                        from = asking::after(g, coords, slot);
+                        from = pages;
                     }
                 }
             }

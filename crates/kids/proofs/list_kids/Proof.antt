@@ -1,25 +1,26 @@
--- `kids::list_kids` meets its contract: the children that are listed and those ahead of the cursor are all of them. The measure is what is ahead. Assumes nothing.
-use mathlib.Core.Path.{_≡_, refl}
+-- `kids::list_kids` meets its contract: the children that are listed and those ahead of the walk are all of them. The measure is what is ahead. Assumes nothing.
+use mathlib.Core.Path.{_≡_, refl, sym, _∙_}
+use mathlib.Core.List.{List}
 use Prim.Native.Nat.{ℕ}
 use native.Mathlib.Omega.{arith}
 use borrow.Author.Needs.{needs}
 use lib.ListN.{length}
 use denote.Ref.{now}
-use Rattle.kdbush.specs.declared.Step.{Step}
-use Rattle.kdbush.specs.Reply.{afterStep}
+use Rattle.kdbush.specs.declared.Pages.{Pages}
 use Rattle.tables.specs.declared.Entry.{Entry}
 use Rattle.asking.specs.Columns.{Columns, columns}
-use Rattle.asking.specs.Around.{queryOf, coordsOf, aheadIn}
+use Rattle.asking.specs.Around.{aheadIn, ring-begun}
 use Rattle.kids.specs.Next.{Further, kid-next, kid-done, kid-spoiled}
 use Rattle.kids.proofs.Listing.{Going, going-first, going-length, going-on, going-room, going-done, going-spoiled}
 use Rattle.kids.proofs.list_kids.Statement.{statement}
 use Rattle.kids.proofs.list_kids.Tie as tie
 
 abbrev Inv-loop : tie.InvT-loop
-Inv-loop g x y seen id parent num ids coords cid out₀ k₀ from₀ out k from = Going g (columns x y seen id parent num ids coords) cid out₀ out k from
+Inv-loop g x y seen id parent num ids coords cid out₀ k₀ page₀ from₀ out k page from =
+    (length page ≡ 64) × Going g (columns x y seen id parent num ids coords) cid out₀ out k (aheadIn g coords page from)
 
 abbrev μ-loop : tie.MeasureT-loop
-μ-loop g x y seen id parent num ids coords cid out₀ k₀ from₀ out k from = length (aheadIn g coords from)
+μ-loop g x y seen id parent num ids coords cid out₀ k₀ page₀ from₀ out k page from = length (aheadIn g coords page from)
 
 abbrev Loop : Type 0
 Loop = tie.At-loop Inv-loop μ-loop
@@ -30,68 +31,88 @@ start-of w = w .before .before .before .before .before .before .before .before .
 abbrev cols : tie.Start Inv-loop μ-loop → Columns
 cols s = let a = s .args in columns (now (a .x)) (now (a .y)) (now (a .seen)) (now (a .id)) (now (a .parent)) (now (a .num)) (now (a .ids)) (now (a .coords))
 
--- at a child
-module _ (d : tie.After-slot Inv-loop μ-loop) where
-  abbrev loop-of : Loop
-  loop-of = d .before .before .before
+-- what is ahead at the loop's head, and the page that a search for the next child leaves
+abbrev was : Loop → List ℕ
+was w = let a = start-of w .args in aheadIn (a .g) (now (a .coords)) (w .loop .page) (w .loop .from)
 
-  abbrev slot : ℕ
-  slot = d .slot .given .0 .0
+abbrev page-of : tie.After-next-child Inv-loop μ-loop → List ℕ
+page-of n = n .next-child .last .1 .1 .1 .1 .1 .1 .1 .1 .1 .1 .0
+
+-- at a child
+module _ (d : tie.After-pages Inv-loop μ-loop) where
+  abbrev searched : tie.After-next-child Inv-loop μ-loop
+  searched = d .before .before .before
+
+  abbrev loop-of : Loop
+  loop-of = searched .before .before
+
+  abbrev to : Pages
+  to = d .pages .given .0 .0
 
   abbrev place : ℕ
-  place = d .slot .given .0 .1 .0
+  place = d .pages .given .0 .1 .0
 
   abbrev entry-of : Entry
-  entry-of = d .slot .given .0 .1 .1 .0
+  entry-of = d .pages .given .0 .1 .1 .0
 
-  further : (to : Step) → let a = start-of loop-of .args in to ≡ afterStep (queryOf (a .g)) (a .g .«node_size») (a .g .len) (coordsOf (a .g) (now (a .coords))) slot
-      → Further (a .g) (cols (start-of loop-of)) (a .cid) (loop-of .loop .from) place entry-of to
-  further to e =
+  further : let a = start-of loop-of .args in Further (a .g) (cols (start-of loop-of)) (a .cid) (was loop-of) place entry-of (aheadIn (a .g) (now (a .coords)) (page-of searched) to)
+  further =
       let a = start-of loop-of .args in
-      let n = d .before .before .next-child in
-      kid-next (a .g) (cols (start-of loop-of)) (a .cid) (loop-of .loop .from) (n .result) (n .ensures) (loop-of .loop .inv .on) slot place entry-of (d .slot .given .1) to e
+      let n = searched .next-child in
+      kid-next (a .g) (cols (start-of loop-of)) (a .cid) (was loop-of) (page-of searched) (n .result) (n .ensures) to place entry-of (d .pages .given .1)
 
-first-requires : tie.Need-first-requires Inv-loop μ-loop
-first-requires c κs = c .before .before .before .before .before .before .before .before .before .pre .coords
+begin-requires : tie.Need-begin-requires Inv-loop μ-loop
+begin-requires c κs = tt
 
 loop-holds : tie.Need-loop-holds Inv-loop μ-loop
 loop-holds c =
     let s = c .before .before .before .before .before .before .before .before .before .before in
-    going-first (s .args .g) (cols s) (s .args .cid) (now (s .args .out)) (c .first .result) (c .first .ensures)
+    (refl, going-first (s .args .g) (cols s) (s .args .cid) (now (s .args .out)) _ (ring-begun (s .args .g) (now (s .args .coords)) _ (c .begin .result) (c .begin .ensures)))
+
+slice-aggregate-next-child : tie.Need-slice-aggregate-next-child Inv-loop μ-loop
+slice-aggregate-next-child c = sym (c .before .loop .inv .0)
 
 next-child-requires : tie.Need-next-child-requires Inv-loop μ-loop
-next-child-requires c κs = (start-of c .pre, c .loop .inv .on)
+next-child-requires c κs = (start-of (c .before) .pre, c .before .loop .inv .1 .below)
 
 enum-told : tie.Need-enum-told Inv-loop μ-loop
 enum-told c = search needs
 
 same-length : tie.Need-same-length Inv-loop μ-loop
-same-length c = let w = c .before .before .before in let s = start-of w in going-length (s .args .g) (cols s) (s .args .cid) (now (s .args .out)) _ _ _ (w .loop .inv)
+same-length c =
+    let w = c .before .before .before .before .before in
+    let s = start-of w in
+    going-length (s .args .g) (cols s) (s .args .cid) (now (s .args .out)) _ _ _ (w .loop .inv .1)
 
 returns : tie.Need-returns Inv-loop μ-loop
 returns c =
-    let n = c .before .before .next-child in
-    let w = c .before .before .before in
+    let n = c .before .before .before in
+    let w = n .before .before in
     let s = start-of w in
     let a = s .args in
-    going-done (a .g) (cols s) (a .cid) (now (a .out)) _ _ _ (w .loop .inv) (kid-done (a .g) (cols s) (a .cid) (w .loop .from) (n .result) (n .ensures) (c .enum-told .given .1))
+    going-done (a .g) (cols s) (a .cid) (now (a .out)) _ _ _ (w .loop .inv .1)
+    (kid-done (a .g) (cols s) (a .cid) (was w) (page-of n) (n .next-child .result) (n .next-child .ensures) (c .enum-told .given .1))
 
 enum-told-2 : tie.Need-enum-told-2 Inv-loop μ-loop
 enum-told-2 c = search needs
 
 same-length-2 : tie.Need-same-length-2 Inv-loop μ-loop
-same-length-2 c = let w = c .before .before .before in let s = start-of w in going-length (s .args .g) (cols s) (s .args .cid) (now (s .args .out)) _ _ _ (w .loop .inv)
+same-length-2 c =
+    let w = c .before .before .before .before .before in
+    let s = start-of w in
+    going-length (s .args .g) (cols s) (s .args .cid) (now (s .args .out)) _ _ _ (w .loop .inv .1)
 
 returns-2 : tie.Need-returns-2 Inv-loop μ-loop
 returns-2 c =
-    let n = c .before .before .next-child in
-    let w = c .before .before .before in
+    let n = c .before .before .before in
+    let w = n .before .before in
     let s = start-of w in
     let a = s .args in
-    going-spoiled (a .g) (cols s) (a .cid) (now (a .out)) _ _ _ (w .loop .inv) (kid-spoiled (a .g) (cols s) (a .cid) (w .loop .from) (n .result) (n .ensures) (c .enum-told2 .given .1))
+    going-spoiled (a .g) (cols s) (a .cid) (now (a .out)) _ _ _ (w .loop .inv .1)
+    (kid-spoiled (a .g) (cols s) (a .cid) (was w) (page-of n) (n .next-child .result) (n .next-child .ensures) (c .enum-told2 .given .1))
 
-enum-known-slot : tie.Need-enum-known-slot Inv-loop μ-loop
-enum-known-slot c = search needs
+enum-known-pages : tie.Need-enum-known-pages Inv-loop μ-loop
+enum-known-pages c = search needs
 
 put-at-requires : tie.Need-put-at-requires Inv-loop μ-loop
 put-at-requires c κs = tt
@@ -101,22 +122,21 @@ add-k c =
     let d = c .before .before .before .before .before in
     let w = loop-of d in
     let s = start-of w in
-    let h = going-room (s .args .g) (cols s) (s .args .cid) (now (s .args .out)) _ _ _ (w .loop .inv) (place d) _ _ (further d _ refl) in
+    let h = going-room (s .args .g) (cols s) (s .args .cid) (now (s .args .out)) _ _ _ (w .loop .inv .1) (place d) _ _ (further d) in
     omega (arith, h, s .pre .places, s .good .1 .1 .1 .1 .1 .1 .1 .0)
 
-after-requires : tie.Need-after-requires Inv-loop μ-loop
-after-requires c κs = start-of (loop-of (c .before .before .before .before .before)) .pre .coords
-
 loop-less : tie.Need-loop-less Inv-loop μ-loop
-loop-less c = further (c .before .before .before .before .before .before) (c .after .result) (c .after .ensures) .less
+loop-less c = further (c .before .before .before .before .before) .less
 
 loop-again : tie.Need-loop-again Inv-loop μ-loop
 loop-again c =
-    let d = c .before .before .before .before .before .before in
+    let d = c .before .before .before .before .before in
     let w = loop-of d in
     let s = start-of w in
-    let p = c .before .before .before .put-at in
-    going-on (s .args .g) (cols s) (s .args .cid) (now (s .args .out)) _ _ _ (w .loop .inv) (place d) _ (c .after .result) (further d (c .after .result) (c .after .ensures)) (p .last .0) (p .ensures)
+    let p = c .before .before .put-at in (
+      searched d .next-child .kept .1 .1 .1 .1 .1 .1 .1 .1 .1 .1 .0 ∙ w .loop .inv .0,
+      going-on (s .args .g) (cols s) (s .args .cid) (now (s .args .out)) _ _ _ (w .loop .inv .1) (place d) _ _ (further d) (p .last .0) (p .ensures),
+    )
 
 pub list-kids-spec : {M : Type 1} → statement M
 list-kids-spec =
@@ -124,8 +144,9 @@ list-kids-spec =
     (tie.spec
     Inv-loop
     μ-loop
-    first-requires
+    begin-requires
     loop-holds
+    slice-aggregate-next-child
     next-child-requires
     enum-told
     same-length
@@ -133,9 +154,8 @@ list-kids-spec =
     enum-told-2
     same-length-2
     returns-2
-    enum-known-slot
+    enum-known-pages
     put-at-requires
     add-k
-    after-requires
     loop-less
     loop-again)

@@ -1,7 +1,8 @@
--- `walks::enter` and `walks::walk_into` meet their contracts: each child is visited as the definition visits it, and what is ahead of the cursor gives what is left of
--- the walk. A walk goes on into larger tables only; within a level the measure is what is ahead. Assumes nothing.
+-- `walks::enter` and `walks::walk_into` meet their contracts: each child is visited as the definition visits it, and what is ahead gives what is left of the walk. A
+-- walk goes on into larger tables only; within a level the measure is what is ahead. Assumes nothing.
 use mathlib.Core.Path.{_≡_, refl, ap, sym, _∙_}
 use mathlib.Core.Logic.{⊎-elim}
+use mathlib.Core.List.{List}
 use Prim.Native.Nat.{ℕ, _+_, _-_, _*_, _<_}
 use native.Mathlib.Omega.{arith}
 use borrow.Author.Needs.{needs}
@@ -9,12 +10,10 @@ use borrow.Fn.Kinds.{In}
 use borrow.Fn.PlainCycle.{Measures, is, falls, and}
 use lib.ListN.{length}
 use denote.Ref.{now}
-use Rattle.kdbush.specs.declared.Step.{Step}
-use Rattle.kdbush.specs.Reply.{afterStep}
 use Rattle.tables.specs.declared.Entry.{Entry}
 use Rattle.asking.specs.Columns.{Columns, columns}
 use Rattle.asking.specs.Reached.{near, beside, onward-reached}
-use Rattle.asking.specs.Around.{queryOf, coordsOf, aheadIn}
+use Rattle.asking.specs.Around.{aheadIn, ring-begun}
 use Rattle.kids.specs.Next.{Lent, lent-ring, Further, kid-next, kid-done, kid-spoiled}
 use Rattle.walks.specs.declared.Walk.{Walk}
 use Rattle.walks.specs.Column.{col, tripOf}
@@ -27,10 +26,9 @@ use Rattle.walks.proofs.+enter+walk_into.Lts-enter as enter-lts
 use Rattle.walks.proofs.walk_into.Reads as walk-into
 use Rattle.walks.proofs.walk_into.Kinds as walk-into-kinds
 use Rattle.walks.proofs.+enter+walk_into.Lts-walk_into as walk-into-lts
-use Rattle.asking.proofs.after.Reads as after-reads
-use Rattle.asking.proofs.first.Reads as first-reads
 use Rattle.asking.proofs.go_on.Reads as go-on-reads
 use Rattle.asking.proofs.ring_of.Reads as ring-of-reads
+use Rattle.kdbush.proofs.begin.Reads as begin-reads
 use Rattle.kids.proofs.next_child.Reads as next-child-reads
 use Rattle.walks.proofs.fate_of.Reads as fate-of-reads
 use Rattle.walks.proofs.list_one.Reads as list-one-reads
@@ -63,8 +61,8 @@ abbrev walk-into-told : ℕ → walk-into-lts.Claims
 walk-into-told t = (
   ring-of-reads.Asked,
   ring-of-reads.Learnt,
-  first-reads.Asked,
-  first-reads.Learnt,
+  begin-reads.Asked,
+  begin-reads.Learnt,
   next-child-reads.Asked,
   next-child-reads.Learnt,
   fate-of-reads.Asked,
@@ -75,8 +73,6 @@ walk-into-told t = (
   list-one-reads.Learnt,
   skip-to-reads.Asked,
   skip-to-reads.Learnt,
-  after-reads.Asked,
-  after-reads.Learnt,
 )
 
 -- ---- a child cluster is entered
@@ -125,11 +121,11 @@ enter-returns-2 t c =
 -- ---- the children one after the other
 
 abbrev walk-into-Inv-loop : walk-into-lts.InvT-loop
-walk-into-Inv-loop s x y seen id parent num ids coords cid origin leg out₀ g any₀ so₀ from₀ out any so from =
-    Walking s (columns x y seen id parent num ids coords) (leg .limit) (leg .offset) cid (leg .table) origin so₀ out₀ g out any so from
+walk-into-Inv-loop s x y seen id parent num ids coords cid origin leg out₀ g any₀ so₀ page₀ from₀ out any so page from =
+    (length page ≡ 64) × Walking s (columns x y seen id parent num ids coords) (leg .limit) (leg .offset) cid (leg .table) origin so₀ out₀ g out any so (aheadIn g coords page from)
 
 abbrev walk-into-μ-loop : walk-into-lts.MeasureT-loop
-walk-into-μ-loop s x y seen id parent num ids coords cid origin leg out₀ g any₀ so₀ from₀ out any so from = length (aheadIn g coords from)
+walk-into-μ-loop s x y seen id parent num ids coords cid origin leg out₀ g any₀ so₀ page₀ from₀ out any so page from = length (aheadIn g coords page from)
 
 module _ (t : ℕ) (w : walk-into-lts.At-loop (walk-into-told t) (walk-into-at t) walk-into.Post walk-into-Inv-loop walk-into-μ-loop) where
   abbrev ring : walk-into-lts.After-ring-of (walk-into-told t) (walk-into-at t) walk-into.Post walk-into-Inv-loop walk-into-μ-loop
@@ -150,76 +146,85 @@ module _ (t : ℕ) (w : walk-into-lts.At-loop (walk-into-told t) (walk-into-at t
       let a = walked .args in
       lent-ring (a .s) walk-cols (a .leg .cap) (a .leg .table) (a .origin) (ring .ring-of .result) (walked .pre .1 .0) (walked .pre .1 .1) (ring .ring-of .ensures)
 
+  -- what is ahead at the loop's head
+  abbrev was : List ℕ
+  was = aheadIn (ring .ring-of .result) (now (walked .args .coords)) (w .loop .page) (w .loop .from)
+
+-- the page that a search for the next child leaves
+abbrev page-of : (t : ℕ) → walk-into-lts.After-next-child (walk-into-told t) (walk-into-at t) walk-into.Post walk-into-Inv-loop walk-into-μ-loop → List ℕ
+page-of t n = n .next-child .last .1 .1 .1 .1 .1 .1 .1 .1 .1 .1 .0
+
 -- at a child
-module _ (t : ℕ) (d : walk-into-lts.After-slot (walk-into-told t) (walk-into-at t) walk-into.Post walk-into-Inv-loop walk-into-μ-loop) where
+module _ (t : ℕ) (d : walk-into-lts.After-pages (walk-into-told t) (walk-into-at t) walk-into.Post walk-into-Inv-loop walk-into-μ-loop) where
   abbrev loop-of : walk-into-lts.At-loop (walk-into-told t) (walk-into-at t) walk-into.Post walk-into-Inv-loop walk-into-μ-loop
-  loop-of = d .before .before .before
+  loop-of = d .before .before .before .before .before
 
   abbrev place : ℕ
-  place = d .slot .given .0 .1 .0
+  place = d .pages .given .0 .1 .0
 
   abbrev child : Entry
-  child = d .slot .given .0 .1 .1 .0
+  child = d .pages .given .0 .1 .1 .0
 
-  further : (to : Step) → let g = ring t loop-of .ring-of .result in to ≡ afterStep (queryOf g) (g .«node_size») (g .len) (coordsOf g (now (walked t loop-of .args .coords))) (d .slot .given .0 .0)
-      → Further g (walk-cols t loop-of) (walked t loop-of .args .cid) (loop-of .loop .from) place child to
-  further to e =
-      let n = d .before .before .next-child in
-      kid-next (ring t loop-of .ring-of .result) (walk-cols t loop-of) (walked t loop-of .args .cid) (loop-of .loop .from) (n .result) (n .ensures) (loop-of .loop .inv .on) _ place child (d .slot .given .1) to e
+  further : let g = ring t loop-of .ring-of .result in
+      Further g (walk-cols t loop-of) (walked t loop-of .args .cid) (was t loop-of) place child (aheadIn g (now (walked t loop-of .args .coords)) (page-of t (d .before .before .before)) (d .pages .given .0 .0))
+  further =
+      let n = d .before .before .before in
+      kid-next (ring t loop-of .ring-of .result) (walk-cols t loop-of) (walked t loop-of .args .cid) (was t loop-of) (page-of t n) (n .next-child .result) (n .next-child .ensures) _ place child (d .pages .given .1)
 
 walk-into-ring-of-requires : (t : ℕ) → walk-into-lts.Need-ring-of-requires (walk-into-told t) (walk-into-at t) walk-into.Post walk-into-Inv-loop walk-into-μ-loop
 walk-into-ring-of-requires t c κs =
     let s = c .before .before .before .before .before .before .before .before .before in
     (s .pre .1 .0, s .pre .1 .1 .entries)
 
-walk-into-first-requires : (t : ℕ) → walk-into-lts.Need-first-requires (walk-into-told t) (walk-into-at t) walk-into.Post walk-into-Inv-loop walk-into-μ-loop
-walk-into-first-requires t c κs =
-    let s = c .before .before .before .before .before .before .before .before .before .before in
-    lent-ring (s .args .s) _ (s .args .leg .cap) (s .args .leg .table) (s .args .origin) (c .ring-of .result) (s .pre .1 .0) (s .pre .1 .1) (c .ring-of .ensures) .coords
+walk-into-begin-requires : (t : ℕ) → walk-into-lts.Need-begin-requires (walk-into-told t) (walk-into-at t) walk-into.Post walk-into-Inv-loop walk-into-μ-loop
+walk-into-begin-requires t c κs = tt
 
 walk-into-loop-holds : (t : ℕ) → walk-into-lts.Need-loop-holds (walk-into-told t) (walk-into-at t) walk-into.Post walk-into-Inv-loop walk-into-μ-loop
 walk-into-loop-holds t c =
     let g = c .before in
-    walking-first _ _ _ _ _ _ _ _ _ (g .ring-of .result) (g .ring-of .ensures) (c .first .result) (c .first .ensures)
+    (refl, walking-first _ _ _ _ _ _ _ _ _ (g .ring-of .result) (g .ring-of .ensures) _ (ring-begun (g .ring-of .result) _ _ (c .begin .result) (c .begin .ensures)))
+
+walk-into-slice-aggregate-next-child : (t : ℕ) → walk-into-lts.Need-slice-aggregate-next-child (walk-into-told t) (walk-into-at t) walk-into.Post walk-into-Inv-loop walk-into-μ-loop
+walk-into-slice-aggregate-next-child t c = sym (c .before .loop .inv .0)
 
 walk-into-next-child-requires : (t : ℕ) → walk-into-lts.Need-next-child-requires (walk-into-told t) (walk-into-at t) walk-into.Post walk-into-Inv-loop walk-into-μ-loop
-walk-into-next-child-requires t c κs = (lent-here t c, c .loop .inv .on)
+walk-into-next-child-requires t c κs = (lent-here t (c .before), c .before .loop .inv .1 .below)
 
 walk-into-enum-told : (t : ℕ) → walk-into-lts.Need-enum-told (walk-into-told t) (walk-into-at t) walk-into.Post walk-into-Inv-loop walk-into-μ-loop
 walk-into-enum-told t c = search needs
 
 walk-into-same-length : (t : ℕ) → walk-into-lts.Need-same-length (walk-into-told t) (walk-into-at t) walk-into.Post walk-into-Inv-loop walk-into-μ-loop
-walk-into-same-length t c = c .before .before .before .loop .inv .same
+walk-into-same-length t c = c .before .before .before .before .before .loop .inv .1 .same
 
 walk-into-returns : (t : ℕ) → walk-into-lts.Need-returns (walk-into-told t) (walk-into-at t) walk-into.Post walk-into-Inv-loop walk-into-μ-loop
 walk-into-returns t c =
-    let n = c .before .before in
-    let w = n .before in
-    walking-spoiled _ _ _ _ _ _ _ _ _ _ (low t w) _ _ _ _ (w .loop .inv) (kid-spoiled (ring t w .ring-of .result) (walk-cols t w) (walked t w .args .cid) (w .loop .from) (n .next-child .result) (n .next-child .ensures) (c .enum-told .given .1))
+    let n = c .before .before .before in
+    let w = n .before .before in
+    walking-spoiled _ _ _ _ _ _ _ _ _ _ (low t w) _ _ _ _ (w .loop .inv .1) (kid-spoiled (ring t w .ring-of .result) (walk-cols t w) (walked t w .args .cid) (was t w) (page-of t n) (n .next-child .result) (n .next-child .ensures) (c .enum-told .given .1))
 
 walk-into-enum-told-2 : (t : ℕ) → walk-into-lts.Need-enum-told-2 (walk-into-told t) (walk-into-at t) walk-into.Post walk-into-Inv-loop walk-into-μ-loop
 walk-into-enum-told-2 t c = search needs
 
 walk-into-same-length-2 : (t : ℕ) → walk-into-lts.Need-same-length-2 (walk-into-told t) (walk-into-at t) walk-into.Post walk-into-Inv-loop walk-into-μ-loop
-walk-into-same-length-2 t c = c .before .before .before .before .loop .inv .same
+walk-into-same-length-2 t c = c .before .before .before .before .before .before .loop .inv .1 .same
 
 walk-into-returns-2 : (t : ℕ) → walk-into-lts.Need-returns-2 (walk-into-told t) (walk-into-at t) walk-into.Post walk-into-Inv-loop walk-into-μ-loop
 walk-into-returns-2 t c =
-    let n = c .before .before .before in
-    let w = n .before in
-    walking-done _ _ _ _ _ _ _ _ _ _ (low t w) _ _ _ _ (w .loop .inv) (kid-done (ring t w .ring-of .result) (walk-cols t w) (walked t w .args .cid) (w .loop .from) (n .next-child .result) (n .next-child .ensures) (c .before .enum-told2 .given .1)) (c .if1 .taken)
+    let n = c .before .before .before .before in
+    let w = n .before .before in
+    walking-done _ _ _ _ _ _ _ _ _ _ (low t w) _ _ _ _ (w .loop .inv .1) (kid-done (ring t w .ring-of .result) (walk-cols t w) (walked t w .args .cid) (was t w) (page-of t n) (n .next-child .result) (n .next-child .ensures) (c .before .enum-told2 .given .1)) (c .if1 .taken)
 
 walk-into-same-length-3 : (t : ℕ) → walk-into-lts.Need-same-length-3 (walk-into-told t) (walk-into-at t) walk-into.Post walk-into-Inv-loop walk-into-μ-loop
-walk-into-same-length-3 t c = c .before .before .before .before .loop .inv .same
+walk-into-same-length-3 t c = c .before .before .before .before .before .before .loop .inv .1 .same
 
 walk-into-returns-3 : (t : ℕ) → walk-into-lts.Need-returns-3 (walk-into-told t) (walk-into-at t) walk-into.Post walk-into-Inv-loop walk-into-μ-loop
 walk-into-returns-3 t c =
-    let n = c .before .before .before in
-    let w = n .before in
-    walking-none _ _ _ _ _ _ _ _ _ _ (low t w) _ _ _ _ (w .loop .inv) (kid-done (ring t w .ring-of .result) (walk-cols t w) (walked t w .args .cid) (w .loop .from) (n .next-child .result) (n .next-child .ensures) (c .before .enum-told2 .given .1)) (c .if1 .left)
+    let n = c .before .before .before .before in
+    let w = n .before .before in
+    walking-none _ _ _ _ _ _ _ _ _ _ (low t w) _ _ _ _ (w .loop .inv .1) (kid-done (ring t w .ring-of .result) (walk-cols t w) (walked t w .args .cid) (was t w) (page-of t n) (n .next-child .result) (n .next-child .ensures) (c .before .enum-told2 .given .1)) (c .if1 .left)
 
-walk-into-enum-known-slot : (t : ℕ) → walk-into-lts.Need-enum-known-slot (walk-into-told t) (walk-into-at t) walk-into.Post walk-into-Inv-loop walk-into-μ-loop
-walk-into-enum-known-slot t c = search needs
+walk-into-enum-known-pages : (t : ℕ) → walk-into-lts.Need-enum-known-pages (walk-into-told t) (walk-into-at t) walk-into.Post walk-into-Inv-loop walk-into-μ-loop
+walk-into-enum-known-pages t c = search needs
 
 walk-into-fate-of-requires : (t : ℕ) → walk-into-lts.Need-fate-of-requires (walk-into-told t) (walk-into-at t) walk-into.Post walk-into-Inv-loop walk-into-μ-loop
 walk-into-fate-of-requires t c κs = tt
@@ -247,7 +252,7 @@ walk-into-skip-to-requires t c κs = tt
 
 -- where the ways of a child meet: it was visited, and the column is as long as it was
 module _ (t : ℕ) (m : walk-into-lts.At-match2-came (walk-into-told t) (walk-into-at t) walk-into.Post walk-into-Inv-loop walk-into-μ-loop) where
-  abbrev at-child : walk-into-lts.After-slot (walk-into-told t) (walk-into-at t) walk-into.Post walk-into-Inv-loop walk-into-μ-loop
+  abbrev at-child : walk-into-lts.After-pages (walk-into-told t) (walk-into-at t) walk-into.Post walk-into-Inv-loop walk-into-μ-loop
   at-child = m .before .before .before
 
   visited : let w = loop-of t at-child in let a = walked t w .args in
@@ -269,27 +274,27 @@ walk-into-enum-known-w : (t : ℕ) → walk-into-lts.Need-enum-known-w (walk-int
 walk-into-enum-known-w t c = search needs
 
 walk-into-same-length-4 : (t : ℕ) → walk-into-lts.Need-same-length-4 (walk-into-told t) (walk-into-at t) walk-into.Post walk-into-Inv-loop walk-into-μ-loop
-walk-into-same-length-4 t c = let m = c .before .before .before in kept t m ∙ loop-of t (at-child t m) .loop .inv .same
+walk-into-same-length-4 t c = let m = c .before .before .before in kept t m ∙ loop-of t (at-child t m) .loop .inv .1 .same
 
 walk-into-returns-4 : (t : ℕ) → walk-into-lts.Need-returns-4 (walk-into-told t) (walk-into-at t) walk-into.Post walk-into-Inv-loop walk-into-μ-loop
 walk-into-returns-4 t c =
     let m = c .before .before .before in
     let d = at-child t m in
     let w = loop-of t d in
-    walking-broke _ _ _ _ _ _ _ _ _ _ (low t w) _ _ _ _ (w .loop .inv) (ring t w .ring-of .ensures) (place t d) (child t d) (m .match2 .w) (m .match2 .out) (visited t m) _ (further t d _ refl) _ _ (c .before .w .given .1) refl
+    walking-broke _ _ _ _ _ _ _ _ _ _ (low t w) _ _ _ _ (w .loop .inv .1) (ring t w .ring-of .ensures) (place t d) (child t d) (m .match2 .w) (m .match2 .out) (visited t m) _ (further t d) _ _ (c .before .w .given .1) refl
 
 walk-into-enum-known-w-2 : (t : ℕ) → walk-into-lts.Need-enum-known-w-2 (walk-into-told t) (walk-into-at t) walk-into.Post walk-into-Inv-loop walk-into-μ-loop
 walk-into-enum-known-w-2 t c = search needs
 
 walk-into-same-length-5 : (t : ℕ) → walk-into-lts.Need-same-length-5 (walk-into-told t) (walk-into-at t) walk-into.Post walk-into-Inv-loop walk-into-μ-loop
-walk-into-same-length-5 t c = let m = c .before .before .before in kept t m ∙ loop-of t (at-child t m) .loop .inv .same
+walk-into-same-length-5 t c = let m = c .before .before .before in kept t m ∙ loop-of t (at-child t m) .loop .inv .1 .same
 
 walk-into-returns-5 : (t : ℕ) → walk-into-lts.Need-returns-5 (walk-into-told t) (walk-into-at t) walk-into.Post walk-into-Inv-loop walk-into-μ-loop
 walk-into-returns-5 t c =
     let m = c .before .before .before in
     let d = at-child t m in
     let w = loop-of t d in
-    walking-broke _ _ _ _ _ _ _ _ _ _ (low t w) _ _ _ _ (w .loop .inv) (ring t w .ring-of .ensures) (place t d) (child t d) (m .match2 .w) (m .match2 .out) (visited t m) _ (further t d _ refl) _ _ (c .before .w2 .given .1) refl
+    walking-broke _ _ _ _ _ _ _ _ _ _ (low t w) _ _ _ _ (w .loop .inv .1) (ring t w .ring-of .ensures) (place t d) (child t d) (m .match2 .w) (m .match2 .out) (visited t m) _ (further t d) _ _ (c .before .w2 .given .1) refl
 
 walk-into-enum-known-w-3 : (t : ℕ) → walk-into-lts.Need-enum-known-w-3 (walk-into-told t) (walk-into-at t) walk-into.Post walk-into-Inv-loop walk-into-μ-loop
 walk-into-enum-known-w-3 t c = search needs
@@ -298,7 +303,7 @@ walk-into-cast-if2 : (t : ℕ) → walk-into-lts.Need-cast-if2 (walk-into-told t
 walk-into-cast-if2 t c = search needs
 
 walk-into-same-length-6 : (t : ℕ) → walk-into-lts.Need-same-length-6 (walk-into-told t) (walk-into-at t) walk-into.Post walk-into-Inv-loop walk-into-μ-loop
-walk-into-same-length-6 t c = let m = c .before .before .before .before .before .before in kept t m ∙ loop-of t (at-child t m) .loop .inv .same
+walk-into-same-length-6 t c = let m = c .before .before .before .before .before .before in kept t m ∙ loop-of t (at-child t m) .loop .inv .1 .same
 
 walk-into-returns-6 : (t : ℕ) → walk-into-lts.Need-returns-6 (walk-into-told t) (walk-into-at t) walk-into.Post walk-into-Inv-loop walk-into-μ-loop
 walk-into-returns-6 t c =
@@ -306,21 +311,20 @@ walk-into-returns-6 t c =
     let m = n .before .before in
     let d = at-child t m in
     let w = loop-of t d in
-    walking-stop _ _ _ _ _ _ _ _ _ _ (low t w) _ _ _ _ (w .loop .inv) (ring t w .ring-of .ensures) (place t d) (child t d) (m .match2 .w) (m .match2 .out) (visited t m) _ (further t d _ refl) _ (n .w3 .given .1) (c .if2 .taken)
-
-walk-into-after-requires : (t : ℕ) → walk-into-lts.Need-after-requires (walk-into-told t) (walk-into-at t) walk-into.Post walk-into-Inv-loop walk-into-μ-loop
-walk-into-after-requires t c κs = lent-here t (loop-of t (at-child t (c .before .before .before .before .before .before))) .coords
+    walking-stop _ _ _ _ _ _ _ _ _ _ (low t w) _ _ _ _ (w .loop .inv .1) (ring t w .ring-of .ensures) (place t d) (child t d) (m .match2 .w) (m .match2 .out) (visited t m) _ (further t d) _ (n .w3 .given .1) (c .if2 .taken)
 
 walk-into-loop-less : (t : ℕ) → walk-into-lts.Need-loop-less (walk-into-told t) (walk-into-at t) walk-into.Post walk-into-Inv-loop walk-into-μ-loop
-walk-into-loop-less t c = further t (at-child t (c .before .before .before .before .before .before .before)) (c .after .result) (c .after .ensures) .less
+walk-into-loop-less t c = further t (at-child t (c .before .before .before .before .before .before)) .less
 
 walk-into-loop-again : (t : ℕ) → walk-into-lts.Need-loop-again (walk-into-told t) (walk-into-at t) walk-into.Post walk-into-Inv-loop walk-into-μ-loop
 walk-into-loop-again t c =
-    let n = c .before .before .before .before .before in
+    let n = c .before .before .before .before in
     let m = n .before .before in
     let d = at-child t m in
-    let w = loop-of t d in
-    walking-on _ _ _ _ _ _ _ _ _ _ (low t w) _ _ _ _ (w .loop .inv) (ring t w .ring-of .ensures) (place t d) (child t d) (m .match2 .w) (m .match2 .out) (visited t m) (c .after .result) (further t d (c .after .result) (c .after .ensures)) _ (n .w3 .given .1) (c .before .if2 .left) (kept t m)
+    let w = loop-of t d in (
+      d .before .before .before .next-child .kept .1 .1 .1 .1 .1 .1 .1 .1 .1 .1 .0 ∙ w .loop .inv .0,
+      walking-on _ _ _ _ _ _ _ _ _ _ (low t w) _ _ _ _ (w .loop .inv .1) (ring t w .ring-of .ensures) (place t d) (child t d) (m .match2 .w) (m .match2 .out) (visited t m) _ (further t d) _ (n .w3 .given .1) (c .if2 .left) (kept t m),
+    )
 
 pub +enter+walk-into-spec : {M : Type 1} → statement M
 +enter+walk-into-spec = close μ-enter μ-walk-into (λ t. enter-lts.spec (enter-told t)
@@ -338,8 +342,9 @@ pub +enter+walk-into-spec : {M : Type 1} → statement M
     walk-into-Inv-loop
     walk-into-μ-loop
     (walk-into-ring-of-requires t)
-    (walk-into-first-requires t)
+    (walk-into-begin-requires t)
     (walk-into-loop-holds t)
+    (walk-into-slice-aggregate-next-child t)
     (walk-into-next-child-requires t)
     (walk-into-enum-told t)
     (walk-into-same-length t)
@@ -349,7 +354,7 @@ pub +enter+walk-into-spec : {M : Type 1} → statement M
     (walk-into-returns-2 t)
     (walk-into-same-length-3 t)
     (walk-into-returns-3 t)
-    (walk-into-enum-known-slot t)
+    (walk-into-enum-known-pages t)
     (walk-into-fate-of-requires t)
     (walk-into-enum-told-3 t)
     (walk-into-enter-requires t)
@@ -367,6 +372,5 @@ pub +enter+walk-into-spec : {M : Type 1} → statement M
     (walk-into-cast-if2 t)
     (walk-into-same-length-6 t)
     (walk-into-returns-6 t)
-    (walk-into-after-requires t)
     (walk-into-loop-less t)
     (walk-into-loop-again t)
