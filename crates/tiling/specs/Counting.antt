@@ -3,7 +3,7 @@
 use mathlib.Core.Path.{_≡_, refl, sym, ap, _∙_}
 use mathlib.Core.Bool.{Bool, true, false, cond}
 use mathlib.Core.List.{List, [], _∷_, _++_, map}
-use Prim.Native.Nat.{ℕ, suc, _+_, _/_, _%_, _^_, _≤_, _<_}
+use Prim.Native.Nat.{ℕ, suc, _+_, _*_, _/_, _%_, _^_, _≤_, _<_}
 use native.Mathlib.Omega.{arith}
 use native.Mathlib.Nat.{add-zero, zero-add, add-assoc}
 use lib.Dec.{eqb, ltb}
@@ -113,22 +113,30 @@ module _ (t : Table) (ids : List ℕ) (k s : ℕ) (l m : List ℕ) where
 
 -- ---- the marks are those of the places counted
 
-pub record Agree (m seen : List ℕ) : Type 0 where
-  pub long : 131072 ≤ length m
-  pub same : (p : ℕ) → p < 1048576 → marked m p ≡ member p seen
+-- the marks reach over n places, and none is marked
+pub record Blank (n : ℕ) (m : List ℕ) : Type 0 where
+  pub reach : n ≤ 8 * length m
+  pub clear : (p : ℕ) → p < n → marked m p ≡ false
 
-agree-fresh : Agree (replicate 131072 0) []
+pub blank : (n k : ℕ) → n ≤ 8 * k → Blank n (replicate k 0)
+blank n k h = record { reach = omega (arith, length-replicate {A = ℕ} k 0); clear = λ p l. fresh k p (omega arith) }
+
+record Agree (n : ℕ) (m seen : List ℕ) : Type 0 where
+  long : n ≤ 8 * length m
+  same : (p : ℕ) → p < n → marked m p ≡ member p seen
+
+agree-blank : (n : ℕ) (m : List ℕ) → Blank n m → Agree n m []
 unfolding member
-agree-fresh = record { long = omega (arith, length-replicate {A = ℕ} 131072 0); same = λ p h. fresh 131072 p (omega arith) }
+agree-blank n m b = record { long = b .reach; same = b .clear }
 
-agree-mark : (m seen : List ℕ) (p : ℕ) → p < 1048576 → marked m p ≡ false → Agree m seen → Agree (mark m p) (p ∷ seen)
+agree-mark : (n : ℕ) (m seen : List ℕ) (p : ℕ) → p < n → marked m p ≡ false → Agree n m seen → Agree n (mark m p) (p ∷ seen)
 unfolding member mark
-agree-mark m seen p h e a = record {
+agree-mark n m seen p h e a = record {
   long = omega (arith, a .long, length-set m (p / 8) (getD m (p / 8) 0 + 2 ^ (p % 8)));
   same = λ q l. go q l (eqb q p) refl;
 }
   where
-    go : (q : ℕ) → q < 1048576 → (b : Bool) → eqb q p ≡ b → marked (mark m p) q ≡ member q (p ∷ seen)
+    go : (q : ℕ) → q < n → (b : Bool) → eqb q p ≡ b → marked (mark m p) q ≡ member q (p ∷ seen)
     go q l true g =
         let i : q ≡ p = eqb-true q p g in
         rw (g, member) (ap (marked (mark m p)) i ∙ mark-same m p (omega (arith, a .long)) e)
@@ -146,20 +154,20 @@ good-is b k s m _ c i u e good = (cc, cc, cc)
 abbrev Counts : Table → ℕ → ℕ → List Visit → List ℕ → List ℕ → Type 0
 Counts t k s vs m seen = Good (counted t k s (placesIn vs) m) (whole t vs) (k + length (listed t vs)) (s + total t (distinct seen (placesIn (listed t vs))))
 
-counts : (t : Table) → length t ≤ 1048576 → (k s : ℕ) (vs : List Visit) (m seen : List ℕ) → Agree m seen → Counts t k s vs m seen
+counts : (t : Table) (k s : ℕ) (vs : List Visit) (m seen : List ℕ) → Agree (length t) m seen → Counts t k s vs m seen
 unfolding counted whole listed total distinct
-counts t n k s [] m seen a = rw (add-zero, add-zero) good
-counts t n k s (v ∷ vs) m seen a =
-    at (listable t (v .place)) refl (counts t n (k + 1) s vs m seen a)
-    (λ h e. counts t n (k + 1) (s + entry t (v .place) .num) vs (mark m (v .place)) (v .place ∷ seen) (agree-mark m seen (v .place) h e a))
+counts t k s [] m seen a = rw (add-zero, add-zero) good
+counts t k s (v ∷ vs) m seen a =
+    at (listable t (v .place)) refl (counts t (k + 1) s vs m seen a)
+    (λ h e. counts t (k + 1) (s + entry t (v .place) .num) vs (mark m (v .place)) (v .place ∷ seen) (agree-mark (length t) m seen (v .place) h e a))
   where
     more : (i : ℕ) → k + 1 + i ≡ k + suc i
     more i = omega arith
 
-    inside : listable t (v .place) ≡ true → v .place < 1048576
-    inside e = omega (arith, n, ltb-true (v .place) (length t) (and-both (ltb (v .place) (length t)) _ e .0))
+    inside : listable t (v .place) ≡ true → v .place < length t
+    inside e = ltb-true (v .place) (length t) (and-both (ltb (v .place) (length t)) _ e .0)
 
-    go : (b : Bool) → marked m (v .place) ≡ b → v .place < 1048576 → Counts t (k + 1) s vs m seen
+    go : (b : Bool) → marked m (v .place) ≡ b → v .place < length t → Counts t (k + 1) s vs m seen
         → (marked m (v .place) ≡ false → Counts t (k + 1) (s + entry t (v .place) .num) vs (mark m (v .place)) (v .place ∷ seen))
         → Good (counted t (k + 1) (cond b s (s + entry t (v .place) .num)) (placesIn vs) (cond b m (mark m (v .place)))) (whole t vs) (k + suc (length (listed t vs))) (s + total t (distinct seen (v .place ∷ placesIn (listed t vs))))
     go true e l c d =
@@ -170,7 +178,7 @@ counts t n k s (v ∷ vs) m seen a =
         rw (f, distinct) (rw (more (length (listed t vs)), add-assoc) at (d e))
 
     at : (b : Bool) → listable t (v .place) ≡ b → Counts t (k + 1) s vs m seen
-        → (v .place < 1048576 → marked m (v .place) ≡ false → Counts t (k + 1) (s + entry t (v .place) .num) vs (mark m (v .place)) (v .place ∷ seen)) → Counts t k s (v ∷ vs) m seen
+        → (v .place < length t → marked m (v .place) ≡ false → Counts t (k + 1) (s + entry t (v .place) .num) vs (mark m (v .place)) (v .place ∷ seen)) → Counts t k s (v ∷ vs) m seen
     at true e c d = rw (e, counted, whole, listed) (go (marked m (v .place)) refl (inside e) c (d (inside e)))
     at false e c d = rw (e, counted, whole, listed) (rw (add-zero, add-zero) good)
 
@@ -179,11 +187,11 @@ abbrev pub runningOf : Table → List Visit → Running
 runningOf t vs = record { whole = whole t vs; count = length (listed t vs); sum = tallyOf t vs }
 
 -- from no marks
-counted-is : (t : Table) → length t ≤ 1048576 → (vs : List Visit) (r : Running) (m : List ℕ)
-    → held (r .whole) (r .count) (r .sum) m ≡ counted t 0 0 (placesIn vs) (replicate 131072 0) → r ≡ runningOf t vs
+counted-is : (t : Table) (z : List ℕ) → Blank (length t) z → (vs : List Visit) (r : Running) (m : List ℕ)
+    → held (r .whole) (r .count) (r .sum) m ≡ counted t 0 0 (placesIn vs) z → r ≡ runningOf t vs
 unfolding tallyOf
-counted-is t n vs r m e =
-    let w = good-is (r .whole) (r .count) (r .sum) m _ _ _ _ e (rw (zero-add, zero-add) at (counts t n 0 0 vs (replicate 131072 0) [] agree-fresh)) in
+counted-is t z n vs r m e =
+    let w = good-is (r .whole) (r .count) (r .sum) m _ _ _ _ e (rw (zero-add, zero-add) at (counts t 0 0 vs z [] (agree-blank (length t) z n))) in
     same (w .0) (w .1) (w .2)
   where
     same : {b c : Bool} {k i s u : ℕ} → b ≡ c → k ≡ i → s ≡ u → _≡_ {A = Running} (record { whole = b; count = k; sum = s }) (record { whole = c; count = i; sum = u })
@@ -195,24 +203,24 @@ counted-is t n vs r m e =
 abbrev pub After : Table → Running → List Visit → List ℕ → Running → List ℕ → Type 0
 After t r vs m a o = held (a .whole) (a .count) (a .sum) o ≡ counted t (r .count) (r .sum) (placesIn vs) m
 
-module _ (t : Table) (n : length t ≤ 1048576) (A B C : List Visit) where
+module _ (t : Table) (M : List ℕ) (n : Blank (length t) M) (A B C : List Visit) where
   joined : placesIn (A ++ (B ++ C)) ≡ placesIn A ++ (placesIn B ++ placesIn C)
   joined = places-append A (B ++ C) ∙ ap (λ (l : List ℕ). placesIn A ++ l) (places-append B C)
 
-  done : (r : Running) (m : List ℕ) → held (r .whole) (r .count) (r .sum) m ≡ counted t 0 0 (placesIn A ++ (placesIn B ++ placesIn C)) (replicate 131072 0) → r ≡ runningOf t (A ++ (B ++ C))
-  done r m e = counted-is t n (A ++ (B ++ C)) r m (e ∙ ap (λ (l : List ℕ). counted t 0 0 l (replicate 131072 0)) (sym joined))
+  done : (r : Running) (m : List ℕ) → held (r .whole) (r .count) (r .sum) m ≡ counted t 0 0 (placesIn A ++ (placesIn B ++ placesIn C)) M → r ≡ runningOf t (A ++ (B ++ C))
+  done r m e = counted-is t M n (A ++ (B ++ C)) r m (e ∙ ap (λ (l : List ℕ). counted t 0 0 l M) (sym joined))
 
   -- it ends with the first, the second or the third
-  module _ (z a : Running) (m : List ℕ) (k : z .count ≡ 0) (s : z .sum ≡ 0) (e : After t z A (replicate 131072 0) a m) where
-    one : held (a .whole) (a .count) (a .sum) m ≡ counted t 0 0 (placesIn A) (replicate 131072 0)
+  module _ (z a : Running) (m : List ℕ) (k : z .count ≡ 0) (s : z .sum ≡ 0) (e : After t z A M a m) where
+    one : held (a .whole) (a .count) (a .sum) m ≡ counted t 0 0 (placesIn A) M
     one = rw (k, s) at e
 
     pub tally-first : a .whole ≡ false → a ≡ runningOf t (A ++ (B ++ C))
-    tally-first g = done a m (counted-ends t 0 0 (placesIn A) (placesIn B ++ placesIn C) (replicate 131072 0) (a .whole) (a .count) (a .sum) m g one)
+    tally-first g = done a m (counted-ends t 0 0 (placesIn A) (placesIn B ++ placesIn C) M (a .whole) (a .count) (a .sum) m g one)
 
     module _ (g : a .whole ≡ true) (b : Running) (o : List ℕ) (f : After t a B m b o) where
-      rest : counted t 0 0 (placesIn A ++ (placesIn B ++ placesIn C)) (replicate 131072 0) ≡ counted t (a .count) (a .sum) (placesIn B ++ placesIn C) m
-      rest = counted-more t 0 0 (placesIn A) (placesIn B ++ placesIn C) (replicate 131072 0) (a .whole) (a .count) (a .sum) m g one
+      rest : counted t 0 0 (placesIn A ++ (placesIn B ++ placesIn C)) M ≡ counted t (a .count) (a .sum) (placesIn B ++ placesIn C) m
+      rest = counted-more t 0 0 (placesIn A) (placesIn B ++ placesIn C) M (a .whole) (a .count) (a .sum) m g one
 
       pub tally-second : b .whole ≡ false → b ≡ runningOf t (A ++ (B ++ C))
       tally-second h = done b o (counted-ends t (a .count) (a .sum) (placesIn B) (placesIn C) m (b .whole) (b .count) (b .sum) o h f ∙ sym rest)

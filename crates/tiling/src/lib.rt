@@ -20,7 +20,7 @@ ghost use Rattle.tiling.specs.Runs.{left, run};
 ghost use Rattle.tiling.specs.Turns.{walked};
 ghost use Rattle.tiling.specs.Marks.{marked};
 ghost use Rattle.tiling.specs.Tally.{tallyNumber, tallyValue};
-ghost use Rattle.tiling.specs.Counting.{held, placesIn, marking, counted, runningOf};
+ghost use Rattle.tiling.specs.Counting.{held, placesIn, marking, counted, Blank, runningOf};
 
 // One search of a tile: whether the tile has it, what it asks of the index, and what stands for the tile's x and y in the items that it finds.
 pub struct Search {
@@ -345,8 +345,8 @@ fn keep(x: u8) -> u8
 }
 
 // Adds num to the sum, if the place p is not marked, and marks it.
-fn add_once(marks: &mut [u8; 131072], p: usize, num: u32, sum: u64) -> u64
-    requires { ⌜ (p < 1048576) × (sum + 4294967295 < 2 ^ 64) ⌝ }
+fn add_once(marks: &mut [u8], p: usize, num: u32, sum: u64) -> u64
+    requires { ⌜ (p < 8 * length (now marks)) × (sum + 4294967295 < 2 ^ 64) ⌝ }
     ensures { λ r. ⌜ (r ≡ cond (marked (now (marks .entry)) p) sum (sum + num)) × (now (marks .exit) ≡ marking p (now (marks .entry))) × (r ≤ sum + 4294967295) ⌝ }
 {
     let i = p / 8;
@@ -378,10 +378,10 @@ fn tally_by(
     ids: &[u32],
     coords: &[f64],
     r: Running,
-    marks: &mut [u8; 131072],
+    marks: &mut [u8],
 ) -> Running
     requires { ⌜ Even (now x) (now y) (now seen) (now id) (now parent) (now num) ⌝ }
-    requires { ⌜ (length (now x) ≤ length (now ids)) × (length (now x) ≤ 1048576) ⌝ }
+    requires { ⌜ (length (now x) ≤ length (now ids)) × (length (now x) ≤ 8 * length (now marks)) ⌝ }
     requires { ⌜ (r .count + length (now x) ≤ 4194304) × (r .sum ≤ r .count * 4294967295) ⌝ }
     ensures { λ a. ⌜ (held (a .whole) (a .count) (a .sum) (now (marks .exit))
         ≡ counted (rows (now (x .entry)) (now (y .entry)) (now (seen .entry)) (now (id .entry)) (now (parent .entry)) (now (num .entry))) (r .count) (r .sum)
@@ -426,7 +426,49 @@ fn tally_by(
     }
 }
 
-// The tally of what a tile finds, by its three searches.
+// The tally of what a tile finds, by its three searches, over marks that are lent blank.
+fn add_with(
+    o: Options,
+    z: u32,
+    tx: u32,
+    ty: u32,
+    x: &[f64],
+    y: &[f64],
+    seen: &[u8],
+    id: &[u32],
+    parent: &[u32],
+    num: &[u32],
+    ids: &[u32],
+    coords: &[f64],
+    marks: &mut [u8],
+) -> Running
+    requires { ⌜ InBounds o × IsTile z tx ty ⌝ }
+    requires { ⌜ Even (now x) (now y) (now seen) (now id) (now parent) (now num) ⌝ }
+    requires { ⌜ (coordsOk (o .«node_size») (length (now x)) (length (now coords)) ≡ true) × (length (now x) ≤ length (now ids)) ⌝ }
+    requires { ⌜ Blank (length (now x)) (now marks) ⌝ }
+    ensures { λ r. ⌜ r ≡ runningOf (rows (now (x .entry)) (now (y .entry)) (now (seen .entry)) (now (id .entry)) (now (parent .entry)) (now (num .entry)))
+        (visited o z tx ty (rows (now (x .entry)) (now (y .entry)) (now (seen .entry)) (now (id .entry)) (now (parent .entry)) (now (num .entry))) (now (ids .entry)) (now (coords .entry))) ⌝ }
+{
+    let r = Running {
+        whole: true,
+        count: 0,
+        sum: 0,
+    };
+    let g = search_here(o, z, tx, ty);
+    let a = tally_by(g, x, y, seen, id, parent, num, ids, coords, r, marks);
+    if !a.whole {
+        return a;
+    }
+    let h = search_east(o, z, tx, ty);
+    let b = tally_by(h, x, y, seen, id, parent, num, ids, coords, a, marks);
+    if !b.whole {
+        return b;
+    }
+    let w = search_west(o, z, tx, ty);
+    tally_by(w, x, y, seen, id, parent, num, ids, coords, b, marks)
+}
+
+// The tally of what a tile finds, by its three searches. A small table has few marks, so that few are cleared.
 pub fn add_up(
     o: Options,
     z: u32,
@@ -447,22 +489,38 @@ pub fn add_up(
     ensures { λ r. ⌜ r ≡ runningOf (rows (now (x .entry)) (now (y .entry)) (now (seen .entry)) (now (id .entry)) (now (parent .entry)) (now (num .entry)))
         (visited o z tx ty (rows (now (x .entry)) (now (y .entry)) (now (seen .entry)) (now (id .entry)) (now (parent .entry)) (now (num .entry))) (now (ids .entry)) (now (coords .entry))) ⌝ }
 {
+    if x.len() <= 8192 {
+        let mut few = [0u8; 1024];
+        return add_with(
+            o,
+            z,
+            tx,
+            ty,
+            x,
+            y,
+            seen,
+            id,
+            parent,
+            num,
+            ids,
+            coords,
+            &mut few,
+        );
+    }
     let mut marks = [0u8; 131072];
-    let r = Running {
-        whole: true,
-        count: 0,
-        sum: 0,
-    };
-    let g = search_here(o, z, tx, ty);
-    let a = tally_by(g, x, y, seen, id, parent, num, ids, coords, r, &mut marks);
-    if !a.whole {
-        return a;
-    }
-    let h = search_east(o, z, tx, ty);
-    let b = tally_by(h, x, y, seen, id, parent, num, ids, coords, a, &mut marks);
-    if !b.whole {
-        return b;
-    }
-    let w = search_west(o, z, tx, ty);
-    tally_by(w, x, y, seen, id, parent, num, ids, coords, b, &mut marks)
+    add_with(
+        o,
+        z,
+        tx,
+        ty,
+        x,
+        y,
+        seen,
+        id,
+        parent,
+        num,
+        ids,
+        coords,
+        &mut marks,
+    )
 }

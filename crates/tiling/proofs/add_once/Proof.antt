@@ -4,7 +4,7 @@ use mathlib.Core.Bool.{false}
 use Prim.Native.Nat.{ℕ, _+_, _/_, _%_, _<_}
 use native.Mathlib.Omega.{arith}
 use lib.Pow.{pow-pos}
-use lib.ListN.{getD}
+use lib.ListN.{getD, length-set}
 use denote.Ref.{now}
 use borrow.Author.Needs.{needs}
 use Rattle.tiling.specs.Marks.{marked, mark, unmarked, once-yes, once-no, mark-is, bit-fits}
@@ -12,7 +12,7 @@ use Rattle.tiling.proofs.add_once.Statement.{statement}
 use Rattle.tiling.proofs.add_once.Tie as tie
 
 abbrev begin : tie.After-keep → tie.Start
-begin k = k .before .before .before
+begin k = k .before .before .before .before
 
 -- the bit of the place, and its byte
 abbrev bit-of : tie.After-keep → ℕ
@@ -27,8 +27,8 @@ unmarked-at c =
 bit-requires : tie.Need-bit-requires
 bit-requires c κs = search needs
 
-element-copy-out-keep : tie.Need-element-copy-out-keep
-element-copy-out-keep c = search needs
+slice-read-keep : tie.Need-slice-read-keep
+slice-read-keep c = let s = c .before .before .before in omega (arith, s .pre .0)
 
 keep-requires : tie.Need-keep-requires
 keep-requires c κs = search needs
@@ -49,14 +49,17 @@ add-marks c =
     let h = bit-fits (getD (now (a .marks)) (a .p / 8) 0) (a .p % 8) (omega arith) (omega (arith, k .keep .ensures, k .keep .ok)) (unmarked (now (a .marks)) (a .p) (unmarked-at c)) in
     omega (arith, h, k .before .before .bit .ensures, k .keep .ensures)
 
-element-write-marks : tie.Need-element-write-marks
-element-write-marks c = search needs
+slice-write-marks : tie.Need-slice-write-marks
+slice-write-marks c = let s = begin (c .before) in omega (arith, s .pre .0)
 
 wide-requires : tie.Need-wide-requires
 wide-requires c κs = search needs
 
 add-result : tie.Need-add-result
 add-result c = let s = begin (c .before .before) in omega (arith, c .wide .ensures, s .fits, s .pre)
+
+same-length : tie.Need-same-length
+same-length c = simp length-set
 
 returns-2 : tie.Need-returns-2
 returns-2 c =
@@ -74,12 +77,13 @@ add-once-spec =
     tie.close
     (tie.spec
     bit-requires
-    element-copy-out-keep
+    slice-read-keep
     keep-requires
     div-if1
     returns
     add-marks
-    element-write-marks
+    slice-write-marks
     wide-requires
     add-result
+    same-length
     returns-2)

@@ -1,173 +1,39 @@
--- `tiling::add_up` meets its contract: the walk of each search is its visits, and the three tallies follow each other. Assumes nothing.
-use mathlib.Core.Path.{_≡_, refl, ap, _∙_}
-use mathlib.Core.Bool.{true, false}
-use mathlib.Core.List.{List}
+-- `tiling::add_up` meets its contract: the marks that it lends are blank, and reach over the table. Assumes nothing.
+use mathlib.Core.Path.{_≡_, sym}
 use Prim.Native.Nat.{ℕ, _≤_}
 use native.Mathlib.Omega.{arith}
-use lib.ListN.{length, replicate}
+use lib.ListN.{length, length-replicate}
 use denote.Ref.{now}
-use borrow.Author.Tests.{not-true, not-false}
 use Rattle.kdbush.specs.Bounds.{coords-is}
-use Rattle.tables.specs.Entries.{Table}
-use Rattle.tables.specs.Rows.{rows, rows-length}
-use Rattle.tiling.specs.declared.Running.{Running}
-use Rattle.tiling.specs.Tile.{Visit, here, east, west, visits, visited}
-use Rattle.tiling.specs.Three.{here-whole, east-whole, west-whole}
-use Rattle.tiling.specs.Counting.{counted, placesIn, After, tally-first, tally-second, tally-third}
+use Rattle.tiling.specs.Counting.{blank}
 use Rattle.tiling.proofs.add_up.Statement.{statement}
 use Rattle.tiling.proofs.add_up.Tie as tie
 
--- ---- the start
+few-entries : (s : tie.Start) → length (now (s .args .x)) ≤ 1048576
+few-entries s = let a = s .args in coords-is (a .o .«node_size») (length (now (a .x))) (length (now (a .coords))) (s .pre .1 .1 .0) .n-to
 
-abbrev table : tie.Start → Table
-table s = let a = s .args in rows (now (a .x)) (now (a .y)) (now (a .seen)) (now (a .id)) (now (a .parent)) (now (a .num))
+slice-aggregate-add-with : tie.Need-slice-aggregate-add-with
+slice-aggregate-add-with c = sym (length-replicate {A = ℕ} 1024 0)
 
-abbrev here-of : tie.Start → List Visit
-here-of s = let a = s .args in visits (here (a .o) (a .z) (a .tx) (a .ty)) (table s) (now (a .ids)) (now (a .coords))
-
-abbrev east-of : tie.Start → List Visit
-east-of s = let a = s .args in visits (east (a .o) (a .z) (a .tx) (a .ty)) (table s) (now (a .ids)) (now (a .coords))
-
-abbrev west-of : tie.Start → List Visit
-west-of s = let a = s .args in visits (west (a .o) (a .z) (a .tx) (a .ty)) (table s) (now (a .ids)) (now (a .coords))
-
-long : (s : tie.Start) → length (table s) ≡ length (now (s .args .x))
-long s = let a = s .args in rows-length (now (a .x)) (now (a .y)) (now (a .seen)) (now (a .id)) (now (a .parent)) (now (a .num))
-
-few : (s : tie.Start) → length (now (s .args .x)) ≤ 1048576
-few s = let a = s .args in coords-is (a .o .«node_size») (length (now (a .x))) (length (now (a .coords))) (s .pre .1 .1 .0) .n-to
-
-few-rows : (s : tie.Start) → length (table s) ≤ 1048576
-few-rows s = omega (arith, long s, few s)
-
--- nothing tallied yet
-abbrev none : Running
-none = record { whole = true; count = 0; sum = 0 }
-
--- ---- the first search
-
-abbrev here-made : tie.After-tally-by → tie.After-search-here
-here-made c = c .before .before
-
-abbrev begin : tie.After-tally-by → tie.Start
-begin c = here-made c .before .before .before .before .before .before .before .before .before
-
-abbrev marks-1 : tie.After-tally-by → List ℕ
-marks-1 c = c .tally-by .last .1 .1 .1 .1 .1 .1 .1 .1 .1 .1 .0
-
-tallied-here : (c : tie.After-tally-by) → After (table (begin c)) none (here-of (begin c)) (replicate 131072 0) (c .tally-by .result) (marks-1 c)
-tallied-here c =
-    let s = begin c in
-    let a = s .args in
-    let p = s .pre in
-    c .tally-by .ensures .0
-    ∙ ap (λ (vs : List Visit). counted (table s) 0 0 (placesIn vs) (replicate 131072 0))
-    (here-whole (a .o) (a .z) (a .tx) (a .ty) (p .0 .0) (p .0 .1) (here-made c .search-here .result) (table s) (length (now (a .x))) (now (a .ids)) (now (a .coords)) (long s) (p .1 .1 .0) (here-made c .search-here .ensures))
-
-search-here-requires : tie.Need-search-here-requires
-search-here-requires c κs = let s = c .before .before .before .before .before .before .before .before in omega (arith, s .pre .0 .1 .z-to)
-
-tally-by-requires : tie.Need-tally-by-requires
-tally-by-requires c κs =
-    let s = c .before .before .before .before .before .before .before .before .before .before in
-    (s .pre .1 .0, (omega (arith, s .pre .1 .1 .1, few s), omega (arith, few s)))
+add-with-requires : tie.Need-add-with-requires
+add-with-requires c κs =
+    let t = c .before in
+    let s = t .before .before .before .before .before .before .before .before .before in
+    (s .pre .0, (s .pre .1 .0, (s .pre .1 .1, blank (length (now (s .args .x))) 1024 (omega (arith, t .if1 .taken)))))
 
 returns : tie.Need-returns
-unfolding visited
-returns c =
-    let l = c .before .before in
-    let s = begin l in
-    tally-first (table s) (few-rows s) (here-of s) (east-of s) (west-of s) none (l .tally-by .result) (marks-1 l) refl refl (tallied-here l) (not-true _ (c .if1 .taken))
+returns c = c .before .add-with .ensures
 
--- ---- the second search
+slice-aggregate-add-with-2 : tie.Need-slice-aggregate-add-with-2
+slice-aggregate-add-with-2 c = sym (length-replicate {A = ℕ} 131072 0)
 
-abbrev one-goes : tie.After-search-east → tie.Else1
-one-goes c = c .before
-
-abbrev one-of : tie.After-search-east → tie.After-tally-by
-one-of c = one-goes c .before .before
-
-abbrev east-made : tie.After-tally-by2 → tie.After-search-east
-east-made c = c .before .before
-
-abbrev marks-2 : tie.After-tally-by2 → List ℕ
-marks-2 c = c .tally-by2 .last .1 .1 .1 .1 .1 .1 .1 .1 .1 .1 .0
-
-tallied-east : (c : tie.After-tally-by2) → let l = one-of (east-made c) in
-    After (table (begin l)) (l .tally-by .result) (east-of (begin l)) (marks-1 l) (c .tally-by2 .result) (marks-2 c)
-tallied-east c =
-    let e = east-made c in
-    let l = one-of e in
-    let s = begin l in
-    let a = s .args in
-    let p = s .pre in
-    c .tally-by2 .ensures .0
-    ∙ ap (λ (vs : List Visit). counted (table s) (l .tally-by .result .count) (l .tally-by .result .sum) (placesIn vs) (marks-1 l))
-    (east-whole (a .o) (a .z) (a .tx) (a .ty) (p .0 .0) (p .0 .1) (e .search-east .result) (table s) (length (now (a .x))) (now (a .ids)) (now (a .coords)) (long s) (p .1 .1 .0) (e .search-east .ensures))
-
-search-east-requires : tie.Need-search-east-requires
-search-east-requires c κs = let s = begin (c .before .before) in omega (arith, s .pre .0 .1 .z-to)
-
-tally-by-requires-2 : tie.Need-tally-by-requires-2
-tally-by-requires-2 c κs =
-    let l = one-of (c .before) in
-    let s = begin l in
-    (s .pre .1 .0, (omega (arith, s .pre .1 .1 .1, few s), omega (arith, few s, l .tally-by .ensures .1, l .tally-by .ensures .2)))
+add-with-requires-2 : tie.Need-add-with-requires-2
+add-with-requires-2 c κs =
+    let s = c .before .before .before .before .before .before .before .before .before .before in
+    (s .pre .0, (s .pre .1 .0, (s .pre .1 .1, blank (length (now (s .args .x))) 131072 (omega (arith, few-entries s)))))
 
 returns-2 : tie.Need-returns-2
-unfolding visited
-returns-2 c =
-    let m = c .before .before in
-    let e = east-made m in
-    let l = one-of e in
-    let s = begin l in
-    tally-second (table s) (few-rows s) (here-of s) (east-of s) (west-of s) none (l .tally-by .result) (marks-1 l) refl refl (tallied-here l) (not-false _ (one-goes e .if1 .left))
-    (m .tally-by2 .result) (marks-2 m) (tallied-east m) (not-true _ (c .if2 .taken))
-
--- ---- the third search
-
-abbrev two-goes : tie.After-search-west → tie.Else2
-two-goes c = c .before
-
-abbrev two-of : tie.After-search-west → tie.After-tally-by2
-two-of c = two-goes c .before .before
-
-search-west-requires : tie.Need-search-west-requires
-search-west-requires c κs = let s = begin (one-of (east-made (c .before .before))) in omega (arith, s .pre .0 .1 .z-to)
-
-tally-by-requires-3 : tie.Need-tally-by-requires-3
-tally-by-requires-3 c κs =
-    let m = two-of (c .before) in
-    let l = one-of (east-made m) in
-    let s = begin l in
-    (s .pre .1 .0, (omega (arith, s .pre .1 .1 .1, few s), omega (arith, few s, l .tally-by .ensures .1, m .tally-by2 .ensures .1, m .tally-by2 .ensures .2)))
-
-returns-3 : tie.Need-returns-3
-unfolding visited
-returns-3 c =
-    let w = c .before .before in
-    let m = two-of w in
-    let e = east-made m in
-    let l = one-of e in
-    let s = begin l in
-    let a = s .args in
-    let p = s .pre in
-    tally-third (table s) (few-rows s) (here-of s) (east-of s) (west-of s) none (l .tally-by .result) (marks-1 l) refl refl (tallied-here l) (not-false _ (one-goes e .if1 .left))
-    (m .tally-by2 .result) (marks-2 m) (tallied-east m) (not-false _ (two-goes w .if2 .left)) (c .tally-by3 .result) _
-    (c .tally-by3 .ensures .0
-    ∙ ap (λ (vs : List Visit). counted (table s) (m .tally-by2 .result .count) (m .tally-by2 .result .sum) (placesIn vs) (marks-2 m))
-    (west-whole (a .o) (a .z) (a .tx) (a .ty) (p .0 .0) (p .0 .1) (w .search-west .result) (table s) (length (now (a .x))) (now (a .ids)) (now (a .coords)) (long s) (p .1 .1 .0) (w .search-west .ensures)))
+returns-2 c = c .before .add-with2 .ensures
 
 pub add-up-spec : {M : Type 1} → statement M
-add-up-spec =
-    tie.close
-    (tie.spec
-    search-here-requires
-    tally-by-requires
-    returns
-    search-east-requires
-    tally-by-requires-2
-    returns-2
-    search-west-requires
-    tally-by-requires-3
-    returns-3)
+add-up-spec = tie.close (tie.spec slice-aggregate-add-with add-with-requires returns slice-aggregate-add-with-2 add-with-requires-2 returns-2)

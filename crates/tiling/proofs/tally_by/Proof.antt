@@ -29,7 +29,7 @@ abbrev Inv-loop : tie.InvT-loop
 Inv-loop x y seen id parent num ids coords marks₀ k₀ t₀ q size n page₀ pages₀ marks k t page pages =
     AllBelow n (aheadOf q size n coords page pages) × (k + length (aheadOf q size n coords page pages) ≤ k₀ + n) × (t ≤ k * 4294967295)
     × (counted (rows x y seen id parent num) k t (places ids (aheadOf q size n coords page pages)) marks ≡ counted (rows x y seen id parent num) k₀ t₀ (places ids (walk q size n coords)) marks₀)
-    × (length page ≡ 64)
+    × (length page ≡ 64) × (length marks ≡ length marks₀)
 
 abbrev μ-loop : tie.MeasureT-loop
 μ-loop x y seen id parent num ids coords marks₀ k₀ t₀ q size n page₀ pages₀ marks k t page pages = length (aheadOf q size n coords page pages)
@@ -46,7 +46,7 @@ abbrev asked-of : Loop → tie.Else1 Inv-loop μ-loop
 asked-of l = l .before .before
 
 abbrev begin : Loop → Start
-begin l = asked-of l .before .before .before .before .before .before .before .before .before .before
+begin l = asked-of l .before .before .before .before .before .before .before .before .before .before .before
 
 abbrev table : Start → Table
 table s = let a = s .args in rows (now (a .x)) (now (a .y)) (now (a .seen)) (now (a .id)) (now (a .parent)) (now (a .num))
@@ -135,7 +135,7 @@ fine-at k =
 
 returns : tie.Need-returns Inv-loop μ-loop
 returns c =
-    let s = c .before .before .before .before .before .before .before .before .before .before in
+    let s = c .before .before .before .before .before .before .before .before .before .before .before in
     let a = s .args in (
       counted-none (table s) (a .r .count) (a .r .sum) (now (a .marks))
           ∙ ap (of-visits s) (sym (walked-none (a .g) (length (now (a .x))) (now (a .ids)) (now (a .coords)) (not-true (a .g .made) (c .if1 .taken)))),
@@ -148,7 +148,7 @@ begin-requires c κs = search needs
 
 loop-holds : tie.Need-loop-holds Inv-loop μ-loop
 loop-holds c =
-    let s = c .before .before .before .before .before .before .before .before .before .before .before in
+    let s = c .before .before .before .before .before .before .before .before .before .before .before .before in
     let a = s .args in
     let w = walk (a .g .query) (a .g .«node_size») (length (now (a .x))) (now (a .coords)) in
     let h : slots s _ (c .begin .result) ≡ w = ap (slots s _) (c .begin .ensures) ∙ ahead-begun (a .g .query) (a .g .«node_size») (length (now (a .x))) (now (a .coords)) _ in (
@@ -156,6 +156,7 @@ loop-holds c =
       omega (arith, ap length h, walk-length (a .g .query) (a .g .«node_size») (length (now (a .x))) (now (a .coords))),
       s .pre .1 .1 .1,
       ap (λ (l : List ℕ). counted (table s) (a .r .count) (a .r .sum) (places (now (a .ids)) l) (now (a .marks))) h,
+      refl,
       refl,
     )
 
@@ -167,6 +168,9 @@ next-slot-requires c κs = search needs
 
 enum-known-s : tie.Need-enum-known-s Inv-loop μ-loop
 enum-known-s c = search needs
+
+same-length : tie.Need-same-length Inv-loop μ-loop
+same-length c = loop-of (c .before) .loop .inv .5
 
 returns-2 : tie.Need-returns-2 Inv-loop μ-loop
 returns-2 c =
@@ -190,6 +194,9 @@ enum-known-e c = search needs
 
 enum-told : tie.Need-enum-told Inv-loop μ-loop
 enum-told c = search needs
+
+same-length-2 : tie.Need-same-length-2 Inv-loop μ-loop
+same-length-2 c = head-of (found-of (c .before .before)) .loop .inv .5
 
 returns-3 : tie.Need-returns-3 Inv-loop μ-loop
 returns-3 c =
@@ -223,19 +230,27 @@ add-once-requires c κs =
       s .pre .1 .1,
       l .loop .inv .1,
       l .loop .inv .2,
+      l .loop .inv .5,
     )
+
+-- the end of a turn
+abbrev End : Type 0
+End = tie.After-slice-known2 Inv-loop μ-loop
+
+abbrev counted-at : End → tie.After-add-once Inv-loop μ-loop
+counted-at c = c .before .before
 
 add-k : tie.Need-add-k Inv-loop μ-loop
 add-k c =
-    let l = head-of (found-of (read-of (known-of (c .before)))) in
+    let l = head-of (found-of (read-of (known-of (counted-at c .before)))) in
     omega (arith, begin l .pre .1 .1, l .loop .inv .1)
 
 loop-less : tie.Need-loop-less Inv-loop μ-loop
-loop-less c = omega (arith, ap length (moves (found-of (read-of (known-of (c .before))))))
+loop-less c = omega (arith, ap length (moves (found-of (read-of (known-of (counted-at c .before))))))
 
 loop-again : tie.Need-loop-again Inv-loop μ-loop
 loop-again c =
-    let i = c .before in
+    let i = counted-at c .before in
     let k = known-of i in
     let r = read-of k in
     let f = found-of r in
@@ -244,7 +259,7 @@ loop-again c =
     let s = begin l in
     let a = s .args in
     let g = k .before .e .given in
-    let w = c .add-once in (
+    let w = counted-at c .add-once in (
       below f .1,
       omega (arith, ap length (moves f), l .loop .inv .1),
       omega (arith, w .ensures .2, l .loop .inv .2),
@@ -254,6 +269,7 @@ loop-again c =
           (w .ensures .1 ∙ ap (λ (v : ℕ). marking v (l .loop .marks)) (i .index .ensures))
           ∙ l .loop .inv .3,
       t .before .before .next-slot .kept .1 .1 .1 .1 .0 ∙ l .loop .inv .4,
+      w .kept .0 ∙ l .loop .inv .5,
     )
 
 pub tally-by-spec : {M : Type 1} → statement M
@@ -268,12 +284,14 @@ tally-by-spec =
     slice-aggregate-next-slot
     next-slot-requires
     enum-known-s
+    same-length
     returns-2
     mul-p
     shared-slice-read-p
     entry-named-requires
     enum-known-e
     enum-told
+    same-length-2
     returns-3
     index-requires
     add-once-requires
