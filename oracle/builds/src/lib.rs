@@ -7,6 +7,9 @@ pub use tables::{Row, Table, Tables, NO_PARENT, UNSEEN};
 
 use geojson::{Feature, Geometry, JsonObject, Value};
 
+/// Up to so many points the untouched build arranges as the patched one does.
+pub const WITHOUT_WINDOW: usize = 601;
+
 /// A point with an empty properties object.
 pub fn feature([x, y]: [f64; 2]) -> Feature {
     Feature {

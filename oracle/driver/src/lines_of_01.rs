@@ -3,10 +3,10 @@
 
 use crate::{
     attempt::attempt,
-    judge::{Judge, Patched, Untouched},
     plain::{ids, listed, points, spots, Entry, Item, Options, LAMPS, WORKED},
     report::Report,
 };
+use beside::judge::{Judge, Patched, Untouched};
 use std::{hint::black_box, process::ExitCode};
 
 /// What is compared, what 01 says, and the question to the Rust.

@@ -3,7 +3,6 @@
 mod attempt;
 mod differences;
 mod index_vectors;
-mod judge;
 mod lines_of_01;
 mod lister_vectors;
 mod listing;

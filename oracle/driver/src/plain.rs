@@ -1,5 +1,6 @@
 //! The plain values that pass between the driver and a build of the Rust: options, entries, items.
 
+pub use beside::{Entry, Item};
 pub use options::{Options, Plane, Range, UNIT};
 
 /// The options of 01's worked build.
@@ -19,26 +20,6 @@ pub const LAMPS: [[u32; 2]; 4] = [[16384, 32768], [20480, 32768], [26624, 32768]
 /// Points in 65,536ths as numbers.
 pub fn points(parts: &[[u32; 2]]) -> Vec<[f64; 2]> {
     parts.iter().map(|part| part.map(|n| f64::from(n) / 65_536.0)).collect()
-}
-
-/// One entry of a table, in the Rust's numbers: infinity and -1 stand for unset.
-#[derive(Clone, Copy, Debug)]
-pub struct Entry {
-    pub x: f64,
-    pub y: f64,
-    pub seen: f64,
-    pub id: f64,
-    pub parent: f64,
-    pub num: f64,
-}
-
-/// One feature of an answer: a cluster with its id and count, or a lamp with its number and count 1.
-#[derive(Clone, Copy, Debug, PartialEq)]
-pub struct Item {
-    pub id: usize,
-    pub num: usize,
-    pub x: f64,
-    pub y: f64,
 }
 
 /// Numbers with commas between them, or `nothing`.

@@ -1,9 +1,7 @@
 //! Test vectors for range.rs, made by calling the untouched Rust: one case a line.
 
-use crate::{
-    judge::{Judge, Untouched},
-    plain::{Options, Plane, Range, WORKED},
-};
+use crate::plain::{Options, Plane, Range, WORKED};
+use beside::judge::{Judge, Untouched};
 use splitmix::Splitmix;
 use std::io::{self, Write};
 

@@ -30,6 +30,15 @@ pub enum Refusal {
     Spoiled = 11,
 }
 
+impl Refusal {
+    /// The refusal with this number.
+    pub fn numbered(number: u32) -> Option<Refusal> {
+        use Refusal::*;
+        let all = [NoTree, NoCluster, Tile, EmptyTile, Box, Spoiled];
+        all.into_iter().find(|refusal| *refusal as u32 == number)
+    }
+}
+
 /// 01's refusal for want of room.
 const NO_ROOM: u32 = 10;
 

@@ -58,6 +58,19 @@ pub struct Out<'a> {
 }
 
 impl Question {
+    /// The number of its kind, in the order in which they stand above.
+    pub fn kind(&self) -> usize {
+        match self {
+            Question::Box { .. } => 0,
+            Question::Ring { .. } => 1,
+            Question::Children { .. } => 2,
+            Question::Leaves { .. } => 3,
+            Question::ExpansionZoom { .. } => 4,
+            Question::Tile { .. } => 5,
+            Question::Tally { .. } => 6,
+        }
+    }
+
     /// Asks the reference.
     pub fn answered(&self, state: &State, lent: &Lent) -> Outcome {
         match *self {

@@ -1,10 +1,8 @@
 //! Box and search numbers that 01 refuses by 9.
 
 use super::{case, example, load, told, Case};
-use crate::{
-    judge::Judge,
-    plain::{ids, listed, Options, Plane, WORKED},
-};
+use crate::plain::{ids, listed, Options, Plane, WORKED};
+use beside::judge::Judge;
 
 const INF: f64 = f64::INFINITY;
 const NAN: f64 = f64::NAN;

@@ -1,10 +1,8 @@
 //! Ids that are no cluster: 01 refuses 5 or 6, the Rust answers an empty list or a number.
 
 use super::{case, example, lamps, told, Case};
-use crate::{
-    judge::Judge,
-    plain::{ids, Options, WORKED},
-};
+use crate::plain::{ids, Options, WORKED};
+use beside::judge::Judge;
 
 pub fn cases<J: Judge>() -> Vec<Case> {
     vec![

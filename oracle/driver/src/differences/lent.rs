@@ -1,10 +1,8 @@
 //! Tables changed after the build: 01 checks what it is lent and refuses 11, the Rust trusts it.
 
 use super::{apart, case, example, load, told, Case};
-use crate::{
-    judge::Judge,
-    plain::{ids, points, spots, Entry, LAMPS, WORKED},
-};
+use crate::plain::{ids, points, spots, Entry, LAMPS, WORKED};
+use beside::judge::Judge;
 
 pub fn cases<J: Judge>() -> Vec<Case> {
     vec![

@@ -14,10 +14,10 @@ mod window;
 
 use crate::{
     attempt::{attempt, overflow_checks},
-    judge::{Judge, Patched, Untouched},
     plain::{listed, points as in_parts, Options, LAMPS, WORKED},
     report::Report,
 };
+use beside::judge::{Judge, Patched, Untouched};
 use page::Row;
 use std::process::ExitCode;
 

@@ -3,9 +3,9 @@
 use super::{apart, case, lamps, lengths, load, told, Case};
 use crate::{
     attempt::attempt,
-    judge::Judge,
     plain::{ids, spots, Options, Plane, Range, UNIT, WORKED},
 };
+use beside::judge::Judge;
 
 const INF: f64 = f64::INFINITY;
 const NAN: f64 = f64::NAN;

@@ -1,10 +1,8 @@
 //! Counts and points outside 01's bounds: 01 refuses 2 and 3.
 
 use super::{apart, case, lengths, load, spread, Case};
-use crate::{
-    judge::Judge,
-    plain::{listed, Options, Plane, WORKED},
-};
+use crate::plain::{listed, Options, Plane, WORKED};
+use beside::judge::Judge;
 
 pub fn cases<J: Judge>() -> Vec<Case> {
     vec![

@@ -1,10 +1,8 @@
 //! The derived offset and scale of range.rs where a number is NaN or two are zeros of both signs.
 
 use super::{case, Case};
-use crate::{
-    judge::Judge,
-    plain::{Range, UNIT},
-};
+use crate::plain::{Range, UNIT};
+use beside::judge::Judge;
 use std::hint::black_box;
 
 const NAN: f64 = f64::NAN;

@@ -1,10 +1,8 @@
 //! Tiles that are none: 01 refuses 7 or has no such question, the Rust takes any numbers.
 
 use super::{case, example, load, told, Case};
-use crate::{
-    judge::Judge,
-    plain::{spots, WORKED},
-};
+use crate::plain::{spots, WORKED};
+use beside::judge::Judge;
 
 pub fn cases<J: Judge>() -> Vec<Case> {
     vec![

@@ -1,10 +1,8 @@
 //! The window block of `select`: it runs from 602 slots on, and 01 takes it out.
 
 use super::{case, load, spread, Case};
-use crate::{
-    judge::{Judge, Patched, Untouched},
-    plain::{Entry, Options, WORKED},
-};
+use crate::plain::{Entry, Options, WORKED};
+use beside::judge::{Judge, Patched, Untouched};
 
 /// These compare the two builds with each other.
 pub fn cases() -> Vec<Case> {

@@ -5,11 +5,9 @@
 mod cases;
 mod changed;
 
-use crate::{
-    load_vectors::option_words,
-    questions::{Over, Verdict},
-};
+use crate::{load_vectors::option_words, questions::Over};
 use asked::{Build, Columns, Rooms};
+use beside::Verdict;
 use cases::Case;
 use questions::{Out, Outcome, Question, State};
 use std::io::{self, Write};

@@ -1,7 +1,8 @@
 //! The reference beside the Rust over tables that no build made.
 
-use super::{over::Over, Beside};
+use super::over::Over;
 use asked::{spoiled, Form};
+use beside::Beside;
 use splitmix::Splitmix;
 
 /// The names of the groups.

@@ -1,20 +1,16 @@
 //! Lent tables put into the Rust's public fields, whoever made them. What 01 refuses by 11 is not asked of the
 //! Rust, since it trusts its tables: it would go on, panic or not end.
 
-use super::{
-    beside::{Case, Verdict},
-    rust::{Rust, Said},
-    rust_corners,
-};
 use crate::{attempt::attempt, plain};
 use asked::Build;
+use beside::{judge::Patched, Case, Rust, Said, Verdict};
 use options::Plane;
 use questions::{decoded, Item, Outcome, Question, Refusal, State};
 
 /// The Rust over the tables of a state.
 pub struct Over<'a> {
     build: &'a Build,
-    rust: Rust,
+    rust: Rust<Patched>,
 }
 
 impl Over<'_> {
@@ -36,16 +32,17 @@ impl Over<'_> {
             Question::Leaves { .. } | Question::ExpansionZoom { .. } if smallest => return None,
             _ => {}
         }
-        let corners = rust_corners(build, &question)?;
         let mut said = None;
         let panic = attempt(|| {
-            said = Some(self.rust.ask(&question, corners));
+            said = Some(self.rust.ask(build, &question));
             String::new()
         });
         let case = Case { state: &build.state, lent: build.columns.lent(), question };
         Some(match said {
             None => panicked(build, &panic),
-            Some(said) => match case.judged(outcome, &self.rust, &said) {
+            // No corners that the Rust can be given.
+            Some(None) => return None,
+            Some(Some(said)) => match case.judged(outcome, &self.rust, &said) {
                 Verdict::Different(_) if moved_lamps(&case, build, outcome, &said) => {
                     Verdict::Listed("L9")
                 }
@@ -92,17 +89,18 @@ fn moved_lamps(case: &Case, build: &Build, outcome: &Outcome, said: &Said) -> bo
         return false;
     };
     let alike = |(ours, theirs): (&Item, &plain::Item)| {
-        let (id, num) = case.entry(ours.place);
         let there = (ours.x, ours.y) == (theirs.x as i64, theirs.y as i64);
-        (id, num) == (theirs.id, theirs.num)
-            && (there || num == 1 && is_moved(case, build, ours.place))
+        case.entry(ours.place) == Some((theirs.id, theirs.num))
+            && (there || theirs.num == 1 && is_moved(case, build, ours.place))
     };
     answer.items.len() == items.len() && answer.items.iter().zip(items).all(alike)
 }
 
 /// Whether the entry of a lamp is not where its feature is.
 fn is_moved(case: &Case, build: &Build, place: u32) -> bool {
-    let at = case.position(place);
+    let Some(at) = case.position(place) else {
+        return false;
+    };
     let lamp = build.columns.id[at] as usize;
     let [x, y] = [build.points[0][lamp], build.ys[lamp]];
     let feature = match build.state.options.plane {

@@ -2,11 +2,9 @@
 
 use super::{reference::plain, rust};
 use crate::report::{other, other_column, Group};
+use builds::WITHOUT_WINDOW;
 use points::Points;
 use ported::Reply;
-
-/// Up to so many points the untouched build arranges as the patched one does.
-const WITHOUT_WINDOW: usize = 601;
 
 /// How many entries stand behind a lent column, out of the callee's reach.
 const GUARD: usize = 2;

@@ -1,7 +1,11 @@
-//! The questions: over builds, and over states and columns that no build made. The judge is the reference written
-//! from 01's text, which `driver questions` holds to the Rust.
+//! The questions: over builds, and over states and columns that no build made. Over builds the judges are the Rust
+//! and the reference written from 01's text; over the others the reference, which `driver questions` holds to the
+//! Rust there too.
 
 mod both;
+mod columns;
+mod port;
+mod rust;
 
 use crate::{
     report::{finish, Group},
@@ -10,10 +14,11 @@ use crate::{
 use asked::{rooms, spoiled, Build, Scene};
 use both::differs;
 use questions::Question;
+use rust::BesideRust;
 use splitmix::Splitmix;
 use std::process::ExitCode;
 
-/// The names of the groups, in the order of `group_of`.
+/// The names of the groups, in the order of the kinds.
 const OVER_BUILDS: [&str; 7] = [
     "questions, box",
     "questions, ring",
@@ -42,6 +47,7 @@ pub fn run(form: Form) -> ExitCode {
     // The questions are those that `driver questions` asks: the columns have a generator of their own.
     let (mut source, mut lengths) = (Splitmix(1), Splitmix(2));
     let mut builds = OVER_BUILDS.map(Group::new);
+    let mut beside = BesideRust::new();
     asked::each(form, &mut source, |build, source| {
         // Past the tables the columns hold what belongs to none.
         let mut columns = build.columns.clone();
@@ -49,13 +55,14 @@ pub fn run(form: Form) -> ExitCode {
         let scene = Scene { lent: columns.lent(), ..build.scene() };
         let questions = asked::many(&build.scene(), source);
         compare(build, &scene, &questions, &mut lengths, &mut builds);
+        beside.compare(build, &questions);
     });
     let mut spoiled = OVER_SPOILED.map(Group::new);
     spoiled::each(form, &mut source, |build, source| {
         let questions = asked::few(&build.scene(), source);
         compare(build, &build.scene(), &questions, &mut lengths, &mut spoiled);
     });
-    finish("questions", builds.into_iter().chain(spoiled).collect())
+    finish("questions", beside.told().into_iter().chain(builds).chain(spoiled).collect())
 }
 
 /// Compares the answers to these questions, each with two sets of output columns.
@@ -72,19 +79,7 @@ fn compare(
             let rooms = rooms(outcome.length(), lengths);
             let about = || format!("{}, {question:?}, {rooms:?}", build.name());
             let difference = differs(scene, question, &outcome, &rooms);
-            groups[group_of(question)].compare(about, difference);
+            groups[question.kind()].compare(about, difference);
         }
-    }
-}
-
-fn group_of(question: &Question) -> usize {
-    match question {
-        Question::Box { .. } => 0,
-        Question::Ring { .. } => 1,
-        Question::Children { .. } => 2,
-        Question::Leaves { .. } => 3,
-        Question::ExpansionZoom { .. } => 4,
-        Question::Tile { .. } => 5,
-        Question::Tally { .. } => 6,
     }
 }

@@ -10,15 +10,13 @@ use crate::{
     report::{finish, Group},
     Form,
 };
+use builds::WITHOUT_WINDOW;
 use cases::Case;
 use options::Options;
 use outcome::Request;
 use ported::{Lengths, COLUMNS, ZOOMS};
 use splitmix::Splitmix;
 use std::process::ExitCode;
-
-/// Up to so many points the untouched build arranges as the patched one does.
-const WITHOUT_WINDOW: usize = 601;
 
 /// Runs every group.
 pub fn run(form: Form) -> ExitCode {

@@ -1,7 +1,7 @@
 //! The differences that docs/DIFFERENCES.md lists, by their codes: what 01 refuses, why, and what the Rust says
 //! then.
 
-use super::rust::{Rust, Said};
+use crate::{judge::Judge, Rust, Said};
 use options::Plane;
 use questions::{decoded, Question, Refusal, State};
 
@@ -15,7 +15,7 @@ pub struct Refused<'a> {
 impl Refused<'_> {
     /// The rows of the page under which this falls, if the refusal is right and the Rust says what they show.
     /// The Rust's errors of the same number are no difference, and not asked about here.
-    pub fn listed(&self, rust: &Rust, said: &Said) -> Option<&'static str> {
+    pub fn listed<J: Judge>(&self, rust: &Rust<J>, said: &Said) -> Option<&'static str> {
         match *self.question {
             Question::Box { corners, .. } => {
                 let code = of_box(&self.state.options.plane, &corners)?;
@@ -49,7 +49,12 @@ impl Refused<'_> {
 
     /// The code for why an id is refused: below N, the table of min_zoom, no table, an origin past it, no
     /// children. The Rust refuses its children by the same number; below N it decodes another id.
-    fn of_id(&self, rust: &Rust, id: u32, codes: [&'static str; 5]) -> Option<&'static str> {
+    fn of_id<J: Judge>(
+        &self,
+        rust: &Rust<J>,
+        id: u32,
+        codes: [&'static str; 5],
+    ) -> Option<&'static str> {
         let State { count, ref lens, .. } = *self.state;
         let (coarsest, finest) = (self.state.coarsest(), self.state.finest());
         let at = match decoded(count, id) {

@@ -1,7 +1,8 @@
-//! One face for both builds of the Rust: every question of the driver, put to the Rust's own functions.
+//! One face for both builds of the Rust: every question, put to the Rust's own functions.
 
-use crate::plain::{Entry, Item, Options, Range};
+use crate::{Entry, Item};
 use geojson::{feature::Id, Feature, Value};
+use options::{Options, Range};
 
 /// A build of the Rust. An error is the Rust's own, by its name.
 pub trait Judge: Sized {

@@ -1,8 +1,8 @@
-//! The patched Rust, asked a question of the port.
+//! A build of the Rust, asked a question of the port.
 
 use crate::{
-    judge::{Judge, Patched, Table},
-    plain::Item,
+    judge::{Judge, Table},
+    Item,
 };
 use asked::{Build, Columns};
 use questions::Question;
@@ -21,17 +21,17 @@ pub enum Said {
 }
 
 /// An instance with its tables.
-pub struct Rust(Patched);
+pub struct Rust<J>(J);
 
-impl Rust {
+impl<J: Judge> Rust<J> {
     /// The points of a build, loaded.
-    pub fn loaded(build: &Build) -> Rust {
-        let loaded = Patched::load(&build.state.options, &lamps(build));
+    pub fn loaded(build: &Build) -> Rust<J> {
+        let loaded = J::load(&build.state.options, &lamps(build));
         Rust(loaded.unwrap_or_else(|error| panic!("not loaded: {error}")))
     }
 
     /// The tables of a state, whoever made them, in the Rust's fields.
-    pub fn over(build: &Build) -> Rust {
+    pub fn over(build: &Build) -> Rust<J> {
         let Build { state, columns, .. } = build;
         let table = |zoom| {
             let at = state.positions(zoom);
@@ -43,7 +43,7 @@ impl Rust {
             }
         };
         let tables = (state.coarsest()..=state.finest()).map(table).collect();
-        Rust(Patched::over(&state.options, &lamps(build), tables))
+        Rust(J::over(&state.options, &lamps(build), tables))
     }
 
     /// The children of a cluster.
@@ -51,11 +51,13 @@ impl Rust {
         said(self.0.children(id as usize))
     }
 
-    /// Asks; a box has the corners that the Rust takes. The tally is the tile's.
-    pub fn ask(&self, question: &Question, corners: [f64; 4]) -> Said {
+    /// Asks, where a box has corners that the Rust can be given. The tally is the tile's.
+    pub fn ask(&self, build: &Build, question: &Question) -> Option<Said> {
         let Rust(rust) = self;
-        match *question {
-            Question::Box { zoom, .. } => said(rust.in_box(corners, zoom)),
+        Some(match *question {
+            Question::Box { zoom, corners } => {
+                said(rust.in_box(build.rust_corners(corners)?, zoom))
+            }
             Question::Ring { zoom, circle: [x, y, radius] } => {
                 Said::Places(rust.within(zoom, x, y, radius))
             }
@@ -67,7 +69,7 @@ impl Rust {
             Question::Tile { z, x, y } | Question::Tally { z, x, y } => {
                 said(rust.tile(z, f64::from(x), f64::from(y)))
             }
-        }
+        })
     }
 }
 

@@ -1,14 +1,12 @@
-//! One question: what the reference answers beside what the Rust says.
+//! One question: an answer to it beside what the Rust says.
 
-use super::{
-    listed::Refused,
-    rust::{Rust, Said},
-};
-use crate::plain::Item;
-use questions::{Answer, Lent, Outcome, Question, Refusal, State};
+use crate::{judge::Judge, listed::Refused, Item, Rust, Said};
+use asked::Build;
+use questions::{decoded, Answer, Lent, Outcome, Question, Refusal, State};
 use std::{collections::BTreeMap, fmt::Debug};
 
 /// How the two compare.
+#[derive(Clone, Debug, PartialEq)]
 pub enum Verdict {
     Same,
     /// They differ as the page's rows of this code say.
@@ -16,7 +14,7 @@ pub enum Verdict {
     Different(String),
 }
 
-/// A question to a state and its columns.
+/// A question to a state and its columns, where the places of an answer are looked up.
 pub struct Case<'a> {
     pub state: &'a State,
     pub lent: Lent<'a>,
@@ -24,8 +22,16 @@ pub struct Case<'a> {
 }
 
 impl Case<'_> {
-    /// Holds what the reference answers to what the Rust says.
-    pub fn judged(&self, outcome: &Outcome, rust: &Rust, said: &Said) -> Verdict {
+    /// Asks the Rust, which has loaded the points of a build, and holds an answer to what it says.
+    pub fn beside<J: Judge>(&self, outcome: &Outcome, rust: &Rust<J>, build: &Build) -> Verdict {
+        match rust.ask(build, &self.question) {
+            Some(said) => self.judged(outcome, rust, &said),
+            None => Verdict::Different("no latitude for a y".to_string()),
+        }
+    }
+
+    /// Holds an answer to what the Rust says.
+    pub fn judged<J: Judge>(&self, outcome: &Outcome, rust: &Rust<J>, said: &Said) -> Verdict {
         let code = match outcome.refusal() {
             None if self.agrees(outcome, said) => return Verdict::Same,
             None => None,
@@ -38,7 +44,8 @@ impl Case<'_> {
         match code {
             Some(code) => Verdict::Listed(code),
             None => {
-                Verdict::Different(format!("reference {}, Rust {}", short(outcome), short(said)))
+                let (ours, theirs) = (short(outcome), short(said));
+                Verdict::Different(format!("answered {ours}, the {} Rust {theirs}", J::NAME))
             }
         }
     }
@@ -52,8 +59,9 @@ impl Case<'_> {
             (Outcome::List(answer), Said::Items(items)) => self.lists(answer, items),
             (Outcome::Tile(answer), Said::Items(items)) => {
                 let ours = answer.items.iter().map(|item| (self.entry(item.place), item.x, item.y));
-                let theirs =
-                    items.iter().map(|item| ((item.id, item.num), item.x as i64, item.y as i64));
+                let theirs = items
+                    .iter()
+                    .map(|item| (Some((item.id, item.num)), item.x as i64, item.y as i64));
                 ours.eq(theirs)
             }
             (Outcome::Number(ours), Said::Number(theirs)) => *ours == Ok(*theirs as u64),
@@ -64,31 +72,31 @@ impl Case<'_> {
 
     /// Whether a list of places or lamps is these features.
     fn lists(&self, answer: &Answer<u32>, items: &[Item]) -> bool {
-        let theirs = items.iter().map(|item| (item.id, item.num));
+        let theirs = items.iter().map(|item| Some((item.id, item.num)));
         match self.question {
             Question::Leaves { .. } => {
-                answer.items.iter().map(|lamp| (*lamp as usize, 1)).eq(theirs)
+                answer.items.iter().map(|lamp| Some((*lamp as usize, 1))).eq(theirs)
             }
             _ => answer.items.iter().map(|place| self.entry(*place)).eq(theirs),
         }
     }
 
     /// Id and num of the entry at a place of the table that the question speaks of, as the Rust says them: a
-    /// lamp counts 1.
-    pub fn entry(&self, place: u32) -> (usize, usize) {
-        let at = self.position(place);
-        (self.lent.id[at] as usize, self.lent.num[at].max(1) as usize)
+    /// lamp counts 1. None where the table has no such place.
+    pub fn entry(&self, place: u32) -> Option<(usize, usize)> {
+        let at = self.position(place)?;
+        Some((self.lent.id[at] as usize, self.lent.num[at].max(1) as usize))
     }
 
     /// Where the entry at that place stands in the columns.
-    pub fn position(&self, place: u32) -> usize {
+    pub fn position(&self, place: u32) -> Option<usize> {
         let zoom = match self.question {
             Question::Box { zoom, .. } => self.state.zoom_used(zoom),
             Question::Tile { z, .. } => self.state.zoom_used(z),
-            Question::Children { id } => (id - self.state.count) as usize % 32,
+            Question::Children { id } => decoded(self.state.count, id)?.1,
             _ => unreachable!("a question that lists no places of a table"),
         };
-        self.state.positions(zoom).start + place as usize
+        self.state.positions(zoom).nth(place as usize)
     }
 }
 

@@ -1,0 +1,62 @@
+//! Answers that are wrong in one thing: each is a difference, and the right ones are none.
+
+use asked::Build;
+use beside::{Case, Rusts, Verdict};
+use options::corners;
+use questions::{Answer, Outcome, Refusal};
+use splitmix::Splitmix;
+
+/// Every question to some builds, by the reference, and by answers that are made wrong.
+#[test]
+fn every_wrong_answer_is_a_difference() {
+    let mut source = Splitmix(3);
+    let (mut right, mut wrong) = ([0; 7], [0; 7]);
+    for count in [1, 2, 5, 9, 30, 80, 602] {
+        let build = Build::made(corners::ordinary(&mut source), count, &mut source);
+        let (scene, rusts) = (build.scene(), Rusts::loaded(&build));
+        assert_eq!(rusts.are_two(), count <= 601);
+        for question in asked::many(&scene, &mut source) {
+            let case = Case { state: scene.state, lent: scene.lent, question };
+            let outcome = question.answered(case.state, &case.lent);
+            let differs =
+                |outcome: &Outcome| matches!(rusts.judged(&case, outcome), Verdict::Different(_));
+            assert!(!differs(&outcome), "{question:?}");
+            right[question.kind()] += 1;
+            for other in made_wrong(&outcome) {
+                assert!(differs(&other), "{question:?}: {other:?} for {outcome:?}");
+                wrong[question.kind()] += 1;
+            }
+        }
+    }
+    assert!(right.iter().chain(&wrong).all(|times| *times > 100), "{right:?}, {wrong:?}");
+}
+
+/// Refused by no right number; a number beside the right one; a list of too little, too much, or something else.
+fn made_wrong(outcome: &Outcome) -> Vec<Outcome> {
+    match outcome {
+        Outcome::List(answer) => lists(answer, |place| place ^ 1).map(Outcome::List).collect(),
+        Outcome::Tile(answer) => {
+            let aside = lists(answer, |item| questions::Item { x: item.x + 1, ..item });
+            let down = lists(answer, |item| questions::Item { y: item.y - 1, ..item });
+            aside.chain(down).map(Outcome::Tile).collect()
+        }
+        Outcome::Number(Ok(number)) => {
+            [Ok(number + 1), Ok(number.wrapping_sub(1)), Err(Refusal::NoTree)]
+                .map(Outcome::Number)
+                .to_vec()
+        }
+        Outcome::Number(Err(_)) => vec![Outcome::Number(Err(Refusal::Spoiled))],
+    }
+}
+
+/// A list with one thing wrong in it: what refuses it, the last item gone or twice, the first one changed.
+fn lists<T: Copy>(answer: &Answer<T>, change: impl Fn(T) -> T) -> impl Iterator<Item = Answer<T>> {
+    let Answer { items, refusal } = answer;
+    let mut all = vec![Answer { items: items.clone(), refusal: Some(Refusal::Spoiled) }];
+    if let (None, Some((last, before))) = (refusal, items.split_last()) {
+        let changed = [&[change(items[0])], &items[1..]].concat();
+        let others = [before.to_vec(), [&items[..], &[*last]].concat(), changed];
+        all.extend(others.map(|items| Answer { items, refusal: None }));
+    }
+    all.into_iter()
+}

@@ -1,0 +1,86 @@
+//! The port, asked a question over a state and columns; and its own build of points, asked with room for all.
+
+use super::columns::Columns;
+use asked::{Build, Rooms};
+use ported::{Asked, Reply};
+use questions::{Lent, Out, Outcome, Question, State};
+
+/// The port's own build of the points of a build: its state and its columns.
+pub struct Port {
+    pub state: State,
+    columns: asked::Columns,
+}
+
+impl Port {
+    /// The points, loaded; or the reply that refuses them.
+    pub fn loaded(build: &Build) -> Result<Port, Reply> {
+        let (options, [xs, _], ys) = (build.state.options, &build.points, &build.ys);
+        let mut columns = ported::Columns::zeros(&options, xs.len());
+        let [mut starts, mut lens] = [[0; questions::ZOOMS]; 2];
+        let state = ported::State { starts: &mut starts, lens: &mut lens };
+        let reply = ported::load(&options, xs, ys, columns.lent(), state);
+        if reply.number != 0 {
+            return Err(reply);
+        }
+        let ported::Columns { x, y, seen, id, parent, num, ids, coords, .. } = columns;
+        Ok(Port {
+            state: State { options, count: xs.len() as u32, starts, lens },
+            columns: asked::Columns { x, y, seen, id, parent, num, ids, coords },
+        })
+    }
+
+    /// The columns that its questions are lent.
+    pub fn lent(&self) -> Lent<'_> {
+        self.columns.lent()
+    }
+
+    /// What it answers, as it stands in columns with room for all; or what is amiss with that.
+    pub fn answered(&self, question: &Question) -> Result<Outcome, String> {
+        let rooms = self.room_for_all(question);
+        let mut columns = Columns::old(&rooms);
+        let reply = ask(&self.state, &self.lent(), question, &mut columns.lent(&rooms));
+        columns.read(question, reply, &rooms)
+    }
+
+    /// A tile may list an entry three times, in its middle and in two strips; no other question lists it so often.
+    fn room_for_all(&self, question: &Question) -> Rooms {
+        let room = 3 * self.state.count as usize;
+        match question {
+            Question::ExpansionZoom { .. } | Question::Tally { .. } => [0; 3],
+            Question::Tile { .. } => [room; 3],
+            _ => [room, 0, 0],
+        }
+    }
+}
+
+/// Asks the port.
+pub fn ask(state: &State, lent: &Lent, question: &Question, out: &mut Out) -> Reply {
+    let asked = as_asked(state, lent);
+    match *question {
+        Question::Box { zoom, corners } => asked.in_box(zoom, corners, out.places),
+        Question::Ring { zoom, circle } => asked.ring(zoom, circle, out.places),
+        Question::Children { id } => asked.children(id, out.places),
+        Question::Leaves { id, limit, offset } => asked.leaves(id, limit, offset, out.places),
+        Question::ExpansionZoom { id } => asked.expansion_zoom(id),
+        Question::Tile { z, x, y } => asked.tile((z, x, y), out.places, out.x, out.y),
+        Question::Tally { z, x, y } => asked.tally((z, x, y)),
+    }
+}
+
+/// The state and the columns as the port is lent them.
+fn as_asked<'a>(state: &'a State, lent: &Lent<'a>) -> Asked<'a> {
+    Asked {
+        options: &state.options,
+        count: state.count,
+        starts: &state.starts,
+        lens: &state.lens,
+        x: lent.x,
+        y: lent.y,
+        seen: lent.seen,
+        id: lent.id,
+        parent: lent.parent,
+        num: lent.num,
+        ids: lent.ids,
+        coords: lent.coords,
+    }
+}
