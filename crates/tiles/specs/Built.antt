@@ -1,4 +1,4 @@
--- A tile of a sound state: every number of its three ranges is finite, so that the walk by the cursor is the whole answer of `range`. And where the table of the zoom
+-- A tile of a sound state: every number of its three ranges is finite, so that the walk by pages is the whole answer of `range`. And where the table of the zoom
 -- used stands in the columns with its built index, and its entries have x and y in [0,1], the tile is not refused 11, and it lists each entry that lies in it.
 -- Assumes nothing.
 use mathlib.Core.Path.{_≡_, ap, _∙_}

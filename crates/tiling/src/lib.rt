@@ -337,13 +337,6 @@ fn bit(j: usize) -> u8
     1u8 << j
 }
 
-// The same byte: its call says that it is one.
-fn keep(x: u8) -> u8
-    ensures { λ r. ⌜ r ≡ x ⌝ }
-{
-    x
-}
-
 // Adds num to the sum, if the place p is not marked, and marks it.
 fn add_once(marks: &mut [u8], p: usize, num: u32, sum: u64) -> u64
     requires { ⌜ (p < 8 * length (now marks)) × (sum + 4294967295 < 2 ^ 64) ⌝ }
@@ -351,7 +344,7 @@ fn add_once(marks: &mut [u8], p: usize, num: u32, sum: u64) -> u64
 {
     let i = p / 8;
     let b = bit(p % 8);
-    let m = keep(marks[i]);
+    let m = marks[i];
     if m / b % 2 == 1 {
         return sum;
     }

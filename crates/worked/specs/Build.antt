@@ -20,6 +20,7 @@ use Rattle.tables.specs.Entries.{Table, never, unset}
 use Rattle.supercluster.specs.Build.{indexOf, slotsOf, convertedAll, joined, joinedIds, joinedCo, Lent, written, starts, lens, stateOf, roomy, checked, Outcome, outcome, byReply, loaded}
 use Rattle.asking.specs.Columns.{Columns, columns, roomOf}
 use Rattle.worked.specs.Tables.{b, at, options, xs, ys, shown, tables-are}
+use Rattle.answers.specs.Stored.{columnsOf}
 
 -- ---- the build, and what a question is lent of it
 
@@ -31,12 +32,8 @@ built l = loaded (options 64) xs ys l
 abbrev pub stateIn : Lent → State
 stateIn l = built l .reply .state
 
--- six columns of entries and two of the index, as a question is lent them
-abbrev pub eight : Lent → Columns
-eight c = columns (c .x) (c .y) (c .seen) (c .id) (c .parent) (c .num) (c .ids) (c .coords)
-
 abbrev pub columnsIn : Lent → Columns
-columnsIn l = eight (built l .columns)
+columnsIn l = columnsOf (built l .columns)
 
 -- ---- what they are
 
@@ -67,7 +64,7 @@ after l =
 
 -- and as a question is lent them
 abbrev pub held : Lent → Columns
-held l = eight (after l)
+held l = columnsOf (after l)
 
 -- columns of 12 entries are long enough
 pub accepted : (l : Lent) → roomy 12 l ≡ true → checked (options 64) xs ys l ≡ Done

@@ -33,7 +33,7 @@ use Rattle.tiling.specs.Tally.{member, distinct, total, tallyOf}
 use Rattle.tiles.specs.Tallied.{tallied}
 use Rattle.tiles.specs.Asked.{Asked, told, asked, outcome, outcomeOf, tiled}
 use Rattle.worked.specs.Tables.{b, options, xs, ys, zeros}
-use Rattle.worked.specs.Build.{eight}
+use Rattle.answers.specs.Stored.{columnsOf}
 
 -- ---- max_zoom 30 built, 31 refused 1; node_size 0 refused 1
 
@@ -77,18 +77,18 @@ abbrev pub lone : Outcome
 lone = loaded (options 64) (one ∷ []) (half ∷ []) (zeros 3)
 
 -- at (512,256), and again at (0,256)
-pub tile-of-lone : asked (lone .reply .state) (eight (lone .columns)) 0 0 0
+pub tile-of-lone : asked (lone .reply .state) (columnsOf (lone .columns)) 0 0 0
     ≡ told true (record { place = 0; x = pos 512; y = pos 256 } ∷ record { place = 0; x = pos 0; y = pos 256 } ∷ [])
 unfolding loaded checked zeros written joined joinedIds joinedCo starts lens tablesOf run convertedAll finest slotsOf indexOf radiusAt cluster scanFrom scanOne visit copyAll copyOne absorb absorbOne more converted normalized offsetOf scaleOf filled sorted indexed selected sel parted passes up down swapCo swapIds firstOutside asked stateOk packed optionsOk systemInBounds inBounds visited here east west listed whole rounded away neg add sub mul div ofInt ofBits le lt eq shape split scanned slots places rows options b
 tile-of-lone = refl
 
 -- the shortest column has room for one of the two
-pub lone-no-room : tiled (lone .reply .state) (eight (lone .columns)) 0 0 0 (9 ∷ 9 ∷ []) (pos 9 ∷ []) (pos 9 ∷ pos 9 ∷ [])
+pub lone-no-room : tiled (lone .reply .state) (columnsOf (lone .columns)) 0 0 0 (9 ∷ 9 ∷ []) (pos 9 ∷ []) (pos 9 ∷ pos 9 ∷ [])
     ≡ outcome (NoRoom 2) (0 ∷ 9 ∷ []) (pos 512 ∷ []) (pos 256 ∷ pos 9 ∷ [])
 lone-no-room = ap (λ (a : Asked). outcomeOf a (9 ∷ 9 ∷ []) (pos 9 ∷ []) (pos 9 ∷ pos 9 ∷ [])) tile-of-lone
 
 -- listed twice, and counted once
-pub tally-of-lone : tallied (lone .reply .state) (eight (lone .columns)) 0 0 0 ≡ Sum 1
+pub tally-of-lone : tallied (lone .reply .state) (columnsOf (lone .columns)) 0 0 0 ≡ Sum 1
 unfolding loaded checked zeros written joined joinedIds joinedCo starts lens tablesOf run convertedAll finest slotsOf indexOf radiusAt cluster scanFrom scanOne visit copyAll copyOne absorb absorbOne more converted normalized offsetOf scaleOf filled sorted indexed selected sel parted passes up down swapCo swapIds firstOutside tallied tallyOf total distinct member stateOk packed optionsOk systemInBounds inBounds visited here east west listed whole rounded away neg add sub mul div ofInt ofBits le lt eq shape split scanned slots places rows options b
 tally-of-lone = refl
 
@@ -97,7 +97,7 @@ tally-of-lone = refl
 abbrev pub two : Outcome
 two = loaded (options 64) (zero ∷ one ∷ []) (half ∷ half ∷ []) (zeros 6)
 
-pub tile-of-two : asked (two .reply .state) (eight (two .columns)) 0 0 0
+pub tile-of-two : asked (two .reply .state) (columnsOf (two .columns)) 0 0 0
     ≡ told true
     (record { place = 0; x = pos 0; y = pos 256 }
     ∷ record { place = 1; x = pos 512; y = pos 256 }

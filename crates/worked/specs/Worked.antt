@@ -21,7 +21,8 @@ use Rattle.supercluster.specs.Build.{Lent, roomy, Outcome, loaded}
 use Rattle.listing.specs.Text.{text, headIs, xsOf, ysOf}
 use Rattle.listing.specs.Values.{optionsOf}
 use Rattle.report.specs.Report.{columns as zeros, linesOf}
-use Rattle.worked.specs.Build.{built, stateIn, eight, columnsIn, state, held, built-is}
+use Rattle.answers.specs.Stored.{columnsOf}
+use Rattle.worked.specs.Build.{built, stateIn, columnsIn, state, held, built-is}
 use Rattle.worked.specs.Walks.{Refused, children-5, leaves-10-0, leaves-3-1, leaves-0-0, leaves-0-1, zoom-5, zoom-6, refused-3, refused-4, refused-7, refused-134}
 use Rattle.worked.specs.Tiles.{tile-000}
 use Rattle.worked.specs.Printed.{example, example-built, exampleText, sevenLines, text-is, lines-are}
@@ -83,12 +84,12 @@ table l =
 
 -- and those are what `load` replies and leaves
 pub worked : (l : Lent) → roomy 12 l ≡ true → (built l .reply .reply ≡ Done) × Worked (stateIn l) (columnsIn l)
-worked l h = subst (λ (o : Outcome). (o .reply .reply ≡ Done) × Worked (o .reply .state) (eight (o .columns))) (sym (built-is l h)) (refl, table l)
+worked l h = subst (λ (o : Outcome). (o .reply .reply ≡ Done) × Worked (o .reply .state) (columnsOf (o .columns))) (sym (built-is l h)) (refl, table l)
 
 -- so of the lister's example, in the lister's columns of 1,152 zeros
 abbrev pub listed : Outcome
 listed = loaded (optionsOf (headIs example)) (xsOf example) (ysOf example) zeros
 
-pub worked-in-lister : Worked (listed .reply .state) (eight (listed .columns))
+pub worked-in-lister : Worked (listed .reply .state) (columnsOf (listed .columns))
 unfolding zeros
-worked-in-lister = subst (λ (o : Outcome). Worked (o .reply .state) (eight (o .columns))) (sym (example-built zeros)) (worked zeros refl .1)
+worked-in-lister = subst (λ (o : Outcome). Worked (o .reply .state) (columnsOf (o .columns))) (sym (example-built zeros)) (worked zeros refl .1)

@@ -11,43 +11,43 @@ use Rattle.tiling.specs.Marks.{marked, mark, unmarked, once-yes, once-no
 use Rattle.tiling.proofs.add_once.Statement.{statement}
 use Rattle.tiling.proofs.add_once.Tie as tie
 
-abbrev begin : tie.After-keep → tie.Start
-begin k = k .before .before .before .before
+abbrev Read : Type 0
+Read = tie.After-slice-known2
 
--- the bit of the place, and its byte
-abbrev bit-of : tie.After-keep → ℕ
-bit-of k = k .before .before .bit .result
+abbrev begin : Read → tie.Start
+begin k = k .before .before .before
+
+-- the bit of the place
+abbrev bit-of : Read → ℕ
+bit-of k = k .before .bit .result
 
 unmarked-at : (c : tie.Else1) → marked (now (begin (c .before) .args .marks)) (begin (c .before) .args .p) ≡ false
 unmarked-at c =
     let k = c .before in
     let a = begin k .args in
-    once-no (now (a .marks)) (a .p) (bit-of k) (k .before .before .bit .ensures) (rw (k .keep .ensures) at (c .if1 .left))
+    once-no (now (a .marks)) (a .p) (bit-of k) (k .before .bit .ensures) (c .if1 .left)
 
 bit-requires : tie.Need-bit-requires
 bit-requires c κs = search needs
 
-slice-read-keep : tie.Need-slice-read-keep
-slice-read-keep c = let s = c .before .before .before in omega (arith, s .pre .0)
-
-keep-requires : tie.Need-keep-requires
-keep-requires c κs = search needs
+slice-read-m : tie.Need-slice-read-m
+slice-read-m c = omega (arith, begin c .pre .0)
 
 div-if1 : tie.Need-div-if1
-div-if1 c = subst (λ (k : ℕ). 0 < k) (sym (c .before .before .bit .ensures)) (pow-pos (begin c .args .p % 8))
+div-if1 c = subst (λ (k : ℕ). 0 < k) (sym (c .before .bit .ensures)) (pow-pos (begin c .args .p % 8))
 
 returns : tie.Need-returns
 returns c =
     let k = c .before in
     let a = begin k .args in
-    rw (once-yes (now (a .marks)) (a .p) (bit-of k) (k .before .before .bit .ensures) (rw (k .keep .ensures) at (c .if1 .taken))) (refl, refl, omega arith)
+    rw (once-yes (now (a .marks)) (a .p) (bit-of k) (k .before .bit .ensures) (c .if1 .taken)) (refl, refl, omega arith)
 
 add-marks : tie.Need-add-marks
 add-marks c =
     let k = c .before in
     let a = begin k .args in
-    let h = bit-fits (getD (now (a .marks)) (a .p / 8) 0) (a .p % 8) (omega arith) (omega (arith, k .keep .ensures, k .keep .ok)) (unmarked (now (a .marks)) (a .p) (unmarked-at c)) in
-    omega (arith, h, k .before .before .bit .ensures, k .keep .ensures)
+    let h = bit-fits (getD (now (a .marks)) (a .p / 8) 0) (a .p % 8) (omega arith) (omega (arith, k .slice-known2 .given (a .p / 8))) (unmarked (now (a .marks)) (a .p) (unmarked-at c)) in
+    omega (arith, h, k .before .bit .ensures)
 
 slice-write-marks : tie.Need-slice-write-marks
 slice-write-marks c = let s = begin (c .before) in omega (arith, s .pre .0)
@@ -68,7 +68,7 @@ returns-2 c =
     let a = s .args in
     rw (unmarked-at (c .before)) (
       ap (λ (n : ℕ). a .sum + n) (c .wide .ensures),
-      rw (k .keep .ensures) (mark-is (now (a .marks)) (a .p) (bit-of k) (k .before .before .bit .ensures)),
+      mark-is (now (a .marks)) (a .p) (bit-of k) (k .before .bit .ensures),
       omega (arith, c .wide .ensures, s .fits),
     )
 
@@ -77,8 +77,7 @@ add-once-spec =
     tie.close
     (tie.spec
     bit-requires
-    slice-read-keep
-    keep-requires
+    slice-read-m
     div-if1
     returns
     add-marks
