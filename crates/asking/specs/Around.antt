@@ -20,8 +20,7 @@ use Rattle.tables.specs.Entries.{Table, entry}
 use Rattle.tables.specs.Radius.{radiusAt}
 use Rattle.tables.specs.Columns.{part}
 use Rattle.asking.specs.declared.Ring.{Ring}
-use Rattle.asking.specs.Columns.{Columns, roomOf, tableAt, room-index, index-held}
-use Rattle.asking.specs.Reached.{Reached, near}
+use Rattle.asking.specs.Columns.{Columns, tableAt}
 
 -- the ring around the entry o of the table t of zoom z: its radius is that of zoom z - 1
 abbrev pub ringOf : State → Table → ℕ → ℕ → Ring
@@ -88,9 +87,3 @@ module _ (g : Ring) (coords : List Float) where
   pub slots-few : length (slotsOf g coords) ≤ g .len
   unfolding slotsOf
   slots-few = walk-length (queryOf g) (g .«node_size») (g .len) (coordsOf g coords)
-
--- the ring around a place that was reached lies in the columns
-pub in-ring : (s : State) (c : Columns) (t : Table) (z o : ℕ) → Reached s (roomOf c) z o → InRing (ringOf s t z o) (c .coords)
-in-ring s c t z o r =
-    let n = near r in
-    index-held (c .ids) (c .coords) (startOf s z + lenOf s z) (room-index c (startOf s z + lenOf s z) (n .ends)) .1
