@@ -871,11 +871,11 @@ fn fill_page(
             let v = narrow(q, coords, node_size + 1, n);
             fill_in(q, coords, node_size + 1, v.lo, v.hi, v.axis, 0, page)
         }
-        Onward::After(c) => {
-            if n <= c {
+        Onward::After(slot) => {
+            if n <= slot {
                 return 0;
             }
-            fill_rest(q, coords, node_size + 1, 0, n, 0, c, page)
+            fill_rest(q, coords, node_size + 1, 0, n, 0, slot, page)
         }
         Onward::Nothing => 0,
     }
