@@ -1,7 +1,8 @@
 //! Links the proved library as ../native-lib compiles it: libexports.a in target/native, or in the
-//! folder that EXPORTS_FOLDER names.
+//! folder that EXPORTS_FOLDER names. A file `links` that is made with it has the names of the libraries that it
+//! needs, one a line.
 
-use std::{env, path::PathBuf};
+use std::{env, fs, path::PathBuf};
 
 fn main() {
     let folder = folder();
@@ -10,6 +11,9 @@ fn main() {
     assert!(library.is_file(), "{} is not there: run oracle/native-lib exports", library.display());
     println!("cargo::rustc-link-search=native={}", folder.display());
     println!("cargo::rustc-link-lib=static=exports");
+    for name in fs::read_to_string(folder.join("links")).unwrap_or_default().lines() {
+        println!("cargo::rustc-link-lib=dylib={name}");
+    }
 }
 
 /// Where the library stands.

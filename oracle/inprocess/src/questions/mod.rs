@@ -44,7 +44,8 @@ pub fn run(form: Form) -> ExitCode {
         Form::Short => asked::Form::Short,
         Form::Full => asked::Form::Full,
     };
-    // The questions are those that `driver questions` asks: the columns have a generator of their own.
+    // The questions are those that `driver questions` asks: the columns have a generator of their own. They are
+    // copied before they are lent: a copy has no room behind it, so that the address sanitizer sees their ends.
     let (mut source, mut lengths) = (Splitmix(1), Splitmix(2));
     let mut builds = OVER_BUILDS.map(Group::new);
     let mut beside = BesideRust::new();
@@ -52,6 +53,7 @@ pub fn run(form: Form) -> ExitCode {
         // Past the tables the columns hold what belongs to none.
         let mut columns = build.columns.clone();
         columns.lengthen(&mut lengths);
+        let columns = columns.clone();
         let scene = Scene { lent: columns.lent(), ..build.scene() };
         let questions = asked::many(&build.scene(), source);
         compare(build, &scene, &questions, &mut lengths, &mut builds);
@@ -60,7 +62,9 @@ pub fn run(form: Form) -> ExitCode {
     let mut spoiled = OVER_SPOILED.map(Group::new);
     spoiled::each(form, &mut source, |build, source| {
         let questions = asked::few(&build.scene(), source);
-        compare(build, &build.scene(), &questions, &mut lengths, &mut spoiled);
+        let columns = build.columns.clone();
+        let scene = Scene { lent: columns.lent(), ..build.scene() };
+        compare(build, &scene, &questions, &mut lengths, &mut spoiled);
     });
     finish("questions", beside.told().into_iter().chain(builds).chain(spoiled).collect())
 }
