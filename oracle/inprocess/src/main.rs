@@ -8,7 +8,7 @@ mod tables;
 use groups as report;
 use std::{env, process::ExitCode};
 
-const USAGE: &str = "usage: inprocess index|tables|questions [--full]";
+const USAGE: &str = "usage: inprocess index|tables|questions [--full], or questions --spoiled";
 
 /// How much is compared.
 #[derive(Clone, Copy, PartialEq, Eq)]
@@ -25,8 +25,9 @@ fn main() -> ExitCode {
         ["index", "--full"] => index::run(Form::Full),
         ["tables"] => tables::run(Form::Short),
         ["tables", "--full"] => tables::run(Form::Full),
-        ["questions"] => questions::run(Form::Short),
-        ["questions", "--full"] => questions::run(Form::Full),
+        ["questions"] => questions::run(Form::Short, Form::Short),
+        ["questions", "--spoiled"] => questions::run(Form::Short, Form::Full),
+        ["questions", "--full"] => questions::run(Form::Full, Form::Full),
         _ => {
             eprintln!("{USAGE}");
             ExitCode::from(2)

@@ -38,18 +38,18 @@ const OVER_SPOILED: [&str; 7] = [
     "questions, tally over spoiled tables",
 ];
 
-/// Runs every group.
-pub fn run(form: Form) -> ExitCode {
-    let form = match form {
+/// Runs every group, over so many builds and so many spoiled tables.
+pub fn run(over_builds: Form, over_spoiled: Form) -> ExitCode {
+    let [over_builds, over_spoiled] = [over_builds, over_spoiled].map(|form| match form {
         Form::Short => asked::Form::Short,
         Form::Full => asked::Form::Full,
-    };
+    });
     // The questions are those that `driver questions` asks: the columns have a generator of their own. They are
     // copied before they are lent: a copy has no room behind it, so that the address sanitizer sees their ends.
     let (mut source, mut lengths) = (Splitmix(1), Splitmix(2));
     let mut builds = OVER_BUILDS.map(Group::new);
     let mut beside = BesideRust::new();
-    asked::each(form, &mut source, |build, source| {
+    asked::each(over_builds, &mut source, |build, source| {
         // Past the tables the columns hold what belongs to none.
         let mut columns = build.columns.clone();
         columns.lengthen(&mut lengths);
@@ -60,7 +60,7 @@ pub fn run(form: Form) -> ExitCode {
         beside.compare(build, &questions);
     });
     let mut spoiled = OVER_SPOILED.map(Group::new);
-    spoiled::each(form, &mut source, |build, source| {
+    spoiled::each(over_spoiled, &mut source, |build, source| {
         let questions = asked::few(&build.scene(), source);
         let columns = build.columns.clone();
         let scene = Scene { lent: columns.lent(), ..build.scene() };
