@@ -1,5 +1,5 @@
 -- Every build that `load` accepts has one owner for every lamp: `one-owner`. The one thing asked besides is that the given ys are binary64 numbers, as whatever an f64
--- column holds is; in antt a value of type Float may have any number of digits. Assumes nothing.
+-- column holds is, which `load` of this crate shows by its code: in antt a value of type Float may have any number of digits. Assumes nothing.
 use mathlib.Core.Path.{_≡_, refl, ap, sym, _∙_, subst}
 use mathlib.Core.Logic.{_↔_, inl, inr}
 use mathlib.Core.Bool.{true}
@@ -36,7 +36,7 @@ use Rattle.lamps.specs.Owners.{owner-first, owner-in, owns, owns-none, lamps-lo
 use Rattle.lamps.specs.Climb.{owner-climbs}
 use Rattle.answers.specs.Stored.{columnsOf, stateBy, columnsBy, table-is}
 use Rattle.answers.specs.Leaves.{leaves-page}
-use Rattle.owners.specs.Owners.{Between, IsCluster, Owned, Owners}
+use Rattle.owners.specs.Owners.{Binary64, Between, IsCluster, Owned, Owners}
 
 -- the nums of a table, by its places
 sum-shift : (g : ℕ → ℕ) (lo n : ℕ) → sum (λ j. g (suc j)) (range lo n) ≡ sum g (range (suc lo) n)
@@ -151,14 +151,22 @@ done-only o xs ys l (Point i) e = e
 done-only o xs ys l Tables e = e
 
 -- what `load` replies and leaves has one owner for every lamp, where it replies no refusal
-pub one-owner : (o : Options) (xs ys : List Float) (l : Lent) → loaded o xs ys l .reply .reply ≡ Done → ((k : ℕ) → k < length xs → Fits64 (getD ys k nan))
+pub one-owner : (o : Options) (xs ys : List Float) (l : Lent) → loaded o xs ys l .reply .reply ≡ Done → Binary64 ys
     → Owners (loaded o xs ys l .reply .state) (columnsOf (loaded o xs ys l .columns)) (owner o xs ys)
 unfolding loaded
 one-owner o xs ys l e f =
     let d = done-only o xs ys l (checked o xs ys l) e in
     let a = accepted o xs ys l d in
+    let n = a .0 .same in
     subst (λ (x : Outcome). Owners (x .reply .state) (columnsOf (x .columns)) (owner o xs ys)) (sym (ap (byReply o xs ys l) d))
-    (owners o xs ys (a .0) l (holds (need o (length xs)) l (a .1)) (fitting (o .«coordinate_system») xs ys f))
+    (owners o xs ys (a .0) l (holds (need o (length xs)) l (a .1)) (fitting (o .«coordinate_system») xs ys (λ k h. f k (omega arith))))
+
+-- so of any outcome that meets the contract of `load`
+pub outcome-owners : (o : Options) (xs ys : List Float) (l : Lent) (x : Outcome) → x ≡ loaded o xs ys l → Binary64 ys → x .reply .reply ≡ Done
+    → Owners (x .reply .state) (columnsOf (x .columns)) (owner o xs ys)
+outcome-owners o xs ys l x e f d =
+    subst (λ (v : Outcome). Owners (v .reply .state) (columnsOf (v .columns)) (owner o xs ys)) (sym e)
+    (one-owner o xs ys l (ap (λ (v : Outcome). v .reply .reply) (sym e) ∙ d) f)
 
 -- given room: an answer that goes to its end is the number of its items, and they stand at the front of the column, before what it held
 pub given-room : (q : Asked) (ls out : List ℕ) → q ≡ told true ls → length ls ≤ length out
