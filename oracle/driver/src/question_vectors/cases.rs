@@ -26,6 +26,7 @@ pub fn all() -> Vec<Case> {
     all.extend(changed::all(&mut source));
     all.extend((0..BUILDS.len()).map(|number| of_points(number, &mut source)));
     all.extend(spoiled_ones());
+    all.push(lamps_at_both_edges(&mut source));
     all
 }
 
@@ -84,6 +85,12 @@ fn lamp_at_the_edge(source: &mut Splitmix) -> Case {
     let both = |(z, x, y)| [Question::Tile { z, x, y }, Question::Tally { z, x, y }];
     let questions = tiles.into_iter().flat_map(both).collect();
     with_rooms(built("edge", WORKED, [vec![1.0], vec![0.5]]), questions, source)
+}
+
+/// Lamps at both edges: at zoom 0 one tile has both strips.
+fn lamps_at_both_edges(source: &mut Splitmix) -> Case {
+    let questions = vec![Question::Tile { z: 0, x: 0, y: 0 }, Question::Tally { z: 0, x: 0, y: 0 }];
+    with_rooms(built("edges", WORKED, [vec![0.0, 1.0], vec![0.5, 0.5]]), questions, source)
 }
 
 /// Lamps around the equator, some of them at the date line, and boxes of all widths.
