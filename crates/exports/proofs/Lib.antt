@@ -1,2 +1,3 @@
 -- Laws that only this crate's own proofs use.
 pub mod Telling
+pub mod Laying

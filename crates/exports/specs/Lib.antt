@@ -1,3 +1,4 @@
 pub mod Numbers
 pub mod Given
 pub mod Told
+pub mod Laid

@@ -6,6 +6,7 @@ use kdbush::Step;
 use range::CoordinateSystem;
 use range::DataRange;
 use range::Setting;
+use supercluster::Loaded;
 use tables::Options;
 use tables::State;
 ghost use mathlib.Core.Path.{_≡_};
@@ -14,6 +15,7 @@ ghost use Rattle.kdbush.specs.Reply.{buildNumber, buildCarried, built, checked,
 ghost use Rattle.exports.specs.Numbers.{slotOf};
 ghost use Rattle.exports.specs.Given.{settingOf, systemOf, given, stateOf};
 ghost use Rattle.exports.specs.Told.{said, zoomSaid, tallySaid, told, toldOf, tileTold, tileOf};
+ghost use Rattle.exports.specs.Laid.{replied, repliedOf, laid, laidOf};
 ghost use Rattle.kdbush.specs.Run.{filled};
 ghost use Rattle.supercluster.specs.Build.{lent, loaded};
 ghost use Rattle.kdsort.specs.Cols.{cols};
@@ -324,6 +326,20 @@ fn store(values: [u32; 32], out: &mut [u32])
     }
 }
 
+// The reply of a build, as numbers: 01's number is the answer, the rest goes behind pointers.
+fn tell(loaded: Loaded, starts: &mut [u32], lens: &mut [u32], carried: &mut usize) -> u32
+    ensures { λ r. ⌜ replied r (now (carried .exit)) (now (starts .exit)) (now (lens .exit)) ≡ repliedOf loaded (now (starts .entry)) (now (lens .entry)) ⌝ }
+{
+    let state = loaded.state;
+    let first = state.starts;
+    store(first, starts);
+    let long = state.lens;
+    store(long, lens);
+    let r = loaded.reply;
+    *carried = r.carried();
+    r.number()
+}
+
 #[no_mangle]
 pub extern "C" fn supercluster_load(
     min_zoom: u8,
@@ -356,11 +372,8 @@ pub extern "C" fn supercluster_load(
     lens: &mut [u32],
     carried: &mut usize,
 ) -> u32
-    ensures { λ r. ⌜ r ≡ buildNumber ((loaded (given «min_zoom» «max_zoom» «min_points» radius extent «node_size» cartesian «min_x» «min_y» «max_x» «max_y» «offset_given» offset «scale_given» scale) (now (xs .entry)) (now (ys .entry)) (lent (now (x .entry)) (now (y .entry)) (now (seen .entry)) (now (id .entry)) (now (parent .entry)) (now (num .entry)) (now (ids .entry)) (now (coords .entry)) (now (near .entry)))) .reply .reply) ⌝ }
-    ensures { λ _. ⌜ now (carried .exit) ≡ buildCarried ((loaded (given «min_zoom» «max_zoom» «min_points» radius extent «node_size» cartesian «min_x» «min_y» «max_x» «max_y» «offset_given» offset «scale_given» scale) (now (xs .entry)) (now (ys .entry)) (lent (now (x .entry)) (now (y .entry)) (now (seen .entry)) (now (id .entry)) (now (parent .entry)) (now (num .entry)) (now (ids .entry)) (now (coords .entry)) (now (near .entry)))) .reply .reply) ⌝ }
-    ensures { λ _. ⌜ now (starts .exit) ≡ filled ((loaded (given «min_zoom» «max_zoom» «min_points» radius extent «node_size» cartesian «min_x» «min_y» «max_x» «max_y» «offset_given» offset «scale_given» scale) (now (xs .entry)) (now (ys .entry)) (lent (now (x .entry)) (now (y .entry)) (now (seen .entry)) (now (id .entry)) (now (parent .entry)) (now (num .entry)) (now (ids .entry)) (now (coords .entry)) (now (near .entry)))) .reply .state .starts) (now (starts .entry)) ⌝ }
-    ensures { λ _. ⌜ now (lens .exit) ≡ filled ((loaded (given «min_zoom» «max_zoom» «min_points» radius extent «node_size» cartesian «min_x» «min_y» «max_x» «max_y» «offset_given» offset «scale_given» scale) (now (xs .entry)) (now (ys .entry)) (lent (now (x .entry)) (now (y .entry)) (now (seen .entry)) (now (id .entry)) (now (parent .entry)) (now (num .entry)) (now (ids .entry)) (now (coords .entry)) (now (near .entry)))) .reply .state .lens) (now (lens .entry)) ⌝ }
-    ensures { λ _. ⌜ lent (now (x .exit)) (now (y .exit)) (now (seen .exit)) (now (id .exit)) (now (parent .exit)) (now (num .exit)) (now (ids .exit)) (now (coords .exit)) (now (near .exit)) ≡ (loaded (given «min_zoom» «max_zoom» «min_points» radius extent «node_size» cartesian «min_x» «min_y» «max_x» «max_y» «offset_given» offset «scale_given» scale) (now (xs .entry)) (now (ys .entry)) (lent (now (x .entry)) (now (y .entry)) (now (seen .entry)) (now (id .entry)) (now (parent .entry)) (now (num .entry)) (now (ids .entry)) (now (coords .entry)) (now (near .entry)))) .columns ⌝ }
+    ensures { λ r. ⌜ laid (replied r (now (carried .exit)) (now (starts .exit)) (now (lens .exit))) (lent (now (x .exit)) (now (y .exit)) (now (seen .exit)) (now (id .exit)) (now (parent .exit)) (now (num .exit)) (now (ids .exit)) (now (coords .exit)) (now (near .exit)))
+        ≡ laidOf (loaded (given «min_zoom» «max_zoom» «min_points» radius extent «node_size» cartesian «min_x» «min_y» «max_x» «max_y» «offset_given» offset «scale_given» scale) (now (xs .entry)) (now (ys .entry)) (lent (now (x .entry)) (now (y .entry)) (now (seen .entry)) (now (id .entry)) (now (parent .entry)) (now (num .entry)) (now (ids .entry)) (now (coords .entry)) (now (near .entry)))) (now (starts .entry)) (now (lens .entry)) ⌝ }
 {
     let o = options(
         min_zoom,
@@ -380,14 +393,7 @@ pub extern "C" fn supercluster_load(
         scale,
     );
     let loaded = supercluster::load(o, xs, ys, x, y, seen, id, parent, num, ids, coords, near);
-    let state = loaded.state;
-    let first = state.starts;
-    store(first, starts);
-    let long = state.lens;
-    store(long, lens);
-    let r = loaded.reply;
-    *carried = r.carried();
-    r.number()
+    tell(loaded, starts, lens, carried)
 }
 
 // The places of the table of the zoom used in the box from (w, south) to (e, n).

@@ -1,27 +1,22 @@
 -- `exports::supercluster_load` meets its contract: it is the public function, its options made from numbers, its reply and its state as numbers.
 -- Assumes nothing.
 use mathlib.Core.Path.{ap, _∙_}
-use Prim.Native.Nat.{ℕ}
 use denote.Ref.{now}
 use borrow.Author.Needs.{needs}
 use Rattle.tables.specs.declared.Options.{Options}
-use Rattle.kdbush.specs.Reply.{buildNumber, buildCarried}
-use Rattle.kdbush.specs.Run.{filled}
-use Rattle.supercluster.specs.Build.{Outcome, outcome, Lent, lent, loaded}
+use Rattle.supercluster.specs.Build.{Outcome, Lent, lent, loaded}
+use Rattle.exports.proofs.Laying.{laid-is}
 use Rattle.exports.proofs.supercluster_load.Statement.{statement}
 use Rattle.exports.proofs.supercluster_load.Tie as tie
 
 abbrev options-of : tie.After-load → tie.After-options
 options-of w = w .before .before .before .before .before .before .before .before .before .before
 
+abbrev load-of : tie.After-tell → tie.After-load
+load-of t = t .before .before .before .before .before .before .before .before .before .before .before .before .before .before .before .before .before .before .before .before .before .before
+
 abbrev start-of : tie.After-options → tie.Start
 start-of y = y .before .before .before .before .before .before .before .before .before .before .before .before .before .before
-
-abbrev load-of : tie.After-store → tie.After-load
-load-of s = s .before .before .before .before .before .before .before .before .before .before .before .before .before .before .before .before .before .before .before .before .before .before
-
-abbrev first-store : tie.After-store2 → tie.After-store
-first-store s = s .before .before .before .before .before
 
 -- the columns as they came
 abbrev columns : tie.Start → Lent
@@ -37,17 +32,8 @@ options-requires c κs = search needs
 load-requires : tie.Need-load-requires
 load-requires c κs = search needs
 
-store-requires : tie.Need-store-requires
-store-requires c κs = search needs
-
-store-requires-2 : tie.Need-store-requires-2
-store-requires-2 c κs = search needs
-
-carried-requires : tie.Need-carried-requires
-carried-requires c κs = search needs
-
-number-requires : tie.Need-number-requires
-number-requires c κs = search needs
+tell-requires : tie.Need-tell-requires
+tell-requires c κs = search needs
 
 same-length : tie.Need-same-length
 same-length c = search needs
@@ -84,22 +70,11 @@ same-length-11 c = search needs
 
 returns : tie.Need-returns
 returns c =
-    let two = c .before .before .before .before in
-    let one = first-store two in
-    let w = load-of one in
+    let t = c .before .before .before .before in
+    let w = load-of t in
     let y = options-of w in
     let s = start-of y in
-    let a = s .args in
-    let e = w .load .ensures ∙ ap (asked s) (y .options .ensures) in (
-      c .number .ensures ∙ ap (λ (q : Outcome). buildNumber (q .reply .reply)) e,
-      (
-        c .before .carried .ensures ∙ ap (λ (q : Outcome). buildCarried (q .reply .reply)) e,
-        (
-          one .store .ensures ∙ ap (λ (q : Outcome). filled (q .reply .state .starts) (now (a .starts))) e,
-          (two .store2 .ensures ∙ ap (λ (q : Outcome). filled (q .reply .state .lens) (now (a .lens))) e, ap (λ (q : Outcome). q .columns) e),
-        ),
-      ),
-    )
+    laid-is (now (s .args .starts)) (now (s .args .lens)) (t .tell .ensures) (w .load .ensures ∙ ap (asked s) (y .options .ensures))
 
 pub supercluster-load-spec : {M : Type 1} → statement M
 supercluster-load-spec =
@@ -107,10 +82,7 @@ supercluster-load-spec =
     (tie.spec
     options-requires
     load-requires
-    store-requires
-    store-requires-2
-    carried-requires
-    number-requires
+    tell-requires
     same-length
     same-length-2
     same-length-3
