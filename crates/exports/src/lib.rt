@@ -3,9 +3,7 @@
 use kdbush::Query;
 use kdbush::SearchReply;
 use kdbush::Step;
-use range::CoordinateSystem;
 use range::DataRange;
-use range::Setting;
 use supercluster::Loaded;
 use tables::Options;
 use tables::State;
@@ -13,7 +11,7 @@ ghost use mathlib.Core.Path.{_≡_};
 ghost use lib.ListN.{length};
 ghost use Rattle.kdbush.specs.Reply.{buildNumber, buildCarried, built, checked, searchNumber, searchCarried, searched, columnAfter, stepNumber, firstStep, afterStep};
 ghost use Rattle.exports.specs.Numbers.{slotOf};
-ghost use Rattle.exports.specs.Given.{settingOf, systemOf, given, stateOf};
+ghost use Rattle.exports.specs.Given.{given, stateOf};
 ghost use Rattle.exports.specs.Told.{said, zoomSaid, tallySaid, told, toldOf, tileTold, tileOf};
 ghost use Rattle.exports.specs.Laid.{replied, repliedOf, laid, laidOf};
 ghost use Rattle.kdbush.specs.Run.{filled};
@@ -224,42 +222,6 @@ pub extern "C" fn kdbush_within_after(
     step_number(s)
 }
 
-// A setting that is given, or else derived.
-fn setting(given: bool, v: f64) -> Setting
-    ensures { λ r. ⌜ r ≡ settingOf given v ⌝ }
-{
-    if given {
-        return Setting::Given(v);
-    }
-    Setting::Derived
-}
-
-// The coordinate system: longitude, where it is not Cartesian; then no number of a range is looked at.
-fn system(
-    cartesian: bool,
-    min_x: f64,
-    min_y: f64,
-    max_x: f64,
-    max_y: f64,
-    offset: Setting,
-    scale: Setting,
-) -> CoordinateSystem
-    ensures { λ r. ⌜ r ≡ systemOf cartesian «min_x» «min_y» «max_x» «max_y» offset scale ⌝ }
-{
-    if cartesian {
-        let range = DataRange {
-            min_x,
-            min_y,
-            max_x,
-            max_y,
-            offset,
-            scale,
-        };
-        return CoordinateSystem::Cartesian { range };
-    }
-    CoordinateSystem::LatLng
-}
-
 // The options.
 fn options(
     min_zoom: u8,
@@ -280,15 +242,15 @@ fn options(
 ) -> Options
     ensures { λ r. ⌜ r ≡ given «min_zoom» «max_zoom» «min_points» radius extent «node_size» cartesian «min_x» «min_y» «max_x» «max_y» «offset_given» offset «scale_given» scale ⌝ }
 {
-    let coordinate_system = system(
-        cartesian,
+    let range = DataRange {
         min_x,
         min_y,
         max_x,
         max_y,
-        setting(offset_given, offset),
-        setting(scale_given, scale),
-    );
+        offset: tables::setting(offset_given, offset),
+        scale: tables::setting(scale_given, scale),
+    };
+    let coordinate_system = tables::system(cartesian, range);
     Options {
         min_zoom,
         max_zoom,

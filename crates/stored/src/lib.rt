@@ -1,16 +1,13 @@
 // What the programs share that replay builds and questions: how a case gives the options of a build, in words as `vectors` reads them.
 //     min_points radius extent node_size cartesian min_x min_y max_x max_y offset_given offset scale_given scale
-// Proved: 0 stands for what is derived, and for longitude, and 1 for what is given, and for Cartesian; nothing here fails.
+// 0 stands for what is derived, and for longitude, and 1 for what is given, and for Cartesian. Proved: nothing here fails.
 // Assumed: what standard input gives is not modelled, so that the functions that read are only proved to be safe.
-use range::CoordinateSystem;
 use range::DataRange;
 use range::Setting;
 use tables::Options;
 use vectors::Byte;
 use vectors::Count;
 use vectors::Pattern;
-ghost use mathlib.Core.Path.{_≡_};
-ghost use Rattle.stored.specs.Read.{settingOf, systemOf};
 
 // An offset or a scale, or words that are none.
 enum Settled {
@@ -30,16 +27,6 @@ pub enum Chosen {
     Bad,
 }
 
-// A number that is given, where `given` is not 0, or else derived.
-fn setting_of(given: usize, v: f64) -> Setting
-    ensures { λ r. ⌜ r ≡ settingOf given v ⌝ }
-{
-    if given == 0 {
-        return Setting::Derived;
-    }
-    Setting::Given(v)
-}
-
 // Reads an offset or a scale.
 fn read_setting() -> Settled {
     let Count::Is(given) = vectors::next_count(1, false) else {
@@ -48,7 +35,7 @@ fn read_setting() -> Settled {
     let Pattern::Bits(bits) = vectors::next_bits(false) else {
         return Settled::Bad;
     };
-    Settled::Setting(setting_of(given, vectors::float_of(bits)))
+    Settled::Setting(tables::setting(given == 1, vectors::float_of(bits)))
 }
 
 // Reads a range.
@@ -81,16 +68,6 @@ fn read_range() -> Ranged {
     })
 }
 
-// Cartesian with this range, where `cartesian` is not 0, or else longitude.
-fn system_of(cartesian: usize, range: DataRange) -> CoordinateSystem
-    ensures { λ r. ⌜ r ≡ systemOf cartesian range ⌝ }
-{
-    if cartesian == 0 {
-        return CoordinateSystem::LatLng;
-    }
-    CoordinateSystem::Cartesian { range }
-}
-
 // Reads the options after the two zooms.
 pub fn read_options(min_zoom: u8, max_zoom: u8) -> Chosen {
     let Byte::Is(min_points) = vectors::next_byte(false) else {
@@ -118,6 +95,6 @@ pub fn read_options(min_zoom: u8, max_zoom: u8) -> Chosen {
         radius: vectors::float_of(radius),
         extent: vectors::float_of(extent),
         node_size: node_size as usize,
-        coordinate_system: system_of(cartesian, range),
+        coordinate_system: tables::system(cartesian == 1, range),
     })
 }

@@ -1,9 +1,12 @@
 // What a build is given and what it leaves: the options, the state, an entry of a table, the ids of clusters and the radius of a zoom.
 // The tables stand in six lent columns; an entry is read and written as one record of these six.
 use range::CoordinateSystem;
+use range::DataRange;
+use range::Setting;
 ghost use mathlib.Core.Path.{_≡_};
 ghost use Prim.Native.Nat.{_<_, _≤_};
 ghost use lib.ListN.{length, set};
+ghost use Rattle.tables.specs.Given.{settingOf, systemOf};
 ghost use Rattle.tables.specs.Options.{optionsOk, zoomsOk, radiusOk, extentOk, tableCount, raised, zoomUsed};
 ghost use Rattle.tables.specs.State.{newState, withTable, startOf, lenOf};
 ghost use Rattle.tables.specs.Sound.{isTable, packed, stateOk};
@@ -39,6 +42,26 @@ pub struct Entry {
     pub id: u32,
     pub parent: u32,
     pub num: u32,
+}
+
+// An offset or a scale: this number, where one is given.
+pub fn setting(given: bool, v: f64) -> Setting
+    ensures { λ r. ⌜ r ≡ settingOf given v ⌝ }
+{
+    if given {
+        return Setting::Given(v);
+    }
+    Setting::Derived
+}
+
+// A coordinate system: Cartesian with this range, or longitude; then the range is not looked at.
+pub fn system(cartesian: bool, range: DataRange) -> CoordinateSystem
+    ensures { λ r. ⌜ r ≡ systemOf cartesian range ⌝ }
+{
+    if cartesian {
+        return CoordinateSystem::Cartesian { range };
+    }
+    CoordinateSystem::LatLng
 }
 
 impl Options {

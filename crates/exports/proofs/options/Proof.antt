@@ -2,9 +2,10 @@
 use mathlib.Core.Path.{ap, _∙_}
 use borrow.Author.Needs.{needs}
 use Rattle.range.specs.declared.Setting.{Setting}
+use Rattle.range.specs.declared.DataRange.{DataRange}
 use Rattle.range.specs.declared.CoordinateSystem.{CoordinateSystem}
 use Rattle.tables.specs.declared.Options.{Options}
-use Rattle.exports.specs.Given.{settingOf, systemOf}
+use Rattle.tables.specs.Given.{settingOf, systemOf}
 use Rattle.exports.proofs.options.Statement.{statement}
 use Rattle.exports.proofs.options.Tie as tie
 
@@ -22,6 +23,10 @@ made s y =
       «coordinate_system» = y;
     }
 
+-- the range, with this offset and this scale
+abbrev ranged : tie.Start → Setting → Setting → DataRange
+ranged s offset scale = let a = s .args in record { «min_x» = a .min-x; «min_y» = a .min-y; «max_x» = a .max-x; «max_y» = a .max-y; offset = offset; scale = scale }
+
 setting-requires : tie.Need-setting-requires
 setting-requires c κs = search needs
 
@@ -35,8 +40,8 @@ returns : tie.Need-returns
 returns c =
     let s = c .before .before .before in
     let a = s .args in
-    let y = c .system .ensures ∙ ap (λ (v : Setting). systemOf (a .cartesian) (a .min-x) (a .min-y) (a .max-x) (a .max-y) v (c .before .setting2 .result)) (c .before .before .setting .ensures)
-    ∙ ap (λ (v : Setting). systemOf (a .cartesian) (a .min-x) (a .min-y) (a .max-x) (a .max-y) (settingOf (a .offset-given) (a .offset)) v) (c .before .setting2 .ensures) in
+    let y = c .system .ensures ∙ ap (λ (v : Setting). systemOf (a .cartesian) (ranged s v (c .before .setting2 .result))) (c .before .before .setting .ensures)
+    ∙ ap (λ (v : Setting). systemOf (a .cartesian) (ranged s (settingOf (a .offset-given) (a .offset)) v)) (c .before .setting2 .ensures) in
     ap (made s) y
 
 pub options-spec : {M : Type 1} → statement M

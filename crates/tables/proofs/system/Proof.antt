@@ -1,6 +1,6 @@
--- `exports::system` meets its contract. Assumes nothing.
-use Rattle.exports.proofs.system.Statement.{statement}
-use Rattle.exports.proofs.system.Tie as tie
+-- `tables::system` meets its contract. Assumes nothing.
+use Rattle.tables.proofs.system.Statement.{statement}
+use Rattle.tables.proofs.system.Tie as tie
 
 returns : tie.Need-returns
 returns c = simp (c .if1 .taken)

@@ -1,6 +1,6 @@
--- `exports::setting` meets its contract. Assumes nothing.
-use Rattle.exports.proofs.setting.Statement.{statement}
-use Rattle.exports.proofs.setting.Tie as tie
+-- `tables::setting` meets its contract. Assumes nothing.
+use Rattle.tables.proofs.setting.Statement.{statement}
+use Rattle.tables.proofs.setting.Tie as tie
 
 returns : tie.Need-returns
 returns c = simp (c .if1 .taken)

@@ -1,2 +1,0 @@
--- What the contracts of the readers cite.
-pub mod Read
