@@ -22,12 +22,11 @@ use Rattle.range.specs.Range.{normalized, mercatorX, converted}
 use Rattle.kdsort.specs.Cols.{cols}
 use Rattle.kdsort.specs.Indexes.{blank}
 use Rattle.kdsort.specs.Tree.{Index}
-use Rattle.kdbush.specs.declared.Query.{Query}
-use Rattle.kdbush.specs.declared.Query.the-variants.{Range, Within}
-use Rattle.kdbush.specs.Bounds.{and-both}
-use Rattle.kdbush.specs.Members.{In, Distinct}
-use Rattle.kdbush.specs.Query.{passesQ, queryOk}
-use Rattle.kdbush.specs.Reply.{countOk}
+use Rattle.kdslots.specs.declared.Query.{Query}
+use Rattle.kdslots.specs.declared.Query.the-variants.{Range, Within}
+use Rattle.kdslots.specs.Bounds.{and-both, countOk}
+use Rattle.kdslots.specs.Members.{In, Distinct}
+use Rattle.kdslots.specs.Query.{passesQ, queryOk}
 use Rattle.tables.specs.declared.Entry.{Entry}
 use Rattle.tables.specs.declared.Options.{Options}
 use Rattle.tables.specs.declared.State.{State}

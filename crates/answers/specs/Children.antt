@@ -9,12 +9,12 @@ use lib.Dec.{eqb}
 use lib.ListN.{length}
 use lib.Ieee.{Float}
 use Rattle.floats.specs.Unit.{In01-finite}
-use Rattle.kdbush.specs.declared.Query.{Query}
-use Rattle.kdbush.specs.declared.Query.the-variants.{Within}
-use Rattle.kdbush.specs.All.{AllBelow}
+use Rattle.kdslots.specs.declared.Query.{Query}
+use Rattle.kdslots.specs.declared.Query.the-variants.{Within}
+use Rattle.kdslots.specs.All.{AllBelow}
 use Rattle.kdbush.specs.Promise.{Promised, all-whole, all-sound}
-use Rattle.kdbush.specs.Query.{queryOk}
-use Rattle.kdbush.specs.Reply.{walk}
+use Rattle.kdslots.specs.Query.{queryOk}
+use Rattle.kdwalk.specs.Reply.{walk}
 use Rattle.kdbush.specs.Run.{places, sound, whole}
 use Rattle.tables.specs.declared.Options.{Options}
 use Rattle.tables.specs.declared.State.{State}

@@ -10,7 +10,7 @@ use borrow.Author.Tests.{le-leb, eq-eqb}
 use lib.ListN.{length, getD, take, drop, length-append, length-map}
 use lib.Seq.{drop-drop, drop-append-seam, take-append-seam}
 use lib.Ieee.{Float}
-use Rattle.kdbush.specs.All.{All, all-map}
+use Rattle.kdslots.specs.All.{All, all-map}
 use Rattle.tables.specs.declared.Options.{Options}
 use Rattle.tables.specs.declared.State.{State}
 use Rattle.tables.specs.Bounds.{options-are}

@@ -16,13 +16,13 @@ use Rattle.floats.specs.Unit.{In01}
 use Rattle.kdsort.specs.Cols.{Cols}
 use Rattle.kdsort.specs.Indexes.{blank}
 use Rattle.kdsort.specs.Tree.{Index}
-use Rattle.kdbush.specs.declared.Query.the-variants.{Range}
-use Rattle.kdbush.specs.All.{All, all-append}
-use Rattle.kdbush.specs.Members.{In, in-right}
+use Rattle.kdslots.specs.declared.Query.the-variants.{Range}
+use Rattle.kdslots.specs.All.{All, all-append}
+use Rattle.kdslots.specs.Members.{In, in-right}
 use Rattle.kdbush.specs.Promise.{answered-once, range-sound, range-complete}
-use Rattle.kdbush.specs.Query.{passesQ}
+use Rattle.kdslots.specs.Query.{passesQ}
 use Rattle.kdbush.specs.Reply.{found}
-use Rattle.kdbush.specs.Slots.{when}
+use Rattle.kdslots.specs.Slots.{when}
 use Rattle.tables.specs.declared.Entry.{Entry}
 use Rattle.tables.specs.declared.Options.{Options}
 use Rattle.tables.specs.Bounds.{options-are}

@@ -10,7 +10,7 @@ use borrow.Author.Tests.{ltb-false, leb-true, leb-false, eqb-true, eqb-false}
 use lib.Dec.{leb, ltb, eqb}
 use lib.ListN.{length, take, drop}
 use lib.Ieee.{Float}
-use Rattle.kdbush.specs.All.{All, AllBelow}
+use Rattle.kdslots.specs.All.{All, AllBelow}
 use Rattle.tables.specs.declared.Options.{Options}
 use Rattle.tables.specs.declared.State.{State}
 use Rattle.tables.specs.Entries.{entry, unset}

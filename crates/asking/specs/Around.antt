@@ -1,19 +1,19 @@
 -- The ring around an entry of a table, in which the children of a cluster made there are: the slots that it answers, and a walk over them that is read a
--- page at a time. Where the entry's place is no finite number the search is none that kdbush takes, and `walk` has no slots. Assumes nothing.
+-- page at a time. Where the entry's place is no finite number the search is none that kdwalk takes, and `walk` has no slots. Assumes nothing.
 use mathlib.Core.Path.{_≡_, ap, _∙_}
 use mathlib.Core.List.{List, [], _∷_}
 use Prim.Native.Nat.{ℕ, _+_, _-_, _*_, _<_, _≤_}
 use lib.ListN.{length}
 use lib.Ieee.{Float}
-use Rattle.kdbush.specs.declared.Query.{Query}
-use Rattle.kdbush.specs.declared.Query.the-variants.{Within}
-use Rattle.kdbush.specs.declared.Step.the-variants.{Slot, Done}
-use Rattle.kdbush.specs.declared.Pages.{Pages}
-use Rattle.kdbush.specs.declared.Turned.{Turned}
-use Rattle.kdbush.specs.All.{AllBelow}
-use Rattle.kdbush.specs.Reply.{walk, nextStep}
-use Rattle.kdbush.specs.Walk.{walk-length}
-use Rattle.kdbush.specs.Pages.{begun, aheadOf, tailOf, ahead-begun, walk-below, next-slot, below-next, next-end}
+use Rattle.kdslots.specs.declared.Query.{Query}
+use Rattle.kdslots.specs.declared.Query.the-variants.{Within}
+use Rattle.kdwalk.specs.declared.Step.the-variants.{Slot, Done}
+use Rattle.kdwalk.specs.declared.Pages.{Pages}
+use Rattle.kdwalk.specs.declared.Turned.{Turned}
+use Rattle.kdslots.specs.All.{AllBelow}
+use Rattle.kdwalk.specs.Reply.{walk, nextStep}
+use Rattle.kdwalk.specs.Walk.{walk-length}
+use Rattle.kdwalk.specs.Pages.{begun, aheadOf, tailOf, ahead-begun, walk-below, next-slot, below-next, next-end}
 use Rattle.tables.specs.declared.State.{State}
 use Rattle.tables.specs.State.{startOf, lenOf}
 use Rattle.tables.specs.Entries.{Table, entry}

@@ -6,7 +6,7 @@ use Prim.Native.Nat.{ℕ, _+_, _<_, _≤_}
 use native.Mathlib.Omega.{arith}
 use borrow.Author.Tests.{leb-true, leb-false, eqb-false, not-false}
 use lib.Dec.{leb, ltb, eqb}
-use Rattle.kdbush.specs.Bounds.{and-both}
+use Rattle.kdslots.specs.Bounds.{and-both}
 use Rattle.tables.specs.declared.State.{State}
 use Rattle.tables.specs.State.{startOf, lenOf}
 use Rattle.tables.specs.Sound.{stateOk, Stands, stands, given}

@@ -1,16 +1,16 @@
 // What every question to a build rests on: its answer, the lent columns and the parts of them that hold one table, where a cluster's id leads, and the ring
 // around an entry, in which its children are. A question looks at the state first (`State::is_sound`); what is asked here of a caller follows from that.
-use kdbush::Pages;
-use kdbush::Query;
-use kdbush::Turned;
+use kdslots::Query;
+use kdwalk::Pages;
+use kdwalk::Turned;
 use tables::Entry;
 use tables::State;
 ghost use mathlib.Core.Path.{_≡_};
 ghost use Prim.Native.Nat.{_+_, _*_, _<_, _≤_, min};
 ghost use lib.ListN.{length, set};
-ghost use Rattle.kdbush.specs.declared.Step.the-variants.{Done};
-ghost use Rattle.kdbush.specs.Reply.{nextStep};
-ghost use Rattle.kdbush.specs.Pages.{tailOf};
+ghost use Rattle.kdwalk.specs.declared.Step.the-variants.{Done};
+ghost use Rattle.kdwalk.specs.Reply.{nextStep};
+ghost use Rattle.kdwalk.specs.Pages.{tailOf};
 ghost use Rattle.tables.specs.Entries.{entry};
 ghost use Rattle.tables.specs.Rows.{rows};
 ghost use Rattle.tables.specs.Columns.{part};
@@ -275,5 +275,5 @@ pub fn next_in(g: Ring, coords: &[f64], page: &mut [usize], p: Pages) -> Turned
         qy: g.y,
         radius: g.radius,
     };
-    kdbush::next_slot(q, g.node_size, g.len, &coords[from..to], page, p)
+    kdwalk::next_slot(q, g.node_size, g.len, &coords[from..to], page, p)
 }

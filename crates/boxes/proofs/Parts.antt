@@ -6,7 +6,7 @@ use Prim.Native.Nat.{ℕ}
 use lib.Dec.{leb}
 use lib.ListN.{length}
 use lib.Ieee.{Float}
-use Rattle.kdbush.specs.declared.Query.{Query}
+use Rattle.kdslots.specs.declared.Query.{Query}
 use Rattle.kdbush.specs.declared.SearchReply.{SearchReply}
 use Rattle.kdbush.specs.declared.SearchReply.the-variants.{Found, Box, NoRoom, Spoiled}
 use Rattle.kdbush.specs.Run.{sound, whole, filled}

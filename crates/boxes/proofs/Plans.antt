@@ -7,10 +7,10 @@ use native.Mathlib.Omega.{arith}
 use lib.ListN.{length}
 use lib.Ieee.{Float}
 use lib.Dec.{leb}
-use Rattle.kdbush.specs.Slots.{when}
+use Rattle.kdslots.specs.Slots.{when}
 use Rattle.kdbush.specs.Run.{sound, whole, filled}
-use Rattle.kdbush.specs.Reply.{coordsOk, found, indexOk}
-use Rattle.kdbush.specs.Bounds.{and-both, coords-is}
+use Rattle.kdslots.specs.Bounds.{coordsOk, and-both, coords-is}
+use Rattle.kdbush.specs.Reply.{found, indexOk}
 use Rattle.tables.specs.Columns.{from, back}
 use Rattle.asking.specs.declared.Answer.{Answer}
 use Rattle.asking.specs.declared.Answer.the-variants.{Spoiled}

@@ -14,14 +14,14 @@ use Rattle.range.specs.declared.CoordinateSystem.the-variants.{LatLng, Cartesia
 use Rattle.range.specs.Range.{normalized, converted}
 use Rattle.kdsort.specs.Cols.{Cols, cols}
 use Rattle.kdsort.specs.Tree.{Index}
-use Rattle.kdbush.specs.declared.Query.{Query}
-use Rattle.kdbush.specs.declared.Query.the-variants.{Range, Within}
+use Rattle.kdslots.specs.declared.Query.{Query}
+use Rattle.kdslots.specs.declared.Query.the-variants.{Range, Within}
 use Rattle.kdbush.specs.declared.BuildReply.the-variants.{Done}
-use Rattle.kdbush.specs.Query.{passesQ, queryOk}
+use Rattle.kdslots.specs.Query.{passesQ, queryOk}
 use Rattle.kdbush.specs.Reply.{found, checked, built}
-use Rattle.kdbush.specs.Members.{In, Distinct}
+use Rattle.kdslots.specs.Members.{In, Distinct}
 use Rattle.kdbush.specs.Built.{accepted, build-is-index}
-use Rattle.kdbush.specs.All.{AllBelow, all-append}
+use Rattle.kdslots.specs.All.{AllBelow, all-append}
 use Rattle.kdbush.specs.Promise.{all-whole, all-sound, answered-below, answered-once, answered-sound, answered-complete, range-sound, range-complete}
 use Rattle.tables.specs.declared.State.{State}
 use Rattle.tables.specs.Options.{zoomUsed}

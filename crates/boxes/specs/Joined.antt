@@ -9,12 +9,12 @@ use lib.Dec.{ltb}
 use lib.ListN.{length, take, drop, length-drop, length-append, drop-of-length-le}
 use lib.Seq.{drop-nil}
 use lib.Ieee.{Float}
-use Rattle.kdbush.specs.declared.Query.{Query}
-use Rattle.kdbush.specs.Slots.{answers}
+use Rattle.kdslots.specs.declared.Query.{Query}
+use Rattle.kdslots.specs.Slots.{answers}
 use Rattle.kdbush.specs.Run.{sound, whole, filled}
 use Rattle.kdbush.specs.Reply.{found}
 use Rattle.kdbush.specs.Promise.{places-length}
-use Rattle.kdbush.specs.Walk.{answers-length}
+use Rattle.kdslots.specs.Intervals.{answers-length}
 use Rattle.tables.specs.Columns.{from, from-drop, back}
 use Rattle.asking.specs.declared.Answer.the-variants.{Spoiled}
 use Rattle.asking.specs.Answers.{fitted}

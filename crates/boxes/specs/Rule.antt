@@ -6,9 +6,9 @@ use Rattle.floats.specs.Unit.{in01}
 use Rattle.range.specs.declared.CoordinateSystem.{CoordinateSystem}
 use Rattle.range.specs.declared.CoordinateSystem.the-variants.{LatLng, Cartesian}
 use Rattle.range.specs.Range.{fullCircle, converted}
-use Rattle.kdbush.specs.declared.Query.{Query}
-use Rattle.kdbush.specs.declared.Query.the-variants.{Range}
-use Rattle.kdbush.specs.Query.{queryOk}
+use Rattle.kdslots.specs.declared.Query.{Query}
+use Rattle.kdslots.specs.declared.Query.the-variants.{Range}
+use Rattle.kdslots.specs.Query.{queryOk}
 use Rattle.boxes.specs.declared.Edges.{Edges}
 use Rattle.boxes.specs.declared.Plan.{Plan}
 

@@ -11,9 +11,9 @@ use Rattle.floats.specs.Numbers.{zero, half, one, float}
 use Rattle.range.specs.declared.CoordinateSystem.the-variants.{LatLng}
 use Rattle.range.specs.Range.{mercatorX, converted, systemInBounds}
 use Rattle.kdsort.specs.Shape.{shape, split}
-use Rattle.kdbush.specs.declared.Query.the-variants.{Within}
-use Rattle.kdbush.specs.Query.{queryOk}
-use Rattle.kdbush.specs.Slots.{scanned, slots}
+use Rattle.kdslots.specs.declared.Query.the-variants.{Within}
+use Rattle.kdslots.specs.Query.{queryOk}
+use Rattle.kdslots.specs.Slots.{scanned, slots}
 use Rattle.kdbush.specs.Run.{places, sound, whole}
 use Rattle.tables.specs.declared.State.{State}
 use Rattle.tables.specs.Options.{optionsOk}

@@ -1,7 +1,7 @@
 // Box and ring: the places of a table that a search finds. Nothing is asked of the caller: what 01 does not take is refused with its number.
 use asking::Answer;
-use kdbush::Query;
 use kdbush::SearchReply;
+use kdslots::Query;
 use range::CoordinateSystem;
 use range::Point;
 use tables::Options;
@@ -10,7 +10,7 @@ ghost use mathlib.Core.Path.{_≡_};
 ghost use mathlib.Core.Bool.{true};
 ghost use Prim.Native.Nat.{_+_, _*_, _≤_};
 ghost use lib.ListN.{length};
-ghost use Rattle.kdbush.specs.Query.{queryOk};
+ghost use Rattle.kdslots.specs.Query.{queryOk};
 ghost use Rattle.kdbush.specs.Run.{sound, whole, filled};
 ghost use Rattle.kdbush.specs.Reply.{found, indexOk};
 ghost use Rattle.tables.specs.Options.{zoomUsed};

@@ -13,7 +13,7 @@ use Rattle.range.specs.declared.CoordinateSystem.{CoordinateSystem}
 use Rattle.range.specs.declared.CoordinateSystem.the-variants.{LatLng, Cartesian}
 use Rattle.range.specs.declared.DataRange.{DataRange}
 use Rattle.range.specs.Range.{converted, normalized, mercatorX, fullCircle, offsetOf, scaleOf}
-use Rattle.kdbush.specs.All.{All, all-of}
+use Rattle.kdslots.specs.All.{All, all-of}
 use Rattle.tables.specs.declared.Entry.{Entry}
 use Rattle.tables.specs.Entries.{entry, none}
 use Rattle.supercluster.specs.Fill.{lamps, lamps-length, lamps-at}

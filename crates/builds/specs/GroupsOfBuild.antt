@@ -7,8 +7,8 @@ use native.Mathlib.Omega.{arith}
 use native.Mathlib.Nat.{add-suc}
 use lib.ListN.{length}
 use lib.Ieee.{Float}
-use Rattle.kdbush.specs.All.{all-of}
-use Rattle.kdbush.specs.Members.{In, Distinct}
+use Rattle.kdslots.specs.All.{all-of}
+use Rattle.kdslots.specs.Members.{In, Distinct}
 use Rattle.tables.specs.Bounds.{options-are}
 use Rattle.tables.specs.declared.Entry.{Entry}
 use Rattle.tables.specs.declared.Options.{Options}

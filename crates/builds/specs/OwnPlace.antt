@@ -12,9 +12,9 @@ use Rattle.floats.specs.Numbers.{zero as fzero}
 use Rattle.floats.specs.Unit.{In01-not-nan, In01-finite}
 use Rattle.kdsort.specs.Tree.{Points, Index}
 use Rattle.kdsort.specs.Indexes.{blank, indexed-ok}
-use Rattle.kdbush.specs.declared.Query.the-variants.{Within}
-use Rattle.kdbush.specs.All.{All}
-use Rattle.kdbush.specs.Members.{In}
+use Rattle.kdslots.specs.declared.Query.the-variants.{Within}
+use Rattle.kdslots.specs.All.{All}
+use Rattle.kdslots.specs.Members.{In}
 use Rattle.kdbush.specs.Promise.{own-place}
 use Rattle.kdbush.specs.Reply.{found}
 use Rattle.tables.specs.Entries.{Table, entry, none, xsOf, ysOf}

@@ -7,7 +7,7 @@ use Prim.Native.Nat.{ℕ, zero, suc, _≤_, _<_}
 use native.Mathlib.Omega.{arith}
 use lib.Dec.{eqb}
 use lib.ListN.{length, getD, length-map}
-use Rattle.kdbush.specs.All.{all-getD}
+use Rattle.kdslots.specs.All.{all-getD}
 use Rattle.tables.specs.declared.Entry.{Entry}
 use Rattle.tables.specs.Entries.{Table, entry, none, never, unset, marked}
 use Rattle.tables.specs.Ids.{clusterId}

@@ -5,7 +5,7 @@ use Prim.Native.Nat.{ℕ, _+_, _-_, _≤_}
 use native.Mathlib.Omega.{arith}
 use lib.ListN.{length}
 use lib.Ieee.{Float}
-use Rattle.kdbush.specs.All.{all-getD}
+use Rattle.kdslots.specs.All.{all-getD}
 use Rattle.tables.specs.declared.Options.{Options}
 use Rattle.supercluster.specs.Build.{tablesOf}
 use Rattle.supercluster.specs.Ready.{Accepted}

@@ -12,9 +12,9 @@ use lib.ListN.{length}
 use lib.Ieee.{Float, binary64}
 use lib.Ieee.Fits.{div-fits}
 use Rattle.floats.specs.Numbers.{float}
-use Rattle.kdbush.specs.declared.Query.the-variants.{Within}
-use Rattle.kdbush.specs.All.{All, all-map}
-use Rattle.kdbush.specs.Members.{In, Distinct}
+use Rattle.kdslots.specs.declared.Query.the-variants.{Within}
+use Rattle.kdslots.specs.All.{All, all-map}
+use Rattle.kdslots.specs.Members.{In, Distinct}
 use Rattle.tables.specs.declared.Entry.{Entry}
 use Rattle.tables.specs.Entries.{Table, entry, unset, unseen}
 use Rattle.tables.specs.Radius.{radiusAt, radius-fine}

@@ -3,10 +3,10 @@ use mathlib.Core.List.{List}
 use Prim.Native.Nat.{ℕ}
 use lib.ListN.{length}
 use lib.Ieee.{Float}
-use Rattle.kdbush.specs.declared.Query.{Query}
-use Rattle.kdbush.specs.declared.Step.{Step}
-use Rattle.kdbush.specs.declared.Step.the-variants.{Slot, Done, Box, Spoiled}
-use Rattle.kdbush.specs.Reply.{ending, walk}
+use Rattle.kdslots.specs.declared.Query.{Query}
+use Rattle.kdwalk.specs.declared.Step.{Step}
+use Rattle.kdwalk.specs.declared.Step.the-variants.{Slot, Done, Box, Spoiled}
+use Rattle.kdwalk.specs.Reply.{ending, walk}
 use Rattle.counting.specs.declared.Counted.{Counted}
 use Rattle.counting.specs.declared.Counted.the-variants.{Answers, Box as Counted·Box, Spoiled as Counted·Spoiled}
 

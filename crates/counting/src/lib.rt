@@ -1,6 +1,6 @@
-// A walk over an index's answers by the cursor, through what kdbush states and nothing else: how many slots a query answers, with no column to write them in.
-use kdbush::Query;
-use kdbush::Step;
+// A walk over an index's answers by the cursor, through what kdwalk states and nothing else: how many slots a query answers, with no column to write them in.
+use kdslots::Query;
+use kdwalk::Step;
 ghost use mathlib.Core.Path.{_≡_};
 ghost use Rattle.counting.specs.Counted.{countedOf};
 
@@ -16,12 +16,12 @@ pub fn count(q: Query, node_size: usize, n: usize, coords: &[f64]) -> Counted
     ensures { λ r. ⌜ r ≡ countedOf q «node_size» n (now (coords .entry)) ⌝ }
 {
     let mut k = 0;
-    let mut cur = kdbush::first(q, node_size, n, coords);
+    let mut cur = kdwalk::first(q, node_size, n, coords);
     loop {
         match cur {
             Step::Slot(c) => {
                 k += 1;
-                cur = kdbush::after(q, node_size, n, coords, c);
+                cur = kdwalk::after(q, node_size, n, coords, c);
             }
             Step::Done => return Counted::Answers(k),
             Step::Box => return Counted::Box,

@@ -1,7 +1,7 @@
 -- A step as a C caller sees it. Definitions only.
 use Prim.Native.Nat.{ℕ}
-use Rattle.kdbush.specs.declared.Step.{Step}
-use Rattle.kdbush.specs.declared.Step.the-variants.{Slot, Done, Box, Spoiled}
+use Rattle.kdwalk.specs.declared.Step.{Step}
+use Rattle.kdwalk.specs.declared.Step.the-variants.{Slot, Done, Box, Spoiled}
 
 -- the slot, or the largest usize where there is none
 abbrev pub slotOf : Step → ℕ

@@ -1,15 +1,16 @@
 // The public functions by C names, for Rust and C: numbers and slices only. A slice is passed as a pointer and a length, a `&mut usize` or a `&[u32; 32]` as a pointer.
 // Each answers 01's number of the reply, 0 where there is no refusal, and leaves what the reply carries in `carried`, 0 where it carries nothing.
-use kdbush::Query;
 use kdbush::SearchReply;
-use kdbush::Step;
+use kdslots::Query;
+use kdwalk::Step;
 use range::DataRange;
 use supercluster::Loaded;
 use tables::Options;
 use tables::State;
 ghost use mathlib.Core.Path.{_≡_};
 ghost use lib.ListN.{length};
-ghost use Rattle.kdbush.specs.Reply.{buildNumber, buildCarried, built, checked, searchNumber, searchCarried, searched, columnAfter, stepNumber, firstStep, afterStep};
+ghost use Rattle.kdbush.specs.Reply.{buildNumber, buildCarried, built, checked, searchNumber, searchCarried, searched, columnAfter};
+ghost use Rattle.kdwalk.specs.Reply.{stepNumber, firstStep, afterStep};
 ghost use Rattle.exports.specs.Numbers.{slotOf};
 ghost use Rattle.exports.specs.Given.{given, stateOf};
 ghost use Rattle.exports.specs.Told.{said, zoomSaid, tallySaid, told, toldOf, tileTold, tileOf};
@@ -154,7 +155,7 @@ pub extern "C" fn kdbush_range_first(
         max_x,
         max_y,
     };
-    let s = kdbush::first(q, node_size, n, coords);
+    let s = kdwalk::first(q, node_size, n, coords);
     *slot = step_slot(s);
     step_number(s)
 }
@@ -180,7 +181,7 @@ pub extern "C" fn kdbush_range_after(
         max_x,
         max_y,
     };
-    let s = kdbush::after(q, node_size, n, coords, slot);
+    let s = kdwalk::after(q, node_size, n, coords, slot);
     *next = step_slot(s);
     step_number(s)
 }
@@ -198,7 +199,7 @@ pub extern "C" fn kdbush_within_first(
     ensures { λ r. ⌜ r ≡ stepNumber (firstStep (Query.Within qx qy radius) «node_size» n (now (coords .entry))) ⌝ }
     ensures { λ _. ⌜ now (slot .exit) ≡ slotOf (firstStep (Query.Within qx qy radius) «node_size» n (now (coords .entry))) ⌝ }
 {
-    let s = kdbush::first(Query::Within { qx, qy, radius }, node_size, n, coords);
+    let s = kdwalk::first(Query::Within { qx, qy, radius }, node_size, n, coords);
     *slot = step_slot(s);
     step_number(s)
 }
@@ -217,7 +218,7 @@ pub extern "C" fn kdbush_within_after(
     ensures { λ r. ⌜ r ≡ stepNumber (afterStep (Query.Within qx qy radius) «node_size» n (now (coords .entry)) slot) ⌝ }
     ensures { λ _. ⌜ now (next .exit) ≡ slotOf (afterStep (Query.Within qx qy radius) «node_size» n (now (coords .entry)) slot) ⌝ }
 {
-    let s = kdbush::after(Query::Within { qx, qy, radius }, node_size, n, coords, slot);
+    let s = kdwalk::after(Query::Within { qx, qy, radius }, node_size, n, coords, slot);
     *next = step_slot(s);
     step_number(s)
 }

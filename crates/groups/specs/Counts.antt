@@ -1,4 +1,4 @@
--- How often a place is in a list, in kdbush's words: once at most where no place is twice in it, once at least where the place is in it; and back. Two lists
+-- How often a place is in a list, in kdslots' words: once at most where no place is twice in it, once at least where the place is in it; and back. Two lists
 -- with the same counts are each other in another order. Assumes nothing.
 use mathlib.Core.Path.{_≡_, refl, sym, ap, _∙_, subst}
 use mathlib.Core.Logic.{inr, ⊎-elim}
@@ -6,11 +6,11 @@ use mathlib.Core.List.{List, [], _∷_, _++_, map, List·Permᴰ, List·Permᴰ�
 use Prim.Native.Nat.{ℕ, _≤_, _<_}
 use native.Mathlib.Omega.{arith}
 use lib.Dec.{eqb}
-use Rattle.kdbush.specs.All.{All, AllBelow}
-use Rattle.kdbush.specs.Members.{In, NotIn, Distinct}
+use Rattle.kdslots.specs.All.{All, AllBelow}
+use Rattle.kdslots.specs.Members.{In, NotIn, Distinct}
 use Rattle.groups.specs.Sums.{one, hit, below, count, count-head, sum-append, range, range-in, range-out}
 
--- ---- from kdbush's words to counts
+-- ---- from kdslots' words to counts
 
 notin-count : (k : ℕ) (l : List ℕ) → NotIn k l → count k l ≡ 0
 notin-count k [] h = refl

@@ -11,9 +11,9 @@ use lib.Dec.{ltb, leb, eqb}
 use lib.ListN.{length, List·getD-eq-default}
 use lib.Ieee.{Float, binary64, mul, div}
 use Rattle.floats.specs.Numbers.{float}
-use Rattle.kdbush.specs.All.{All, all-append}
-use Rattle.kdbush.specs.Bounds.{and-both}
-use Rattle.kdbush.specs.Members.{In, Distinct}
+use Rattle.kdslots.specs.All.{All, all-append}
+use Rattle.kdslots.specs.Bounds.{and-both}
+use Rattle.kdslots.specs.Members.{In, Distinct}
 use Rattle.tables.specs.declared.Entry.{Entry}
 use Rattle.tables.specs.Entries.{Table, entry, none, unset, unseen, marked}
 use Rattle.tables.specs.Ids.{clusterId, id-small}

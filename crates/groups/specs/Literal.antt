@@ -12,7 +12,7 @@ use lib.Dec.{ltb}
 use lib.ListN.{length, getD, set, length-set}
 use lib.Seq.{getD-set-same, getD-set-other, ext-getD, append-snoc}
 use lib.Ieee.{Float}
-use Rattle.kdbush.specs.Members.{In, Distinct}
+use Rattle.kdslots.specs.Members.{In, Distinct}
 use Rattle.tables.specs.declared.Entry.{Entry}
 use Rattle.tables.specs.Entries.{Table, entry, none, marked, under}
 use Rattle.tables.specs.Ids.{clusterId}

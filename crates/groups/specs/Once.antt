@@ -8,7 +8,7 @@ use Prim.Native.Nat.{ℕ, _≤_, _<_}
 use native.Mathlib.Omega.{arith}
 use lib.ListN.{length}
 use lib.Ieee.{Float}
-use Rattle.kdbush.specs.Members.{In, Distinct}
+use Rattle.kdslots.specs.Members.{In, Distinct}
 use Rattle.tables.specs.Entries.{Table, entry, unseen}
 use Rattle.groups.specs.Sums.{pick, one, below, count, range, range-in}
 use Rattle.groups.specs.Counts.{permutes}

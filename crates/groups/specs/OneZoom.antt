@@ -7,8 +7,8 @@ use Prim.Native.Nat.{ℕ, zero, suc, _+_, _≤_, _<_}
 use native.Mathlib.Omega.{arith}
 use lib.Dec.{eqb}
 use lib.ListN.{length, getD}
-use Rattle.kdbush.specs.All.{All, AllBelow, all-getD}
-use Rattle.kdbush.specs.Members.{NotIn, Distinct}
+use Rattle.kdslots.specs.All.{All, AllBelow, all-getD}
+use Rattle.kdslots.specs.Members.{NotIn, Distinct}
 use Rattle.tables.specs.declared.Entry.{Entry}
 use Rattle.tables.specs.Entries.{Table, entry, never, unset, marked}
 use Rattle.tables.specs.Ids.{clusterId}

@@ -1,51 +1,31 @@
 -- Each way out of a public function is its definition's case: a refusal, or the answer that the search left. Assumes nothing.
 use mathlib.Core.Path.{_≡_, refl, sym, ap, _∙_}
 use mathlib.Core.Bool.{Bool, true, false, cond, _&&_}
-use mathlib.Core.List.{List, [], _∷_}
+use mathlib.Core.List.{List}
 use Prim.Native.Nat.{ℕ, _+_, _*_, _≤_, _<_}
 use native.Mathlib.Numerals.{add-one}
 use native.Mathlib.Omega.{arith}
 use borrow.Author.Tests.{le-leb, lt-leb}
-use lib.Dec.{leb, ltb, eqb}
+use lib.Dec.{leb, eqb}
 use lib.ListN.{length, getD, drop}
 use lib.Seq.{drop-cons}
 use lib.Ieee.{Float, nan}
 use Rattle.floats.specs.Unit.{in01}
 use Rattle.kdsort.specs.Cols.{Cols}
 use Rattle.kdsort.specs.Sort.{indexed}
-use Rattle.kdbush.specs.declared.Query.{Query}
+use Rattle.kdslots.specs.declared.Query.{Query}
 use Rattle.kdbush.specs.declared.Found.the-variants.{All, Spoiled as Came·Spoiled}
-use Rattle.kdbush.specs.declared.Next.{Next}
-use Rattle.kdbush.specs.declared.Next.the-variants.{Slot as Next·Slot, Done as Next·Done}
 use Rattle.kdbush.specs.declared.BuildReply.{BuildReply}
 use Rattle.kdbush.specs.declared.BuildReply.the-variants.{Done as Build·Done, Options, Count, Point, Tables}
 use Rattle.kdbush.specs.declared.SearchReply.{SearchReply}
 use Rattle.kdbush.specs.declared.SearchReply.the-variants.{Found, Box, NoRoom, Spoiled}
-use Rattle.kdbush.specs.declared.Step.{Step}
-use Rattle.kdbush.specs.declared.Step.the-variants.{Slot, Done, Box as Step·Box, Spoiled as Step·Spoiled}
 use Rattle.kdbush.specs.declared.Outside.{Outside}
 use Rattle.kdbush.specs.declared.Outside.the-variants.{At, Nothing}
-use Rattle.kdbush.specs.Query.{queryOk}
-use Rattle.kdbush.specs.Bounds.{both-true}
-use Rattle.kdbush.specs.Slots.{answers}
+use Rattle.kdslots.specs.Query.{queryOk}
+use Rattle.kdslots.specs.Bounds.{nodeSizeOk, countOk, yes, no}
 use Rattle.kdbush.specs.Run.{ran, run, pickReply, sound, whole, filled}
-use Rattle.kdbush.specs.Cursor.{headOf, restOf}
-use Rattle.kdbush.specs.Reply.{nodeSizeOk, countOk, coordsOk, firstOutside, pointed, checked, builtBy, built, found, told, indexOk, listed, listedColumn, searched, columnAfter, nextStep, ending, firstStep, afterStep}
+use Rattle.kdbush.specs.Reply.{firstOutside, pointed, checked, builtBy, built, found, told, indexOk, listed, listedColumn, searched, columnAfter}
 use Rattle.kdbush.proofs.Runs.{ends}
-
--- ---- tests
-
-yes : {A : Type 0} (b : Bool) (x y : A) → b ≡ true → cond b x y ≡ x
-yes b x y e = rw e
-
-no : {A : Type 0} (b : Bool) (x y : A) → b ≡ false → cond b x y ≡ y
-no b x y e = rw e
-
-pub first-false : {a : Bool} (b : Bool) → a ≡ false → (a && b) ≡ false
-first-false b e = rw e
-
-pub second-false : {a b : Bool} → a ≡ true → b ≡ false → (a && b) ≡ false
-second-false e f = rw (e, f)
 
 -- ---- the searches
 
@@ -119,51 +99,6 @@ module _ (q : Query) (size n : ℕ) (ids : List ℕ) (co : List Float) (out : Li
   pub finite-box : queryOk q ≡ false → indexOk size n ids co ≡ true → (Box ≡ searched q size n ids co (length out)) × (out ≡ columnAfter q size n ids co out)
   unfolding searched columnAfter
   finite-box f e = (sym (yes _ _ _ e ∙ no _ _ _ f), sym (no _ _ _ f))
-
--- ---- the cursor
-
--- what an interval's search answers, as a step
-abbrev pub stepOf : Next → Step
-stepOf (Next·Slot i) = Slot i
-stepOf Next·Done = Done
-
-step-head : (l : List ℕ) → stepOf (headOf l) ≡ nextStep Done l
-step-head [] = refl
-step-head (i ∷ l) = refl
-
-module _ (q : Query) (size n : ℕ) (co : List Float) where
-  pub first-spoiled : coordsOk size n (length co) ≡ false → Step·Spoiled ≡ firstStep q size n co
-  unfolding firstStep
-  first-spoiled e = sym (ap (nextStep (ending q size n co)) (no _ _ _ (first-false (queryOk q) e)) ∙ no _ _ _ e)
-
-  pub first-box : coordsOk size n (length co) ≡ true → queryOk q ≡ false → Step·Box ≡ firstStep q size n co
-  unfolding firstStep
-  first-box e f = sym (ap (nextStep (ending q size n co)) (no _ _ _ (second-false e f)) ∙ yes _ _ _ e ∙ no _ _ _ f)
-
-  pub first-found : coordsOk size n (length co) ≡ true → queryOk q ≡ true → (x : Next) → x ≡ headOf (answers q co size n) → stepOf x ≡ firstStep q size n co
-  unfolding firstStep
-  first-found e f x g =
-      ap stepOf g ∙ step-head (answers q co size n)
-      ∙ sym (ap (nextStep (ending q size n co)) (yes _ _ _ (both-true e f)) ∙ ap (λ (s : Step). nextStep s (answers q co size n)) (yes _ _ _ e ∙ yes _ _ _ f))
-
-  module _ (c : ℕ) where
-    pub after-spoiled : coordsOk size n (length co) ≡ false → Step·Spoiled ≡ afterStep q size n co c
-    unfolding afterStep
-    after-spoiled e = sym (ap (nextStep (ending q size n co)) (no _ _ _ (first-false (ltb c n) (first-false (queryOk q) e))) ∙ no _ _ _ e)
-
-    pub after-box : coordsOk size n (length co) ≡ true → queryOk q ≡ false → Step·Box ≡ afterStep q size n co c
-    unfolding afterStep
-    after-box e f = sym (ap (nextStep (ending q size n co)) (no _ _ _ (first-false (ltb c n) (second-false e f))) ∙ yes _ _ _ e ∙ no _ _ _ f)
-
-    pub after-past : coordsOk size n (length co) ≡ true → queryOk q ≡ true → ltb c n ≡ false → Done ≡ afterStep q size n co c
-    unfolding afterStep
-    after-past e f g = sym (ap (nextStep (ending q size n co)) (no _ _ _ (second-false (both-true e f) g)) ∙ yes _ _ _ e ∙ yes _ _ _ f)
-
-    pub after-found : coordsOk size n (length co) ≡ true → queryOk q ≡ true → ltb c n ≡ true → (x : Next) → x ≡ headOf (restOf q co size n c) → stepOf x ≡ afterStep q size n co c
-    unfolding afterStep
-    after-found e f g x h =
-        ap stepOf h ∙ step-head (restOf q co size n c)
-        ∙ sym (ap (nextStep (ending q size n co)) (yes _ _ _ (both-true (both-true e f) g)) ∙ ap (λ (s : Step). nextStep s (restOf q co size n c)) (yes _ _ _ e ∙ yes _ _ _ f))
 
 -- ---- the build
 

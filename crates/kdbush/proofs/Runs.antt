@@ -11,9 +11,9 @@ use lib.Seq.{set-out}
 use borrow.Author.Tests.{le-ltb, lt-ltb}
 use Rattle.kdbush.specs.declared.Found.{Found}
 use Rattle.kdbush.specs.declared.Found.the-variants.{All, Spoiled}
-use Rattle.kdsort.specs.Shape.{shape, mid, shape-leaf, shape-node, spans}
-use Rattle.kdbush.specs.Slots.{Search, when, scanned, slots, below}
-use Rattle.kdbush.specs.Walk.{when-length, slots-length}
+use Rattle.kdsort.specs.Shape.{shape, mid, spans}
+use Rattle.kdslots.specs.Slots.{Search, when, scanned, slots, below}
+use Rattle.kdslots.specs.Intervals.{scanned-suc, slots-leaf, slots-node, when-length, slots-length}
 use Rattle.kdbush.specs.Run.{Ran, ran, run, run-append, places, reply, sound, filled, run-filled}
 
 -- ---- one slot
@@ -76,13 +76,6 @@ run-count n at k ps out o e = ap (λ (r : Ran). allOf r (at + length ps)) e ∙ 
 
 -- ---- slot by slot
 
-pub scanned-suc : (s : Search) (i hi : ℕ) → i < hi → scanned s i (hi - i) ≡ when (s .test i) (i ∷ []) ++ scanned s (i + 1) (hi - (i + 1))
-unfolding scanned
-scanned-suc s i hi h = go (hi - i) (hi - (i + 1)) (omega arith)
-  where
-    go : (a b : ℕ) → a ≡ suc b → scanned s i a ≡ when (s .test i) (i ∷ []) ++ scanned s (i + 1) b
-    go a b e = rw e
-
 pub scan-more : (s : Search) (ids : List ℕ) (n k j i hi : ℕ) (out o : List ℕ) → i < hi
     → ran (All j) o ≡ run n k (places ids (when (s .test i) (i ∷ []))) out
     → run n k (places ids (scanned s i (hi - i))) out ≡ run n j (places ids (scanned s (i + 1) (hi - (i + 1)))) o
@@ -120,14 +113,6 @@ part-count s ax most lo hi n at k ids go out o e =
     )
 
 -- ---- an interval
-
-pub slots-leaf : (s : Search) (ax most lo hi : ℕ) → hi - lo ≤ most → slots s ax (shape most lo hi) ≡ scanned s lo (hi - lo)
-unfolding slots
-slots-leaf s ax most lo hi h = rw (shape-leaf most lo hi h)
-
-pub slots-node : (s : Search) (ax most lo hi : ℕ) → most < hi - lo → slots s ax (shape most lo hi) ≡ when (s .test (mid lo hi)) (mid lo hi ∷ []) ++ below s ax most lo hi
-unfolding slots
-slots-node s ax most lo hi h = rw (shape-node most lo hi h)
 
 pub part-leaf : (s : Search) (ids : List ℕ) (n most lo hi ax at : ℕ) (out : List ℕ) (x : Found) (o : List ℕ) → hi - lo ≤ most
     → ran x o ≡ run n at (places ids (scanned s lo (hi - lo))) out → ran x o ≡ run n at (places ids (slots s ax (shape most lo hi))) out

@@ -18,8 +18,8 @@ use Rattle.kdsort.specs.Indexes.{indexed-ok}
 use Rattle.kdbush.specs.declared.BuildReply.the-variants.{Done}
 use Rattle.kdbush.specs.declared.Outside.{Outside}
 use Rattle.kdbush.specs.declared.Outside.the-variants.{At, Nothing}
-use Rattle.kdbush.specs.Reply.{nodeSizeOk, countOk, pairOk, firstOutside, inOrder, checked, built}
-use Rattle.kdbush.specs.Bounds.{and-both, size-is, count-is}
+use Rattle.kdslots.specs.Bounds.{nodeSizeOk, countOk, and-both, size-is, count-is}
+use Rattle.kdbush.specs.Reply.{pairOk, firstOutside, inOrder, checked, built}
 
 -- what an accepted build was given
 pub record Accepted (size : ℕ) (xs ys : List Float) (s : Cols) : Type 0 where

@@ -18,18 +18,19 @@ use Rattle.floats.specs.Edges.{le-add, sub-le}
 use Rattle.floats.specs.Distance.{passes-self}
 use Rattle.kdsort.specs.Cols.{Cols, key}
 use Rattle.kdsort.specs.Tree.{Index}
-use Rattle.kdbush.specs.declared.Query.{Query}
-use Rattle.kdbush.specs.declared.Query.the-variants.{Range, Within}
+use Rattle.kdslots.specs.declared.Query.{Query}
+use Rattle.kdslots.specs.declared.Query.the-variants.{Range, Within}
 use Rattle.kdbush.specs.declared.SearchReply.the-variants.{Found}
-use Rattle.kdbush.specs.Query.{passesQ, least, greatest, queryOk}
-use Rattle.kdbush.specs.Slots.{answers}
+use Rattle.kdslots.specs.Query.{passesQ, least, greatest, queryOk}
+use Rattle.kdslots.specs.Slots.{answers}
 use Rattle.kdbush.specs.Run.{places, sound, whole}
-use Rattle.kdbush.specs.Reply.{coordsOk, found, listed, listedColumn, searched, columnAfter}
-use Rattle.kdbush.specs.Walk.{no-nil, answers-length}
-use Rattle.kdbush.specs.All.{All, AllBelow}
-use Rattle.kdbush.specs.Members.{In, NotIn, Distinct, Between}
-use Rattle.kdbush.specs.Sound.{answers-sound, answers-between, answers-distinct}
-use Rattle.kdbush.specs.Complete.{Inside, answers-complete, in-box}
+use Rattle.kdslots.specs.Bounds.{coordsOk}
+use Rattle.kdbush.specs.Reply.{found, listed, listedColumn, searched, columnAfter}
+use Rattle.kdslots.specs.Members.{no-nil, In, NotIn, Distinct, Between}
+use Rattle.kdslots.specs.Intervals.{answers-length}
+use Rattle.kdslots.specs.All.{All, AllBelow}
+use Rattle.kdslots.specs.Sound.{answers-sound, answers-between, answers-distinct}
+use Rattle.kdslots.specs.Complete.{Inside, answers-complete, in-box}
 
 -- ---- slots and their places
 

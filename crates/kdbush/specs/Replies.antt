@@ -5,14 +5,10 @@ use Prim.Native.Nat.{ℕ}
 use lib.Ieee.{Float}
 use Rattle.floats.specs.Replies.{same-reply}
 use Rattle.kdsort.specs.Cols.{Cols}
-use Rattle.kdbush.specs.declared.Query.{Query}
+use Rattle.kdslots.specs.declared.Query.{Query}
 use Rattle.kdbush.specs.declared.BuildReply.{BuildReply}
 use Rattle.kdbush.specs.declared.SearchReply.{SearchReply}
-use Rattle.kdbush.specs.declared.Step.{Step}
-use Rattle.kdbush.specs.Reply.{buildNumber, buildCarried, checked, built, listed, listedColumn, searched, columnAfter, nextStep, firstStep, afterStep}
-use Rattle.kdbush.specs.declared.Step.the-variants.{Done}
-use Rattle.kdbush.specs.declared.Pages.{Pages}
-use Rattle.kdbush.specs.Pages.{begun, tailOf}
+use Rattle.kdbush.specs.Reply.{buildNumber, buildCarried, checked, built, listed, listedColumn, searched, columnAfter}
 
 pub build-replies : (size : ℕ) (xs ys : List Float) (s : Cols) (r t : BuildReply) → r ≡ checked size xs ys s → t ≡ checked size xs ys s → r ≡ t
 build-replies size xs ys s r t = same-reply
@@ -40,19 +36,3 @@ search-replies q size n ids co room r t = same-reply
 
 pub search-columns : (q : Query) (size n : ℕ) (ids : List ℕ) (co : List Float) (out u v : List ℕ) → u ≡ columnAfter q size n ids co out → v ≡ columnAfter q size n ids co out → u ≡ v
 search-columns q size n ids co out u v = same-reply
-
-pub first-replies : (q : Query) (size n : ℕ) (co : List Float) (r t : Step) → r ≡ firstStep q size n co → t ≡ firstStep q size n co → r ≡ t
-first-replies q size n co r t = same-reply
-
-pub after-replies : (q : Query) (size n : ℕ) (co : List Float) (c : ℕ) (r t : Step) → r ≡ afterStep q size n co c → t ≡ afterStep q size n co c → r ≡ t
-after-replies q size n co c r t = same-reply
-
-pub begin-replies : (r t : Pages) → r ≡ begun → t ≡ begun → r ≡ t
-begin-replies r t = same-reply
-
--- `next_slot`: the step; and what is ahead afterwards, which is all that a reader of the walk sees of the page
-pub next-slot-replies : (l : List ℕ) (r t : Step) → r ≡ nextStep Done l → t ≡ nextStep Done l → r ≡ t
-next-slot-replies l r t = same-reply
-
-pub next-slot-ahead : (l u v : List ℕ) → u ≡ tailOf l → v ≡ tailOf l → u ≡ v
-next-slot-ahead l u v = same-reply

@@ -3,25 +3,23 @@
 use mathlib.Core.Bool.{Bool, true, false, cond, _&&_}
 use mathlib.Core.List.{List, [], _∷_}
 use Prim.Native.Nat.{ℕ, suc, _*_}
-use lib.Dec.{leb, ltb, eqb}
+use lib.Dec.{leb, eqb}
 use lib.ListN.{length}
 use lib.Ieee.{Float}
 use Rattle.floats.specs.Unit.{in01}
 use Rattle.kdsort.specs.Cols.{Cols}
 use Rattle.kdsort.specs.Sort.{indexed}
-use Rattle.kdbush.specs.declared.Query.{Query}
+use Rattle.kdslots.specs.declared.Query.{Query}
 use Rattle.kdbush.specs.declared.BuildReply.{BuildReply}
 use Rattle.kdbush.specs.declared.BuildReply.the-variants.{Done as Build·Done, Options, Count, Point, Tables}
 use Rattle.kdbush.specs.declared.SearchReply.{SearchReply}
 use Rattle.kdbush.specs.declared.SearchReply.the-variants.{Found, Box, NoRoom, Spoiled}
-use Rattle.kdbush.specs.declared.Step.{Step}
-use Rattle.kdbush.specs.declared.Step.the-variants.{Slot, Done, Box as Step·Box, Spoiled as Step·Spoiled}
 use Rattle.kdbush.specs.declared.Outside.{Outside}
 use Rattle.kdbush.specs.declared.Outside.the-variants.{At, Nothing}
-use Rattle.kdbush.specs.Query.{queryOk}
-use Rattle.kdbush.specs.Slots.{answers}
+use Rattle.kdslots.specs.Query.{queryOk}
+use Rattle.kdslots.specs.Slots.{answers}
+use Rattle.kdslots.specs.Bounds.{nodeSizeOk, countOk, coordsOk}
 use Rattle.kdbush.specs.Run.{places, sound, whole, filled}
-use Rattle.kdbush.specs.Cursor.{restOf}
 
 -- ---- 01's numbers of the replies, and what they carry
 
@@ -50,24 +48,6 @@ searchCarried (Found k) = k
 searchCarried Box = 0
 searchCarried (NoRoom k) = k
 searchCarried Spoiled = 0
-
-abbrev pub stepNumber : Step → ℕ
-stepNumber (Slot i) = 0
-stepNumber Done = 0
-stepNumber Step·Box = 9
-stepNumber Step·Spoiled = 11
-
--- ---- the bounds
-
-abbrev pub nodeSizeOk : ℕ → Bool
-nodeSizeOk size = leb 1 size && leb size 65535
-
-abbrev pub countOk : ℕ → Bool
-countOk n = leb 1 n && leb n 1048576
-
--- an index of n slots whose coordinates may be searched
-abbrev pub coordsOk : ℕ → ℕ → ℕ → Bool
-coordsOk size n co = nodeSizeOk size && countOk n && leb (2 * n) co
 
 -- ---- the build
 
@@ -133,28 +113,3 @@ searched q size n ids co room = cond (indexOk size n ids co) (cond (queryOk q) (
 -- the column: as it was, where the query is refused
 unfoldable pub columnAfter : Query → ℕ → ℕ → List ℕ → List Float → List ℕ → List ℕ
 columnAfter q size n ids co out = cond (queryOk q) (listedColumn q size n ids co out) out
-
--- ---- the same answers one at a time
-
--- the first of the list, or how it ends
-abbrev pub nextStep : Step → List ℕ → Step
-nextStep e [] = e
-nextStep e (i ∷ l) = Slot i
-
--- how a walk ends: with a refusal that it began with, or done
-abbrev pub ending : Query → ℕ → ℕ → List Float → Step
-ending q size n co = cond (coordsOk size n (length co)) (cond (queryOk q) Done Step·Box) Step·Spoiled
-
--- the slots that a walk goes over: none where it is refused
-abbrev pub walk : Query → ℕ → ℕ → List Float → List ℕ
-walk q size n co = cond (coordsOk size n (length co) && queryOk q) (answers q co size n) []
-
-unfoldable pub firstStep : Query → ℕ → ℕ → List Float → Step
-firstStep q size n co = nextStep (ending q size n co) (walk q size n co)
-
--- what follows the slot c; a slot past the index has nothing after it
-abbrev pub walkAfter : Query → ℕ → ℕ → List Float → ℕ → List ℕ
-walkAfter q size n co c = cond (coordsOk size n (length co) && queryOk q && ltb c n) (restOf q co size n c) []
-
-unfoldable pub afterStep : Query → ℕ → ℕ → List Float → ℕ → Step
-afterStep q size n co c = nextStep (ending q size n co) (walkAfter q size n co c)

@@ -6,7 +6,7 @@ use Prim.Native.Nat.{ℕ, _+_, _<_, _≤_}
 use native.Mathlib.Omega.{arith}
 use lib.ListN.{length, set, length-append}
 use lib.Seq.{append-snoc}
-use Rattle.kdbush.specs.All.{AllBelow}
+use Rattle.kdslots.specs.All.{AllBelow}
 use Rattle.kdbush.specs.Run.{filled}
 use Rattle.tables.specs.declared.Entry.{Entry}
 use Rattle.asking.specs.declared.Ring.{Ring}

@@ -8,10 +8,10 @@ use borrow.Author.Tests.{lt-ltb, le-ltb, eq-eqb, ne-eqb, ltb-true}
 use lib.Dec.{ltb, eqb}
 use lib.ListN.{length, getD}
 use lib.Ieee.{Float}
-use Rattle.kdbush.specs.declared.Pages.{Pages}
-use Rattle.kdbush.specs.All.{All, AllBelow}
+use Rattle.kdwalk.specs.declared.Pages.{Pages}
+use Rattle.kdslots.specs.All.{All, AllBelow}
 use Rattle.kdbush.specs.Run.{places, sound, whole, filled}
-use Rattle.kdbush.specs.Walk.{no-nil}
+use Rattle.kdslots.specs.Members.{no-nil}
 use Rattle.tables.specs.declared.Entry.{Entry}
 use Rattle.tables.specs.declared.State.{State}
 use Rattle.tables.specs.State.{startOf, lenOf}

@@ -19,14 +19,15 @@ use Rattle.floats.specs.Infinities.{square-nonneg}
 use Rattle.floats.specs.Distance.{sqDist}
 use Rattle.floats.specs.Radius.{scale-positive, radius-bounds}
 use Rattle.kdsort.specs.Cols.{key}
-use Rattle.kdbush.specs.declared.Query.{Query}
-use Rattle.kdbush.specs.declared.Query.the-variants.{Within}
-use Rattle.kdbush.specs.Slots.{answers}
-use Rattle.kdbush.specs.Members.{In}
-use Rattle.kdbush.specs.Sound.{answers-sound}
-use Rattle.kdbush.specs.Bounds.{both-true}
+use Rattle.kdslots.specs.declared.Query.{Query}
+use Rattle.kdslots.specs.declared.Query.the-variants.{Within}
+use Rattle.kdslots.specs.Slots.{answers}
+use Rattle.kdslots.specs.Members.{In}
+use Rattle.kdslots.specs.Sound.{answers-sound}
+use Rattle.kdslots.specs.Bounds.{both-true, coordsOk}
 use Rattle.kdbush.specs.Run.{places}
-use Rattle.kdbush.specs.Reply.{coordsOk, walk, found}
+use Rattle.kdwalk.specs.Reply.{walk}
+use Rattle.kdbush.specs.Reply.{found}
 use Rattle.tables.specs.declared.State.{State}
 use Rattle.tables.specs.State.{lenOf}
 use Rattle.tables.specs.Sound.{given}

@@ -1,12 +1,12 @@
 // The children of a cluster, one at a time and into a column: what the questions that walk from cluster to cluster rest on.
 use asking::Ring;
-use kdbush::Pages;
-use kdbush::Step;
+use kdwalk::Pages;
+use kdwalk::Step;
 use tables::Entry;
 ghost use mathlib.Core.Path.{_≡_};
 ghost use Prim.Native.Nat.{_+_};
 ghost use lib.ListN.{length};
-ghost use Rattle.kdbush.specs.All.{AllBelow};
+ghost use Rattle.kdslots.specs.All.{AllBelow};
 ghost use Rattle.kdbush.specs.Run.{filled};
 ghost use Rattle.asking.specs.Columns.{columns};
 ghost use Rattle.asking.specs.Around.{slotsOf, aheadIn};
@@ -98,7 +98,7 @@ pub fn list_kids(
 {
     let mut k = 0;
     let mut page = [0usize; 64];
-    let mut from = kdbush::begin();
+    let mut from = kdwalk::begin();
     loop {
         match next_child(
             g,

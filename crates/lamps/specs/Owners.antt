@@ -11,8 +11,8 @@ use borrow.Author.Tests.{ne-eqb}
 use lib.Dec.{eqb}
 use lib.ListN.{length, length-map}
 use lib.Ieee.{Float}
-use Rattle.kdbush.specs.All.{AllBelow, all-getD}
-use Rattle.kdbush.specs.Members.{Distinct}
+use Rattle.kdslots.specs.All.{AllBelow, all-getD}
+use Rattle.kdslots.specs.Members.{Distinct}
 use Rattle.tables.specs.Bounds.{options-are}
 use Rattle.tables.specs.declared.Entry.{Entry}
 use Rattle.tables.specs.declared.Options.{Options}

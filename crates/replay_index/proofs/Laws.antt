@@ -7,11 +7,12 @@ use mathlib.Core.Path.{_≡_, refl, sym, subst}
 use borrow.Author.Tests.{lt-ltb, le-ltb, eq-eqb, ne-eqb}
 use lib.ListN.{length, getD}
 use lib.Ieee.{Float}
-use Rattle.kdbush.specs.declared.Step.{Step}
-use Rattle.kdbush.specs.declared.Query.{Query}
+use Rattle.kdwalk.specs.declared.Step.{Step}
+use Rattle.kdslots.specs.declared.Query.{Query}
 use Rattle.kdbush.specs.declared.BuildReply.{BuildReply}
 use Rattle.kdbush.specs.declared.SearchReply.{SearchReply}
-use Rattle.kdbush.specs.Reply.{checked, built, searched, columnAfter, firstStep, afterStep}
+use Rattle.kdbush.specs.Reply.{checked, built, searched, columnAfter}
+use Rattle.kdwalk.specs.Reply.{firstStep, afterStep}
 use Rattle.kdsort.specs.Cols.{cols}
 use Rattle.vectors.specs.Same.{samePlaces, sameFloats, doneIs}
 use Rattle.replay_index.specs.Same.{buildsTo, foundIs, listsTo, slotOf, overIs, walked, walksTo}

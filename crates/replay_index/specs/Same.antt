@@ -9,13 +9,14 @@ use Rattle.vectors.specs.Same.{samePlaces, sameFloats, doneIs}
 use Rattle.vectors.specs.declared.Function.{Function}
 use Rattle.vectors.specs.declared.Function.the-variants.{Range as Function·Range, Within as Function·Within}
 use Rattle.kdsort.specs.Cols.{cols}
-use Rattle.kdbush.specs.declared.Query.{Query}
-use Rattle.kdbush.specs.declared.Query.the-variants.{Range, Within}
+use Rattle.kdslots.specs.declared.Query.{Query}
+use Rattle.kdslots.specs.declared.Query.the-variants.{Range, Within}
 use Rattle.kdbush.specs.declared.SearchReply.{SearchReply}
 use Rattle.kdbush.specs.declared.SearchReply.the-variants.{Found, Box as Search·Box, NoRoom, Spoiled as Search·Spoiled}
-use Rattle.kdbush.specs.declared.Step.{Step}
-use Rattle.kdbush.specs.declared.Step.the-variants.{Slot, Done, Box, Spoiled}
-use Rattle.kdbush.specs.Reply.{checked, built, searched, columnAfter, firstStep, afterStep}
+use Rattle.kdwalk.specs.declared.Step.{Step}
+use Rattle.kdwalk.specs.declared.Step.the-variants.{Slot, Done, Box, Spoiled}
+use Rattle.kdbush.specs.Reply.{checked, built, searched, columnAfter}
+use Rattle.kdwalk.specs.Reply.{firstStep, afterStep}
 
 -- a build that is not refused, and comes out as the columns expected
 unfoldable pub buildsTo : ℕ → List Float → List Float → List ℕ → List Float → List ℕ → List Float → Bool

@@ -1,4 +1,4 @@
-// Replays test vectors on the crate `kdbush`, and says whether its answers are those that the vectors expect.
+// Replays test vectors on the crates `kdbush` and `kdwalk`, and says whether their answers are those that the vectors expect.
 // A vector is a line of standard input: words of 16 lowercase hexadecimal digits, a space after each, and a line end after the last.
 //     node_size n, n times `x y`, n times `id x y`, k, k times `kind a b c d m` and m places
 // The n points are built; expected is the id and the point of each slot. The k queries follow: 0 asks for the box of the least x, the least y,
@@ -6,9 +6,9 @@
 // Each query is asked once as a list and once by the cursor. n and m go to 1024, k to 64; a case beyond is not of the form.
 // Proved: nothing here reads or writes outside its columns, each comparison is the equation of its definition in specs/, and the tally is right.
 // Assumed: what standard input gives is not modelled, so that the loops that read are only proved to be safe.
-use kdbush::Query;
 use kdbush::SearchReply;
-use kdbush::Step;
+use kdslots::Query;
+use kdwalk::Step;
 use vectors::Count;
 use vectors::Ending;
 use vectors::First;
@@ -232,7 +232,7 @@ fn walks(
     requires { ⌜ m ≤ length (now want) ⌝ }
     ensures { λ r. ⌜ r ≡ walksTo q «node_size» n (now (ids .entry)) (now (coords .entry)) m (now (want .entry)) ⌝ }
 {
-    let mut step = kdbush::first(q, node_size, n, coords);
+    let mut step = kdwalk::first(q, node_size, n, coords);
     let mut i = 0;
     while i < m {
         let s = slot_of(step, ids.len());
@@ -242,7 +242,7 @@ fn walks(
         if ids[s] != want[i] {
             return false;
         }
-        step = kdbush::after(q, node_size, n, coords, s);
+        step = kdwalk::after(q, node_size, n, coords, s);
         i += 1;
     }
     is_over(step)

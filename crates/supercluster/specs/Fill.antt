@@ -15,7 +15,7 @@ use Rattle.range.specs.declared.CoordinateSystem.{CoordinateSystem}
 use Rattle.range.specs.declared.Point.{Point}
 use Rattle.range.specs.Range.{converted}
 use Rattle.kdbush.specs.declared.Outside.the-variants.{At, Nothing}
-use Rattle.kdbush.specs.All.{All}
+use Rattle.kdslots.specs.All.{All}
 use Rattle.kdbush.specs.Reply.{firstOutside}
 use Rattle.tables.specs.Entries.{Table, entry}
 use Rattle.zoom.specs.Lamps.{total}

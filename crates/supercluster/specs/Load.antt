@@ -10,9 +10,9 @@ use lib.Dec.{leb, eqb}
 use lib.ListN.{length, take, drop, length-map, replicate, length-replicate}
 use lib.Seq.{length-take-le}
 use lib.Ieee.{Float}
-use Rattle.kdbush.specs.Bounds.{and-both, count-is}
+use Rattle.kdslots.specs.Bounds.{and-both, count-is, countOk}
 use Rattle.kdbush.specs.Built.{done-tests, none-outside}
-use Rattle.kdbush.specs.Reply.{pairOk, countOk, firstOutside}
+use Rattle.kdbush.specs.Reply.{pairOk, firstOutside}
 use Rattle.kdbush.specs.declared.BuildReply.{BuildReply}
 use Rattle.kdbush.specs.declared.BuildReply.the-variants.{Done}
 use Rattle.tables.specs.Columns.{xs-rows, ys-rows, seen-rows, id-rows, parent-rows, num-rows}

@@ -9,7 +9,7 @@ use lib.Dec.{lit≤}
 use lib.ListN.{length, set, take, drop, replicate}
 use lib.Seq.{take-append-seam}
 use lib.Ieee.{Float}
-use Rattle.kdbush.specs.All.{All, all-map}
+use Rattle.kdslots.specs.All.{All, all-map}
 use Rattle.tables.specs.Bounds.{options-are}
 use Rattle.tables.specs.Columns.{part, xs-part, ys-part}
 use Rattle.tables.specs.Entries.{Table, xsOf, ysOf}

@@ -8,9 +8,9 @@ use native.Mathlib.Nat.{le-trans, add-suc, suc-mul}
 use lib.Dec.{lit≤}
 use lib.ListN.{length, length-append}
 use lib.Ieee.{Float}
-use Rattle.kdbush.specs.declared.Query.the-variants.{Within}
-use Rattle.kdbush.specs.All.{All, all-map}
-use Rattle.kdbush.specs.Members.{Distinct}
+use Rattle.kdslots.specs.declared.Query.the-variants.{Within}
+use Rattle.kdslots.specs.All.{All, all-map}
+use Rattle.kdslots.specs.Members.{Distinct}
 use Rattle.tables.specs.Bounds.{options-are}
 use Rattle.tables.specs.Entries.{Table}
 use Rattle.tables.specs.Radius.{radiusAt}

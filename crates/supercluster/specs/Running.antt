@@ -9,9 +9,9 @@ use lib.ListN.{length, take, drop, length-map, List·getD-map}
 use lib.Ieee.{Float, le}
 use Rattle.floats.specs.Numbers.{zero as fzero, one, pow16}
 use Rattle.floats.specs.Unit.{In01}
-use Rattle.kdbush.specs.declared.Query.the-variants.{Within}
-use Rattle.kdbush.specs.All.{All, all-map}
-use Rattle.kdbush.specs.Members.{Distinct}
+use Rattle.kdslots.specs.declared.Query.the-variants.{Within}
+use Rattle.kdslots.specs.All.{All, all-map}
+use Rattle.kdslots.specs.Members.{Distinct}
 use Rattle.kdbush.specs.Promise.{Promised}
 use Rattle.tables.specs.Columns.{part, part-long}
 use Rattle.tables.specs.Entries.{Table, none, xsOf, ysOf}

@@ -9,7 +9,7 @@ use lib.Seq.{drop-drop, length-take-le}
 use lib.Ieee.{Float}
 use Rattle.floats.specs.Unit.{In01-finite}
 use Rattle.kdsort.specs.Cols.{Cols}
-use Rattle.kdbush.specs.All.{All, all-map}
+use Rattle.kdslots.specs.All.{All, all-map}
 use Rattle.tables.specs.Columns.{part, xs-part, ys-part}
 use Rattle.tables.specs.Entries.{Table}
 use Rattle.tables.specs.Radius.{radiusAt, radius-fine}

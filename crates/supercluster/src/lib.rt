@@ -11,7 +11,7 @@ ghost use mathlib.Core.Path.{_≡_};
 ghost use mathlib.Core.List.{map};
 ghost use Prim.Native.Nat.{suc, _+_, _-_, _*_, _^_, _<_, _≤_};
 ghost use lib.ListN.{length, set, take, drop, replicate};
-ghost use Rattle.kdbush.specs.All.{All};
+ghost use Rattle.kdslots.specs.All.{All};
 ghost use Rattle.kdbush.specs.Promise.{Promised};
 ghost use Rattle.kdbush.specs.Reply.{pairOk, firstOutside, inOrder};
 ghost use Rattle.tables.specs.Rows.{rows, Even};

@@ -8,8 +8,7 @@ use borrow.Author.Tests.{leb-true}
 use Rattle.floats.specs.Numbers.{zero, one, pow16}
 use Rattle.floats.specs.Fraction.{yes-of}
 use Rattle.range.specs.Range.{systemInBounds}
-use Rattle.kdbush.specs.Reply.{nodeSizeOk}
-use Rattle.kdbush.specs.Bounds.{and-both, size-is}
+use Rattle.kdslots.specs.Bounds.{nodeSizeOk, and-both, size-is}
 use Rattle.tables.specs.declared.Options.{Options}
 use Rattle.tables.specs.Options.{optionsOk, zoomsOk, radiusOk, extentOk}
 

@@ -5,7 +5,7 @@ use lib.Dec.{leb, ltb}
 use lib.Ieee.{le}
 use Rattle.floats.specs.Numbers.{zero, one, pow16}
 use Rattle.range.specs.Range.{systemInBounds}
-use Rattle.kdbush.specs.Reply.{nodeSizeOk}
+use Rattle.kdslots.specs.Bounds.{nodeSizeOk}
 use Rattle.tables.specs.declared.Options.{Options}
 
 -- min_zoom <= max_zoom <= 30

@@ -6,8 +6,7 @@ use Prim.Native.Nat.{ℕ, zero, suc, _+_, _-_, _<_, _≤_}
 use native.Mathlib.Omega.{arith}
 use borrow.Author.Tests.{leb-true, eqb-true, ltb-true, ltb-false}
 use lib.Dec.{leb, ltb, eqb}
-use Rattle.kdbush.specs.Reply.{countOk}
-use Rattle.kdbush.specs.Bounds.{and-both, count-is}
+use Rattle.kdslots.specs.Bounds.{countOk, and-both, count-is}
 use Rattle.tables.specs.declared.Options.{Options}
 use Rattle.tables.specs.declared.State.{State}
 use Rattle.tables.specs.Options.{optionsOk, tableCount, raised, zoomUsed}

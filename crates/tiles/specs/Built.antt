@@ -9,10 +9,10 @@ use lib.ListN.{length}
 use Rattle.floats.specs.Unit.{In01}
 use Rattle.kdsort.specs.Cols.{Cols}
 use Rattle.kdsort.specs.Tree.{Index}
-use Rattle.kdbush.specs.declared.Query.{Query}
-use Rattle.kdbush.specs.Query.{queryOk}
-use Rattle.kdbush.specs.Slots.{answers}
-use Rattle.kdbush.specs.Reply.{walk}
+use Rattle.kdslots.specs.declared.Query.{Query}
+use Rattle.kdslots.specs.Query.{queryOk}
+use Rattle.kdslots.specs.Slots.{answers}
+use Rattle.kdwalk.specs.Reply.{walk}
 use Rattle.tables.specs.declared.State.{State}
 use Rattle.tables.specs.Options.{zoomUsed}
 use Rattle.tables.specs.State.{lenOf}

@@ -6,11 +6,11 @@ use Prim.Native.Nat.{ℕ}
 use native.Mathlib.Omega.{arith}
 use types.Run.{OneOf}
 use denote.Enum.Declared.{tagOf}
-use Rattle.kdbush.proofs.Step.{the-type}
-use Rattle.kdbush.specs.declared.Step.{Step}
-use Rattle.kdbush.specs.declared.Step.the-variants.{Slot, Done}
-use Rattle.kdbush.specs.Reply.{nextStep}
-use Rattle.kdbush.specs.Pages.{next-end}
+use Rattle.kdwalk.proofs.Step.{the-type}
+use Rattle.kdwalk.specs.declared.Step.{Step}
+use Rattle.kdwalk.specs.declared.Step.the-variants.{Slot, Done}
+use Rattle.kdwalk.specs.Reply.{nextStep}
+use Rattle.kdwalk.specs.Pages.{next-end}
 
 no-slot : (s : Step) → OneOf (1 ∷ 2 ∷ 3 ∷ []) (tagOf the-type s) → (i : ℕ) → s ≡ Slot i → ⊥
 no-slot s h i e =

@@ -10,7 +10,7 @@ use lib.Dec.{eqb, ltb}
 use lib.ListN.{length, getD, set, replicate, length-set, length-replicate}
 use borrow.Author.Tests.{eqb-true, eqb-false, ltb-true}
 use Rattle.kdbush.specs.Run.{places}
-use Rattle.kdbush.specs.Bounds.{and-both}
+use Rattle.kdslots.specs.Bounds.{and-both}
 use Rattle.tables.specs.declared.Entry.{Entry}
 use Rattle.tables.specs.Entries.{Table, entry}
 use Rattle.tiling.specs.declared.Search.{Search}

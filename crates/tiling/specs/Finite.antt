@@ -23,11 +23,12 @@ use Rattle.floats.specs.Whole.{ofInt-finite, ofInt-positive, ofInt-nonneg, ofIn
 use Rattle.floats.specs.Exact.{div-one}
 use Rattle.floats.specs.Table.{at}
 use Rattle.floats.specs.Radius.{power-le}
-use Rattle.kdbush.specs.declared.Query.{Query}
-use Rattle.kdbush.specs.declared.Query.the-variants.{Range}
-use Rattle.kdbush.specs.Query.{queryOk}
-use Rattle.kdbush.specs.Slots.{answers}
-use Rattle.kdbush.specs.Reply.{coordsOk, walk}
+use Rattle.kdslots.specs.declared.Query.{Query}
+use Rattle.kdslots.specs.declared.Query.the-variants.{Range}
+use Rattle.kdslots.specs.Query.{queryOk}
+use Rattle.kdslots.specs.Slots.{answers}
+use Rattle.kdslots.specs.Bounds.{coordsOk}
+use Rattle.kdwalk.specs.Reply.{walk}
 use Rattle.tables.specs.declared.Options.{Options}
 use Rattle.tables.specs.Bounds.{InBounds}
 use Rattle.tiling.specs.Tile.{margin, side, edge, least, greatest, here, east, west}

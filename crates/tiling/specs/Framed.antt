@@ -13,7 +13,7 @@ use Rattle.floats.specs.Order.{le-le-trans}
 use Rattle.floats.specs.Whole.{ofInt-nonneg, ofInt-mono}
 use Rattle.floats.specs.Unit.{In01}
 use Rattle.floats.specs.Tile.{pow31-is, tile-bounds}
-use Rattle.kdbush.specs.Bounds.{and-both}
+use Rattle.kdslots.specs.Bounds.{and-both}
 use Rattle.tables.specs.declared.Options.{Options}
 use Rattle.tables.specs.Bounds.{InBounds}
 use Rattle.tiling.specs.declared.Search.{Search}

@@ -13,7 +13,7 @@ use Rattle.floats.specs.Fraction.{is-true}
 use Rattle.floats.specs.Order.{le-le-trans}
 use Rattle.floats.specs.Monotone.{div-mono}
 use Rattle.floats.specs.Edges.{le-add, sub-le}
-use Rattle.kdbush.specs.Query.{passesQ}
+use Rattle.kdslots.specs.Query.{passesQ}
 use Rattle.tables.specs.declared.Options.{Options}
 use Rattle.tables.specs.Bounds.{InBounds}
 use Rattle.tiling.specs.Tile.{margin, side, least, greatest, here}

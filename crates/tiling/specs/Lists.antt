@@ -12,11 +12,11 @@ use Rattle.floats.specs.Fraction.{is-true}
 use Rattle.floats.specs.Unit.{In01, in01, In01→in01}
 use Rattle.kdsort.specs.Cols.{Cols}
 use Rattle.kdsort.specs.Tree.{Index}
-use Rattle.kdbush.specs.Query.{passesQ}
-use Rattle.kdbush.specs.Slots.{when}
+use Rattle.kdslots.specs.Query.{passesQ}
+use Rattle.kdslots.specs.Slots.{when}
 use Rattle.kdbush.specs.Reply.{found}
-use Rattle.kdbush.specs.Members.{In}
-use Rattle.kdbush.specs.All.{All, AllBelow}
+use Rattle.kdslots.specs.Members.{In}
+use Rattle.kdslots.specs.All.{All, AllBelow}
 use Rattle.kdbush.specs.Promise.{answered-below, range-complete}
 use Rattle.tables.specs.declared.Options.{Options}
 use Rattle.tables.specs.Bounds.{InBounds}

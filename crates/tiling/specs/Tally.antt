@@ -7,7 +7,7 @@ use Prim.Native.Nat.{ℕ, _+_}
 use native.Mathlib.Omega.{arith}
 use lib.Dec.{eqb}
 use borrow.Author.Tests.{eqb-true, eqb-false}
-use Rattle.kdbush.specs.Members.{In, NotIn, Distinct}
+use Rattle.kdslots.specs.Members.{In, NotIn, Distinct}
 use Rattle.tables.specs.Entries.{Table, entry}
 use Rattle.tiling.specs.declared.Tally.{Tally}
 use Rattle.tiling.specs.declared.Tally.the-variants.{Sum, Tile as No·Tile, EmptyTile, Spoiled}

@@ -8,7 +8,7 @@ use native.Mathlib.Omega.{arith}
 use lib.ListN.{length}
 use lib.IntN.{ℤ}
 use lib.Ieee.{Float}
-use Rattle.kdbush.specs.Reply.{coordsOk}
+use Rattle.kdslots.specs.Bounds.{coordsOk}
 use Rattle.tables.specs.declared.Options.{Options}
 use Rattle.tables.specs.Bounds.{InBounds}
 use Rattle.tables.specs.Entries.{Table}

@@ -9,8 +9,8 @@ use lib.Ieee.{Float, binary64, neg, add, sub, mul, div}
 use Rattle.floats.specs.Numbers.{zero, one, float}
 use Rattle.floats.specs.Unit.{in01}
 use Rattle.floats.specs.Away.{away}
-use Rattle.kdbush.specs.declared.Query.the-variants.{Range}
-use Rattle.kdbush.specs.Slots.{when}
+use Rattle.kdslots.specs.declared.Query.the-variants.{Range}
+use Rattle.kdslots.specs.Slots.{when}
 use Rattle.kdbush.specs.Reply.{found}
 use Rattle.tables.specs.declared.Options.{Options}
 use Rattle.tables.specs.declared.Entry.{Entry}

@@ -11,13 +11,14 @@ use lib.IntN.{ℤ}
 use lib.Ieee.{Float}
 use Rattle.floats.specs.Fraction.{yes-of}
 use Rattle.floats.specs.Unit.{In01, in01, in01→In01}
-use Rattle.kdbush.specs.Query.{queryOk}
-use Rattle.kdbush.specs.Slots.{when}
+use Rattle.kdslots.specs.Query.{queryOk}
+use Rattle.kdslots.specs.Slots.{when}
 use Rattle.kdbush.specs.Run.{places}
-use Rattle.kdbush.specs.Reply.{coordsOk, walk}
-use Rattle.kdbush.specs.Bounds.{and-both}
+use Rattle.kdslots.specs.Bounds.{coordsOk, and-both}
+use Rattle.kdwalk.specs.Reply.{walk}
 use Rattle.kdbush.specs.Promise.{places-length}
-use Rattle.kdbush.specs.Walk.{when-length, walk-length}
+use Rattle.kdslots.specs.Intervals.{when-length}
+use Rattle.kdwalk.specs.Walk.{walk-length}
 use Rattle.tables.specs.declared.Entry.{Entry}
 use Rattle.tables.specs.Entries.{Table, entry}
 use Rattle.tiling.specs.declared.Search.{Search}

@@ -1,6 +1,6 @@
 // What a tile lists of one table, and its tally. The table and its index stand alone in the lent columns.
-use kdbush::Query;
-use kdbush::Step;
+use kdslots::Query;
+use kdwalk::Step;
 use tables::Entry;
 use tables::Options;
 ghost use mathlib.Core.Path.{_≡_};
@@ -11,7 +11,7 @@ ghost use lib.ListN.{length, set};
 ghost use lib.Ieee.{le, neg};
 ghost use Rattle.floats.specs.Numbers.{one, pow31};
 ghost use Rattle.floats.specs.Unit.{In01};
-ghost use Rattle.kdbush.specs.Reply.{coordsOk};
+ghost use Rattle.kdslots.specs.Bounds.{coordsOk};
 ghost use Rattle.tables.specs.Bounds.{InBounds};
 ghost use Rattle.tables.specs.Rows.{rows, Even};
 ghost use Rattle.tiling.specs.Tile.{isTile, strip, here, east, west, visited, namedAt, rounded, itemOf};
@@ -274,9 +274,9 @@ fn list_by(
     let n = x.len();
     let mut k = at;
     let mut page = [0usize; 64];
-    let mut pages = kdbush::begin();
+    let mut pages = kdwalk::begin();
     loop {
-        let t = kdbush::next_slot(q, size, n, coords, &mut page, pages);
+        let t = kdwalk::next_slot(q, size, n, coords, &mut page, pages);
         pages = t.pages;
         let s = t.step;
         let Step::Slot(c) = s else {
@@ -394,9 +394,9 @@ fn tally_by(
     let size = g.node_size;
     let n = x.len();
     let mut page = [0usize; 64];
-    let mut pages = kdbush::begin();
+    let mut pages = kdwalk::begin();
     loop {
-        let u = kdbush::next_slot(q, size, n, coords, &mut page, pages);
+        let u = kdwalk::next_slot(q, size, n, coords, &mut page, pages);
         pages = u.pages;
         let s = u.step;
         let Step::Slot(c) = s else {

@@ -12,7 +12,7 @@ use lib.IntN.{ℤ, pos, negsuc}
 use lib.ListN.{length, getD}
 use lib.Seq.{ext-getD}
 use Rattle.floats.specs.Table.{upto}
-use Rattle.kdbush.specs.Bounds.{and-both}
+use Rattle.kdslots.specs.Bounds.{and-both}
 use Rattle.vectors.specs.Same.{placeAt, samePlaces, eqLong, longAt, sameLongs}
 
 not-both : _≡_ {A = Bool} false true → ⊥

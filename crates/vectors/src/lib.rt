@@ -66,7 +66,7 @@ pub enum Question {
     Tally,
 }
 
-// The functions that vectors have answers of: those of `range`, those of `kdbush`, that of `supercluster`, that of `report`, and the questions.
+// The functions that vectors have answers of: those of `range`, those of `kdbush` and `kdwalk`, that of `supercluster`, that of `report`, and the questions.
 pub enum Function {
     Normalize,
     Denormalize,

@@ -7,7 +7,7 @@ use native.Mathlib.Omega.{arith}
 use lib.Dec.{eqb}
 use lib.ListN.{length}
 use Rattle.kdbush.specs.Run.{filled}
-use Rattle.kdbush.specs.Bounds.{and-both}
+use Rattle.kdslots.specs.Bounds.{and-both}
 use Rattle.tables.specs.declared.State.{State}
 use Rattle.asking.specs.declared.Answer.{Answer}
 use Rattle.asking.specs.declared.Answer.the-variants.{NoCluster, Spoiled}

@@ -8,7 +8,7 @@ use native.Mathlib.Omega.{arith}
 use borrow.Author.Tests.{eq-eqb, ne-eqb}
 use lib.Dec.{eqb}
 use lib.ListN.{length}
-use Rattle.kdbush.specs.All.{AllBelow}
+use Rattle.kdslots.specs.All.{AllBelow}
 use Rattle.tables.specs.declared.Entry.{Entry}
 use Rattle.tables.specs.declared.State.{State}
 use Rattle.tables.specs.Entries.{entry}

@@ -396,7 +396,7 @@ fn walk_into(
     let mut any = false;
     let mut so = was;
     let mut page = [0usize; 64];
-    let mut from = kdbush::begin();
+    let mut from = kdwalk::begin();
     loop {
         match kids::next_child(
             g,

@@ -15,7 +15,7 @@ use Rattle.kdsort.specs.Shape.{shape, split}
 use Rattle.kdsort.specs.Select.{up, down, passes, parted, sel, selected}
 use Rattle.kdsort.specs.Sort.{filled, sorted, indexed}
 use Rattle.kdbush.specs.declared.BuildReply.the-variants.{Done, Tables}
-use Rattle.kdbush.specs.Slots.{scanned, slots}
+use Rattle.kdslots.specs.Slots.{scanned, slots}
 use Rattle.kdbush.specs.Run.{places}
 use Rattle.kdbush.specs.Reply.{buildNumber, firstOutside}
 use Rattle.tables.specs.declared.Options.{Options}

@@ -7,7 +7,7 @@ use Rattle.kdsort.specs.Cols.{swapCo, swapIds}
 use Rattle.kdsort.specs.Shape.{shape, split}
 use Rattle.kdsort.specs.Select.{up, down, passes, parted, sel, selected}
 use Rattle.kdsort.specs.Sort.{filled, sorted, indexed}
-use Rattle.kdbush.specs.Slots.{scanned, slots}
+use Rattle.kdslots.specs.Slots.{scanned, slots}
 use Rattle.kdbush.specs.Run.{places}
 use Rattle.tables.specs.Radius.{radiusAt}
 use Rattle.zoom.specs.Zoom.{more, absorbOne, absorb, copyOne, copyAll, visit, scanOne, scanFrom, cluster}

@@ -7,7 +7,7 @@ use lib.IntN.{pos}
 use lib.Ieee.{neg, add, sub, mul, div, ofInt, ofBits, le, lt, eq}
 use Rattle.floats.specs.Away.{away}
 use Rattle.kdsort.specs.Shape.{shape, split}
-use Rattle.kdbush.specs.Slots.{scanned, slots}
+use Rattle.kdslots.specs.Slots.{scanned, slots}
 use Rattle.kdbush.specs.Run.{places}
 use Rattle.tables.specs.Rows.{rows}
 use Rattle.asking.specs.declared.Answer.the-variants.{Listed, Tile, Spoiled}

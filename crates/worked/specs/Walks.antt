@@ -7,7 +7,7 @@ use Prim.Native.Nat.{ℕ, _-_}
 use lib.ListN.{length}
 use lib.Ieee.{add, sub, mul, div, ofInt, ofBits, le, lt, eq}
 use Rattle.kdsort.specs.Shape.{shape, split}
-use Rattle.kdbush.specs.Slots.{scanned, slots}
+use Rattle.kdslots.specs.Slots.{scanned, slots}
 use Rattle.kdbush.specs.Run.{places, sound as sound·places, whole}
 use Rattle.tables.specs.declared.State.{State}
 use Rattle.tables.specs.Rows.{rows}

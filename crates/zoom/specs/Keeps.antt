@@ -11,7 +11,7 @@ use borrow.Author.Tests.{ltb-true, ltb-false}
 use lib.ListN.{length, set, length-set}
 use lib.Seq.{map-set-same}
 use lib.Ieee.{Float}
-use Rattle.kdbush.specs.All.{All, all-getD, all-set}
+use Rattle.kdslots.specs.All.{All, all-getD, all-set}
 use Rattle.tables.specs.declared.Entry.{Entry}
 use Rattle.tables.specs.Entries.{Table, entry, none, unseen, marked, under}
 use Rattle.tables.specs.Ids.{clusterId}

@@ -11,8 +11,8 @@ use lib.Ieee.{Float, le}
 use lib.Ieee.Scale.{finite}
 use Rattle.floats.specs.Numbers.{zero as fzero}
 use Rattle.floats.specs.Fraction.{is-true}
-use Rattle.kdbush.specs.declared.Query.the-variants.{Within}
-use Rattle.kdbush.specs.Query.{queryOk}
+use Rattle.kdslots.specs.declared.Query.the-variants.{Within}
+use Rattle.kdslots.specs.Query.{queryOk}
 use Rattle.kdbush.specs.Reply.{found}
 use Rattle.tables.specs.declared.Entry.{Entry}
 

@@ -12,8 +12,8 @@ use lib.Seq.{getD-set-same}
 use lib.Ieee.{Float}
 use Rattle.floats.specs.Centre.{Weighted, weigh-one, weigh-more, weigh-mean}
 use Rattle.floats.specs.Unit.{In01}
-use Rattle.kdbush.specs.All.{All, all-snoc, all-map}
-use Rattle.kdbush.specs.Members.{Distinct, NotIn}
+use Rattle.kdslots.specs.All.{All, all-snoc, all-map}
+use Rattle.kdslots.specs.Members.{Distinct, NotIn}
 use Rattle.tables.specs.declared.Entry.{Entry}
 use Rattle.tables.specs.Entries.{Table, entry, none, unseen, marked, under}
 use Rattle.tables.specs.Ids.{clusterId}

@@ -10,7 +10,7 @@ use lib.ListN.{length, set, drop, take, length-set, length-drop, List·getD-appe
 use lib.Seq.{getD-take, take-set-le, drop-set-add, drop-set-lt, take-suc-set, length-take-le, drop-drop, set-append-left, take-at, drop-at}
 use lib.Ieee.{binary64, mul}
 use Rattle.floats.specs.Numbers.{float}
-use Rattle.kdbush.specs.All.{All, AllBelow}
+use Rattle.kdslots.specs.All.{All, AllBelow}
 use Rattle.tables.specs.declared.Entry.{Entry}
 use Rattle.tables.specs.Entries.{Table, entry, none, unseen, marked, under}
 use Rattle.tables.specs.Ids.{clusterId}

@@ -9,8 +9,8 @@ use native.Mathlib.Nat.{le-refl}
 use borrow.Author.Tests.{lt-ltb, le-ltb, ltb-true}
 use lib.ListN.{length, set, drop, take, List·getD-append, take-append-drop, length-set}
 use lib.Seq.{getD-set-other, length-take-le}
-use Rattle.kdbush.specs.All.{All, AllBelow}
-use Rattle.kdbush.specs.Members.{Distinct, NotIn}
+use Rattle.kdslots.specs.All.{All, AllBelow}
+use Rattle.kdslots.specs.Members.{Distinct, NotIn}
 use Rattle.tables.specs.declared.Entry.{Entry}
 use Rattle.tables.specs.Entries.{Table, entry, none, unseen, marked, under}
 use Rattle.zoom.specs.Scanned.{unseenCount, unseenNum}

@@ -8,8 +8,8 @@ use native.Mathlib.Nat.{le-refl}
 use lib.ListN.{length, getD, set, drop, take, length-set}
 use lib.Seq.{length-take-le, getD-take, take-set-lt, drop-set-lt}
 use lib.Ieee.{Float}
-use Rattle.kdbush.specs.All.{AllBelow}
-use Rattle.kdbush.specs.Members.{Distinct}
+use Rattle.kdslots.specs.All.{AllBelow}
+use Rattle.kdslots.specs.Members.{Distinct}
 use Rattle.tables.specs.declared.Entry.{Entry}
 use Rattle.tables.specs.Entries.{Table, entry, none, marked}
 use Rattle.tables.specs.Rows.{rows, rows-entry}

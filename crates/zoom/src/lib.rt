@@ -7,7 +7,7 @@ ghost use Prim.Native.Nat.{_+_, _^_, _<_, _≤_};
 ghost use lib.Dec.{T};
 ghost use lib.ListN.{length, getD, take};
 ghost use lib.Ieee.Scale.{finite};
-ghost use Rattle.kdbush.specs.All.{All, AllBelow};
+ghost use Rattle.kdslots.specs.All.{All, AllBelow};
 ghost use Rattle.kdbush.specs.Promise.{Promised};
 ghost use Rattle.tables.specs.Rows.{rows, Even};
 ghost use Rattle.zoom.specs.Zoom.{absorb, absorbed, copyAll, more, madeAt, leftAt, enough, visit, scanOne, cluster};

@@ -1,12 +1,12 @@
--- `asking::next_in` meets its contract: it is that of kdbush over the part of the coordinates that the ring's table has. Assumes nothing.
+-- `asking::next_in` meets its contract: it is that of kdwalk over the part of the coordinates that the ring's table has. Assumes nothing.
 use mathlib.Core.Path.{_≡_, subst}
 use mathlib.Core.List.{List}
 use Prim.Native.Nat.{_*_}
 use lib.Ieee.{Float}
 use denote.Ref.{now}
-use Rattle.kdbush.specs.declared.Step.the-variants.{Done}
-use Rattle.kdbush.specs.Reply.{nextStep}
-use Rattle.kdbush.specs.Pages.{aheadOf, tailOf}
+use Rattle.kdwalk.specs.declared.Step.the-variants.{Done}
+use Rattle.kdwalk.specs.Reply.{nextStep}
+use Rattle.kdwalk.specs.Pages.{aheadOf, tailOf}
 use Rattle.asking.specs.Columns.{lent-part}
 use Rattle.asking.specs.Around.{queryOf}
 use borrow.Author.Needs.{needs}

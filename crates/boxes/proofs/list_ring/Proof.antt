@@ -4,8 +4,8 @@ use mathlib.Core.Bool.{true}
 use denote.Ref.{now}
 use lib.ListN.{length}
 use borrow.Author.Tests.{not-true, not-false}
-use Rattle.kdbush.specs.declared.Query.the-variants.{Within}
-use Rattle.kdbush.specs.Query.{queryOk}
+use Rattle.kdslots.specs.declared.Query.the-variants.{Within}
+use Rattle.kdslots.specs.Query.{queryOk}
 use Rattle.tables.specs.Sound.{stateOk}
 use Rattle.asking.specs.Asked.{Asked, answerOf, columnOf}
 use Rattle.asking.specs.Columns.{indexRoom}

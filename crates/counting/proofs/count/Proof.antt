@@ -1,15 +1,15 @@
 -- `counting::count` meets its contract: what is counted and what is ahead of the cursor make the whole walk. The measure is what is ahead. It goes by the
--- promises of kdbush's Walk alone. Assumes nothing.
+-- promises of kdwalk's Walk alone. Assumes nothing.
 use mathlib.Core.Path.{_≡_, sym, ap, _∙_}
 use Prim.Native.Nat.{ℕ, _+_, _≤_}
 use native.Mathlib.Omega.{arith}
 use borrow.Author.Needs.{needs}
 use lib.ListN.{length}
 use denote.Ref.{now}
-use Rattle.kdbush.specs.declared.Step.{Step}
-use Rattle.kdbush.specs.declared.Step.the-variants.{Slot, Done, Box, Spoiled}
-use Rattle.kdbush.specs.Reply.{ending, walk}
-use Rattle.kdbush.specs.Walk.{On, ahead, on-first, on-slot, on-next, on-end, walk-length}
+use Rattle.kdwalk.specs.declared.Step.{Step}
+use Rattle.kdwalk.specs.declared.Step.the-variants.{Slot, Done, Box, Spoiled}
+use Rattle.kdwalk.specs.Reply.{ending, walk}
+use Rattle.kdwalk.specs.Walk.{On, ahead, on-first, on-slot, on-next, on-end, walk-length}
 use Rattle.counting.specs.Counted.{endedWith, countedOf}
 use Rattle.counting.proofs.count.Statement.{statement}
 use Rattle.counting.proofs.count.Tie as tie

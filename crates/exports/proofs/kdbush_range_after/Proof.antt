@@ -1,6 +1,6 @@
 -- `exports::kdbush_range_after` meets its contract: it is the public function, its reply as numbers. Assumes nothing.
 use mathlib.Core.Path.{ap, _∙_}
-use Rattle.kdbush.specs.Reply.{stepNumber}
+use Rattle.kdwalk.specs.Reply.{stepNumber}
 use Rattle.exports.specs.Numbers.{slotOf}
 use borrow.Author.Needs.{needs}
 use Rattle.exports.proofs.kdbush_range_after.Statement.{statement}

@@ -11,7 +11,7 @@ use denote.Ref.{now}
 use Rattle.kdsort.specs.Shape.{shape, mid}
 use Rattle.kdbush.specs.declared.Found.{Found}
 use Rattle.kdbush.specs.declared.Found.the-variants.{All, Spoiled}
-use Rattle.kdbush.specs.Slots.{Search, over, when, slots}
+use Rattle.kdslots.specs.Slots.{Search, over, when, slots}
 use Rattle.kdbush.specs.Run.{run, ran, places}
 use Rattle.kdbush.proofs.Runs.{put-count, part-count, part-leaf, went, skipped, node-put, node-right, node-left}
 use borrow.Fn.Kinds.{In}
@@ -19,9 +19,9 @@ use borrow.Fn.PlainCycle.{Measures, is, falls, and}
 use Rattle.kdbush.proofs.part.Reads as part
 use Rattle.kdbush.proofs.part.Kinds as part-kinds
 use Rattle.kdbush.proofs.+part.Lts-part as part-lts
-use Rattle.kdbush.proofs.left_at.Reads as left-at-reads
+use Rattle.kdslots.proofs.left_at.Reads as left-at-reads
 use Rattle.kdbush.proofs.put.Reads as put-reads
-use Rattle.kdbush.proofs.right_at.Reads as right-at-reads
+use Rattle.kdslots.proofs.right_at.Reads as right-at-reads
 use Rattle.kdbush.proofs.scan.Reads as scan-reads
 use Rattle.kdbush.proofs.+part.{statement}
 use Rattle.kdbush.proofs.+part.Tie.{close}

@@ -8,10 +8,9 @@ use lib.Dec.{eqb}
 use lib.ListN.{length}
 use Rattle.kdsort.specs.Cols.{Cols, cols}
 use Rattle.kdbush.specs.declared.Outside.the-variants.{Nothing}
-use Rattle.kdbush.specs.Reply.{nodeSizeOk, countOk, firstOutside}
-use Rattle.kdbush.specs.Bounds.{size-is, count-is}
-use Rattle.kdbush.specs.Bounds.{both-true}
-use Rattle.kdbush.proofs.Replies.{first-false, second-false, build-options, build-count, build-point, build-tables, build-done}
+use Rattle.kdslots.specs.Bounds.{nodeSizeOk, countOk, size-is, count-is, both-true, first-false, second-false}
+use Rattle.kdbush.specs.Reply.{firstOutside}
+use Rattle.kdbush.proofs.Replies.{build-options, build-count, build-point, build-tables, build-done}
 use borrow.Author.Needs.{needs}
 use Rattle.kdbush.proofs.build.Statement.{statement}
 use Rattle.kdbush.proofs.build.Tie as tie

@@ -4,7 +4,7 @@ use borrow.Author.Tests.{not-true, not-false}
 use mathlib.Core.Path.{_≡_, refl, sym, ap, _∙_}
 use native.Mathlib.Omega.{arith}
 use denote.Ref.{now}
-use Rattle.kdbush.specs.Slots.{over}
+use Rattle.kdslots.specs.Slots.{over}
 use Rattle.kdbush.proofs.Runs.{put-none, put-spoiled, put-fits, put-past}
 use Rattle.kdbush.proofs.put.Statement.{statement}
 use Rattle.kdbush.proofs.put.Tie as tie

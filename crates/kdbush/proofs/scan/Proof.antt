@@ -6,7 +6,7 @@ use native.Mathlib.Omega.{arith}
 use lib.ListN.{length}
 use denote.Ref.{now}
 use Rattle.kdbush.specs.declared.Found.{Found}
-use Rattle.kdbush.specs.Slots.{over, scanned}
+use Rattle.kdslots.specs.Slots.{over, scanned}
 use Rattle.kdbush.specs.Run.{run, ran, places}
 use Rattle.kdbush.proofs.Runs.{scan-more, scan-ends, scan-done, put-count}
 use Rattle.kdbush.proofs.scan.Statement.{statement}

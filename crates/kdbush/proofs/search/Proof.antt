@@ -9,11 +9,11 @@ use denote.Ref.{now}
 use lib.ListN.{length}
 use Rattle.kdsort.specs.Shape.{shape}
 use Rattle.kdbush.specs.declared.Found.{Found}
-use Rattle.kdbush.specs.Slots.{over, slots}
+use Rattle.kdslots.specs.Slots.{over, slots}
 use Rattle.kdbush.specs.Run.{ran, run, places}
-use Rattle.kdbush.specs.Reply.{coordsOk, indexOk}
-use Rattle.kdbush.specs.Bounds.{Searchable, coords-is, both-true}
-use Rattle.kdbush.proofs.Replies.{first-false, second-false, search-spoiled, search-past, search-no-room, search-found}
+use Rattle.kdslots.specs.Bounds.{coordsOk, Searchable, coords-is, both-true, first-false, second-false}
+use Rattle.kdbush.specs.Reply.{indexOk}
+use Rattle.kdbush.proofs.Replies.{search-spoiled, search-past, search-no-room, search-found}
 use borrow.Author.Needs.{needs}
 use Rattle.kdbush.proofs.search.Statement.{statement}
 use Rattle.kdbush.proofs.search.Tie as tie

@@ -6,7 +6,7 @@ use native.Mathlib.Omega.{arith}
 use borrow.Author.Needs.{needs}
 use lib.ListN.{length}
 use denote.Ref.{now}
-use Rattle.kdbush.specs.declared.Pages.{Pages}
+use Rattle.kdwalk.specs.declared.Pages.{Pages}
 use Rattle.tables.specs.declared.Entry.{Entry}
 use Rattle.asking.specs.Columns.{Columns, columns}
 use Rattle.asking.specs.Around.{aheadIn, ring-begun}

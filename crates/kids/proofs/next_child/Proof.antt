@@ -10,10 +10,10 @@ use lib.ListN.{length, getD}
 use denote.Ref.{now}
 use denote.Enum.Declared.{tagOf}
 use types.Run.{OneOf}
-use Rattle.kdbush.proofs.Step.{the-type}
-use Rattle.kdbush.specs.declared.Step.{Step}
-use Rattle.kdbush.specs.declared.Step.the-variants.{Slot, Done, Box, Spoiled}
-use Rattle.kdbush.specs.All.{AllBelow}
+use Rattle.kdwalk.proofs.Step.{the-type}
+use Rattle.kdwalk.specs.declared.Step.{Step}
+use Rattle.kdwalk.specs.declared.Step.the-variants.{Slot, Done, Box, Spoiled}
+use Rattle.kdslots.specs.All.{AllBelow}
 use Rattle.asking.specs.declared.Ring.{Ring}
 use Rattle.asking.specs.Columns.{Columns, columns, part-getD}
 use Rattle.asking.specs.Around.{aheadIn, ring-next, ring-end}

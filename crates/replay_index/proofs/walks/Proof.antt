@@ -2,7 +2,7 @@
 use Prim.Native.Nat.{_-_, _≤_}
 use native.Mathlib.Omega.{arith}
 use mathlib.Core.Path.{_≡_, sym, _∙_}
-use Rattle.kdbush.specs.Reply.{afterStep}
+use Rattle.kdwalk.specs.Reply.{afterStep}
 use Rattle.replay_index.specs.Same.{walked, walksTo}
 use Rattle.replay_index.proofs.Laws.{walk-starts, walk-none, walk-other, walk-more, walk-ends}
 use Rattle.replay_index.proofs.walks.Statement.{statement}

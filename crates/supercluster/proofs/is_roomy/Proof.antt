@@ -4,7 +4,7 @@ use mathlib.Core.Bool.{Bool, _&&_}
 use lib.Dec.{leb}
 use borrow.Author.Tests.{le-leb, lt-leb}
 use borrow.Author.Needs.{needs}
-use Rattle.kdbush.specs.Bounds.{both-true}
+use Rattle.kdslots.specs.Bounds.{both-true}
 use Rattle.supercluster.proofs.is_roomy.Statement.{statement}
 use Rattle.supercluster.proofs.is_roomy.Tie as tie
 

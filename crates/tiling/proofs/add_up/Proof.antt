@@ -4,7 +4,7 @@ use Prim.Native.Nat.{ℕ, _≤_}
 use native.Mathlib.Omega.{arith}
 use lib.ListN.{length, length-replicate}
 use denote.Ref.{now}
-use Rattle.kdbush.specs.Bounds.{coords-is}
+use Rattle.kdslots.specs.Bounds.{coords-is}
 use Rattle.tiling.specs.Counting.{blank}
 use Rattle.tiling.proofs.add_up.Statement.{statement}
 use Rattle.tiling.proofs.add_up.Tie as tie

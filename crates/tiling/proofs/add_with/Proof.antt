@@ -7,7 +7,7 @@ use native.Mathlib.Omega.{arith}
 use lib.ListN.{length}
 use denote.Ref.{now}
 use borrow.Author.Tests.{not-true, not-false}
-use Rattle.kdbush.specs.Bounds.{coords-is}
+use Rattle.kdslots.specs.Bounds.{coords-is}
 use Rattle.tables.specs.Entries.{Table}
 use Rattle.tables.specs.Rows.{rows, rows-length}
 use Rattle.tiling.specs.declared.Running.{Running}

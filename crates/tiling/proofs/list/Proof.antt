@@ -7,7 +7,7 @@ use lib.ListN.{length}
 use lib.IntN.{ℤ}
 use denote.Ref.{now}
 use borrow.Author.Needs.{needs}
-use Rattle.kdbush.specs.Bounds.{coords-is}
+use Rattle.kdslots.specs.Bounds.{coords-is}
 use Rattle.tables.specs.Entries.{Table}
 use Rattle.tables.specs.Rows.{rows, rows-length}
 use Rattle.tiling.specs.Tile.{Visit, here, east, west, visits, visited}

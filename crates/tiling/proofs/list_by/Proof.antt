@@ -8,12 +8,12 @@ use lib.ListN.{length, getD}
 use denote.Ref.{now}
 use borrow.Author.Needs.{needs}
 use borrow.Author.Tests.{not-true, not-false}
-use Rattle.kdbush.specs.declared.Pages.{Pages}
-use Rattle.kdbush.specs.All.{AllBelow}
+use Rattle.kdwalk.specs.declared.Pages.{Pages}
+use Rattle.kdslots.specs.All.{AllBelow}
 use Rattle.kdbush.specs.Run.{places}
-use Rattle.kdbush.specs.Reply.{walk}
-use Rattle.kdbush.specs.Walk.{walk-length}
-use Rattle.kdbush.specs.Pages.{aheadOf, ahead-begun, next-slot, below-next, walk-below}
+use Rattle.kdwalk.specs.Reply.{walk}
+use Rattle.kdwalk.specs.Walk.{walk-length}
+use Rattle.kdwalk.specs.Pages.{aheadOf, ahead-begun, next-slot, below-next, walk-below}
 use Rattle.tables.specs.Entries.{Table}
 use Rattle.tables.specs.Rows.{rows}
 use Rattle.tiling.specs.Tile.{Visit, visitsOf}

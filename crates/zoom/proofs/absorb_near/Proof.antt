@@ -7,7 +7,7 @@ use native.Mathlib.Omega.{arith}
 use lib.ListN.{length, getD, drop}
 use denote.Ref.{now}
 use borrow.Author.Needs.{needs}
-use Rattle.kdbush.specs.All.{below-at}
+use Rattle.kdslots.specs.All.{below-at}
 use Rattle.tables.specs.Rows.{rows, Even, even-marks}
 use Rattle.zoom.specs.Zoom.{absorbed, absorb}
 use Rattle.zoom.specs.Turns.{absorb-turn-yes, absorb-turn-no, absorb-end}

@@ -8,7 +8,7 @@ use lib.ListN.{length, take}
 use lib.Ieee.{Float}
 use denote.Ref.{now}
 use borrow.Author.Needs.{needs}
-use Rattle.kdbush.specs.All.{All}
+use Rattle.kdslots.specs.All.{All}
 use Rattle.tables.specs.Entries.{Table}
 use Rattle.tables.specs.Rows.{rows, Even, even-kept, rows-length}
 use Rattle.zoom.specs.Zoom.{Scan}

@@ -4,7 +4,7 @@ use Prim.Native.Nat.{_+_, _<_}
 use native.Mathlib.Omega.{arith}
 use lib.ListN.{length, length-set}
 use borrow.Author.Needs.{needs}
-use Rattle.kdbush.specs.All.{below-le}
+use Rattle.kdslots.specs.All.{below-le}
 use Rattle.tables.specs.Rows.{rows, Even, rows-entry, rows-length, rows-parent}
 use Rattle.zoom.specs.Stored.{made-with, begun}
 use Rattle.zoom.specs.Zoom.{absorbed, absorb}

@@ -9,7 +9,7 @@ use denote.Ref.{now}
 use borrow.Author.Needs.{needs}
 use Rattle.kdbush.specs.declared.SearchReply.{SearchReply}
 use Rattle.kdbush.specs.declared.SearchReply.the-variants.{Found, Box, NoRoom, Spoiled}
-use Rattle.kdbush.specs.declared.Query.the-variants.{Within}
+use Rattle.kdslots.specs.declared.Query.the-variants.{Within}
 use Rattle.kdbush.specs.Reply.{searchNumber, searchCarried}
 use Rattle.kdbush.specs.Promise.{promised-searched, promised-column}
 use Rattle.zoom.specs.Near.{nearOf, query-fine, answered}

@@ -9,9 +9,9 @@ use lib.Seq.{length-take-le, getD-take}
 use lib.Ieee.{Float, nan}
 use denote.Ref.{now}
 use borrow.Author.Needs.{needs}
-use Rattle.kdbush.specs.declared.Query.the-variants.{Within}
-use Rattle.kdbush.specs.All.{AllBelow}
-use Rattle.kdbush.specs.Members.{Distinct}
+use Rattle.kdslots.specs.declared.Query.the-variants.{Within}
+use Rattle.kdslots.specs.All.{AllBelow}
+use Rattle.kdslots.specs.Members.{Distinct}
 use Rattle.tables.specs.declared.Entry.{Entry}
 use Rattle.tables.specs.Entries.{Table, entry, none, marked}
 use Rattle.tables.specs.Rows.{rows, row, even-mark, rows-entry, rows-length, rows-mark}

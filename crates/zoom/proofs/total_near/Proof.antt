@@ -6,7 +6,7 @@ use native.Mathlib.Omega.{arith}
 use lib.ListN.{length, getD, drop}
 use denote.Ref.{now}
 use borrow.Author.Needs.{needs}
-use Rattle.kdbush.specs.All.{below-at}
+use Rattle.kdslots.specs.All.{below-at}
 use Rattle.tables.specs.Entries.{Table}
 use Rattle.tables.specs.Rows.{rows}
 use Rattle.zoom.specs.Zoom.{more}

@@ -6,7 +6,7 @@ use native.Mathlib.Omega.{arith}
 use lib.ListN.{length, getD, take}
 use denote.Ref.{now}
 use borrow.Author.Needs.{needs}
-use Rattle.kdbush.specs.All.{below-le}
+use Rattle.kdslots.specs.All.{below-le}
 use Rattle.tables.specs.Entries.{Table, entry}
 use Rattle.tables.specs.Rows.{rows, rows-length}
 use Rattle.zoom.specs.Scanned.{scanOf, unseenCount}

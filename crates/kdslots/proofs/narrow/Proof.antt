@@ -1,0 +1,124 @@
+-- `kdslots::narrow` meets its contract: what is left out answers nothing. The measure is the interval's length. Assumes nothing.
+use mathlib.Core.Path.{_≡_, refl, sym, _∙_}
+use Prim.Native.Nat.{_-_, _≤_, _<_}
+use native.Mathlib.Omega.{arith}
+use borrow.Author.Tests.{not-false}
+use denote.Ref.{now}
+use Rattle.kdsort.specs.Shape.{shape}
+use Rattle.kdslots.specs.Slots.{over, slots}
+use Rattle.kdslots.proofs.Narrows.{only-right, only-left}
+use Rattle.kdslots.proofs.narrow.Statement.{statement}
+use Rattle.kdslots.proofs.narrow.Tie as tie
+
+abbrev Inv-loop : tie.InvT-loop
+Inv-loop q coords most n lo₀ hi₀ axis₀ lo hi axis = (lo ≤ hi) × (hi ≤ n) × (axis < 2) × (slots (over q coords) axis (shape most lo hi) ≡ slots (over q coords) 0 (shape most 0 n))
+
+abbrev μ-loop : tie.MeasureT-loop
+μ-loop q coords most n lo₀ hi₀ axis₀ lo hi axis = hi - lo
+
+-- what the loop knows is what is returned
+told : (w : tie.At-loop Inv-loop μ-loop) → let a = w .before .before .args in
+    (slots (over (a .q) (now (a .coords))) (w .loop .axis) (shape (a .most) (w .loop .lo) (w .loop .hi)) ≡ slots (over (a .q) (now (a .coords))) 0 (shape (a .most) 0 (a .n)))
+    × ((w .loop .lo ≤ w .loop .hi) × (w .loop .hi ≤ a .n) × (w .loop .axis < 2))
+told w = (w .loop .inv .3, (w .loop .inv .0, w .loop .inv .1, w .loop .inv .2))
+
+loop-holds : tie.Need-loop-holds Inv-loop μ-loop
+loop-holds c = (omega arith, omega arith, omega arith, refl)
+
+sub-loop : tie.Need-sub-loop Inv-loop μ-loop
+sub-loop c = omega arith
+
+sub-m : tie.Need-sub-m Inv-loop μ-loop
+sub-m c = omega arith
+
+sub-m-2 : tie.Need-sub-m-2 Inv-loop μ-loop
+sub-m-2 c = omega arith
+
+add-m : tie.Need-add-m Inv-loop μ-loop
+add-m c = omega arith
+
+test-at-requires : tie.Need-test-at-requires Inv-loop μ-loop
+test-at-requires c κs = omega arith
+
+returns : tie.Need-returns Inv-loop μ-loop
+returns c = told (c .before .before .before)
+
+right-at-requires : tie.Need-right-at-requires Inv-loop μ-loop
+right-at-requires c κs = omega arith
+
+left-at-requires : tie.Need-left-at-requires Inv-loop μ-loop
+left-at-requires c κs = omega arith
+
+returns-2 : tie.Need-returns-2 Inv-loop μ-loop
+returns-2 c = told (c .before .before .before .before .before .before .before)
+
+add-lo : tie.Need-add-lo Inv-loop μ-loop
+add-lo c = omega arith
+
+sub-axis : tie.Need-sub-axis Inv-loop μ-loop
+sub-axis c = omega arith
+
+loop-less : tie.Need-loop-less Inv-loop μ-loop
+loop-less c = omega arith
+
+loop-again : tie.Need-loop-again Inv-loop μ-loop
+loop-again c =
+    let r = c .before .before .before in
+    let t = r .before .before in
+    let w = t .before .before in
+    let a = w .before .before .args in
+    let s = over (a .q) (now (a .coords)) in
+    let e = only-right s (w .loop .axis) (a .most) (w .loop .lo) (w .loop .hi) (t .before .loop-test .taken) (sym (t .test-at .ensures) ∙ r .before .if1 .left) (sym (r .right-at .ensures) ∙ c .before .before .if2 .taken) (sym (c .before .left-at .ensures) ∙ c .if3 .left) in
+    (omega arith, omega arith, omega arith, sym e ∙ w .loop .inv .3)
+
+left-at-requires-2 : tie.Need-left-at-requires-2 Inv-loop μ-loop
+left-at-requires-2 c κs = omega arith
+
+returns-3 : tie.Need-returns-3 Inv-loop μ-loop
+returns-3 c = told (c .before .before .before .before .before .before .before)
+
+sub-axis-2 : tie.Need-sub-axis-2 Inv-loop μ-loop
+sub-axis-2 c = omega arith
+
+loop-less-2 : tie.Need-loop-less-2 Inv-loop μ-loop
+loop-less-2 c = omega arith
+
+loop-again-2 : tie.Need-loop-again-2 Inv-loop μ-loop
+loop-again-2 c =
+    let r = c .before .before .before in
+    let t = r .before .before in
+    let w = t .before .before in
+    let a = w .before .before .args in
+    let s = over (a .q) (now (a .coords)) in
+    let e = only-left s (w .loop .axis) (a .most) (w .loop .lo) (w .loop .hi) (t .before .loop-test .taken) (sym (t .test-at .ensures) ∙ r .before .if1 .left) (sym (r .right-at .ensures) ∙ c .before .before .if2 .left) (sym (c .before .left-at2 .ensures) ∙ not-false _ (c .if4 .left)) in
+    (omega arith, omega arith, omega arith, sym e ∙ w .loop .inv .3)
+
+returns-4 : tie.Need-returns-4 Inv-loop μ-loop
+returns-4 c = told (c .before)
+
+pub narrow-spec : {M : Type 1} → statement M
+narrow-spec =
+    tie.close
+    (tie.spec
+    Inv-loop
+    μ-loop
+    loop-holds
+    sub-loop
+    sub-m
+    sub-m-2
+    add-m
+    test-at-requires
+    returns
+    right-at-requires
+    left-at-requires
+    returns-2
+    add-lo
+    sub-axis
+    loop-less
+    loop-again
+    left-at-requires-2
+    returns-3
+    sub-axis-2
+    loop-less-2
+    loop-again-2
+    returns-4)

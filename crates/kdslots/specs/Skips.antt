@@ -1,0 +1,31 @@
+-- 01's counterexample, over an index of three slots: qx = 1, radius 0.75, x = 0.25 - 2 ^ -55. Slot 0 passes the distance test, and where the interval is not
+-- split it is answered; where it is split at slot 1, with the same coordinate, the rounded edge qx - radius = 0.25 skips it. Assumes nothing.
+use mathlib.Core.Path.{_≡_, refl}
+use mathlib.Core.Bool.{false}
+use mathlib.Core.List.{List, [], _∷_}
+use lib.IntN.{negsuc}
+use lib.Ieee.{Float, fin, le, sum, round, neg, add, sub, mul}
+use Rattle.floats.specs.Numbers.{zero, one}
+use Rattle.kdsort.specs.Shape.{shape, split}
+use Rattle.kdslots.specs.declared.Query.{Query}
+use Rattle.kdslots.specs.declared.Query.the-variants.{Within}
+use Rattle.kdslots.specs.Slots.{answers, slots, scanned}
+
+abbrev near : Float
+near = fin false 9007199254740991 (negsuc 54)
+
+abbrev three : List Float
+three = near ∷ zero ∷ near ∷ zero ∷ one ∷ zero ∷ []
+
+abbrev ring : Query
+ring = Within one zero (fin false 3 (negsuc 1))
+
+-- node size 2: unsplit, slot by slot
+pub unsplit-answers : answers ring three 2 3 ≡ 0 ∷ 1 ∷ 2 ∷ []
+unfolding slots scanned shape split le sub neg add sum mul round
+unsplit-answers = refl
+
+-- node size 1: split at slot 1; its left part is skipped
+pub split-skips : answers ring three 1 3 ≡ 1 ∷ 2 ∷ []
+unfolding slots scanned shape split le sub neg add sum mul round
+split-skips = refl

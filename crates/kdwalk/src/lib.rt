@@ -1,0 +1,466 @@
+// A walk over the slots that a query answers: one at a time by a cursor, `first` and `after`, or a lent page at a time by `next_slot`. No stack, no scratch room.
+// Nothing is asked of the caller: what 01 does not take is refused with its number.
+use kdslots::Query;
+ghost use mathlib.Core.Path.{_≡_};
+ghost use Prim.Native.Nat.{_+_, _-_, _*_, _≤_, _<_};
+ghost use lib.ListN.{length};
+ghost use Rattle.kdsort.specs.Shape.{shape};
+ghost use Rattle.kdslots.specs.Slots.{over, when, scanned, slots, below};
+ghost use Rattle.kdwalk.specs.Cursor.{headOf, rest, leafEnd};
+ghost use Rattle.kdwalk.specs.Reply.{nextStep, firstStep, afterStep};
+ghost use Rattle.kdwalk.specs.Pages.{begun, onwardOf, aheadOf, tailOf, steppedOf, loneOf, stored, store};
+
+// A step of a walk over the answered slots: the next slot, the end, or a refusal.
+pub enum Step {
+    Slot(usize),
+    Done,
+    Box,
+    Spoiled,
+}
+
+// From where a walk goes on: from its start, after a slot, or not at all.
+pub enum Onward {
+    Start,
+    After(usize),
+    Nothing,
+}
+
+// Where a walk stands that is read a page at a time: how many slots the page has, how many of them were read, and from where it goes on after the page.
+pub struct Pages {
+    pub len: usize,
+    pub at: usize,
+    pub onward: Onward,
+}
+
+// A step of such a walk, and where it stands afterwards.
+pub struct Turned {
+    pub step: Step,
+    pub pages: Pages,
+}
+
+// The next answered slot of an interval.
+enum Next {
+    Slot(usize),
+    Done,
+}
+
+// The first slot from `from` up to hi that is answered.
+fn first_from(q: Query, coords: &[f64], from: usize, hi: usize) -> Next
+    requires { ⌜ 2 * hi ≤ length (now coords) ⌝ }
+    ensures { λ r. ⌜ r ≡ headOf (scanned (over q (now (coords .entry))) from (hi - from)) ⌝ }
+{
+    let mut i = from;
+    while i < hi {
+        if kdslots::test_at(q, coords, i) {
+            return Next::Slot(i);
+        }
+        i += 1;
+    }
+    Next::Done
+}
+
+// The first slot that is answered from lo up to hi.
+fn first_in(q: Query, coords: &[f64], most: usize, lo: usize, hi: usize, axis: usize) -> Next
+    requires { ⌜ (2 * hi ≤ length (now coords)) × (lo ≤ hi) × (axis < 2) ⌝ }
+    ensures { λ r. ⌜ r ≡ headOf (slots (over q (now (coords .entry))) axis (shape most lo hi)) ⌝ }
+{
+    if hi - lo <= most {
+        return first_from(q, coords, lo, hi);
+    }
+    let m = lo + (hi - lo - 1) / 2;
+    if kdslots::test_at(q, coords, m) {
+        return Next::Slot(m);
+    }
+    first_below(q, coords, most, lo, hi, axis)
+}
+
+// The first slot that is answered in the parts of an interval that is split: the right part, then the left.
+fn first_below(q: Query, coords: &[f64], most: usize, lo: usize, hi: usize, axis: usize) -> Next
+    requires { ⌜ (2 * hi ≤ length (now coords)) × (lo < hi) × (axis < 2) ⌝ }
+    ensures { λ r. ⌜ r ≡ headOf (below (over q (now (coords .entry))) axis most lo hi) ⌝ }
+{
+    let m = lo + (hi - lo - 1) / 2;
+    if kdslots::right_at(q, coords, axis, m) {
+        if let Next::Slot(i) = first_in(q, coords, most, m + 1, hi, 1 - axis) {
+            return Next::Slot(i);
+        }
+    }
+    first_left(q, coords, most, lo, m, axis)
+}
+
+// The first slot that is answered in the part left of the median m.
+fn first_left(q: Query, coords: &[f64], most: usize, lo: usize, m: usize, axis: usize) -> Next
+    requires { ⌜ (2 * m + 1 < length (now coords)) × (lo ≤ m) × (axis < 2) ⌝ }
+    ensures { λ r. ⌜ r ≡ headOf (when (over q (now (coords .entry)) .left axis m) (slots (over q (now (coords .entry))) (1 - axis) (shape most lo m))) ⌝ }
+{
+    if kdslots::left_at(q, coords, axis, m) {
+        return first_in(q, coords, most, lo, m, 1 - axis);
+    }
+    Next::Done
+}
+
+// Up to where the slots after c are answered one by one: the end of the unsplit interval that has it; a median has none after it.
+fn leaf_end(most: usize, n: usize, c: usize) -> usize
+    requires { ⌜ c < n ⌝ }
+    ensures { λ r. ⌜ r ≡ leafEnd (shape most 0 n) c ⌝ }
+{
+    let mut lo = 0;
+    let mut hi = n;
+    while most < hi - lo {
+        let m = lo + (hi - lo - 1) / 2;
+        if c == m {
+            return c + 1;
+        }
+        if c < m {
+            hi = m;
+        } else {
+            lo = m + 1;
+        }
+    }
+    hi
+}
+
+// The slot that is answered after the slot c, from lo up to hi.
+fn next_in(
+    q: Query,
+    coords: &[f64],
+    most: usize,
+    lo: usize,
+    hi: usize,
+    axis: usize,
+    c: usize,
+) -> Next
+    requires { ⌜ (2 * hi ≤ length (now coords)) × (lo ≤ c) × (c < hi) × (axis < 2) ⌝ }
+    ensures { λ r. ⌜ r ≡ headOf (rest (over q (now (coords .entry))) axis (shape most lo hi) c) ⌝ }
+{
+    if hi - lo <= most {
+        return first_from(q, coords, c + 1, hi);
+    }
+    let m = lo + (hi - lo - 1) / 2;
+    if c < m {
+        return next_in(q, coords, most, lo, m, 1 - axis, c);
+    }
+    if c == m {
+        return first_below(q, coords, most, lo, hi, axis);
+    }
+    if let Next::Slot(i) = next_in(q, coords, most, m + 1, hi, 1 - axis, c) {
+        return Next::Slot(i);
+    }
+    first_left(q, coords, most, lo, m, axis)
+}
+
+// The first slot that a query answers.
+pub fn first(q: Query, node_size: usize, n: usize, coords: &[f64]) -> Step
+    ensures { λ r. ⌜ r ≡ firstStep q «node_size» n (now (coords .entry)) ⌝ }
+{
+    if !kdslots::coords_ok(node_size, n, coords.len()) {
+        return Step::Spoiled;
+    }
+    if !kdslots::query_ok(q) {
+        return Step::Box;
+    }
+    let v = kdslots::narrow(q, coords, node_size + 1, n);
+    match first_in(q, coords, node_size + 1, v.lo, v.hi, v.axis) {
+        Next::Slot(i) => Step::Slot(i),
+        Next::Done => Step::Done,
+    }
+}
+
+// The slot that a query answers after the slot c.
+pub fn after(q: Query, node_size: usize, n: usize, coords: &[f64], c: usize) -> Step
+    ensures { λ r. ⌜ r ≡ afterStep q «node_size» n (now (coords .entry)) c ⌝ }
+{
+    if !kdslots::coords_ok(node_size, n, coords.len()) {
+        return Step::Spoiled;
+    }
+    if !kdslots::query_ok(q) {
+        return Step::Box;
+    }
+    if n <= c {
+        return Step::Done;
+    }
+    if let Next::Slot(i) = first_from(q, coords, c + 1, leaf_end(node_size + 1, n, c)) {
+        return Step::Slot(i);
+    }
+    match next_in(q, coords, node_size + 1, 0, n, 0, c) {
+        Next::Slot(i) => Step::Slot(i),
+        Next::Done => Step::Done,
+    }
+}
+
+// Begins a walk that is read a page at a time. Nothing is looked for yet.
+pub fn begin() -> Pages
+    ensures { λ r. ⌜ r ≡ begun ⌝ }
+{
+    Pages {
+        len: 0,
+        at: 0,
+        onward: Onward::Start,
+    }
+}
+
+// A step of the cursor as a step of a walk with an empty page. A walk that is refused is done.
+fn stepped(s: Step) -> Turned
+    ensures { λ r. ⌜ r ≡ steppedOf s ⌝ }
+{
+    let Step::Slot(i) = s else {
+        return Turned {
+            step: Step::Done,
+            pages: Pages {
+                len: 0,
+                at: 0,
+                onward: Onward::Nothing,
+            },
+        };
+    };
+    Turned {
+        step: Step::Slot(i),
+        pages: Pages {
+            len: 0,
+            at: 0,
+            onward: Onward::After(i),
+        },
+    }
+}
+
+// The next slot of a walk whose page is read, by the cursor.
+fn lone(q: Query, node_size: usize, n: usize, coords: &[f64], from: Onward) -> Turned
+    ensures { λ r. ⌜ r ≡ loneOf (onwardOf q «node_size» n (now (coords .entry)) from) ⌝ }
+{
+    match from {
+        Onward::Start => stepped(first(q, node_size, n, coords)),
+        Onward::After(c) => stepped(after(q, node_size, n, coords, c)),
+        Onward::Nothing => stepped(Step::Done),
+    }
+}
+
+// Stores the slots from `from` up to hi that are answered, from position at on, until the page is full. How many slots the page has then.
+fn fill_from(
+    q: Query,
+    coords: &[f64],
+    from: usize,
+    hi: usize,
+    at: usize,
+    page: &mut [usize],
+) -> usize
+    requires { ⌜ 2 * hi ≤ length (now coords) ⌝ }
+    ensures { λ r. ⌜ stored r (now (page .exit)) ≡ store at (scanned (over q (now (coords .entry))) from (hi - from)) (now (page .entry)) ⌝ }
+{
+    let mut k = at;
+    let mut i = from;
+    while i < hi {
+        if page.len() <= k {
+            return k;
+        }
+        if !kdslots::test_at(q, coords, i) {
+            i += 1;
+            continue;
+        }
+        page[k] = i;
+        k += 1;
+        i += 1;
+    }
+    k
+}
+
+// Stores the slots that are answered from lo up to hi, until the page is full.
+fn fill_in(
+    q: Query,
+    coords: &[f64],
+    most: usize,
+    lo: usize,
+    hi: usize,
+    axis: usize,
+    at: usize,
+    page: &mut [usize],
+) -> usize
+    requires { ⌜ (2 * hi ≤ length (now coords)) × (lo ≤ hi) × (axis < 2) ⌝ }
+    ensures { λ r. ⌜ stored r (now (page .exit)) ≡ store at (slots (over q (now (coords .entry))) axis (shape most lo hi)) (now (page .entry)) ⌝ }
+{
+    if page.len() <= at {
+        return at;
+    }
+    if hi - lo <= most {
+        return fill_from(q, coords, lo, hi, at, page);
+    }
+    let m = lo + (hi - lo - 1) / 2;
+    if kdslots::test_at(q, coords, m) {
+        page[at] = m;
+        return fill_below(q, coords, most, lo, hi, axis, at + 1, page);
+    }
+    fill_below(q, coords, most, lo, hi, axis, at, page)
+}
+
+// Stores the slots that are answered in the parts of an interval that is split, until the page is full: the right part, then the left.
+fn fill_below(
+    q: Query,
+    coords: &[f64],
+    most: usize,
+    lo: usize,
+    hi: usize,
+    axis: usize,
+    at: usize,
+    page: &mut [usize],
+) -> usize
+    requires { ⌜ (2 * hi ≤ length (now coords)) × (lo < hi) × (axis < 2) ⌝ }
+    ensures { λ r. ⌜ stored r (now (page .exit)) ≡ store at (below (over q (now (coords .entry))) axis most lo hi) (now (page .entry)) ⌝ }
+{
+    let m = lo + (hi - lo - 1) / 2;
+    if kdslots::right_at(q, coords, axis, m) {
+        let k = fill_in(q, coords, most, m + 1, hi, 1 - axis, at, page);
+        return fill_left(q, coords, most, lo, m, axis, k, page);
+    }
+    fill_left(q, coords, most, lo, m, axis, at, page)
+}
+
+// Stores the slots that are answered in the part left of the median m, until the page is full.
+fn fill_left(
+    q: Query,
+    coords: &[f64],
+    most: usize,
+    lo: usize,
+    m: usize,
+    axis: usize,
+    at: usize,
+    page: &mut [usize],
+) -> usize
+    requires { ⌜ (2 * m + 1 < length (now coords)) × (lo ≤ m) × (axis < 2) ⌝ }
+    ensures { λ r. ⌜ stored r (now (page .exit)) ≡ store at (when (over q (now (coords .entry)) .left axis m) (slots (over q (now (coords .entry))) (1 - axis) (shape most lo m))) (now (page .entry)) ⌝ }
+{
+    if kdslots::left_at(q, coords, axis, m) {
+        return fill_in(q, coords, most, lo, m, 1 - axis, at, page);
+    }
+    at
+}
+
+// Stores the slots that are answered after the slot c, from lo up to hi, from the page's start on, until it is full.
+fn fill_rest(
+    q: Query,
+    coords: &[f64],
+    most: usize,
+    lo: usize,
+    hi: usize,
+    axis: usize,
+    c: usize,
+    page: &mut [usize],
+) -> usize
+    requires { ⌜ (2 * hi ≤ length (now coords)) × (lo ≤ c) × (c < hi) × (axis < 2) ⌝ }
+    ensures { λ r. ⌜ stored r (now (page .exit)) ≡ store 0 (rest (over q (now (coords .entry))) axis (shape most lo hi) c) (now (page .entry)) ⌝ }
+{
+    if hi - lo <= most {
+        return fill_from(q, coords, c + 1, hi, 0, page);
+    }
+    let m = lo + (hi - lo - 1) / 2;
+    if c < m {
+        return fill_rest(q, coords, most, lo, m, 1 - axis, c, page);
+    }
+    if c == m {
+        return fill_below(q, coords, most, lo, hi, axis, 0, page);
+    }
+    let k = fill_rest(q, coords, most, m + 1, hi, 1 - axis, c, page);
+    fill_left(q, coords, most, lo, m, axis, k, page)
+}
+
+// Stores what a walk has from where it goes on, until the page is full. A walk that is refused has nothing.
+fn fill_page(
+    q: Query,
+    node_size: usize,
+    n: usize,
+    coords: &[f64],
+    from: Onward,
+    page: &mut [usize],
+) -> usize
+    ensures { λ r. ⌜ stored r (now (page .exit)) ≡ store 0 (onwardOf q «node_size» n (now (coords .entry)) from) (now (page .entry)) ⌝ }
+{
+    if !kdslots::coords_ok(node_size, n, coords.len()) {
+        return 0;
+    }
+    if !kdslots::query_ok(q) {
+        return 0;
+    }
+    match from {
+        Onward::Start => {
+            let v = kdslots::narrow(q, coords, node_size + 1, n);
+            fill_in(q, coords, node_size + 1, v.lo, v.hi, v.axis, 0, page)
+        }
+        Onward::After(slot) => {
+            if n <= slot {
+                return 0;
+            }
+            fill_rest(q, coords, node_size + 1, 0, n, 0, slot, page)
+        }
+        Onward::Nothing => 0,
+    }
+}
+
+// Turns the page: the next slot of a walk whose page is read. With a page of no slots it goes by the cursor.
+fn turn(
+    q: Query,
+    node_size: usize,
+    n: usize,
+    coords: &[f64],
+    page: &mut [usize],
+    from: Onward,
+) -> Turned
+    ensures { λ r. ⌜ r .step ≡ nextStep Step.Done (onwardOf q «node_size» n (now (coords .entry)) from) ⌝ }
+    ensures { λ r. ⌜ aheadOf q «node_size» n (now (coords .entry)) (now (page .exit)) (r .pages) ≡ tailOf (onwardOf q «node_size» n (now (coords .entry)) from) ⌝ }
+{
+    if page.len() == 0 {
+        return lone(q, node_size, n, coords, from);
+    }
+    let k = fill_page(q, node_size, n, coords, from, page);
+    if k == 0 {
+        return stepped(Step::Done);
+    }
+    let c = page[0];
+    if k < page.len() {
+        return Turned {
+            step: Step::Slot(c),
+            pages: Pages {
+                len: k,
+                at: 1,
+                onward: Onward::Nothing,
+            },
+        };
+    }
+    let last = page[k - 1];
+    Turned {
+        step: Step::Slot(c),
+        pages: Pages {
+            len: k,
+            at: 1,
+            onward: Onward::After(last),
+        },
+    }
+}
+
+// The next slot of a walk that is read a page at a time, over any lent page; the page is turned where it is read. The walk is done where it is refused.
+pub fn next_slot(
+    q: Query,
+    node_size: usize,
+    n: usize,
+    coords: &[f64],
+    page: &mut [usize],
+    p: Pages,
+) -> Turned
+    ensures { λ r. ⌜ r .step ≡ nextStep Step.Done (aheadOf q «node_size» n (now (coords .entry)) (now (page .entry)) p) ⌝ }
+    ensures { λ r. ⌜ aheadOf q «node_size» n (now (coords .entry)) (now (page .exit)) (r .pages) ≡ tailOf (aheadOf q «node_size» n (now (coords .entry)) (now (page .entry)) p) ⌝ }
+{
+    let at = p.at;
+    let onward = p.onward;
+    if p.len <= at {
+        return turn(q, node_size, n, coords, page, onward);
+    }
+    if page.len() <= at {
+        return turn(q, node_size, n, coords, page, onward);
+    }
+    let c = page[at];
+    Turned {
+        step: Step::Slot(c),
+        pages: Pages {
+            len: p.len,
+            at: at + 1,
+            onward,
+        },
+    }
+}
