@@ -42,10 +42,11 @@ use Rattle.asking.specs.Columns.{indexRoom, roomOf, room-index, idsAt, coordsAt
 use Rattle.boxes.specs.Inside.{Indexed, Passes, Exactly, Around, cartesian-box, longitude-box, split-box, ring-around}
 use Rattle.boxes.specs.Lists.{boxAsked, ringAsked}
 use Rattle.boxes.specs.Rule.{halfCircle, ruled, boxOk}
-use Rattle.supercluster.specs.Build.{Lent, need, slotsOf}
+use Rattle.zooms.specs.Zooms.{slotsOf}
+use Rattle.zooms.specs.Running.{table-inside}
+use Rattle.supercluster.specs.Build.{Lent, need}
 use Rattle.supercluster.specs.Load.{Holds}
 use Rattle.supercluster.specs.Ready.{Accepted}
-use Rattle.supercluster.specs.Running.{table-inside}
 use Rattle.builds.specs.Came.{tableAt as built}
 use Rattle.builds.specs.OwnPlace.{index-of}
 use Rattle.builds.specs.RightAt.{right-at}

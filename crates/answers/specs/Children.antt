@@ -29,11 +29,12 @@ use Rattle.groups.specs.Sums.{keep}
 use Rattle.asking.specs.Around.{slotsOf as around-slots}
 use Rattle.asking.specs.Columns.{Columns, idsAt, coordsAt}
 use Rattle.kids.specs.Kids.{kidsOf, placesAround, kidsAt, cleanAt}
-use Rattle.supercluster.specs.Build.{Lent, need, slotsOf}
+use Rattle.zooms.specs.Zooms.{slotsOf}
+use Rattle.zooms.specs.Running.{slots-promised}
+use Rattle.supercluster.specs.Build.{Lent, need}
 use Rattle.supercluster.specs.Load.{Holds}
 use Rattle.supercluster.specs.Ready.{Accepted}
 use Rattle.supercluster.specs.Right.{Right}
-use Rattle.supercluster.specs.Running.{slots-promised}
 use Rattle.builds.specs.Came.{tableAt as built}
 use Rattle.builds.specs.RightAt.{right-at}
 use Rattle.lamps.specs.Owner.{answersAt}

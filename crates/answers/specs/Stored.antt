@@ -22,14 +22,15 @@ use Rattle.tables.specs.Sound.{packed, stateOk}
 use Rattle.zoom.specs.Keeps.{cluster-long}
 use Rattle.groups.specs.Sums.{below}
 use Rattle.asking.specs.Columns.{Columns, columns, roomOf, tableAt, idsAt, coordsAt}
-use Rattle.supercluster.specs.Build.{Plan, planOf, run, slotsOf, zoomsOf, tablesOf, joined, joinedIds, joinedCo, stateOf, Lent, written, need}
+use Rattle.zooms.specs.Zooms.{Plan, planOf, run, slotsOf, zoomsOf, joined, joinedIds, joinedCo}
+use Rattle.zooms.specs.Running.{slots-ids, slots-co}
+use Rattle.supercluster.specs.Build.{tablesOf, stateOf, Lent, written, need}
 use Rattle.supercluster.specs.Fill.{lamps, lamps-length}
 use Rattle.supercluster.specs.Held.{Laid, heldAt, held, built-laid, built-held}
 use Rattle.supercluster.specs.Load.{Holds, rowsIn}
 use Rattle.supercluster.specs.Over.{over-length}
 use Rattle.supercluster.specs.Ready.{Accepted}
 use Rattle.supercluster.specs.Right.{Right, tables-right, tables-count, tables-room}
-use Rattle.supercluster.specs.Running.{slots-ids, slots-co}
 use Rattle.builds.specs.Came.{tableAt as built}
 
 -- ---- what a question is lent of a build

@@ -45,10 +45,11 @@ use Rattle.tiling.specs.Tile.{Visit, isTile, edge, least, greatest, here, east,
 use Rattle.tiles.specs.Asked.{Asked, refused, told, asked, answerOf, someOf}
 use Rattle.tiles.specs.Ends.{asked-is}
 use Rattle.tiles.specs.Tallied.{sumOf, tallied}
-use Rattle.supercluster.specs.Build.{Lent, need, slotsOf}
+use Rattle.zooms.specs.Zooms.{slotsOf}
+use Rattle.zooms.specs.Running.{table-inside}
+use Rattle.supercluster.specs.Build.{Lent, need}
 use Rattle.supercluster.specs.Load.{Holds}
 use Rattle.supercluster.specs.Ready.{Accepted}
-use Rattle.supercluster.specs.Running.{table-inside}
 use Rattle.builds.specs.RightAt.{right-at}
 use Rattle.answers.specs.Stored.{stateBy, columnsBy, state-sound, table-is, ids-are, coords-are}
 use Rattle.answers.specs.Boxed.{Lies, Boxes, lies, boxes-of, usedBy, slots-index, between, fits-somehow}

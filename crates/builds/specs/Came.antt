@@ -9,7 +9,8 @@ use lib.ListN.{length, getD}
 use lib.Ieee.{Float}
 use Rattle.tables.specs.declared.Options.{Options}
 use Rattle.tables.specs.Entries.{Table}
-use Rattle.supercluster.specs.Build.{Plan, planOf, zoomed, run, zoomsOf, tablesOf}
+use Rattle.zooms.specs.Zooms.{Plan, planOf, zoomed, run, zoomsOf}
+use Rattle.supercluster.specs.Build.{tablesOf}
 use Rattle.supercluster.specs.Fill.{lamps}
 
 -- the table that comes after j zooms, the first of them top - 1

@@ -16,10 +16,11 @@ use Rattle.tables.specs.Entries.{Table, entry, none}
 use Rattle.tables.specs.Radius.{radiusAt}
 use Rattle.groups.specs.Groups.{Group, entryOf, around}
 use Rattle.groups.specs.OneZoom.{OneZoom}
-use Rattle.supercluster.specs.Build.{Plan, planOf, nearIn, zoomed, convertedAll, zoomsOf}
+use Rattle.zooms.specs.Zooms.{Plan, planOf, nearIn, zoomed, zoomsOf}
+use Rattle.zooms.specs.Running.{Able}
+use Rattle.supercluster.specs.Build.{convertedAll}
 use Rattle.supercluster.specs.Fill.{lamps, lamps-length, lamps-at, finest-fine, finest-total}
 use Rattle.supercluster.specs.Ready.{Accepted, able}
-use Rattle.supercluster.specs.Running.{Able}
 use Rattle.builds.specs.Came.{came, came-first, came-next, tableAt, table-left, down}
 use Rattle.builds.specs.Fitting.{Fitting, lamps-held}
 use Rattle.builds.specs.Steps.{Coming, Grouped, Lone, nearAt, groupsOn, zoom-grouped, coming-next}

@@ -20,9 +20,9 @@ use Rattle.kdbush.specs.Reply.{found}
 use Rattle.tables.specs.Entries.{Table, entry, none, xsOf, ysOf}
 use Rattle.zoom.specs.Keeps.{all-at}
 use Rattle.zoom.specs.Sound.{Body}
-use Rattle.supercluster.specs.Build.{indexOf, slotsOf, nearIn}
-use Rattle.supercluster.specs.Parts.{Inside}
-use Rattle.supercluster.specs.Running.{table-inside}
+use Rattle.zooms.specs.Zooms.{indexOf, slotsOf, nearIn}
+use Rattle.zooms.specs.Parts.{Inside}
+use Rattle.zooms.specs.Running.{table-inside}
 use Rattle.builds.specs.Fitting.{Held, Fits64}
 
 -- an index of points from 0 to 1 is one

@@ -14,7 +14,7 @@ use Rattle.tables.specs.declared.Options.{Options}
 use Rattle.tables.specs.Entries.{Table, entry, unset}
 use Rattle.tables.specs.Ids.{clusterId, id-small}
 use Rattle.zoom.specs.Keeps.{all-at}
-use Rattle.supercluster.specs.Build.{planOf}
+use Rattle.zooms.specs.Zooms.{planOf}
 use Rattle.supercluster.specs.Ready.{Accepted}
 use Rattle.builds.specs.Came.{came, tableAt, table-last}
 use Rattle.builds.specs.Fitting.{Fitting}

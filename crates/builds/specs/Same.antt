@@ -17,7 +17,7 @@ use Rattle.tables.specs.Entries.{Table, entry, none, marked, xsOf, ysOf}
 use Rattle.tables.specs.Ids.{clusterId}
 use Rattle.zoom.specs.Near.{nearOf}
 use Rattle.groups.specs.Groups.{took}
-use Rattle.supercluster.specs.Build.{indexOf, slotsOf, nearIn}
+use Rattle.zooms.specs.Zooms.{indexOf, slotsOf, nearIn}
 use Rattle.supercluster.specs.Ready.{Accepted}
 use Rattle.builds.specs.Came.{came, tableAt, table-last}
 use Rattle.builds.specs.Fitting.{Fitting}

@@ -26,8 +26,8 @@ use Rattle.groups.specs.Groups.{Group, copied, joined, entryOf, around, groupsO
 use Rattle.groups.specs.Literal.{cluster-groups}
 use Rattle.groups.specs.OneZoom.{Copied, Joined, Fits, OneZoom}
 use Rattle.groups.specs.Fits.{one-zoom}
-use Rattle.supercluster.specs.Build.{Plan, nearIn, zoomed}
-use Rattle.supercluster.specs.Running.{Able, total-some, slots-promised}
+use Rattle.zooms.specs.Zooms.{Plan, nearIn, zoomed}
+use Rattle.zooms.specs.Running.{Able, total-some, slots-promised}
 use Rattle.builds.specs.Fitting.{Fits64, Held}
 use Rattle.builds.specs.OwnPlace.{own-answered}
 

@@ -18,7 +18,7 @@ use Rattle.zoom.specs.Keeps.{all-at}
 use Rattle.groups.specs.Sums.{count}
 use Rattle.groups.specs.Groups.{Group, copied, joined, entryOf, from}
 use Rattle.groups.specs.OneZoom.{Fits}
-use Rattle.supercluster.specs.Build.{planOf}
+use Rattle.zooms.specs.Zooms.{planOf}
 use Rattle.supercluster.specs.Ready.{Accepted}
 use Rattle.builds.specs.Came.{came, tableAt}
 use Rattle.builds.specs.Fitting.{Fitting}

@@ -17,7 +17,7 @@ use Rattle.tables.specs.Radius.{radiusAt}
 use Rattle.groups.specs.Sums.{below, count, keep}
 use Rattle.groups.specs.Groups.{Group, copied, joined, entryOf}
 use Rattle.groups.specs.OneZoom.{Copied, Joined, Fits}
-use Rattle.supercluster.specs.Build.{nearIn}
+use Rattle.zooms.specs.Zooms.{nearIn}
 use Rattle.supercluster.specs.Ready.{Accepted}
 use Rattle.builds.specs.Came.{came, tableAt, down}
 use Rattle.builds.specs.Fitting.{Fitting}

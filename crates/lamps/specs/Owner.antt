@@ -13,7 +13,7 @@ use Rattle.tables.specs.Ids.{originOf, tableOf}
 use Rattle.tables.specs.Radius.{radiusAt}
 use Rattle.groups.specs.Sums.{count, keep}
 use Rattle.groups.specs.Groups.{Group, from, around}
-use Rattle.supercluster.specs.Build.{nearIn}
+use Rattle.zooms.specs.Zooms.{nearIn}
 use Rattle.builds.specs.Came.{tableAt}
 use Rattle.builds.specs.GroupsOfBuild.{groupsBy}
 use Rattle.builds.specs.Places.{groupAt}

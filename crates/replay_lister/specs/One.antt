@@ -6,7 +6,7 @@ use Prim.Native.Nat.{ℕ}
 use native.Mathlib.Omega.{arith}
 use lib.ListN.{length, take, drop}
 use lib.Seq.{take-at}
-use Rattle.supercluster.specs.Build.{over}
+use Rattle.zooms.specs.Zooms.{over}
 use Rattle.listing.specs.declared.Parsed.the-variants.{Refused}
 use Rattle.listing.specs.Text.{parsedNumber}
 use Rattle.listing.specs.OneInput.{text-one}

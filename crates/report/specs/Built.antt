@@ -15,7 +15,8 @@ use Rattle.tables.specs.Options.{optionsOk}
 use Rattle.tables.specs.declared.Entry.{Entry}
 use Rattle.tables.specs.declared.Options.{Options}
 use Rattle.tables.specs.declared.State.{State}
-use Rattle.supercluster.specs.Build.{convertedAll, tablesOf, joined, over, Lent, written, stateOf, need, roomyBy, checked, Outcome, outcome, byReply, loaded}
+use Rattle.zooms.specs.Zooms.{joined, over}
+use Rattle.supercluster.specs.Build.{convertedAll, tablesOf, Lent, written, stateOf, need, roomyBy, checked, Outcome, outcome, byReply, loaded}
 use Rattle.supercluster.specs.Held.{heldBy, built-held, built-within}
 use Rattle.supercluster.specs.Load.{accepted, holds, rowsIn, EvenIn, by-reply}
 use Rattle.supercluster.specs.Over.{over-length}

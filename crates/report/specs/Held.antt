@@ -7,7 +7,7 @@ use lib.ListN.{length, getD, length-append}
 use Rattle.tables.specs.declared.State.{State}
 use Rattle.tables.specs.Columns.{part-long}
 use Rattle.tables.specs.Entries.{Table}
-use Rattle.supercluster.specs.Build.{joined}
+use Rattle.zooms.specs.Zooms.{joined}
 use Rattle.supercluster.specs.Held.{heldAt, held, heldBy}
 use Rattle.report.specs.Lines.{tableText, tablesText}
 

@@ -6,7 +6,7 @@ use native.Mathlib.Nat.{add-zero, zero-add, add-suc, suc-add}
 use native.Mathlib.Omega.{arith}
 use lib.ListN.{length, set, drop, length-append}
 use lib.Seq.{sets, length-sets, sets-eq}
-use Rattle.supercluster.specs.Build.{over}
+use Rattle.zooms.specs.Zooms.{over}
 
 -- bs stored at `at`, at most `most` of them; r is the place past them
 pub record Put (o o′ : List ℕ) (at : ℕ) (bs : List ℕ) (most r : ℕ) : Type 0 where

@@ -7,7 +7,7 @@ use native.Mathlib.Omega.{arith}
 use lib.ListN.{length, take, drop, length-append}
 use lib.Seq.{length-take-le}
 use Rattle.floats.specs.Replies.{same-reply}
-use Rattle.supercluster.specs.Build.{over}
+use Rattle.zooms.specs.Zooms.{over}
 use Rattle.listing.specs.OneInput.{text-one}
 use Rattle.listing.specs.declared.Parsed.the-variants.{Refused}
 use Rattle.listing.specs.Text.{Input, parsedNumber}

@@ -11,7 +11,8 @@ use Rattle.kdbush.specs.declared.BuildReply.{BuildReply}
 use Rattle.kdbush.specs.declared.BuildReply.the-variants.{Done, Options as No·Options, Count, Point, Tables}
 use Rattle.kdbush.specs.Reply.{buildNumber, buildCarried}
 use Rattle.tables.specs.declared.Options.{Options}
-use Rattle.supercluster.specs.Build.{Lent, lent, checked, tablesOf, over, loaded}
+use Rattle.zooms.specs.Zooms.{over}
+use Rattle.supercluster.specs.Build.{Lent, lent, checked, tablesOf, loaded}
 use Rattle.listing.specs.declared.Parsed.the-variants.{Refused}
 use Rattle.listing.specs.Values.{optionsOf}
 use Rattle.listing.specs.Text.{Input, text, Valid, headIs, xsOf, ysOf, parsedNumber}

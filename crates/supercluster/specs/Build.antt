@@ -1,17 +1,14 @@
 -- The build, by 01's 'Tables' and the Rust's `load`: the refusals in order; otherwise the finest table, and each zoom from max_zoom down to min_zoom, every table
--- with its index, packed from position 0. Definitions only.
+-- with its index, packed from position 0. The zooms and the packing are those of `Zooms`, in the crate zooms. Definitions only.
 use mathlib.Core.Bool.{Bool, _&&_}
-use mathlib.Core.List.{List, [], _∷_, _++_, map}
-use Prim.Native.Nat.{ℕ, zero, suc, _+_, _-_, _*_}
+use mathlib.Core.List.{List, [], _∷_, map}
+use Prim.Native.Nat.{ℕ, suc, _+_, _*_}
 use lib.Dec.{leb}
-use lib.ListN.{length, set, drop, replicate}
+use lib.ListN.{length, replicate}
 use lib.Ieee.{Float}
 use Rattle.range.specs.declared.CoordinateSystem.{CoordinateSystem}
 use Rattle.range.specs.declared.Point.{Point}
 use Rattle.range.specs.Range.{converted}
-use Rattle.kdsort.specs.Cols.{Cols}
-use Rattle.kdsort.specs.Sort.{indexed}
-use Rattle.kdsort.specs.Indexes.{blank}
 use Rattle.kdbush.specs.declared.BuildReply.{BuildReply}
 use Rattle.kdbush.specs.declared.BuildReply.the-variants.{Done, Options as No·Options, Count, Point as No·Point, Tables}
 use Rattle.kdbush.specs.Reply.{pairOk, firstOutside, inOrder}
@@ -21,41 +18,10 @@ use Rattle.tables.specs.declared.Entry.{Entry}
 use Rattle.tables.specs.Options.{optionsOk, tableCount}
 use Rattle.tables.specs.State.{newState}
 use Rattle.tables.specs.Entries.{Table, never, unset, xsOf, ysOf, seenOf, idsOf, parentsOf, numsOf}
-use Rattle.tables.specs.Radius.{radiusAt}
-use Rattle.zoom.specs.Zoom.{Scan, cluster}
-use Rattle.zoom.specs.Near.{nearOf}
+use Rattle.zooms.specs.Zooms.{planOf, run, zoomsOf, joined, joinedIds, joinedCo, over, starts, lens}
 use Rattle.supercluster.specs.declared.Loaded.{Loaded}
 
 -- ---- the tables
-
--- the index of points, in columns that just hold it; and of a table
-unfoldable pub indexOf : ℕ → List Float → List Float → Cols
-indexOf size xs ys = indexed size xs ys (blank (length xs))
-
-unfoldable pub slotsOf : ℕ → Table → Cols
-slotsOf size t = indexOf size (xsOf t) (ysOf t)
-
--- what `within` answers of it
-abbrev pub nearIn : ℕ → Float → Table → Float → Float → List ℕ
-nearIn size r t = nearOf size (length t) (slotsOf size t .ids) (slotsOf size t .co) r
-
--- what a build goes by: the options, and the number of points
-pub record Plan : Type 0 where
-  pub options : Options
-  pub count : ℕ
-
-abbrev pub planOf : Options → ℕ → Plan
-planOf o n = record { options = o; count = n }
-
--- zoom z on the table t: t, marked, and the next table
-abbrev pub zoomed : Plan → ℕ → Table → Scan
-zoomed p z t =
-    cluster (p .count) (p .options .«min_points») z (nearIn (p .options .«node_size») (radiusAt (p .options .radius) (p .options .extent) z) t) t
-
--- the tables from t down to that of min_zoom, k zooms being left
-unfoldable pub run : Plan → ℕ → Table → List Table
-run p zero t = t ∷ []
-run p (suc k) t = zoomed p (p .options .«min_zoom» + k) t .table ∷ run p k (zoomed p (p .options .«min_zoom» + k) t .next)
 
 -- the converted points
 unfoldable pub convertedAll : CoordinateSystem → List Float → List Float → List Point
@@ -71,32 +37,11 @@ unfoldable pub finest : List Point → ℕ → Table
 finest [] i = []
 finest (p ∷ ps) i = lamp p i ∷ finest ps (suc i)
 
--- how many zooms there are
-abbrev pub zoomsOf : Options → ℕ
-zoomsOf o = o .«max_zoom» + 1 - o .«min_zoom»
-
 -- every table of a build, the finest first
 unfoldable pub tablesOf : Options → List Float → List Float → List Table
 tablesOf o xs ys = run (planOf o (length xs)) (zoomsOf o) (finest (convertedAll (o .«coordinate_system») xs ys) 0)
 
 -- ---- the columns and the state that hold them
-
--- tables, and their indexes' columns, one after the other
-unfoldable pub joined : List Table → Table
-joined [] = []
-joined (t ∷ ts) = t ++ joined ts
-
-unfoldable pub joinedIds : ℕ → List Table → List ℕ
-joinedIds size [] = []
-joinedIds size (t ∷ ts) = slotsOf size t .ids ++ joinedIds size ts
-
-unfoldable pub joinedCo : ℕ → List Table → List Float
-joinedCo size [] = []
-joinedCo size (t ∷ ts) = slotsOf size t .co ++ joinedCo size ts
-
--- a column that holds l, and past it what it held
-abbrev pub over : {A : Type 0} → List A → List A → List A
-over l d = l ++ drop (length l) d
 
 -- the lent columns
 pub record Lent : Type 0 where
@@ -129,15 +74,7 @@ written size n ts l =
       near = over (replicate n 0) (l .near);
     }
 
--- starts and lengths, from the table of zoom z on, which starts at `at`
-unfoldable pub starts : ℕ → ℕ → List Table → List ℕ → List ℕ
-starts z at [] l = l
-starts z at (t ∷ ts) l = starts (z - 1) (at + length t) ts (set l z at)
-
-unfoldable pub lens : ℕ → List Table → List ℕ → List ℕ
-lens z [] l = l
-lens z (t ∷ ts) l = lens (z - 1) ts (set l z (length t))
-
+-- the state: the tables from max_zoom + 1 down, packed from 0
 abbrev pub stateOf : Options → ℕ → List Table → State
 stateOf o n ts =
     record { options = o; count = n; starts = starts (o .«max_zoom» + 1) 0 ts (replicate 32 0); lens = lens (o .«max_zoom» + 1) ts (replicate 32 0) }

@@ -20,8 +20,9 @@ use Rattle.kdbush.specs.Reply.{firstOutside}
 use Rattle.tables.specs.Entries.{Table, entry}
 use Rattle.zoom.specs.Lamps.{total}
 use Rattle.zoom.specs.Sound.{Next}
-use Rattle.supercluster.specs.Build.{convertedAll, lamp, finest, over}
-use Rattle.supercluster.specs.Parts.{Inside}
+use Rattle.zooms.specs.Zooms.{over}
+use Rattle.zooms.specs.Parts.{Inside}
+use Rattle.supercluster.specs.Build.{convertedAll, lamp, finest}
 
 -- the columns of points
 abbrev pub pxs : List Point → List Float

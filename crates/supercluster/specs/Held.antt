@@ -14,7 +14,8 @@ use Rattle.tables.specs.Entries.{Table}
 use Rattle.tables.specs.Bounds.{options-are}
 use Rattle.tables.specs.declared.Options.{Options}
 use Rattle.tables.specs.declared.State.{State}
-use Rattle.supercluster.specs.Build.{tablesOf, joined, over, starts, lens, stateOf, Lent, written}
+use Rattle.zooms.specs.Zooms.{joined, over, starts, lens}
+use Rattle.supercluster.specs.Build.{tablesOf, stateOf, Lent, written}
 use Rattle.supercluster.specs.Over.{rows-over}
 use Rattle.supercluster.specs.Ready.{Accepted}
 use Rattle.supercluster.specs.Load.{rowsIn}

@@ -1,14 +1,8 @@
--- Definitions that contracts cite: Build, and of Parts, Step, Running, Progress, Ready and Load the records that the crate's own functions ask and leave. What
--- is true of every build: Right, Held, Replies. All else is laws.
+-- Definitions that contracts cite: Build, and of Ready and Load the records that the crate's own functions ask and leave. What is true of every build: Right,
+-- Held, Replies. All else is laws.
 pub mod Build
-pub mod Parts
-pub mod Step
 pub mod Over
-pub mod Running
-pub mod Zooming
 pub mod Fill
-pub mod Progress
-pub mod Turn
 pub mod Ready
 pub mod Load
 pub mod Right

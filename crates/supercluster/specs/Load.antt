@@ -22,7 +22,8 @@ use Rattle.tables.specs.Rows.{rows, Even}
 use Rattle.tables.specs.declared.Entry.{Entry}
 use Rattle.tables.specs.declared.Options.{Options}
 use Rattle.tables.specs.declared.State.{State}
-use Rattle.supercluster.specs.Build.{convertedAll, tablesOf, joined, joinedIds, joinedCo, over, Lent, lent, written, need, roomy, checked, byReply, loaded}
+use Rattle.zooms.specs.Zooms.{joined, joinedIds, joinedCo, over}
+use Rattle.supercluster.specs.Build.{convertedAll, tablesOf, Lent, lent, written, need, roomy, checked, byReply, loaded}
 use Rattle.supercluster.specs.Fill.{pxs, pys}
 use Rattle.supercluster.specs.Over.{over-map, cut-over}
 use Rattle.supercluster.specs.Ready.{Accepted, Made}

@@ -11,7 +11,7 @@ use Rattle.tables.specs.Entries.{Table, xsOf, ysOf, seenOf, idsOf, parentsOf, n
 use Rattle.tables.specs.Rows.{rows}
 use Rattle.tables.specs.declared.Entry.{Entry}
 use Rattle.zoom.specs.Keeps.{cluster-long}
-use Rattle.supercluster.specs.Build.{Plan, zoomed, run, joined, over}
+use Rattle.zooms.specs.Zooms.{Plan, zoomed, run, joined, over}
 
 -- what a longer front covers is gone
 pub over-over : {A : Type 0} (T F R : List A) → length F ≤ length T → over T (over F R) ≡ over T R
@@ -36,6 +36,12 @@ cut-over l d x m h e k =
     ap (λ (q : List _). q ++ drop m d) e
     ∙ append-assoc l (drop (length l) (take m d)) (drop m d)
     ∙ ap (λ (q : List _). l ++ q) (sym (drop-append-le (length l) (take m d) (drop m d) (omega (arith, n, lt))) ∙ ap (drop (length l)) (take-append-drop m d))
+
+-- and as long as it was lent, so that the column is as long as it was
+pub cut-long : {A : Type 0} (m : ℕ) (x d : List A) → length x ≡ length (take m d) → length (x ++ drop m d) ≡ length d
+cut-long m x d e =
+    let whole : length (take m d ++ drop m d) ≡ length d = ap length (take-append-drop m d) in
+    omega (arith, e, length-append x (drop m d), length-append (take m d) (drop m d), whole)
 
 pub run-long : (p : Plan) (k : ℕ) (t : Table) → length t ≤ length (joined (run p k t))
 unfolding run joined

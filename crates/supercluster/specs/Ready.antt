@@ -20,12 +20,13 @@ use Rattle.tables.specs.declared.Options.{Options}
 use Rattle.tables.specs.declared.State.{State}
 use Rattle.zoom.specs.Lamps.{total}
 use Rattle.zoom.specs.Sound.{Body, Next}
-use Rattle.supercluster.specs.Build.{slotsOf, planOf, run, convertedAll, zoomsOf, tablesOf, joined, joinedIds, joinedCo, over, starts, lens, stateOf, need}
+use Rattle.zooms.specs.Zooms.{slotsOf, planOf, run, zoomsOf, joined, joinedIds, joinedCo, over, starts, lens}
+use Rattle.zooms.specs.Parts.{putAt, part-put, Inside}
+use Rattle.zooms.specs.Progress.{Finished, starts-again, lens-again}
+use Rattle.zooms.specs.Running.{Able, Running, table-inside, slots-ids, slots-co}
+use Rattle.supercluster.specs.Build.{convertedAll, tablesOf, stateOf, need}
 use Rattle.supercluster.specs.Fill.{lamps, lamps-length, finest-fine, finest-total, pxs, pys}
 use Rattle.supercluster.specs.Over.{over-over, run-long}
-use Rattle.supercluster.specs.Parts.{putAt, part-put, Inside}
-use Rattle.supercluster.specs.Progress.{Finished, starts-again, lens-again}
-use Rattle.supercluster.specs.Running.{Able, Running, table-inside, slots-ids, slots-co}
 
 -- what is not refused
 pub record Accepted (o : Options) (xs ys : List Float) : Type 0 where

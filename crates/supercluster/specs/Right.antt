@@ -17,10 +17,11 @@ use Rattle.tables.specs.Radius.{radiusAt}
 use Rattle.tables.specs.declared.Options.{Options}
 use Rattle.zoom.specs.Lamps.{total}
 use Rattle.zoom.specs.Sound.{Body, Next, cluster-sound}
-use Rattle.supercluster.specs.Build.{nearIn, Plan, planOf, zoomed, run, convertedAll, zoomsOf, tablesOf, joined, need}
+use Rattle.zooms.specs.Zooms.{nearIn, Plan, planOf, zoomed, run, zoomsOf, joined}
+use Rattle.zooms.specs.Running.{Able, total-some, slots-promised}
+use Rattle.supercluster.specs.Build.{convertedAll, tablesOf, need}
 use Rattle.supercluster.specs.Fill.{lamps-length, finest-fine, finest-total, lamps}
 use Rattle.supercluster.specs.Ready.{Accepted, need-some, able}
-use Rattle.supercluster.specs.Running.{Able, total-some, slots-promised}
 
 -- what is true of a table of a build of n lamps
 pub record Right (n : ℕ) (t : Table) : Type 0 where

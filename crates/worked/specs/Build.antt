@@ -17,7 +17,8 @@ use Rattle.tables.specs.declared.State.{State}
 use Rattle.tables.specs.Options.{optionsOk}
 use Rattle.tables.specs.Sound.{packed, stateOk}
 use Rattle.tables.specs.Entries.{Table, never, unset}
-use Rattle.supercluster.specs.Build.{indexOf, slotsOf, convertedAll, joined, joinedIds, joinedCo, Lent, written, starts, lens, stateOf, roomy, checked, Outcome, outcome, byReply, loaded}
+use Rattle.zooms.specs.Zooms.{indexOf, slotsOf, joined, joinedIds, joinedCo, starts, lens}
+use Rattle.supercluster.specs.Build.{convertedAll, Lent, written, stateOf, roomy, checked, Outcome, outcome, byReply, loaded}
 use Rattle.asking.specs.Columns.{Columns, columns, roomOf}
 use Rattle.worked.specs.Tables.{b, at, options, xs, ys, shown, tables-are}
 use Rattle.answers.specs.Stored.{columnsOf}

@@ -25,7 +25,8 @@ use Rattle.tables.specs.Radius.{radiusAt}
 use Rattle.tables.specs.Rows.{rows}
 use Rattle.tables.specs.Sound.{packed, stateOk}
 use Rattle.zoom.specs.Zoom.{more, absorbOne, absorb, copyOne, copyAll, visit, scanOne, scanFrom, cluster}
-use Rattle.supercluster.specs.Build.{indexOf, slotsOf, run, convertedAll, finest, tablesOf, joined, joinedIds, joinedCo, starts, lens, Lent, written, roomy, checked, Outcome, loaded}
+use Rattle.zooms.specs.Zooms.{indexOf, slotsOf, run, joined, joinedIds, joinedCo, starts, lens}
+use Rattle.supercluster.specs.Build.{convertedAll, finest, tablesOf, Lent, written, roomy, checked, Outcome, loaded}
 use Rattle.asking.specs.declared.Answer.the-variants.{NoRoom}
 use Rattle.tiling.specs.declared.Tally.the-variants.{Sum}
 use Rattle.tiling.specs.Tile.{here, east, west, visited, listed, whole, rounded}

@@ -12,7 +12,8 @@ use Rattle.kdbush.specs.Run.{places}
 use Rattle.tables.specs.Radius.{radiusAt}
 use Rattle.zoom.specs.Zoom.{more, absorbOne, absorb, copyOne, copyAll, visit, scanOne, scanFrom, cluster}
 use Rattle.groups.specs.Groups.{weighed}
-use Rattle.supercluster.specs.Build.{indexOf, slotsOf, run, convertedAll, finest, tablesOf}
+use Rattle.zooms.specs.Zooms.{indexOf, slotsOf, run}
+use Rattle.supercluster.specs.Build.{convertedAll, finest, tablesOf}
 use Rattle.builds.specs.Came.{comes, came, tableAt}
 use Rattle.builds.specs.GroupsOfBuild.{groupsBy}
 use Rattle.lamps.specs.Owner.{owner, ownerAt, lampsOf, lampsAt, membersOf}

@@ -23,7 +23,8 @@ use Rattle.tables.specs.Options.{optionsOk}
 use Rattle.tables.specs.Entries.{Table, never, unset}
 use Rattle.tables.specs.Radius.{radiusAt}
 use Rattle.zoom.specs.Zoom.{more, absorbOne, absorb, copyOne, copyAll, visit, scanOne, scanFrom, cluster}
-use Rattle.supercluster.specs.Build.{indexOf, slotsOf, run, convertedAll, finest, tablesOf, starts, Lent, lent, checked, loaded}
+use Rattle.zooms.specs.Zooms.{indexOf, slotsOf, run, starts}
+use Rattle.supercluster.specs.Build.{convertedAll, finest, tablesOf, Lent, lent, checked, loaded}
 
 -- a float by its bits, as 01 prints it
 unfoldable pub b : ℕ → Float

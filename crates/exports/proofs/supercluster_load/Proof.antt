@@ -12,6 +12,9 @@ use Rattle.exports.proofs.supercluster_load.Tie as tie
 abbrev options-of : tie.After-load → tie.After-options
 options-of w = w .before .before .before .before .before .before .before .before .before .before
 
+abbrev tell-of : tie.After-slice-known22 → tie.After-tell
+tell-of c = c .before .before .before .before
+
 abbrev load-of : tie.After-tell → tie.After-load
 load-of t = t .before .before .before .before .before .before .before .before .before .before .before .before .before .before .before .before .before .before .before .before .before .before
 
@@ -36,41 +39,41 @@ tell-requires : tie.Need-tell-requires
 tell-requires c κs = search needs
 
 same-length : tie.Need-same-length
-same-length c = search needs
+same-length c = load-of (tell-of c) .load .kept .1 .1 .1 .0
 
 same-length-2 : tie.Need-same-length-2
-same-length-2 c = search needs
+same-length-2 c = load-of (tell-of c) .load .kept .1 .1 .1 .1 .0
 
 same-length-3 : tie.Need-same-length-3
-same-length-3 c = search needs
+same-length-3 c = load-of (tell-of c) .load .kept .1 .1 .1 .1 .1 .0
 
 same-length-4 : tie.Need-same-length-4
-same-length-4 c = search needs
+same-length-4 c = load-of (tell-of c) .load .kept .1 .1 .1 .1 .1 .1 .0
 
 same-length-5 : tie.Need-same-length-5
-same-length-5 c = search needs
+same-length-5 c = load-of (tell-of c) .load .kept .1 .1 .1 .1 .1 .1 .1 .0
 
 same-length-6 : tie.Need-same-length-6
-same-length-6 c = search needs
+same-length-6 c = load-of (tell-of c) .load .kept .1 .1 .1 .1 .1 .1 .1 .1 .0
 
 same-length-7 : tie.Need-same-length-7
-same-length-7 c = search needs
+same-length-7 c = load-of (tell-of c) .load .kept .1 .1 .1 .1 .1 .1 .1 .1 .1 .0
 
 same-length-8 : tie.Need-same-length-8
-same-length-8 c = search needs
+same-length-8 c = load-of (tell-of c) .load .kept .1 .1 .1 .1 .1 .1 .1 .1 .1 .1 .0
 
 same-length-9 : tie.Need-same-length-9
-same-length-9 c = search needs
+same-length-9 c = load-of (tell-of c) .load .kept .1 .1 .1 .1 .1 .1 .1 .1 .1 .1 .1 .0
 
 same-length-10 : tie.Need-same-length-10
-same-length-10 c = search needs
+same-length-10 c = tell-of c .tell .kept .1 .0
 
 same-length-11 : tie.Need-same-length-11
-same-length-11 c = search needs
+same-length-11 c = tell-of c .tell .kept .1 .1 .0
 
 returns : tie.Need-returns
 returns c =
-    let t = c .before .before .before .before in
+    let t = tell-of c in
     let w = load-of t in
     let y = options-of w in
     let s = start-of y in

@@ -10,7 +10,7 @@ use lib.ListN.{length, getD}
 use Rattle.tables.specs.declared.State.{State}
 use Rattle.tables.specs.Entries.{Table}
 use Rattle.tables.specs.Rows.{rows, rows-length}
-use Rattle.supercluster.specs.Build.{joined}
+use Rattle.zooms.specs.Zooms.{joined}
 use Rattle.report.specs.Lines.{tableText, tablesText}
 use Rattle.report.specs.Put.{Storing, storing-start, storing-step, storing-end}
 use Rattle.supercluster.specs.Held.{heldAt, held, heldBy}

@@ -12,7 +12,8 @@ use Rattle.listing.specs.declared.Head.{Head}
 use Rattle.listing.specs.Text.{Input, Parsing, Reads, Refuses, headIs, xsOf, ysOf}
 use Rattle.listing.specs.Values.{optionsOf}
 use Rattle.listing.specs.Whole.{Front, reads-front}
-use Rattle.supercluster.specs.Build.{Lent, lent, over, loaded}
+use Rattle.zooms.specs.Zooms.{over}
+use Rattle.supercluster.specs.Build.{Lent, lent, loaded}
 use Rattle.report.specs.Report.{buildText, linesOf, lending, left, read, refused}
 use Rattle.report.specs.Put.{put-over}
 use Rattle.report.proofs.report.Statement.{statement}

@@ -6,10 +6,10 @@ use native.Mathlib.Omega.{arith}
 use lib.ListN.{length}
 use lib.Seq.{length-take-le}
 use denote.Ref.{now}
-use borrow.Author.Needs.{needs}
 use Rattle.tables.specs.Bounds.{InBounds, options-are}
 use Rattle.tables.specs.Rows.{even-kept}
 use Rattle.supercluster.specs.Build.{Lent, lent, need}
+use Rattle.supercluster.specs.Over.{cut-long}
 use Rattle.supercluster.specs.Ready.{Accepted, need-few, need-some}
 use Rattle.supercluster.specs.Load.{Holds, EvenIn, fronts, fronts-even, whole}
 use Rattle.supercluster.proofs.build_all.Statement.{statement}
@@ -51,6 +51,14 @@ held w = subst (λ (q : ℕ). Holds q (old (start-of w))) (sym (size-is w)) (sta
 
 even : (w : tie.After-table-count) → EvenIn (fronts (size w) (count (start-of w)) (old (start-of w)))
 even w = fronts-even (size w) (count (start-of w)) (old (start-of w)) (held w)
+
+-- ---- and once they are built
+
+abbrev built-of : tie.After-slice-known18 → tie.After-build-in
+built-of c = c .before .before .before .before .before .before .before .before .before .before .before .before .before .before .before .before .before .before
+
+abbrev count-of : tie.After-build-in → tie.After-table-count
+count-of b = b .before .before .before .before .before .before .before .before .before .before
 
 -- ---- the parts
 
@@ -137,36 +145,36 @@ build-in-requires c κs =
     )
 
 same-length : tie.Need-same-length
-same-length c = search needs
+same-length c = let b = built-of c in let w = count-of b in cut-long (size w) (b .build-in .last .1 .1 .1 .0) (now (start-of w .args .x)) (b .build-in .kept .1 .1 .1 .0)
 
 same-length-2 : tie.Need-same-length-2
-same-length-2 c = search needs
+same-length-2 c = let b = built-of c in let w = count-of b in cut-long (size w) (b .build-in .last .1 .1 .1 .1 .0) (now (start-of w .args .y)) (b .build-in .kept .1 .1 .1 .1 .0)
 
 same-length-3 : tie.Need-same-length-3
-same-length-3 c = search needs
+same-length-3 c = let b = built-of c in let w = count-of b in cut-long (size w) (b .build-in .last .1 .1 .1 .1 .1 .0) (now (start-of w .args .seen)) (b .build-in .kept .1 .1 .1 .1 .1 .0)
 
 same-length-4 : tie.Need-same-length-4
-same-length-4 c = search needs
+same-length-4 c = let b = built-of c in let w = count-of b in cut-long (size w) (b .build-in .last .1 .1 .1 .1 .1 .1 .0) (now (start-of w .args .id)) (b .build-in .kept .1 .1 .1 .1 .1 .1 .0)
 
 same-length-5 : tie.Need-same-length-5
-same-length-5 c = search needs
+same-length-5 c = let b = built-of c in let w = count-of b in cut-long (size w) (b .build-in .last .1 .1 .1 .1 .1 .1 .1 .0) (now (start-of w .args .parent)) (b .build-in .kept .1 .1 .1 .1 .1 .1 .1 .0)
 
 same-length-6 : tie.Need-same-length-6
-same-length-6 c = search needs
+same-length-6 c = let b = built-of c in let w = count-of b in cut-long (size w) (b .build-in .last .1 .1 .1 .1 .1 .1 .1 .1 .0) (now (start-of w .args .num)) (b .build-in .kept .1 .1 .1 .1 .1 .1 .1 .1 .0)
 
 same-length-7 : tie.Need-same-length-7
-same-length-7 c = search needs
+same-length-7 c = let b = built-of c in let w = count-of b in cut-long (size w) (b .build-in .last .1 .1 .1 .1 .1 .1 .1 .1 .1 .0) (now (start-of w .args .ids)) (b .build-in .kept .1 .1 .1 .1 .1 .1 .1 .1 .1 .0)
 
 same-length-8 : tie.Need-same-length-8
-same-length-8 c = search needs
+same-length-8 c = let b = built-of c in let w = count-of b in cut-long (size w * 2) (b .build-in .last .1 .1 .1 .1 .1 .1 .1 .1 .1 .1 .0) (now (start-of w .args .coords)) (b .build-in .kept .1 .1 .1 .1 .1 .1 .1 .1 .1 .1 .0)
 
 same-length-9 : tie.Need-same-length-9
-same-length-9 c = search needs
+same-length-9 c = let b = built-of c in let w = count-of b in cut-long (count (start-of w)) (b .build-in .last .1 .1 .1 .1 .1 .1 .1 .1 .1 .1 .1 .0) (now (start-of w .args .near)) (b .build-in .kept .1 .1 .1 .1 .1 .1 .1 .1 .1 .1 .1 .0)
 
 returns : tie.Need-returns
 returns c =
-    let b = c .before .before .before .before .before .before .before .before .before .before .before .before .before .before .before .before .before .before in
-    let w = b .before .before .before .before .before .before .before .before .before .before in
+    let b = built-of c in
+    let w = count-of b in
     let s = start-of w in
     let a = s .args in
     let h = held w in

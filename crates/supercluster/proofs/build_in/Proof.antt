@@ -14,9 +14,10 @@ use Rattle.tables.specs.Columns.{part}
 use Rattle.tables.specs.Entries.{Table}
 use Rattle.tables.specs.Rows.{rows, Even, even-kept, rows-length}
 use Rattle.tables.specs.State.{withTable}
-use Rattle.supercluster.specs.Build.{slotsOf, indexOf, need}
-use Rattle.supercluster.specs.Parts.{putAt}
-use Rattle.supercluster.specs.Zooming.{part-index}
+use Rattle.zooms.specs.Zooms.{slotsOf, indexOf}
+use Rattle.zooms.specs.Parts.{putAt}
+use Rattle.zooms.specs.Zooming.{part-index}
+use Rattle.supercluster.specs.Build.{need}
 use Rattle.supercluster.specs.Ready.{Accepted, need-some, firstState, first-inside, ready-at, made-at}
 use Rattle.supercluster.proofs.build_in.Statement.{statement}
 use Rattle.supercluster.proofs.build_in.Tie as tie

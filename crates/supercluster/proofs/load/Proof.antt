@@ -34,6 +34,11 @@ told : (k : tie.After-check) (b : BuildReply) → k .check .result ≡ b
     → let a = start-of k .args in loaded (a .o) (now (a .xs)) (now (a .ys)) (old (start-of k)) ≡ byReply (a .o) (now (a .xs)) (now (a .ys)) (old (start-of k)) b
 told k b e = let a = start-of k .args in by-reply (a .o) (now (a .xs)) (now (a .ys)) (old (start-of k)) (k .check .result) b (reply k) e
 
+-- ---- and what is built
+
+abbrev built-of : tie.After-slice-known18 → tie.After-build-all
+built-of c = c .before .before .before .before .before .before .before .before .before .before .before .before .before .before .before .before .before .before
+
 -- ---- the parts
 
 check-requires : tie.Need-check-requires
@@ -76,35 +81,35 @@ refused-requires-4 : tie.Need-refused-requires-4
 refused-requires-4 c κs = search needs
 
 same-length : tie.Need-same-length
-same-length c = search needs
+same-length c = built-of c .build-all .kept .1 .1 .1 .0
 
 same-length-2 : tie.Need-same-length-2
-same-length-2 c = search needs
+same-length-2 c = built-of c .build-all .kept .1 .1 .1 .1 .0
 
 same-length-3 : tie.Need-same-length-3
-same-length-3 c = search needs
+same-length-3 c = built-of c .build-all .kept .1 .1 .1 .1 .1 .0
 
 same-length-4 : tie.Need-same-length-4
-same-length-4 c = search needs
+same-length-4 c = built-of c .build-all .kept .1 .1 .1 .1 .1 .1 .0
 
 same-length-5 : tie.Need-same-length-5
-same-length-5 c = search needs
+same-length-5 c = built-of c .build-all .kept .1 .1 .1 .1 .1 .1 .1 .0
 
 same-length-6 : tie.Need-same-length-6
-same-length-6 c = search needs
+same-length-6 c = built-of c .build-all .kept .1 .1 .1 .1 .1 .1 .1 .1 .0
 
 same-length-7 : tie.Need-same-length-7
-same-length-7 c = search needs
+same-length-7 c = built-of c .build-all .kept .1 .1 .1 .1 .1 .1 .1 .1 .1 .0
 
 same-length-8 : tie.Need-same-length-8
-same-length-8 c = search needs
+same-length-8 c = built-of c .build-all .kept .1 .1 .1 .1 .1 .1 .1 .1 .1 .1 .0
 
 same-length-9 : tie.Need-same-length-9
-same-length-9 c = search needs
+same-length-9 c = built-of c .build-all .kept .1 .1 .1 .1 .1 .1 .1 .1 .1 .1 .1 .0
 
 returns : tie.Need-returns
 returns c =
-    let b = c .before .before .before .before .before .before .before .before .before .before .before .before .before .before .before .before .before .before in
+    let b = built-of c in
     let e = b .before .before .before .before .before .before .before .before .before .before in
     let w = b .build-all in
     let l = w .last .1 .1 .1 in

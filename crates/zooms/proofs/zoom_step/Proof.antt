@@ -1,19 +1,23 @@
--- `supercluster::zoom_step` meets its contract: the columns are lent from `start` on, where the scan's table stands at 0, and the index's own part of its
+-- `zooms::zoom_step` meets its contract: the columns are lent from `start` on, where the scan's table stands at 0, and the index's own part of its
 -- columns is lent. Assumes nothing.
 use mathlib.Core.Path.{_≡_, sym}
 use Prim.Native.Nat.{_+_, _-_, _*_}
 use native.Mathlib.Omega.{arith}
-use lib.ListN.{drop}
+use lib.ListN.{length, drop}
 use denote.Ref.{now}
 use borrow.Author.Needs.{needs}
 use Rattle.tables.specs.Rows.{rows}
 use Rattle.tables.specs.Columns.{from, from-length, rows-from, even-from}
-use Rattle.supercluster.specs.Step.{stepped}
-use Rattle.supercluster.proofs.zoom_step.Statement.{statement}
-use Rattle.supercluster.proofs.zoom_step.Tie as tie
+use Rattle.zooms.specs.Parts.{put-long}
+use Rattle.zooms.specs.Step.{stepped}
+use Rattle.zooms.proofs.zoom_step.Statement.{statement}
+use Rattle.zooms.proofs.zoom_step.Tie as tie
 
 abbrev start-of : tie.After-cluster-arg9 → tie.Start
 start-of c = c .before .before .before .before .before .before .before .before .before .before .before .before .before .before .before .before .before .before
+
+abbrev scan-of : tie.After-slice-known14 → tie.After-cluster
+scan-of c = c .before .before .before .before .before .before .before .before .before .before .before .before .before .before
 
 -- the lent parts of the index's columns
 ids-part : (s : tie.Start) → s .args .start + s .args .len - s .args .start ≡ s .args .len
@@ -145,29 +149,29 @@ cluster-requires c κs =
     )
 
 same-length : tie.Need-same-length
-same-length c = search needs
+same-length c = let w = scan-of c in let a = start-of (w .before) .args in put-long (a .start) (length (now (a .x)) - a .start) (w .cluster .last .0) (now (a .x)) (w .cluster .kept .0)
 
 same-length-2 : tie.Need-same-length-2
-same-length-2 c = search needs
+same-length-2 c = let w = scan-of c in let a = start-of (w .before) .args in put-long (a .start) (length (now (a .y)) - a .start) (w .cluster .last .1 .0) (now (a .y)) (w .cluster .kept .1 .0)
 
 same-length-3 : tie.Need-same-length-3
-same-length-3 c = search needs
+same-length-3 c = let w = scan-of c in let a = start-of (w .before) .args in put-long (a .start) (length (now (a .seen)) - a .start) (w .cluster .last .1 .1 .0) (now (a .seen)) (w .cluster .kept .1 .1 .0)
 
 same-length-4 : tie.Need-same-length-4
-same-length-4 c = search needs
+same-length-4 c = let w = scan-of c in let a = start-of (w .before) .args in put-long (a .start) (length (now (a .id)) - a .start) (w .cluster .last .1 .1 .1 .0) (now (a .id)) (w .cluster .kept .1 .1 .1 .0)
 
 same-length-5 : tie.Need-same-length-5
-same-length-5 c = search needs
+same-length-5 c = let w = scan-of c in let a = start-of (w .before) .args in put-long (a .start) (length (now (a .parent)) - a .start) (w .cluster .last .1 .1 .1 .1 .0) (now (a .parent)) (w .cluster .kept .1 .1 .1 .1 .0)
 
 same-length-6 : tie.Need-same-length-6
-same-length-6 c = search needs
+same-length-6 c = let w = scan-of c in let a = start-of (w .before) .args in put-long (a .start) (length (now (a .num)) - a .start) (w .cluster .last .1 .1 .1 .1 .1 .0) (now (a .num)) (w .cluster .kept .1 .1 .1 .1 .1 .0)
 
 same-length-7 : tie.Need-same-length-7
-same-length-7 c = search needs
+same-length-7 c = scan-of c .cluster .kept .1 .1 .1 .1 .1 .1 .1 .1 .0
 
 returns : tie.Need-returns
 returns c =
-    let w = c .before .before .before .before .before .before .before .before .before .before .before .before .before .before in
+    let w = scan-of c in
     let s = start-of (w .before) in
     let a = s .args in
     let l = w .cluster .last in

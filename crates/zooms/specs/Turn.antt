@@ -8,9 +8,9 @@ use lib.Ieee.{Float}
 use Rattle.tables.specs.Columns.{part}
 use Rattle.tables.specs.Entries.{Table}
 use Rattle.tables.specs.declared.State.{State}
-use Rattle.supercluster.specs.Build.{Plan}
-use Rattle.supercluster.specs.Progress.{Whole, wholeOf, Progress, Finished, progress-step, progress-start, rows-end, ids-end, co-end, ss-end, ll-end, rows-length-end, ids-length-end, co-length-end}
-use Rattle.supercluster.specs.Running.{Running, Advanced, running-step}
+use Rattle.zooms.specs.Zooms.{Plan}
+use Rattle.zooms.specs.Progress.{Whole, wholeOf, Progress, Finished, progress-step, progress-start, rows-end, ids-end, co-end, ss-end, ll-end, rows-length-end, ids-length-end, co-length-end}
+use Rattle.zooms.specs.Running.{Running, Advanced, running-step}
 
 module _ (p : Plan) (M z start len : ℕ) (t : Table) (ids : List ℕ) (co : List Float) (lz : p .options .«min_zoom» < z) (r : Running p M (z - p .options .«min_zoom») start len t ids co) where
   one-less : z - p .options .«min_zoom» ≡ suc (z - 1 - p .options .«min_zoom»)

@@ -19,8 +19,8 @@ use Rattle.tables.specs.Radius.{radiusAt}
 use Rattle.zoom.specs.Keeps.{all-at}
 use Rattle.zoom.specs.Lamps.{total}
 use Rattle.zoom.specs.Sound.{Body, Next, Sound, cluster-sound}
-use Rattle.supercluster.specs.Build.{slotsOf, nearIn, Plan, zoomed}
-use Rattle.supercluster.specs.Parts.{putAt, part-put, Inside, Indexable, index-ids, index-co, index-promised}
+use Rattle.zooms.specs.Zooms.{slotsOf, nearIn, Plan, zoomed}
+use Rattle.zooms.specs.Parts.{putAt, part-put, Inside, Indexable, index-ids, index-co, index-promised}
 
 -- ---- a table whose entries lie from 0 to 1 has an index that keeps its promises
 

@@ -19,10 +19,10 @@ use Rattle.zoom.specs.Near.{nearOf, Placed, Radius}
 use Rattle.zoom.specs.Scanned.{unseenNum}
 use Rattle.zoom.specs.Sound.{Body}
 use Rattle.zoom.specs.Zoom.{Scan, cluster}
-use Rattle.supercluster.specs.Build.{indexOf, slotsOf, nearIn, Plan, zoomed}
-use Rattle.supercluster.specs.Parts.{putAt, Inside}
-use Rattle.supercluster.specs.Running.{Running, Advanced, next-some, next-few, cur-long, cur-body, table-inside, next-body}
-use Rattle.supercluster.specs.Step.{Stepped}
+use Rattle.zooms.specs.Zooms.{indexOf, slotsOf, nearIn, Plan, zoomed}
+use Rattle.zooms.specs.Parts.{putAt, Inside}
+use Rattle.zooms.specs.Running.{Running, Advanced, next-some, next-few, cur-long, cur-body, table-inside, next-body}
+use Rattle.zooms.specs.Step.{Stepped}
 
 -- a table and the one made from it, in the rows
 pub record Zoomed (p : Plan) (z start len d : ℕ) (t t′ : Table) : Type 0 where

@@ -1,17 +1,16 @@
--- `supercluster::one_zoom` meets its contract: what holds between two zooms gives what the scan and the index ask, and the scan and the index together advance
+-- `zooms::one_zoom` meets its contract: what holds between two zooms gives what the scan and the index ask, and the scan and the index together advance
 -- the tables by one. Assumes nothing.
 use Prim.Native.Nat.{suc, _+_, _-_, _≤_}
 use native.Mathlib.Omega.{arith}
 use lib.ListN.{length}
 use denote.Ref.{now}
-use borrow.Author.Needs.{needs}
 use Rattle.tables.specs.Entries.{Table}
 use Rattle.tables.specs.Rows.{rows, Even, even-kept}
-use Rattle.supercluster.specs.Build.{Plan, planOf}
-use Rattle.supercluster.specs.Running.{Running, cur-promised}
-use Rattle.supercluster.specs.Zooming.{Zoomed, z-few, step-room, step-light, step-radius, step-placed, made-some, made-few, made-body, scanned, inside-made, advanced}
-use Rattle.supercluster.proofs.one_zoom.Statement.{statement}
-use Rattle.supercluster.proofs.one_zoom.Tie as tie
+use Rattle.zooms.specs.Zooms.{Plan, planOf}
+use Rattle.zooms.specs.Running.{Running, cur-promised}
+use Rattle.zooms.specs.Zooming.{Zoomed, z-few, step-room, step-light, step-radius, step-placed, made-some, made-few, made-body, scanned, inside-made, advanced}
+use Rattle.zooms.proofs.one_zoom.Statement.{statement}
+use Rattle.zooms.proofs.one_zoom.Tie as tie
 
 -- ---- what is known at the start
 
@@ -40,6 +39,9 @@ start-of w = w .before .before .before .before .before .before .before .before .
 
 abbrev step-of : tie.After-index-part-arg4 → tie.After-zoom-step
 step-of c = c .before .before .before .before .before .before .before .before .before .before .before .before .before .before .before .before .before .before
+
+abbrev indexed-of : tie.After-slice-known18 → tie.After-index-part
+indexed-of c = c .before .before .before .before
 
 abbrev new-table : tie.After-zoom-step → Table
 new-table w = let l = w .zoom-step .last in rows (l .0) (l .1 .0) (l .1 .1 .0) (l .1 .1 .1 .0) (l .1 .1 .1 .1 .0) (l .1 .1 .1 .1 .1 .0)
@@ -120,35 +122,35 @@ index-part-requires c κs =
     )
 
 same-length : tie.Need-same-length
-same-length c = search needs
+same-length c = step-of (indexed-of c .before) .zoom-step .kept .0
 
 same-length-2 : tie.Need-same-length-2
-same-length-2 c = search needs
+same-length-2 c = step-of (indexed-of c .before) .zoom-step .kept .1 .0
 
 same-length-3 : tie.Need-same-length-3
-same-length-3 c = search needs
+same-length-3 c = step-of (indexed-of c .before) .zoom-step .kept .1 .1 .0
 
 same-length-4 : tie.Need-same-length-4
-same-length-4 c = search needs
+same-length-4 c = step-of (indexed-of c .before) .zoom-step .kept .1 .1 .1 .0
 
 same-length-5 : tie.Need-same-length-5
-same-length-5 c = search needs
+same-length-5 c = step-of (indexed-of c .before) .zoom-step .kept .1 .1 .1 .1 .0
 
 same-length-6 : tie.Need-same-length-6
-same-length-6 c = search needs
+same-length-6 c = step-of (indexed-of c .before) .zoom-step .kept .1 .1 .1 .1 .1 .0
 
 same-length-7 : tie.Need-same-length-7
-same-length-7 c = search needs
+same-length-7 c = indexed-of c .index-part .kept .1 .1 .0
 
 same-length-8 : tie.Need-same-length-8
-same-length-8 c = search needs
+same-length-8 c = indexed-of c .index-part .kept .1 .1 .1 .0
 
 same-length-9 : tie.Need-same-length-9
-same-length-9 c = search needs
+same-length-9 c = step-of (indexed-of c .before) .zoom-step .kept .1 .1 .1 .1 .1 .1 .1 .1 .0
 
 returns : tie.Need-returns
 returns c =
-    let i = c .before .before .before .before in
+    let i = indexed-of c in
     let w = step-of (i .before) in
     let s = start-of w in
     let a = s .args in

@@ -13,9 +13,9 @@ use Rattle.tables.specs.Entries.{Table}
 use Rattle.tables.specs.declared.State.{State}
 use Rattle.zoom.specs.Keeps.{cluster-long}
 use Rattle.zoom.specs.Zoom.{Scan}
-use Rattle.supercluster.specs.Build.{slotsOf, Plan, zoomed, run, joined, joinedIds, joinedCo, over, starts, lens}
-use Rattle.supercluster.specs.Parts.{take-put, drop-put}
-use Rattle.supercluster.specs.Running.{Running, Advanced, zoom-sound, cur-long, ids-fit, co-fit, ids-len, co-len}
+use Rattle.zooms.specs.Zooms.{slotsOf, Plan, zoomed, run, joined, joinedIds, joinedCo, over, starts, lens}
+use Rattle.zooms.specs.Parts.{take-put, drop-put}
+use Rattle.zooms.specs.Running.{Running, Advanced, zoom-sound, cur-long, ids-fit, co-fit, ids-len, co-len}
 
 -- what is to be written, all in all
 pub record Whole : Type 0 where

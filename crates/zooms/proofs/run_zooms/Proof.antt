@@ -1,4 +1,4 @@
--- `supercluster::run_zooms` meets its contract: at the head of the loop the table of zoom z stands indexed, and what is written with what is left to write is the
+-- `zooms::run_zooms` meets its contract: at the head of the loop the table of zoom z stands indexed, and what is written with what is left to write is the
 -- whole. Assumes nothing.
 use mathlib.Core.Path.{_≡_, refl, ap, sym, _∙_, subst}
 use Prim.Native.Nat.{ℕ, suc, _+_, _-_, _≤_}
@@ -9,12 +9,12 @@ use Rattle.tables.specs.declared.State.{State}
 use Rattle.tables.specs.Columns.{part}
 use Rattle.tables.specs.Entries.{Table}
 use Rattle.tables.specs.Rows.{rows, Even, even-kept, rows-length}
-use Rattle.supercluster.specs.Build.{Plan, planOf, zoomsOf}
-use Rattle.supercluster.specs.Running.{Running}
-use Rattle.supercluster.specs.Progress.{wholeOf, Progress}
-use Rattle.supercluster.specs.Turn.{turn-ready, turn-running, turn-progress, turn-start, turn-end}
-use Rattle.supercluster.proofs.run_zooms.Statement.{statement}
-use Rattle.supercluster.proofs.run_zooms.Tie as tie
+use Rattle.zooms.specs.Zooms.{Plan, planOf, zoomsOf}
+use Rattle.zooms.specs.Running.{Running}
+use Rattle.zooms.specs.Progress.{wholeOf, Progress}
+use Rattle.zooms.specs.Turn.{turn-ready, turn-running, turn-progress, turn-start, turn-end}
+use Rattle.zooms.proofs.run_zooms.Statement.{statement}
+use Rattle.zooms.proofs.run_zooms.Tie as tie
 
 abbrev Inv-loop : tie.InvT-loop
 Inv-loop x₀ y₀ seen₀ id₀ parent₀ num₀ ids₀ coords₀ near₀ n o low st₀ z₀ start₀ len₀ x y seen id parent num ids coords near st z start len =

@@ -1,11 +1,11 @@
 -- Parts of columns that are written anew, and the index of points from 0 to 1: a build of it is not refused, what it leaves does not depend on what the
 -- columns held, and its answers keep kdbush's promises. Assumes nothing.
-use mathlib.Core.Path.{_≡_, sym, _∙_, subst}
+use mathlib.Core.Path.{_≡_, ap, sym, _∙_, subst}
 use mathlib.Core.List.{List, _++_}
 use Prim.Native.Nat.{ℕ, _+_, _*_, _<_, _≤_}
 use native.Mathlib.Omega.{arith}
 use borrow.Author.Tests.{le-leb}
-use lib.ListN.{length, getD, take, drop, length-replicate}
+use lib.ListN.{length, getD, take, drop, length-append, length-replicate, take-append-drop}
 use lib.Seq.{take-at, drop-at, length-take-le, drop-drop}
 use lib.Ieee.{Float, nan}
 use Rattle.floats.specs.Unit.{In01}
@@ -16,7 +16,7 @@ use Rattle.kdbush.specs.Reply.{built}
 use Rattle.kdbush.specs.Built.{Accepted, accepts, build-is-index}
 use Rattle.kdbush.specs.Promise.{Promised, promised}
 use Rattle.tables.specs.Columns.{part}
-use Rattle.supercluster.specs.Build.{indexOf}
+use Rattle.zooms.specs.Zooms.{indexOf}
 
 -- a part of a column, written anew
 abbrev pub putAt : {A : Type 0} → ℕ → ℕ → List A → List A → List A
@@ -37,6 +37,14 @@ module _ {A : Type 0} (at len : ℕ) (p l : List A) (h : at + len ≤ length l) 
       sym (drop-drop len at (putAt at len p l))
       ∙ rw (drop-at (take at l) (p ++ drop len (drop at l)) at long) (drop-at p (drop len (drop at l)) len e)
       ∙ drop-drop len at l
+
+-- a part that comes back as long as it was lent leaves the column as long as it was
+pub put-long : {A : Type 0} (at len : ℕ) (p l : List A) → length p ≡ length (part at len l) → length (putAt at len p l) ≡ length l
+put-long at len p l e =
+    let r = drop len (drop at l) in
+    let whole : length (take at l ++ drop at l) ≡ length l = ap length (take-append-drop at l) in
+    let rest : length (take len (drop at l) ++ r) ≡ length (drop at l) = ap length (take-append-drop len (drop at l)) in
+    omega (arith, e, length-append (take at l) (p ++ r), length-append p r, length-append (take at l) (drop at l), length-append (take len (drop at l)) r, whole, rest)
 
 -- ---- the index of points
 

@@ -1,4 +1,4 @@
--- `supercluster::index_part` meets its contract: the parts lent to the index's build have just room for it, so that it is not refused and what it leaves is
+-- `zooms::index_part` meets its contract: the parts lent to the index's build have just room for it, so that it is not refused and what it leaves is
 -- the index of the part's points. Assumes nothing.
 use mathlib.Core.Path.{_≡_, ap, sym, _∙_}
 use mathlib.Core.List.{_++_}
@@ -10,10 +10,10 @@ use borrow.Author.Needs.{needs}
 use Rattle.kdsort.specs.Cols.{Cols, cols}
 use Rattle.kdbush.specs.Reply.{built}
 use Rattle.tables.specs.Columns.{part, part-long}
-use Rattle.supercluster.specs.Build.{indexOf}
-use Rattle.supercluster.specs.Parts.{Indexable, built-is}
-use Rattle.supercluster.proofs.index_part.Statement.{statement}
-use Rattle.supercluster.proofs.index_part.Tie as tie
+use Rattle.zooms.specs.Zooms.{indexOf}
+use Rattle.zooms.specs.Parts.{Indexable, built-is}
+use Rattle.zooms.proofs.index_part.Statement.{statement}
+use Rattle.zooms.proofs.index_part.Tie as tie
 
 abbrev start-of : tie.After-build → tie.Start
 start-of b = b .before .before .before .before .before .before .before .before .before

@@ -1,0 +1,77 @@
+-- The zooms of a build, by 01's 'Tables' and the Rust's `load`: the index of a table, zoom after zoom on tables as values, and how tables are packed one after
+-- the other in columns and recorded in a state. Definitions only.
+use mathlib.Core.List.{List, [], _∷_, _++_}
+use Prim.Native.Nat.{ℕ, zero, suc, _+_, _-_}
+use lib.ListN.{length, set, drop}
+use lib.Ieee.{Float}
+use Rattle.kdsort.specs.Cols.{Cols}
+use Rattle.kdsort.specs.Sort.{indexed}
+use Rattle.kdsort.specs.Indexes.{blank}
+use Rattle.tables.specs.declared.Options.{Options}
+use Rattle.tables.specs.Entries.{Table, xsOf, ysOf}
+use Rattle.tables.specs.Radius.{radiusAt}
+use Rattle.zoom.specs.Zoom.{Scan, cluster}
+use Rattle.zoom.specs.Near.{nearOf}
+
+-- ---- the tables
+
+-- the index of points, in columns that just hold it; and of a table
+unfoldable pub indexOf : ℕ → List Float → List Float → Cols
+indexOf size xs ys = indexed size xs ys (blank (length xs))
+
+unfoldable pub slotsOf : ℕ → Table → Cols
+slotsOf size t = indexOf size (xsOf t) (ysOf t)
+
+-- what `within` answers of it
+abbrev pub nearIn : ℕ → Float → Table → Float → Float → List ℕ
+nearIn size r t = nearOf size (length t) (slotsOf size t .ids) (slotsOf size t .co) r
+
+-- what a build goes by: the options, and the number of points
+pub record Plan : Type 0 where
+  pub options : Options
+  pub count : ℕ
+
+abbrev pub planOf : Options → ℕ → Plan
+planOf o n = record { options = o; count = n }
+
+-- zoom z on the table t: t, marked, and the next table
+abbrev pub zoomed : Plan → ℕ → Table → Scan
+zoomed p z t =
+    cluster (p .count) (p .options .«min_points») z (nearIn (p .options .«node_size») (radiusAt (p .options .radius) (p .options .extent) z) t) t
+
+-- the tables from t down to that of min_zoom, k zooms being left
+unfoldable pub run : Plan → ℕ → Table → List Table
+run p zero t = t ∷ []
+run p (suc k) t = zoomed p (p .options .«min_zoom» + k) t .table ∷ run p k (zoomed p (p .options .«min_zoom» + k) t .next)
+
+-- how many zooms there are
+abbrev pub zoomsOf : Options → ℕ
+zoomsOf o = o .«max_zoom» + 1 - o .«min_zoom»
+
+-- ---- the columns and the state that hold them
+
+-- tables, and their indexes' columns, one after the other
+unfoldable pub joined : List Table → Table
+joined [] = []
+joined (t ∷ ts) = t ++ joined ts
+
+unfoldable pub joinedIds : ℕ → List Table → List ℕ
+joinedIds size [] = []
+joinedIds size (t ∷ ts) = slotsOf size t .ids ++ joinedIds size ts
+
+unfoldable pub joinedCo : ℕ → List Table → List Float
+joinedCo size [] = []
+joinedCo size (t ∷ ts) = slotsOf size t .co ++ joinedCo size ts
+
+-- a column that holds l, and past it what it held
+abbrev pub over : {A : Type 0} → List A → List A → List A
+over l d = l ++ drop (length l) d
+
+-- starts and lengths, from the table of zoom z on, which starts at `at`
+unfoldable pub starts : ℕ → ℕ → List Table → List ℕ → List ℕ
+starts z at [] l = l
+starts z at (t ∷ ts) l = starts (z - 1) (at + length t) ts (set l z at)
+
+unfoldable pub lens : ℕ → List Table → List ℕ → List ℕ
+lens z [] l = l
+lens z (t ∷ ts) l = lens (z - 1) ts (set l z (length t))
