@@ -7,6 +7,7 @@ use lib.Ieee.{Float, le}
 use Rattle.kdsort.specs.Cols.{key}
 use Rattle.kdsort.specs.Shape.{Shape, leaf, node, shape, mid}
 use Rattle.kdslots.specs.declared.Query.{Query}
+use Rattle.kdslots.specs.declared.Query.the-variants.{Range, Within}
 use Rattle.kdslots.specs.Query.{passesQ, least, greatest}
 
 -- a search: whether a slot passes, and whether the part right of a median and the part left of it are gone into, on the axis on which it is split
@@ -42,6 +43,11 @@ over q cs = record {
   right = λ ax m. le (key ax cs m) (greatest q ax);
   left = λ ax m. le (least q ax) (key ax cs m);
 }
+
+-- a median that passes or not, as it is asked for where only one side of it is searched: in a box none passes there
+abbrev pub alone : Query → Bool → Bool
+alone (Range a b c d) t = false
+alone (Within qx qy r) t = t
 
 -- the slots of an index of n that a query answers, for a node size
 abbrev pub answers : Query → List Float → ℕ → ℕ → List ℕ

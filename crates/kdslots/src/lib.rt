@@ -5,7 +5,7 @@ ghost use Prim.Native.Nat.{_+_, _*_, _≤_, _<_};
 ghost use lib.ListN.{length};
 ghost use Rattle.kdsort.specs.Shape.{shape};
 ghost use Rattle.kdslots.specs.Query.{passesQ, queryOk};
-ghost use Rattle.kdslots.specs.Slots.{over, slots};
+ghost use Rattle.kdslots.specs.Slots.{over, slots, alone};
 ghost use Rattle.kdslots.specs.Bounds.{nodeSizeOk, countOk, coordsOk};
 
 // What is asked of an index: the entries of a box, or those around a place.
@@ -103,7 +103,18 @@ pub fn right_at(q: Query, coords: &[f64], axis: usize, m: usize) -> bool
     }
 }
 
-// An interval that has all that is answered of the slots below n: parts are left out while the median does not pass and only one side is searched.
+// Whether the median m is answered where only one side of it is searched. Of a box it is not: between the edges of a box both sides are searched.
+fn alone_at(q: Query, coords: &[f64], m: usize) -> bool
+    requires { ⌜ 2 * m + 1 < length (now coords) ⌝ }
+    ensures { λ r. ⌜ r ≡ alone q (over q (now (coords .entry)) .test m) ⌝ }
+{
+    match q {
+        Query::Range { .. } => false,
+        Query::Within { .. } => test_at(q, coords, m),
+    }
+}
+
+// An interval that has all that is answered of the slots below n: parts are left out while only one side is searched and the median is not answered.
 pub fn narrow(q: Query, coords: &[f64], most: usize, n: usize) -> Interval
     requires { ⌜ 2 * n ≤ length (now coords) ⌝ }
     ensures { λ r. ⌜ slots (over q (now (coords .entry))) (r .axis) (shape most (r .lo) (r .hi)) ≡ slots (over q (now (coords .entry))) 0 (shape most 0 n) ⌝ }
@@ -114,17 +125,20 @@ pub fn narrow(q: Query, coords: &[f64], most: usize, n: usize) -> Interval
     let mut axis = 0;
     while most < hi - lo {
         let m = lo + (hi - lo - 1) / 2;
-        if test_at(q, coords, m) {
-            return Interval { lo, hi, axis };
-        }
         if right_at(q, coords, axis, m) {
             if left_at(q, coords, axis, m) {
+                return Interval { lo, hi, axis };
+            }
+            if alone_at(q, coords, m) {
                 return Interval { lo, hi, axis };
             }
             lo = m + 1;
             axis = 1 - axis;
         } else {
             if !left_at(q, coords, axis, m) {
+                return Interval { lo, hi, axis };
+            }
+            if alone_at(q, coords, m) {
                 return Interval { lo, hi, axis };
             }
             hi = m;

@@ -35,15 +35,15 @@ use Rattle.kdwalk.specs.Walk.{rest-follows, scanned-rest, walk-follows, 
 
 -- ---- what is ahead
 
--- what a walk has from where it goes on
-abbrev pub onwardOf : Query → ℕ → ℕ → List Float → Onward → List ℕ
-onwardOf q size n co Start = walk q size n co
-onwardOf q size n co (After c) = walkAfter q size n co c
-onwardOf q size n co Nothing = []
+-- what a walk has from where it goes on, c being the slot that it goes on after, where it goes on after one
+abbrev pub onwardOf : Query → ℕ → ℕ → List Float → Onward → ℕ → List ℕ
+onwardOf q size n co Start c = walk q size n co
+onwardOf q size n co After c = walkAfter q size n co c
+onwardOf q size n co Nothing c = []
 
 -- what is left to read of the page, and then what the walk has after the page
 unfoldable pub aheadOf : Query → ℕ → ℕ → List Float → List ℕ → Pages → List ℕ
-aheadOf q size n co page p = drop (p .at) (take (p .len) page) ++ onwardOf q size n co (p .onward)
+aheadOf q size n co page p = drop (p .at) (take (p .len) page) ++ onwardOf q size n co (p .onward) (p .last)
 
 -- all but the first
 abbrev pub tailOf : List ℕ → List ℕ
@@ -52,14 +52,14 @@ tailOf (i ∷ l) = l
 
 -- a walk that begins
 abbrev pub begun : Pages
-begun = record { len = 0; at = 0; onward = Start }
+begun = record { len = 0; at = 0; onward = Start; last = 0 }
 
 -- a step with an empty page: the walk goes on after the slot
 abbrev pub steppedOf : Step → Turned
-steppedOf (Slot i) = record { step = Slot i; pages = record { len = 0; at = 0; onward = After i } }
-steppedOf Done = record { step = Done; pages = record { len = 0; at = 0; onward = Nothing } }
-steppedOf Box = record { step = Done; pages = record { len = 0; at = 0; onward = Nothing } }
-steppedOf Spoiled = record { step = Done; pages = record { len = 0; at = 0; onward = Nothing } }
+steppedOf (Slot i) = record { step = Slot i; pages = record { len = 0; at = 0; onward = After; last = i } }
+steppedOf Done = record { step = Done; pages = record { len = 0; at = 0; onward = Nothing; last = 0 } }
+steppedOf Box = record { step = Done; pages = record { len = 0; at = 0; onward = Nothing; last = 0 } }
+steppedOf Spoiled = record { step = Done; pages = record { len = 0; at = 0; onward = Nothing; last = 0 } }
 
 -- the first step of a list
 abbrev pub loneOf : List ℕ → Turned
@@ -174,12 +174,12 @@ rest-again s ax lo hi _ (both {m = m} {r = r} {l = l} a b p q) d h k pre c post 
 
 module _ (q : Query) (size n : ℕ) (co : List Float) where
   -- a walk goes on after each of its slots with what follows it
-  pub onward-follows : (from : Onward) (pre : List ℕ) (c : ℕ) (post : List ℕ) → onwardOf q size n co from ≡ pre ++ c ∷ post → walkAfter q size n co c ≡ post
-  onward-follows Start pre c post e =
+  pub onward-follows : (from : Onward) (d : ℕ) (pre : List ℕ) (c : ℕ) (post : List ℕ) → onwardOf q size n co from d ≡ pre ++ c ∷ post → walkAfter q size n co c ≡ post
+  onward-follows Start d pre c post e =
       let w = walk-follows q size n co pre c post e in
       let b : (coordsOk size n (length co) && queryOk q && ltb c n) ≡ true = rw (goes q size n co pre c post e, lt-ltb c n (w .0)) in
       ap (λ (t : Bool). cond t (restOf q co size n c) []) b ∙ w .1
-  onward-follows (After d) pre c post e = go (coordsOk size n (length co) && queryOk q) (ltb d n) refl refl e
+  onward-follows After d pre c post e = go (coordsOk size n (length co) && queryOk q) (ltb d n) refl refl e
     where
       go : (a b : Bool) → (coordsOk size n (length co) && queryOk q) ≡ a → ltb d n ≡ b → cond (a && b) (restOf q co size n d) [] ≡ pre ++ c ∷ post → walkAfter q size n co c ≡ post
       go true true f g x =
@@ -188,4 +188,4 @@ module _ (q : Query) (size n : ℕ) (co : List Float) where
           ap (λ (t : Bool). cond t (restOf q co size n c) []) b ∙ w .2
       go true false f g x = absurd (no-nil pre c post x)
       go false b f g x = absurd (no-nil pre c post x)
-  onward-follows Nothing pre c post e = absurd (no-nil pre c post e)
+  onward-follows Nothing d pre c post e = absurd (no-nil pre c post e)

@@ -21,15 +21,17 @@ pub enum Step {
 // From where a walk goes on: from its start, after a slot, or not at all.
 pub enum Onward {
     Start,
-    After(usize),
+    After,
     Nothing,
 }
 
-// Where a walk stands that is read a page at a time: how many slots the page has, how many of them were read, and from where it goes on after the page.
+// Where a walk stands that is read a page at a time: how many slots the page has, how many of them were read, from where it goes on after the page, and the
+// slot that it goes on after, where it goes on after one. The slot stands beside `onward`, not in it, so that each can be moved by itself.
 pub struct Pages {
     pub len: usize,
     pub at: usize,
     pub onward: Onward,
+    pub last: usize,
 }
 
 // A step of such a walk, and where it stands afterwards.
@@ -196,6 +198,7 @@ pub fn begin() -> Pages
         len: 0,
         at: 0,
         onward: Onward::Start,
+        last: 0,
     }
 }
 
@@ -210,6 +213,7 @@ fn stepped(s: Step) -> Turned
                 len: 0,
                 at: 0,
                 onward: Onward::Nothing,
+                last: 0,
             },
         };
     };
@@ -218,18 +222,19 @@ fn stepped(s: Step) -> Turned
         pages: Pages {
             len: 0,
             at: 0,
-            onward: Onward::After(i),
+            onward: Onward::After,
+            last: i,
         },
     }
 }
 
 // The next slot of a walk whose page is read, by the cursor.
-fn lone(q: Query, node_size: usize, n: usize, coords: &[f64], from: Onward) -> Turned
-    ensures { λ r. ⌜ r ≡ loneOf (onwardOf q «node_size» n (now (coords .entry)) from) ⌝ }
+fn lone(q: Query, node_size: usize, n: usize, coords: &[f64], from: Onward, last: usize) -> Turned
+    ensures { λ r. ⌜ r ≡ loneOf (onwardOf q «node_size» n (now (coords .entry)) from last) ⌝ }
 {
     match from {
         Onward::Start => stepped(first(q, node_size, n, coords)),
-        Onward::After(c) => stepped(after(q, node_size, n, coords, c)),
+        Onward::After => stepped(after(q, node_size, n, coords, last)),
         Onward::Nothing => stepped(Step::Done),
     }
 }
@@ -368,9 +373,10 @@ fn fill_page(
     n: usize,
     coords: &[f64],
     from: Onward,
+    last: usize,
     page: &mut [usize],
 ) -> usize
-    ensures { λ r. ⌜ stored r (now (page .exit)) ≡ store 0 (onwardOf q «node_size» n (now (coords .entry)) from) (now (page .entry)) ⌝ }
+    ensures { λ r. ⌜ stored r (now (page .exit)) ≡ store 0 (onwardOf q «node_size» n (now (coords .entry)) from last) (now (page .entry)) ⌝ }
 {
     if !kdslots::coords_ok(node_size, n, coords.len()) {
         return 0;
@@ -383,11 +389,11 @@ fn fill_page(
             let v = kdslots::narrow(q, coords, node_size + 1, n);
             fill_in(q, coords, node_size + 1, v.lo, v.hi, v.axis, 0, page)
         }
-        Onward::After(slot) => {
-            if n <= slot {
+        Onward::After => {
+            if n <= last {
                 return 0;
             }
-            fill_rest(q, coords, node_size + 1, 0, n, 0, slot, page)
+            fill_rest(q, coords, node_size + 1, 0, n, 0, last, page)
         }
         Onward::Nothing => 0,
     }
@@ -401,14 +407,18 @@ fn turn(
     coords: &[f64],
     page: &mut [usize],
     from: Onward,
+    last: usize,
 ) -> Turned
-    ensures { λ r. ⌜ r .step ≡ nextStep Step.Done (onwardOf q «node_size» n (now (coords .entry)) from) ⌝ }
-    ensures { λ r. ⌜ aheadOf q «node_size» n (now (coords .entry)) (now (page .exit)) (r .pages) ≡ tailOf (onwardOf q «node_size» n (now (coords .entry)) from) ⌝ }
+    ensures { λ r. ⌜ r .step ≡ nextStep Step.Done (onwardOf q «node_size» n (now (coords .entry)) from last) ⌝ }
+    ensures { λ r. ⌜ aheadOf q «node_size» n (now (coords .entry)) (now (page .exit)) (r .pages) ≡ tailOf (onwardOf q «node_size» n (now (coords .entry)) from last) ⌝ }
 {
-    if page.len() == 0 {
-        return lone(q, node_size, n, coords, from);
+    if let Onward::Nothing = from {
+        return stepped(Step::Done);
     }
-    let k = fill_page(q, node_size, n, coords, from, page);
+    if page.len() == 0 {
+        return lone(q, node_size, n, coords, from, last);
+    }
+    let k = fill_page(q, node_size, n, coords, from, last, page);
     if k == 0 {
         return stepped(Step::Done);
     }
@@ -420,16 +430,18 @@ fn turn(
                 len: k,
                 at: 1,
                 onward: Onward::Nothing,
+                last: 0,
             },
         };
     }
-    let last = page[k - 1];
+    let d = page[k - 1];
     Turned {
         step: Step::Slot(c),
         pages: Pages {
             len: k,
             at: 1,
-            onward: Onward::After(last),
+            onward: Onward::After,
+            last: d,
         },
     }
 }
@@ -448,11 +460,12 @@ pub fn next_slot(
 {
     let at = p.at;
     let onward = p.onward;
+    let last = p.last;
     if p.len <= at {
-        return turn(q, node_size, n, coords, page, onward);
+        return turn(q, node_size, n, coords, page, onward, last);
     }
     if page.len() <= at {
-        return turn(q, node_size, n, coords, page, onward);
+        return turn(q, node_size, n, coords, page, onward, last);
     }
     let c = page[at];
     Turned {
@@ -461,6 +474,7 @@ pub fn next_slot(
             len: p.len,
             at: at + 1,
             onward,
+            last,
         },
     }
 }

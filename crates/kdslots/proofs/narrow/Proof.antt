@@ -1,12 +1,13 @@
 -- `kdslots::narrow` meets its contract: what is left out answers nothing. The measure is the interval's length. Assumes nothing.
 use mathlib.Core.Path.{_≡_, refl, sym, _∙_}
+use mathlib.Core.Bool.{true, false}
 use Prim.Native.Nat.{_-_, _≤_, _<_}
 use native.Mathlib.Omega.{arith}
 use borrow.Author.Tests.{not-false}
 use denote.Ref.{now}
-use Rattle.kdsort.specs.Shape.{shape}
+use Rattle.kdsort.specs.Shape.{shape, mid}
 use Rattle.kdslots.specs.Slots.{over, slots}
-use Rattle.kdslots.proofs.Narrows.{only-right, only-left}
+use Rattle.kdslots.proofs.Narrows.{only-right, only-left, unanswered}
 use Rattle.kdslots.proofs.narrow.Statement.{statement}
 use Rattle.kdslots.proofs.narrow.Tie as tie
 
@@ -37,17 +38,17 @@ sub-m-2 c = omega arith
 add-m : tie.Need-add-m Inv-loop μ-loop
 add-m c = omega arith
 
-test-at-requires : tie.Need-test-at-requires Inv-loop μ-loop
-test-at-requires c κs = omega arith
-
-returns : tie.Need-returns Inv-loop μ-loop
-returns c = told (c .before .before .before)
-
 right-at-requires : tie.Need-right-at-requires Inv-loop μ-loop
 right-at-requires c κs = omega arith
 
 left-at-requires : tie.Need-left-at-requires Inv-loop μ-loop
 left-at-requires c κs = omega arith
+
+returns : tie.Need-returns Inv-loop μ-loop
+returns c = told (c .before .before .before .before .before)
+
+alone-at-requires : tie.Need-alone-at-requires Inv-loop μ-loop
+alone-at-requires c κs = omega arith
 
 returns-2 : tie.Need-returns-2 Inv-loop μ-loop
 returns-2 c = told (c .before .before .before .before .before .before .before)
@@ -63,19 +64,30 @@ loop-less c = omega arith
 
 loop-again : tie.Need-loop-again Inv-loop μ-loop
 loop-again c =
-    let r = c .before .before .before in
-    let t = r .before .before in
+    let o = c .before in
+    let u = o .before .before in
+    let t = u .before .before in
     let w = t .before .before in
     let a = w .before .before .args in
     let s = over (a .q) (now (a .coords)) in
-    let e = only-right s (w .loop .axis) (a .most) (w .loop .lo) (w .loop .hi) (t .before .loop-test .taken) (sym (t .test-at .ensures) ∙ r .before .if1 .left) (sym (r .right-at .ensures) ∙ c .before .before .if2 .taken) (sym (c .before .left-at .ensures) ∙ c .if3 .left) in
+    let m = mid (w .loop .lo) (w .loop .hi) in
+    let r : s .right (w .loop .axis) m ≡ true = sym (t .right-at .ensures) ∙ u .before .if1 .taken in
+    let l : s .left (w .loop .axis) m ≡ false = sym (u .left-at .ensures) ∙ o .before .if2 .left in
+    let no = unanswered (a .q) (now (a .coords)) (w .loop .axis) m (w .loop .inv .2) (rw (r, l)) (sym (o .alone-at .ensures) ∙ c .if3 .left) in
+    let e = only-right s (w .loop .axis) (a .most) (w .loop .lo) (w .loop .hi) (t .before .loop-test .taken) no r l in
     (omega arith, omega arith, omega arith, sym e ∙ w .loop .inv .3)
 
 left-at-requires-2 : tie.Need-left-at-requires-2 Inv-loop μ-loop
 left-at-requires-2 c κs = omega arith
 
 returns-3 : tie.Need-returns-3 Inv-loop μ-loop
-returns-3 c = told (c .before .before .before .before .before .before .before)
+returns-3 c = told (c .before .before .before .before .before)
+
+alone-at-requires-2 : tie.Need-alone-at-requires-2 Inv-loop μ-loop
+alone-at-requires-2 c κs = omega arith
+
+returns-4 : tie.Need-returns-4 Inv-loop μ-loop
+returns-4 c = told (c .before .before .before .before .before .before .before)
 
 sub-axis-2 : tie.Need-sub-axis-2 Inv-loop μ-loop
 sub-axis-2 c = omega arith
@@ -85,16 +97,21 @@ loop-less-2 c = omega arith
 
 loop-again-2 : tie.Need-loop-again-2 Inv-loop μ-loop
 loop-again-2 c =
-    let r = c .before .before .before in
-    let t = r .before .before in
+    let o = c .before in
+    let u = o .before .before in
+    let t = u .before .before in
     let w = t .before .before in
     let a = w .before .before .args in
     let s = over (a .q) (now (a .coords)) in
-    let e = only-left s (w .loop .axis) (a .most) (w .loop .lo) (w .loop .hi) (t .before .loop-test .taken) (sym (t .test-at .ensures) ∙ r .before .if1 .left) (sym (r .right-at .ensures) ∙ c .before .before .if2 .left) (sym (c .before .left-at2 .ensures) ∙ not-false _ (c .if4 .left)) in
+    let m = mid (w .loop .lo) (w .loop .hi) in
+    let r : s .right (w .loop .axis) m ≡ false = sym (t .right-at .ensures) ∙ u .before .if1 .left in
+    let l : s .left (w .loop .axis) m ≡ true = sym (u .left-at2 .ensures) ∙ not-false _ (o .before .if4 .left) in
+    let no = unanswered (a .q) (now (a .coords)) (w .loop .axis) m (w .loop .inv .2) (rw r) (sym (o .alone-at2 .ensures) ∙ c .if5 .left) in
+    let e = only-left s (w .loop .axis) (a .most) (w .loop .lo) (w .loop .hi) (t .before .loop-test .taken) no r l in
     (omega arith, omega arith, omega arith, sym e ∙ w .loop .inv .3)
 
-returns-4 : tie.Need-returns-4 Inv-loop μ-loop
-returns-4 c = told (c .before)
+returns-5 : tie.Need-returns-5 Inv-loop μ-loop
+returns-5 c = told (c .before)
 
 pub narrow-spec : {M : Type 1} → statement M
 narrow-spec =
@@ -107,10 +124,10 @@ narrow-spec =
     sub-m
     sub-m-2
     add-m
-    test-at-requires
-    returns
     right-at-requires
     left-at-requires
+    returns
+    alone-at-requires
     returns-2
     add-lo
     sub-axis
@@ -118,7 +135,9 @@ narrow-spec =
     loop-again
     left-at-requires-2
     returns-3
+    alone-at-requires-2
+    returns-4
     sub-axis-2
     loop-less-2
     loop-again-2
-    returns-4)
+    returns-5)

@@ -9,7 +9,7 @@ use borrow.Author.Tests.{not-true, not-false}
 use denote.Ref.{now}
 use lib.ListN.{length}
 use Rattle.kdwalk.specs.declared.Onward.{Onward}
-use Rattle.kdwalk.specs.declared.Onward.the-variants.{Nothing}
+use Rattle.kdwalk.specs.declared.Onward.the-variants.{Start, After, Nothing}
 use Rattle.kdslots.specs.Bounds.{Searchable, coords-is, both-true, coordsOk, first-false, second-false}
 use Rattle.kdslots.specs.Query.{queryOk}
 use Rattle.kdwalk.specs.Pages.{onwardOf, stored, store}
@@ -34,8 +34,9 @@ bounds k = let a = start-of k .args in coords-is (a .node-size) (a .n) (length (
 
 -- what is stored, by from where the walk goes on
 from-is : (k : tie.Else2) (o : Onward) → start-of k .args .from ≡ o → let a = start-of k .args in
-    store 0 (onwardOf (a .q) (a .node-size) (a .n) (now (a .coords)) o) (now (a .page)) ≡ store 0 (onwardOf (a .q) (a .node-size) (a .n) (now (a .coords)) (a .from)) (now (a .page))
-from-is k o e = let a = start-of k .args in sym (ap (λ (x : Onward). store 0 (onwardOf (a .q) (a .node-size) (a .n) (now (a .coords)) x) (now (a .page))) e)
+    store 0 (onwardOf (a .q) (a .node-size) (a .n) (now (a .coords)) o (a .last)) (now (a .page))
+    ≡ store 0 (onwardOf (a .q) (a .node-size) (a .n) (now (a .coords)) (a .from) (a .last)) (now (a .page))
+from-is k o e = let a = start-of k .args in sym (ap (λ (x : Onward). store 0 (onwardOf (a .q) (a .node-size) (a .n) (now (a .coords)) x (a .last)) (now (a .page))) e)
 
 -- ---- the ways out
 
@@ -45,7 +46,7 @@ coords-ok-requires c κs = search needs
 returns : tie.Need-returns
 returns c =
     let a = c .before .before .before .before .args in
-    page-refused (a .q) (a .node-size) (a .n) (now (a .coords)) (first-false (queryOk (a .q)) (sym (c .before .coords-ok .ensures) ∙ not-true _ (c .if1 .taken))) (a .from) (now (a .page))
+    page-refused (a .q) (a .node-size) (a .n) (now (a .coords)) (first-false (queryOk (a .q)) (sym (c .before .coords-ok .ensures) ∙ not-true _ (c .if1 .taken))) (a .from) (a .last) (now (a .page))
 
 query-ok-requires : tie.Need-query-ok-requires
 query-ok-requires c κs = search needs
@@ -54,7 +55,7 @@ returns-2 : tie.Need-returns-2
 returns-2 c =
     let e = c .before .before in
     let a = e .before .before .before .before .args in
-    page-refused (a .q) (a .node-size) (a .n) (now (a .coords)) (second-false (sym (e .before .coords-ok .ensures) ∙ not-false _ (e .if1 .left)) (sym (c .before .query-ok .ensures) ∙ not-true _ (c .if2 .taken))) (a .from) (now (a .page))
+    page-refused (a .q) (a .node-size) (a .n) (now (a .coords)) (second-false (sym (e .before .coords-ok .ensures) ∙ not-false _ (e .if1 .left)) (sym (c .before .query-ok .ensures) ∙ not-true _ (c .if2 .taken))) (a .from) (a .last) (now (a .page))
 
 enum-told : tie.Need-enum-told
 enum-told c = search needs
@@ -71,24 +72,24 @@ add-fill-in c = let w = bounds (c .before .before .before) in omega arith
 fill-in-requires : tie.Need-fill-in-requires
 fill-in-requires c κs = let w = bounds (c .before .before .before .before) in omega (arith, c .before .narrow .ensures .1)
 
-enum-known-from : tie.Need-enum-known-from
-enum-known-from c = search needs
+enum-told-2 : tie.Need-enum-told-2
+enum-told-2 c = search needs
 
 returns-3 : tie.Need-returns-3
 returns-3 c =
-    let f = c .before .before in
+    let f = c .before in
     let k = f .before .before in
     let a = start-of k .args in
-    page-past (a .q) (a .node-size) (a .n) (now (a .coords)) (fine k) (f .from .given .0 .0) (c .if3 .taken) (now (a .page)) ∙ from-is k _ (f .from .given .1)
+    page-past (a .q) (a .node-size) (a .n) (now (a .coords)) (fine k) (a .last) (c .if3 .taken) (now (a .page)) ∙ from-is k After (f .enum-told2 .given .1)
 
 add-fill-rest : tie.Need-add-fill-rest
-add-fill-rest c = let w = bounds (c .before .before .before .before) in omega arith
+add-fill-rest c = let w = bounds (c .before .before .before) in omega arith
 
 fill-rest-requires : tie.Need-fill-rest-requires
-fill-rest-requires c κs = let w = bounds (c .before .before .before .before .before) in omega (arith, c .before .if3 .left)
+fill-rest-requires c κs = let w = bounds (c .before .before .before .before) in omega (arith, c .before .if3 .left)
 
-enum-told-2 : tie.Need-enum-told-2
-enum-told-2 c = search needs
+enum-told-3 : tie.Need-enum-told-3
+enum-told-3 c = search needs
 
 same-length : tie.Need-same-length
 same-length c = c .before .before .fill-in .kept .1 .1 .1 .1 .1 .1 .1 .0
@@ -102,7 +103,7 @@ returns-4 c =
     let a = start-of k .args in
     page-start (a .q) (a .node-size) (a .n) (now (a .coords)) (fine k) (now (a .page)) (stored (v .fill-in .result) (v .fill-in .last .1 .1 .1 .1 .1 .1 .1 .0))
     (v .fill-in .ensures ∙ ap (λ (l : List ℕ). store 0 l (now (a .page))) (w .narrow .ensures .0))
-    ∙ from-is k _ (t .enum-told .given .1)
+    ∙ from-is k Start (t .enum-told .given .1)
 
 same-length-2 : tie.Need-same-length-2
 same-length-2 c = c .before .before .fill-rest .kept .1 .1 .1 .1 .1 .1 .1 .0
@@ -111,16 +112,16 @@ returns-5 : tie.Need-returns-5
 returns-5 c =
     let v = c .before .before in
     let e = v .before .before in
-    let f = e .before .before in
+    let f = e .before in
     let k = f .before .before in
     let a = start-of k .args in
-    page-after (a .q) (a .node-size) (a .n) (now (a .coords)) (fine k) (f .from .given .0 .0) (e .if3 .left) (now (a .page)) (stored (v .fill-rest .result) (v .fill-rest .last .1 .1 .1 .1 .1 .1 .1 .0)) (v .fill-rest .ensures)
-    ∙ from-is k _ (f .from .given .1)
+    page-after (a .q) (a .node-size) (a .n) (now (a .coords)) (fine k) (a .last) (e .if3 .left) (now (a .page)) (stored (v .fill-rest .result) (v .fill-rest .last .1 .1 .1 .1 .1 .1 .1 .0)) (v .fill-rest .ensures)
+    ∙ from-is k After (f .enum-told2 .given .1)
 
 returns-6 : tie.Need-returns-6
 returns-6 c =
     let k = c .before .before in
-    none-more 0 (now (start-of k .args .page)) ∙ from-is k Nothing (c .enum-told2 .given .1)
+    none-more 0 (now (start-of k .args .page)) ∙ from-is k Nothing (c .enum-told3 .given .1)
 
 pub fill-page-spec : {M : Type 1} → statement M
 fill-page-spec =
@@ -135,11 +136,11 @@ fill-page-spec =
     narrow-requires
     add-fill-in
     fill-in-requires
-    enum-known-from
+    enum-told-2
     returns-3
     add-fill-rest
     fill-rest-requires
-    enum-told-2
+    enum-told-3
     same-length
     returns-4
     same-length-2

@@ -37,8 +37,8 @@ mul-c c = search needs
 slice-read-c : tie.Need-slice-read-c
 slice-read-c c = search needs
 
-add-t13 : tie.Need-add-t13
-add-t13 c = search needs
+add-t14 : tie.Need-add-t14
+add-t14 c = search needs
 
 returns-3 : tie.Need-returns-3
 returns-3 c =
@@ -58,5 +58,5 @@ next-slot-spec =
     returns-2
     mul-c
     slice-read-c
-    add-t13
+    add-t14
     returns-3)
