@@ -165,6 +165,15 @@ module _ (t : Table) (ids : List ℕ) (n id : ℕ) where
   abbrev C : List ℕ → Bool
   C is = whole n (places ids is)
 
+  -- a slot that names no child
+  pub other-by : (i : ℕ) (is : List ℕ) (p : ℕ) → p ≡ getD ids i 0 → (y : Entry) → y ≡ entry t p → p < n → (y .parent ≡ id → ⊥) → (K (i ∷ is) ≡ K is) × (C (i ∷ is) ≡ C is)
+  unfolding kidsOf sound whole places
+  other-by i is p e y q h k =
+      let w : y ≡ entry t (getD ids i 0) = q ∙ ap (entry t) e in
+      let a : ltb (getD ids i 0) n ≡ true = lt-ltb (getD ids i 0) n (rw e at h) in
+      let b : eqb (entry t (getD ids i 0) .parent) id ≡ false = ne-eqb (entry t (getD ids i 0) .parent) id (λ m. k (ap (λ (z : Entry). z .parent) w ∙ m)) in
+      (rw (a, sound, b, kidsOf), rw (a, whole))
+
   -- the child p, whose entry is e, comes first among slots, and the children after it are those of the slots l
   pub record Follows (is : List ℕ) (p : ℕ) (e : Entry) (l : List ℕ) : Type 0 where
     pub less : length l < length is
@@ -173,7 +182,8 @@ module _ (t : Table) (ids : List ℕ) (n id : ℕ) where
     pub clean : C is ≡ C l
     pub found : e ≡ entry t p
 
-  abbrev Told : Next → List ℕ → Type 0
+  -- what a search for the next child says of the slots
+  abbrev pub Told : Next → List ℕ → Type 0
   Told (child p e l) is = Follows is p e l
   Told none is = (K is ≡ []) × (C is ≡ true)
   Told past is = (K is ≡ []) × (C is ≡ false)
@@ -185,7 +195,7 @@ module _ (t : Table) (ids : List ℕ) (n id : ℕ) where
   lift i is k c none w = (k ∙ w .0, c ∙ w .1)
   lift i is k c past w = (k ∙ w .0, c ∙ w .1)
 
-  told : (is : List ℕ) → Told (nextOf t ids n id is) is
+  pub told : (is : List ℕ) → Told (nextOf t ids n id is) is
   unfolding nextOf kidsOf sound whole places All
   told [] = (refl, refl)
   told (i ∷ is) = go (ltb (getD ids i 0) n) refl (eqb (entry t (getD ids i 0) .parent) id) refl (told is)

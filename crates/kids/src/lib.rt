@@ -96,31 +96,27 @@ pub fn list_kids(
         (length (kidsIn g (columns (now (x .entry)) (now (y .entry)) (now (seen .entry)) (now (id .entry)) (now (parent .entry)) (now (num .entry)) (now (ids .entry)) (now (coords .entry))) cid (slotsOf g (now (coords .entry))))))
         × (now (out .exit) ≡ filled (kidsIn g (columns (now (x .entry)) (now (y .entry)) (now (seen .entry)) (now (id .entry)) (now (parent .entry)) (now (num .entry)) (now (ids .entry)) (now (coords .entry))) cid (slotsOf g (now (coords .entry)))) (now (out .entry))) ⌝ }
 {
+    let start = g.start;
+    let n = g.len;
     let mut k = 0;
     let mut page = [0usize; 64];
     let mut from = kdwalk::begin();
     loop {
-        match next_child(
-            g,
-            x,
-            y,
-            seen,
-            id,
-            parent,
-            num,
-            ids,
-            coords,
-            cid,
-            &mut page,
-            from,
-        ) {
-            Child::Done => return Kids::All(k),
-            Child::Spoiled => return Kids::Spoiled,
-            Child::At { pages, place, .. } => {
-                asking::put_at(out, k, place);
-                k += 1;
-                from = pages;
-            }
+        let t = asking::next_in(g, coords, &mut page, from);
+        from = t.pages;
+        let step = t.step;
+        let Step::Slot(slot) = step else {
+            return Kids::All(k);
+        };
+        let i = start + slot;
+        let place = ids[i];
+        if n <= place as usize {
+            return Kids::Spoiled;
+        }
+        let entry = asking::entry_in(start, n, x, y, seen, id, parent, num, place as usize);
+        if entry.parent == cid {
+            asking::put_at(out, k, place);
+            k += 1;
         }
     }
 }

@@ -187,7 +187,7 @@ abbrev pub runningOf : Table → List Visit → Running
 runningOf t vs = record { whole = whole t vs; count = length (listed t vs); sum = tallyOf t vs }
 
 -- from no marks
-counted-is : (t : Table) (z : List ℕ) → Blank (length t) z → (vs : List Visit) (r : Running) (m : List ℕ)
+pub counted-is : (t : Table) (z : List ℕ) → Blank (length t) z → (vs : List Visit) (r : Running) (m : List ℕ)
     → held (r .whole) (r .count) (r .sum) m ≡ counted t 0 0 (placesIn vs) z → r ≡ runningOf t vs
 unfolding tallyOf
 counted-is t z n vs r m e =

@@ -1,10 +1,11 @@
 -- A tile's three searches, one after the other, are what the tile finds: each walk goes over its whole answer, and what one leaves the next goes on
 -- from. Assumes nothing.
-use mathlib.Core.Path.{_≡_, sym, ap, _∙_, subst}
-use mathlib.Core.Bool.{true}
-use mathlib.Core.List.{List, _++_}
-use Prim.Native.Nat.{ℕ, _+_, _≤_}
+use mathlib.Core.Path.{_≡_, refl, sym, ap, _∙_, subst}
+use mathlib.Core.Bool.{Bool, true, false, _||_}
+use mathlib.Core.List.{List, _++_, append-nil}
+use Prim.Native.Nat.{ℕ, _+_, _^_, _≤_}
 use native.Mathlib.Omega.{arith}
+use lib.Dec.{eqb}
 use lib.ListN.{length}
 use lib.IntN.{ℤ}
 use lib.Ieee.{Float}
@@ -15,7 +16,7 @@ use Rattle.tables.specs.Entries.{Table}
 use Rattle.tiling.specs.declared.Search.{Search}
 use Rattle.tiling.specs.declared.Ran.{Ran}
 use Rattle.tiling.specs.declared.Ran.the-variants.{All, Spoiled}
-use Rattle.tiling.specs.Tile.{Visit, here, east, west, visits}
+use Rattle.tiling.specs.Tile.{Visit, here, east, west, visits, visited, atEnd}
 use Rattle.tiling.specs.Framed.{Framed, IsTile, here-framed, east-framed, west-framed}
 use Rattle.tiling.specs.Finite.{here-fine, east-fine, west-fine}
 use Rattle.tiling.specs.Runs.{Left, left, run, run-more, run-ends, run-count}
@@ -51,6 +52,20 @@ module _ (o : Options) (z x y : ℕ) (b : InBounds o) (w : IsTile z x y) (g : Se
     pub west-whole : g ≡ west o z x y → walked g n ids co ≡ visits (west o z x y) t ids co
     unfolding west
     west-whole e = of (west o z x y) e (walked-whole (west o z x y) t ids co long (west-fine o b z x y w))
+
+-- ---- a tile that has no strip finds what its own range finds
+
+pub own-range : (o : Options) (z x y : ℕ) (t : Table) (ids : List ℕ) (co : List Float) → atEnd z x ≡ false → visited o z x y t ids co ≡ visits (here o z x y) t ids co
+unfolding visited east west
+own-range o z x y t ids co = go (eqb x 0) (eqb (x + 1) (2 ^ z)) refl refl
+  where
+    none : true ≡ false → ⊥
+    none e = let i : _≡_ {A = ℕ} 0 1 = cc in omega arith
+
+    go : (a b : Bool) → eqb x 0 ≡ a → eqb (x + 1) (2 ^ z) ≡ b → (a || b) ≡ false → visited o z x y t ids co ≡ visits (here o z x y) t ids co
+    go false false p q e = rw (p, q) (append-nil (visits (here o z x y) t ids co))
+    go false true p q e = absurd (none e)
+    go true b p q e = absurd (none e)
 
 -- ---- three runs, one after the other; each ends the listing, or the next goes on
 

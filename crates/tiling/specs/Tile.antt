@@ -1,5 +1,5 @@
 -- A tile (z, x, y), by 01's 'Tile': its three searches, what they find in a table with its index, and the item of each entry that is listed. Definitions only.
-use mathlib.Core.Bool.{Bool, true, false, cond, _&&_}
+use mathlib.Core.Bool.{Bool, true, false, cond, _&&_, _||_}
 use mathlib.Core.List.{List, [], _∷_, _++_, map}
 use Prim.Native.Nat.{ℕ, _+_, _^_}
 use lib.Dec.{leb, ltb, eqb}
@@ -66,6 +66,10 @@ east o z x y = strip o z y (eqb x 0) (sub binary64 one (edge o z)) one (side z)
 -- for x = z2 - 1 the strip 0 to p / z2, x replaced by -1
 unfoldable pub west : Options → ℕ → ℕ → ℕ → Search
 west o z x y = strip o z y (eqb (x + 1) (2 ^ z)) zero (edge o z) (neg one)
+
+-- the tile is the first or the last of its row: no other has a strip
+abbrev pub atEnd : ℕ → ℕ → Bool
+atEnd z x = eqb x 0 || eqb (x + 1) (2 ^ z)
 
 -- ---- what they find
 

@@ -14,7 +14,7 @@ ghost use Rattle.floats.specs.Unit.{In01};
 ghost use Rattle.kdslots.specs.Bounds.{coordsOk};
 ghost use Rattle.tables.specs.Bounds.{InBounds};
 ghost use Rattle.tables.specs.Rows.{rows, Even};
-ghost use Rattle.tiling.specs.Tile.{isTile, strip, here, east, west, visited, namedAt, rounded, itemOf};
+ghost use Rattle.tiling.specs.Tile.{isTile, atEnd, strip, here, east, west, visited, namedAt, rounded, itemOf};
 ghost use Rattle.tiling.specs.Framed.{Framed, IsTile};
 ghost use Rattle.tiling.specs.Runs.{left, run};
 ghost use Rattle.tiling.specs.Turns.{walked};
@@ -171,6 +171,17 @@ fn search_west(o: Options, z: u32, x: u32, y: u32) -> Search
     strip_of(o, z, y, last, 0.0, e, -1.0)
 }
 
+// Whether a tile has a strip: it is the first or the last of its row.
+fn is_at_end(z: u32, x: u32) -> bool
+    requires { ⌜ z < 32 ⌝ }
+    ensures { λ r. ⌜ r ≡ atEnd z x ⌝ }
+{
+    if x == 0 {
+        return true;
+    }
+    wide(x) + 1 == across(z)
+}
+
 fn index(x: u32) -> usize
     ensures { λ r. ⌜ r ≡ x ⌝ }
 {
@@ -291,7 +302,7 @@ fn list_by(
     }
 }
 
-// Lists what a tile finds, by its three searches.
+// Lists what a tile finds, by its own range and, at an end of its row, by the strips.
 pub fn list(
     o: Options,
     z: u32,
@@ -321,6 +332,9 @@ pub fn list(
     let Ran::All(a) = list_by(g, x, y, seen, id, parent, num, ids, coords, 0, out, px, py) else {
         return Ran::Spoiled;
     };
+    if !is_at_end(z, tx) {
+        return Ran::All(a);
+    }
     let h = search_east(o, z, tx, ty);
     let Ran::All(b) = list_by(h, x, y, seen, id, parent, num, ids, coords, a, out, px, py) else {
         return Ran::Spoiled;
@@ -419,7 +433,7 @@ fn tally_by(
     }
 }
 
-// The tally of what a tile finds, by its three searches, over marks that are lent blank.
+// The tally of what a tile finds, by its own range and, at an end of its row, by the strips, over marks that are lent blank.
 fn add_with(
     o: Options,
     z: u32,
@@ -452,6 +466,9 @@ fn add_with(
     if !a.whole {
         return a;
     }
+    if !is_at_end(z, tx) {
+        return a;
+    }
     let h = search_east(o, z, tx, ty);
     let b = tally_by(h, x, y, seen, id, parent, num, ids, coords, a, marks);
     if !b.whole {
@@ -461,7 +478,7 @@ fn add_with(
     tally_by(w, x, y, seen, id, parent, num, ids, coords, b, marks)
 }
 
-// The tally of what a tile finds, by its three searches. A small table has few marks, so that few are cleared.
+// The tally of what a tile finds. A smaller table has fewer marks, so that fewer are cleared.
 pub fn add_up(
     o: Options,
     z: u32,
@@ -498,6 +515,24 @@ pub fn add_up(
             ids,
             coords,
             &mut few,
+        );
+    }
+    if x.len() <= 131072 {
+        let mut some = [0u8; 16384];
+        return add_with(
+            o,
+            z,
+            tx,
+            ty,
+            x,
+            y,
+            seen,
+            id,
+            parent,
+            num,
+            ids,
+            coords,
+            &mut some,
         );
     }
     let mut marks = [0u8; 131072];

@@ -1,23 +1,18 @@
 -- `kids::next_child` meets its contract: what it has passed by has no child, so the next child of what is ahead is that of the whole. The measure is what is
 -- ahead. Assumes nothing.
 use mathlib.Core.Path.{_≡_, refl, ap, sym, _∙_}
-use mathlib.Core.Logic.{⊎-elim}
-use mathlib.Core.List.{List, [], _∷_}
+use mathlib.Core.List.{List, _∷_}
 use Prim.Native.Nat.{ℕ, _+_, _<_, _≤_}
 use native.Mathlib.Omega.{arith}
 use borrow.Author.Needs.{needs}
 use lib.ListN.{length, getD}
 use denote.Ref.{now}
-use denote.Enum.Declared.{tagOf}
-use types.Run.{OneOf}
-use Rattle.kdwalk.proofs.Step.{the-type}
-use Rattle.kdwalk.specs.declared.Step.{Step}
-use Rattle.kdwalk.specs.declared.Step.the-variants.{Slot, Done, Box, Spoiled}
 use Rattle.kdslots.specs.All.{AllBelow}
 use Rattle.asking.specs.declared.Ring.{Ring}
 use Rattle.asking.specs.Columns.{Columns, columns, part-getD}
 use Rattle.asking.specs.Around.{aheadIn, ring-next, ring-end}
 use Rattle.kids.specs.Next.{tableIn, idsIn, nextIn, next-none, next-past, next-kid, next-other}
+use Rattle.kids.proofs.Listing.{no-slot}
 use Rattle.kids.proofs.next_child.Statement.{statement}
 use Rattle.kids.proofs.next_child.Tie as tie
 
@@ -37,13 +32,6 @@ start-of w = w .before .before .before .before .before .before .before .before .
 
 abbrev cols : Loop → Columns
 cols w = let a = start-of w .args in columns (now (a .x)) (now (a .y)) (now (a .seen)) (now (a .id)) (now (a .parent)) (now (a .num)) (now (a .ids)) (now (a .coords))
-
--- a step that is no slot
-no-slot : (cur : Step) → OneOf (1 ∷ 2 ∷ 3 ∷ []) (tagOf the-type cur) → (i : ℕ) → cur ≡ Slot i → ⊥
-no-slot (Slot c) h i e = ⊎-elim (λ k. omega arith) (λ w. ⊎-elim (λ k. omega arith) (λ k. omega arith) w) h
-no-slot Done h i e = let z : _≡_ {A = ℕ} 0 1 = cc in omega arith
-no-slot Box h i e = let z : _≡_ {A = ℕ} 0 1 = cc in omega arith
-no-slot Spoiled h i e = let z : _≡_ {A = ℕ} 0 1 = cc in omega arith
 
 -- after the step: what was ahead of it, and what is ahead now
 module _ (q : tie.After-pages Inv-loop μ-loop) where

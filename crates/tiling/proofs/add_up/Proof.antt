@@ -25,15 +25,38 @@ returns : tie.Need-returns
 returns c = c .before .add-with .ensures
 
 slice-aggregate-add-with-2 : tie.Need-slice-aggregate-add-with-2
-slice-aggregate-add-with-2 c = sym (length-replicate {A = ℕ} 131072 0)
+slice-aggregate-add-with-2 c = sym (length-replicate {A = ℕ} 16384 0)
 
 add-with-requires-2 : tie.Need-add-with-requires-2
 add-with-requires-2 c κs =
-    let s = c .before .before .before .before .before .before .before .before .before .before in
-    (s .pre .0, (s .pre .1 .0, (s .pre .1 .1, blank (length (now (s .args .x))) 131072 (omega (arith, few-entries s)))))
+    let t = c .before in
+    let s = t .before .before .before .before .before .before .before .before .before .before in
+    (s .pre .0, (s .pre .1 .0, (s .pre .1 .1, blank (length (now (s .args .x))) 16384 (omega (arith, t .if2 .taken)))))
 
 returns-2 : tie.Need-returns-2
 returns-2 c = c .before .add-with2 .ensures
 
+slice-aggregate-add-with-3 : tie.Need-slice-aggregate-add-with-3
+slice-aggregate-add-with-3 c = sym (length-replicate {A = ℕ} 131072 0)
+
+add-with-requires-3 : tie.Need-add-with-requires-3
+add-with-requires-3 c κs =
+    let s = c .before .before .before .before .before .before .before .before .before .before .before in
+    (s .pre .0, (s .pre .1 .0, (s .pre .1 .1, blank (length (now (s .args .x))) 131072 (omega (arith, few-entries s)))))
+
+returns-3 : tie.Need-returns-3
+returns-3 c = c .before .add-with3 .ensures
+
 pub add-up-spec : {M : Type 1} → statement M
-add-up-spec = tie.close (tie.spec slice-aggregate-add-with add-with-requires returns slice-aggregate-add-with-2 add-with-requires-2 returns-2)
+add-up-spec =
+    tie.close
+    (tie.spec
+    slice-aggregate-add-with
+    add-with-requires
+    returns
+    slice-aggregate-add-with-2
+    add-with-requires-2
+    returns-2
+    slice-aggregate-add-with-3
+    add-with-requires-3
+    returns-3)

@@ -12,8 +12,8 @@ use Rattle.tables.specs.Entries.{Table}
 use Rattle.tables.specs.Rows.{rows, rows-length}
 use Rattle.tiling.specs.declared.Running.{Running}
 use Rattle.tiling.specs.Tile.{Visit, here, east, west, visits, visited}
-use Rattle.tiling.specs.Three.{here-whole, east-whole, west-whole}
-use Rattle.tiling.specs.Counting.{counted, placesIn, Blank, After, tally-first, tally-second, tally-third}
+use Rattle.tiling.specs.Three.{here-whole, east-whole, west-whole, own-range}
+use Rattle.tiling.specs.Counting.{counted, placesIn, Blank, runningOf, counted-is, After, tally-first, tally-second, tally-third}
 use Rattle.tiling.proofs.add_with.Statement.{statement}
 use Rattle.tiling.proofs.add_with.Tie as tie
 
@@ -86,10 +86,26 @@ returns c =
     let s = begin l in
     tally-first (table s) (now (s .args .marks)) (blank-rows s) (here-of s) (east-of s) (west-of s) none (l .tally-by .result) (marks-1 l) refl refl (tallied-here l) (not-true _ (c .if1 .taken))
 
+-- ---- away from the ends of the row
+
+is-at-end-requires : tie.Need-is-at-end-requires
+is-at-end-requires c κs = let s = begin (c .before .before .before .before) in omega (arith, s .pre .0 .1 .z-to)
+
+same-length-2 : tie.Need-same-length-2
+same-length-2 c = kept-1 (c .before .before .before .before .before .before)
+
+returns-2 : tie.Need-returns-2
+returns-2 c =
+    let l = c .before .before .before .before .before .before in
+    let s = begin l in
+    let a = s .args in
+    counted-is (table s) (now (a .marks)) (blank-rows s) (here-of s) (l .tally-by .result) (marks-1 l) (tallied-here l)
+    ∙ ap (runningOf (table s)) (sym (own-range (a .o) (a .z) (a .tx) (a .ty) (table s) (now (a .ids)) (now (a .coords)) (sym (c .before .is-at-end .ensures) ∙ not-true _ (c .if2 .taken))))
+
 -- ---- the second search
 
 abbrev one-goes : tie.After-search-east → tie.Else1
-one-goes c = c .before
+one-goes c = c .before .before .before
 
 abbrev one-of : tie.After-search-east → tie.After-tally-by
 one-of c = one-goes c .before .before .before .before
@@ -116,7 +132,7 @@ tallied-east c =
     (east-whole (a .o) (a .z) (a .tx) (a .ty) (p .0 .0) (p .0 .1) (e .search-east .result) (table s) (length (now (a .x))) (now (a .ids)) (now (a .coords)) (long s) (p .1 .1 .0 .0) (e .search-east .ensures))
 
 search-east-requires : tie.Need-search-east-requires
-search-east-requires c κs = let s = begin (c .before .before .before .before) in omega (arith, s .pre .0 .1 .z-to)
+search-east-requires c κs = let s = begin (c .before .before .before .before .before .before) in omega (arith, s .pre .0 .1 .z-to)
 
 tally-by-requires-2 : tie.Need-tally-by-requires-2
 tally-by-requires-2 c κs =
@@ -124,22 +140,22 @@ tally-by-requires-2 c κs =
     let s = begin l in
     (s .pre .1 .0, (omega (arith, s .pre .1 .1 .0 .1, s .pre .1 .1 .1 .reach, kept-1 l), omega (arith, few s, l .tally-by .ensures .1, l .tally-by .ensures .2)))
 
-same-length-2 : tie.Need-same-length-2
-same-length-2 c = kept-2 (c .before .before .before .before)
+same-length-3 : tie.Need-same-length-3
+same-length-3 c = kept-2 (c .before .before .before .before)
 
-returns-2 : tie.Need-returns-2
+returns-3 : tie.Need-returns-3
 unfolding visited
-returns-2 c =
+returns-3 c =
     let m = c .before .before .before .before in
     let e = east-made m in
     let l = one-of e in
     let s = begin l in
     tally-second (table s) (now (s .args .marks)) (blank-rows s) (here-of s) (east-of s) (west-of s) none (l .tally-by .result) (marks-1 l) refl refl (tallied-here l) (not-false _ (one-goes e .if1 .left))
-    (m .tally-by2 .result) (marks-2 m) (tallied-east m) (not-true _ (c .if2 .taken))
+    (m .tally-by2 .result) (marks-2 m) (tallied-east m) (not-true _ (c .if3 .taken))
 
 -- ---- the third search
 
-abbrev two-goes : tie.After-search-west → tie.Else2
+abbrev two-goes : tie.After-search-west → tie.Else3
 two-goes c = c .before
 
 abbrev two-of : tie.After-search-west → tie.After-tally-by2
@@ -158,12 +174,12 @@ tally-by-requires-3 c κs =
 abbrev west-made : tie.After-tally-by3 → tie.After-search-west
 west-made c = c .before .before
 
-same-length-3 : tie.Need-same-length-3
-same-length-3 c = let d = c .before .before in d .tally-by3 .kept .1 .1 .1 .1 .1 .1 .1 .1 .1 .1 .0 ∙ kept-2 (two-of (west-made d))
+same-length-4 : tie.Need-same-length-4
+same-length-4 c = let d = c .before .before in d .tally-by3 .kept .1 .1 .1 .1 .1 .1 .1 .1 .1 .1 .0 ∙ kept-2 (two-of (west-made d))
 
-returns-3 : tie.Need-returns-3
+returns-4 : tie.Need-returns-4
 unfolding visited
-returns-3 c =
+returns-4 c =
     let d = c .before .before in
     let w = west-made d in
     let m = two-of w in
@@ -173,7 +189,7 @@ returns-3 c =
     let a = s .args in
     let p = s .pre in
     tally-third (table s) (now (s .args .marks)) (blank-rows s) (here-of s) (east-of s) (west-of s) none (l .tally-by .result) (marks-1 l) refl refl (tallied-here l) (not-false _ (one-goes e .if1 .left))
-    (m .tally-by2 .result) (marks-2 m) (tallied-east m) (not-false _ (two-goes w .if2 .left)) (d .tally-by3 .result) _
+    (m .tally-by2 .result) (marks-2 m) (tallied-east m) (not-false _ (two-goes w .if3 .left)) (d .tally-by3 .result) _
     (d .tally-by3 .ensures .0
     ∙ ap (λ (vs : List Visit). counted (table s) (m .tally-by2 .result .count) (m .tally-by2 .result .sum) (placesIn vs) (marks-2 m))
     (west-whole (a .o) (a .z) (a .tx) (a .ty) (p .0 .0) (p .0 .1) (w .search-west .result) (table s) (length (now (a .x))) (now (a .ids)) (now (a .coords)) (long s) (p .1 .1 .0 .0) (w .search-west .ensures)))
@@ -186,11 +202,14 @@ add-with-spec =
     tally-by-requires
     same-length
     returns
-    search-east-requires
-    tally-by-requires-2
+    is-at-end-requires
     same-length-2
     returns-2
+    search-east-requires
+    tally-by-requires-2
+    same-length-3
+    returns-3
     search-west-requires
     tally-by-requires-3
-    same-length-3
-    returns-3)
+    same-length-4
+    returns-4)

@@ -1,5 +1,5 @@
 -- `tiling::list` meets its contract: the walk of each search is its visits, and the three follow each other. Assumes nothing.
-use mathlib.Core.Path.{_≡_, ap, _∙_}
+use mathlib.Core.Path.{_≡_, sym, ap, _∙_}
 use mathlib.Core.List.{List}
 use Prim.Native.Nat.{ℕ, _+_, _≤_}
 use native.Mathlib.Omega.{arith}
@@ -7,12 +7,14 @@ use lib.ListN.{length}
 use lib.IntN.{ℤ}
 use denote.Ref.{now}
 use borrow.Author.Needs.{needs}
+use borrow.Author.Tests.{not-true}
 use Rattle.kdslots.specs.Bounds.{coords-is}
 use Rattle.tables.specs.Entries.{Table}
 use Rattle.tables.specs.Rows.{rows, rows-length}
+use Rattle.tiling.specs.declared.Ran.{Ran}
 use Rattle.tiling.specs.Tile.{Visit, here, east, west, visits, visited}
 use Rattle.tiling.specs.Runs.{left, run}
-use Rattle.tiling.specs.Three.{here-may, east-may, west-may, here-whole, east-whole, west-whole, listed-few, first-ends, second-ends, third-ends}
+use Rattle.tiling.specs.Three.{here-may, east-may, west-may, here-whole, east-whole, west-whole, own-range, listed-few, first-ends, second-ends, third-ends}
 use Rattle.tiling.proofs.list.Statement.{statement}
 use Rattle.tiling.proofs.list.Tie as tie
 
@@ -102,6 +104,39 @@ returns c =
     first-ends (table s) (here-of s) (east-of s) (west-of s) (now (s .args .out)) (now (s .args .px)) (now (s .args .py)) (l .list-by .result) (out-1 l) (px-1 l) (py-1 l)
     (c .enum-told .given .1) (listed-here l)
 
+-- ---- away from the ends of the row
+
+is-at-end-requires : tie.Need-is-at-end-requires
+is-at-end-requires c κs =
+    let s = begin (c .before .before .before .before .before .before .before) in
+    omega (arith, s .pre .0 .1 .z-to)
+
+-- the first ended well, and no other is made
+abbrev all-here : tie.Then1 → tie.After-a
+all-here c = c .before .before .before
+
+abbrev here-ended : tie.Then1 → tie.After-list-by
+here-ended c = all-here c .before .before .before .before .before .before
+
+same-length-4 : tie.Need-same-length-4
+same-length-4 c = here-ended c .list-by .kept .1 .1 .1 .1 .1 .1 .1 .1 .1 .1 .0
+
+same-length-5 : tie.Need-same-length-5
+same-length-5 c = here-ended c .list-by .kept .1 .1 .1 .1 .1 .1 .1 .1 .1 .1 .1 .0
+
+same-length-6 : tie.Need-same-length-6
+same-length-6 c = here-ended c .list-by .kept .1 .1 .1 .1 .1 .1 .1 .1 .1 .1 .1 .1 .0
+
+returns-2 : tie.Need-returns-2
+returns-2 c =
+    let l = here-ended c in
+    let s = begin l in
+    let a = s .args in
+    ap (λ (q : Ran). left q (out-1 l) (px-1 l) (py-1 l)) (sym (all-here c .a .given .1))
+    ∙ listed-here l
+    ∙ ap (λ (vs : List Visit). run (table s) 0 vs (now (a .out)) (now (a .px)) (now (a .py)))
+    (sym (own-range (a .o) (a .z) (a .tx) (a .ty) (table s) (now (a .ids)) (now (a .coords)) (sym (c .before .is-at-end .ensures) ∙ not-true _ (c .if1 .taken))))
+
 -- ---- the second search
 
 abbrev east-made : tie.After-list-by2 → tie.After-search-east
@@ -109,7 +144,7 @@ east-made c = c .before .before .before .before
 
 -- the first ended well
 abbrev one-goes : tie.After-search-east → tie.After-a
-one-goes c = c .before .before
+one-goes c = c .before .before .before .before
 
 abbrev one-of : tie.After-search-east → tie.After-list-by
 one-of c = one-goes c .before .before .before .before .before .before
@@ -151,7 +186,7 @@ listed-east c =
 
 search-east-requires : tie.Need-search-east-requires
 search-east-requires c κs =
-    let s = begin (c .before .before .before .before .before .before .before) in
+    let s = begin (c .before .before .before .before .before .before .before .before .before) in
     omega (arith, s .pre .0 .1 .z-to)
 
 list-by-requires-2 : tie.Need-list-by-requires-2
@@ -171,18 +206,18 @@ enum-told-2 c = search needs
 abbrev two-ended : tie.After-enum-told2 → tie.After-list-by2
 two-ended c = c .before .before .before .before .before .before
 
-same-length-4 : tie.Need-same-length-4
-same-length-4 c = let l = two-ended c in l .list-by2 .kept .1 .1 .1 .1 .1 .1 .1 .1 .1 .1 .0 ∙ one-of (east-made l) .list-by .kept .1 .1 .1 .1 .1 .1 .1 .1 .1 .1 .0
+same-length-7 : tie.Need-same-length-7
+same-length-7 c = let l = two-ended c in l .list-by2 .kept .1 .1 .1 .1 .1 .1 .1 .1 .1 .1 .0 ∙ one-of (east-made l) .list-by .kept .1 .1 .1 .1 .1 .1 .1 .1 .1 .1 .0
 
-same-length-5 : tie.Need-same-length-5
-same-length-5 c = let l = two-ended c in l .list-by2 .kept .1 .1 .1 .1 .1 .1 .1 .1 .1 .1 .1 .0 ∙ one-of (east-made l) .list-by .kept .1 .1 .1 .1 .1 .1 .1 .1 .1 .1 .1 .0
+same-length-8 : tie.Need-same-length-8
+same-length-8 c = let l = two-ended c in l .list-by2 .kept .1 .1 .1 .1 .1 .1 .1 .1 .1 .1 .1 .0 ∙ one-of (east-made l) .list-by .kept .1 .1 .1 .1 .1 .1 .1 .1 .1 .1 .1 .0
 
-same-length-6 : tie.Need-same-length-6
-same-length-6 c = let l = two-ended c in l .list-by2 .kept .1 .1 .1 .1 .1 .1 .1 .1 .1 .1 .1 .1 .0 ∙ one-of (east-made l) .list-by .kept .1 .1 .1 .1 .1 .1 .1 .1 .1 .1 .1 .1 .0
+same-length-9 : tie.Need-same-length-9
+same-length-9 c = let l = two-ended c in l .list-by2 .kept .1 .1 .1 .1 .1 .1 .1 .1 .1 .1 .1 .1 .0 ∙ one-of (east-made l) .list-by .kept .1 .1 .1 .1 .1 .1 .1 .1 .1 .1 .1 .1 .0
 
-returns-2 : tie.Need-returns-2
+returns-3 : tie.Need-returns-3
 unfolding visited
-returns-2 c =
+returns-3 c =
     let m = two-ended c in
     let e = east-made m in
     let l = one-of e in
@@ -230,27 +265,27 @@ all-ended c = c .before .before .before .before
 abbrev west-made : tie.After-list-by3 → tie.After-search-west
 west-made c = c .before .before .before .before
 
-same-length-7 : tie.Need-same-length-7
-same-length-7 c =
+same-length-10 : tie.Need-same-length-10
+same-length-10 c =
     let l = all-ended c in
     let m = two-of (west-made l) in
     l .list-by3 .kept .1 .1 .1 .1 .1 .1 .1 .1 .1 .1 .0 ∙ m .list-by2 .kept .1 .1 .1 .1 .1 .1 .1 .1 .1 .1 .0 ∙ one-of (east-made m) .list-by .kept .1 .1 .1 .1 .1 .1 .1 .1 .1 .1 .0
 
-same-length-8 : tie.Need-same-length-8
-same-length-8 c =
+same-length-11 : tie.Need-same-length-11
+same-length-11 c =
     let l = all-ended c in
     let m = two-of (west-made l) in
     l .list-by3 .kept .1 .1 .1 .1 .1 .1 .1 .1 .1 .1 .1 .0 ∙ m .list-by2 .kept .1 .1 .1 .1 .1 .1 .1 .1 .1 .1 .1 .0 ∙ one-of (east-made m) .list-by .kept .1 .1 .1 .1 .1 .1 .1 .1 .1 .1 .1 .0
 
-same-length-9 : tie.Need-same-length-9
-same-length-9 c =
+same-length-12 : tie.Need-same-length-12
+same-length-12 c =
     let l = all-ended c in
     let m = two-of (west-made l) in
     l .list-by3 .kept .1 .1 .1 .1 .1 .1 .1 .1 .1 .1 .1 .1 .0 ∙ m .list-by2 .kept .1 .1 .1 .1 .1 .1 .1 .1 .1 .1 .1 .1 .0 ∙ one-of (east-made m) .list-by .kept .1 .1 .1 .1 .1 .1 .1 .1 .1 .1 .1 .1 .0
 
-returns-3 : tie.Need-returns-3
+returns-4 : tie.Need-returns-4
 unfolding visited
-returns-3 c =
+returns-4 c =
     let n = all-ended c in
     let w = west-made n in
     let m = two-of w in
@@ -277,17 +312,22 @@ list-spec =
     same-length-2
     same-length-3
     returns
-    search-east-requires
-    list-by-requires-2
-    enum-known-b
-    enum-told-2
+    is-at-end-requires
     same-length-4
     same-length-5
     same-length-6
     returns-2
-    search-west-requires
-    list-by-requires-3
+    search-east-requires
+    list-by-requires-2
+    enum-known-b
+    enum-told-2
     same-length-7
     same-length-8
     same-length-9
-    returns-3)
+    returns-3
+    search-west-requires
+    list-by-requires-3
+    same-length-10
+    same-length-11
+    same-length-12
+    returns-4)
