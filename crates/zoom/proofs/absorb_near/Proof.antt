@@ -34,6 +34,9 @@ place i = getD (now (start-of i .args .near)) (i .before .loop .j) 0
 place-in : (i : tie.In-loop Inv-loop μ-loop) → place i < length (now (start-of i .args .x))
 place-in i = let s = start-of i in below-at (length (now (s .args .x))) (now (s .args .near)) (i .before .loop .j) (s .pre .1) (i .loop-test .taken)
 
+seen-in : (i : tie.In-loop Inv-loop μ-loop) → place i < length (i .before .loop .seen)
+seen-in i = omega (arith, place-in i, i .before .loop .inv .0 .es)
+
 -- the turn, seen from its test, from the branch of an unseen neighbour, from two of that branch's reads, and from its end
 abbrev of-test : tie.After-slice-known Inv-loop μ-loop → tie.In-loop Inv-loop μ-loop
 of-test c = c .before .before
@@ -56,28 +59,28 @@ mul-k : tie.Need-mul-k Inv-loop μ-loop
 mul-k c = search needs
 
 shared-slice-read-k : tie.Need-shared-slice-read-k Inv-loop μ-loop
-shared-slice-read-k c = search needs
+shared-slice-read-k c = c .before .loop-test .taken
 
 cast-k : tie.Need-cast-k Inv-loop μ-loop
 cast-k c = omega (arith, place-in (c .before), start-of (c .before) .good)
 
 slice-read-if1 : tie.Need-slice-read-if1 Inv-loop μ-loop
-slice-read-if1 c = omega (arith, place-in (of-test c))
+slice-read-if1 c = seen-in (of-test c)
 
 slice-write-seen : tie.Need-slice-write-seen Inv-loop μ-loop
-slice-write-seen c = omega (arith, place-in (of-then c))
+slice-write-seen c = seen-in (of-then c)
 
 mul-parent : tie.Need-mul-parent Inv-loop μ-loop
 mul-parent c = omega (arith, place-in (of-then c))
 
 slice-write-parent : tie.Need-slice-write-parent Inv-loop μ-loop
-slice-write-parent c = omega (arith, place-in (of-then c))
+slice-write-parent c = let i = of-then c in omega (arith, place-in i, i .before .loop .inv .0 .ep)
 
 mul-w : tie.Need-mul-w Inv-loop μ-loop
 mul-w c = omega (arith, place-in (of-then c))
 
 shared-slice-read-w : tie.Need-shared-slice-read-w Inv-loop μ-loop
-shared-slice-read-w c = omega (arith, place-in (of-then (c .before)))
+shared-slice-read-w c = let i = of-then (c .before) in omega (arith, place-in i, start-of i .pre .0 .en)
 
 int-to-float-w : tie.Need-int-to-float-w Inv-loop μ-loop
 int-to-float-w c = search needs
@@ -92,13 +95,13 @@ mul-wy : tie.Need-mul-wy Inv-loop μ-loop
 mul-wy c = omega (arith, place-in (of-read (c .before)))
 
 shared-slice-read-wy : tie.Need-shared-slice-read-wy Inv-loop μ-loop
-shared-slice-read-wy c = omega (arith, place-in (of-read (c .before .before)))
+shared-slice-read-wy c = let i = of-read (c .before .before) in omega (arith, place-in i, start-of i .pre .0 .ey)
 
 add-j : tie.Need-add-j Inv-loop μ-loop
 add-j c = omega arith
 
 loop-less : tie.Need-loop-less Inv-loop μ-loop
-loop-less c = omega arith
+loop-less c = omega (arith, of-end c .loop-test .taken)
 
 loop-again : tie.Need-loop-again Inv-loop μ-loop
 loop-again c =
@@ -120,10 +123,10 @@ loop-again c =
     (c .if1 .came)
 
 same-length : tie.Need-same-length Inv-loop μ-loop
-same-length c = search needs
+same-length c = c .before .loop .inv .0 .es ∙ sym (c .before .before .pre .0 .es)
 
 same-length-2 : tie.Need-same-length-2 Inv-loop μ-loop
-same-length-2 c = search needs
+same-length-2 c = c .before .loop .inv .0 .ep ∙ sym (c .before .before .pre .0 .ep)
 
 returns : tie.Need-returns Inv-loop μ-loop
 returns c =

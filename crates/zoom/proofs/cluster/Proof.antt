@@ -87,25 +87,25 @@ loop-again c =
     )
 
 same-length : tie.Need-same-length Inv-loop μ-loop
-same-length c = search needs
+same-length c = c .before .loop .inv .1
 
 same-length-2 : tie.Need-same-length-2 Inv-loop μ-loop
-same-length-2 c = search needs
+same-length-2 c = let v = c .before .loop .inv in v .0 .ey ∙ v .1 ∙ sym (start-of (c .before) .pre .0 .ey)
 
 same-length-3 : tie.Need-same-length-3 Inv-loop μ-loop
-same-length-3 c = search needs
+same-length-3 c = let v = c .before .loop .inv in v .0 .es ∙ v .1 ∙ sym (start-of (c .before) .pre .0 .es)
 
 same-length-4 : tie.Need-same-length-4 Inv-loop μ-loop
-same-length-4 c = search needs
+same-length-4 c = let v = c .before .loop .inv in v .0 .ei ∙ v .1 ∙ sym (start-of (c .before) .pre .0 .ei)
 
 same-length-5 : tie.Need-same-length-5 Inv-loop μ-loop
-same-length-5 c = search needs
+same-length-5 c = let v = c .before .loop .inv in v .0 .ep ∙ v .1 ∙ sym (start-of (c .before) .pre .0 .ep)
 
 same-length-6 : tie.Need-same-length-6 Inv-loop μ-loop
-same-length-6 c = search needs
+same-length-6 c = let v = c .before .loop .inv in v .0 .en ∙ v .1 ∙ sym (start-of (c .before) .pre .0 .en)
 
 same-length-7 : tie.Need-same-length-7 Inv-loop μ-loop
-same-length-7 c = search needs
+same-length-7 c = c .before .loop .inv .2
 
 returns : tie.Need-returns Inv-loop μ-loop
 returns c =

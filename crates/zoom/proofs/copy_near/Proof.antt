@@ -1,6 +1,6 @@
 -- `zoom::copy_near` meets its contract: at the head of the loop the copies so far and those that remain are the definition's, and there is room for what
 -- can yet be copied. Assumes nothing.
-use mathlib.Core.Path.{_≡_, refl, ap, _∙_}
+use mathlib.Core.Path.{_≡_, refl, ap, sym, _∙_}
 use mathlib.Core.Logic.{⊎-elim}
 use Prim.Native.Nat.{ℕ, _+_, _-_, _<_, _≤_}
 use native.Mathlib.Omega.{arith}
@@ -91,7 +91,7 @@ mul-k : tie.Need-mul-k Inv-loop μ-loop
 mul-k c = search needs
 
 shared-slice-read-k : tie.Need-shared-slice-read-k Inv-loop μ-loop
-shared-slice-read-k c = search needs
+shared-slice-read-k c = c .before .loop-test .taken
 
 cast-k : tie.Need-cast-k Inv-loop μ-loop
 cast-k c = omega (arith, place-in (c .before), start-of (c .before .before) .fits)
@@ -120,7 +120,7 @@ add-j : tie.Need-add-j Inv-loop μ-loop
 add-j c = let i = of-end c in omega (arith, i .loop-test .taken, start-of (i .before) .good .1 .1 .1 .1 .1 .1 .0 .0)
 
 loop-less : tie.Need-loop-less Inv-loop μ-loop
-loop-less c = omega arith
+loop-less c = omega (arith, of-end c .loop-test .taken)
 
 loop-again : tie.Need-loop-again Inv-loop μ-loop
 loop-again c =
@@ -146,22 +146,22 @@ loop-again c =
     (c .if1 .came)
 
 same-length : tie.Need-same-length Inv-loop μ-loop
-same-length c = search needs
+same-length c = c .before .loop .inv .1
 
 same-length-2 : tie.Need-same-length-2 Inv-loop μ-loop
-same-length-2 c = search needs
+same-length-2 c = let v = c .before .loop .inv in v .0 .ey ∙ v .1 ∙ sym (start-of (c .before) .pre .0 .ey)
 
 same-length-3 : tie.Need-same-length-3 Inv-loop μ-loop
-same-length-3 c = search needs
+same-length-3 c = let v = c .before .loop .inv in v .0 .es ∙ v .1 ∙ sym (start-of (c .before) .pre .0 .es)
 
 same-length-4 : tie.Need-same-length-4 Inv-loop μ-loop
-same-length-4 c = search needs
+same-length-4 c = let v = c .before .loop .inv in v .0 .ei ∙ v .1 ∙ sym (start-of (c .before) .pre .0 .ei)
 
 same-length-5 : tie.Need-same-length-5 Inv-loop μ-loop
-same-length-5 c = search needs
+same-length-5 c = let v = c .before .loop .inv in v .0 .ep ∙ v .1 ∙ sym (start-of (c .before) .pre .0 .ep)
 
 same-length-6 : tie.Need-same-length-6 Inv-loop μ-loop
-same-length-6 c = search needs
+same-length-6 c = let v = c .before .loop .inv in v .0 .en ∙ v .1 ∙ sym (start-of (c .before) .pre .0 .en)
 
 returns : tie.Need-returns Inv-loop μ-loop
 returns c =

@@ -35,7 +35,9 @@ slice-write-seen : tie.Need-slice-write-seen
 slice-write-seen c = search needs
 
 entry-at-requires : tie.Need-entry-at-requires
-entry-at-requires c κs = search needs
+entry-at-requires c κs =
+    let s = c .before .before .before .before .before .before .before .before .before .before .before .before in
+    (even-mark (s .args .k) (s .args .z) (s .pre .0), s .pre .1 .0)
 
 put-entry-requires : tie.Need-put-entry-requires
 put-entry-requires c κs =
@@ -49,7 +51,7 @@ same-length-2 : tie.Need-same-length-2
 same-length-2 c = putting c .put-entry .kept .1 .0
 
 same-length-3 : tie.Need-same-length-3
-same-length-3 c = putting c .put-entry .kept .1 .1 .0 ∙ simp length-set
+same-length-3 c = putting c .put-entry .kept .1 .1 .0 ∙ (let a = start-of (putting c) .args in length-set (now (a .seen)) (a .k) (a .z))
 
 same-length-4 : tie.Need-same-length-4
 same-length-4 c = putting c .put-entry .kept .1 .1 .1 .0

@@ -56,10 +56,12 @@ entry-at-requires : tie.Need-entry-at-requires
 entry-at-requires c κs = search needs
 
 add-put-entry : tie.Need-add-put-entry
-add-put-entry c = search needs
+add-put-entry c = let s = begin (c .before .before .before .before .before .before) in omega (arith, s .pre .1 .1 .1, s .good .0 .0)
 
 put-entry-requires : tie.Need-put-entry-requires
-put-entry-requires c κs = search needs
+put-entry-requires c κs =
+    let s = begin (c .before .before .before .before .before .before) in
+    (s .pre .0, omega (arith, s .pre .1 .1 .1))
 
 add-copy-near : tie.Need-add-copy-near
 add-copy-near c = let s = start-of (putting c) in omega (arith, s .pre .1 .1 .1, s .good .0 .0)

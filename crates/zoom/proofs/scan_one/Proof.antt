@@ -83,7 +83,7 @@ unseen-i e = rw (at-i (start-of e)) (e .if1 .left)
 -- ---- the parts
 
 slice-read-if1 : tie.Need-slice-read-if1
-slice-read-if1 c = search needs
+slice-read-if1 c = let s = c .before .before .before .before .before .before .before .before .before .before in omega (arith, inside s, s .pre .0 .es)
 
 returns : tie.Need-returns
 returns c =
@@ -92,19 +92,19 @@ returns c =
     passed (a .n) (a .least) (a .z) (near-of s) (table s) (a .len) (a .done) (a .i) (here s) (rw (at-i s) (c .if1 .taken)) (omega (arith, s .pre .1 .1 .1 .0 .0, long s))
 
 slice-write-seen : tie.Need-slice-write-seen
-slice-write-seen c = search needs
+slice-write-seen c = let s = start-of c in omega (arith, inside s, s .pre .0 .es)
 
 mul-qx : tie.Need-mul-qx
-mul-qx c = search needs
+mul-qx c = let s = start-of c in omega (arith, here s, s .pre .1 .1 .1 .1 .0)
 
 slice-read-qx : tie.Need-slice-read-qx
-slice-read-qx c = search needs
+slice-read-qx c = inside (start-of (c .before))
 
 mul-qy : tie.Need-mul-qy
-mul-qy c = search needs
+mul-qy c = let s = start-of (c .before) in omega (arith, here s, s .pre .1 .1 .1 .1 .0)
 
 slice-read-qy : tie.Need-slice-read-qy
-slice-read-qy c = search needs
+slice-read-qy c = let s = start-of (c .before .before) in omega (arith, inside s, s .pre .0 .ey)
 
 neighbours-requires : tie.Need-neighbours-requires
 neighbours-requires c κs =
@@ -152,7 +152,7 @@ same-length-2 : tie.Need-same-length-2
 same-length-2 c = visiting c .visit-one .kept .1 .0
 
 same-length-3 : tie.Need-same-length-3
-same-length-3 c = visiting c .visit-one .kept .1 .1 .0 ∙ simp length-set
+same-length-3 c = visiting c .visit-one .kept .1 .1 .0 ∙ (let a = start-of (else-of (listing (visiting c))) .args in length-set (now (a .seen)) (a .i) (a .z))
 
 same-length-4 : tie.Need-same-length-4
 same-length-4 c = visiting c .visit-one .kept .1 .1 .1 .0
