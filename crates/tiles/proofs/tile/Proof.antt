@@ -2,9 +2,9 @@
 use mathlib.Core.Path.{_≡_, sym, ap, _∙_}
 use mathlib.Core.Bool.{true}
 use mathlib.Core.List.{List, _++_}
-use Prim.Native.Nat.{ℕ, min, _≤_}
+use Prim.Native.Nat.{ℕ, _+_, min, _≤_}
 use native.Mathlib.Omega.{arith}
-use lib.ListN.{length, drop}
+use lib.ListN.{length, take, drop, length-append, take-append-drop}
 use lib.IntN.{ℤ}
 use lib.Seq.{length-take-le}
 use denote.Ref.{now}
@@ -95,19 +95,19 @@ less-requires-2 : tie.Need-less-requires-2
 less-requires-2 c κs = search needs
 
 slice-relend-prefix-list-used : tie.Need-slice-relend-prefix-list-used
-slice-relend-prefix-list-used c = search needs
+slice-relend-prefix-list-used c = room-in c .0
 
 slice-aggregate-list-used : tie.Need-slice-aggregate-list-used
 slice-aggregate-list-used c = let r = c .before in sym (length-take-le (r .less2 .result) (now (begun r .args .places)) (room-in r .0))
 
 slice-relend-prefix-list-used-2 : tie.Need-slice-relend-prefix-list-used-2
-slice-relend-prefix-list-used-2 c = search needs
+slice-relend-prefix-list-used-2 c = room-in (c .before) .1
 
 slice-aggregate-list-used-2 : tie.Need-slice-aggregate-list-used-2
 slice-aggregate-list-used-2 c = let r = c .before .before in sym (length-take-le (r .less2 .result) (now (begun r .args .px)) (room-in r .1))
 
 slice-relend-prefix-list-used-3 : tie.Need-slice-relend-prefix-list-used-3
-slice-relend-prefix-list-used-3 c = search needs
+slice-relend-prefix-list-used-3 c = room-in (c .before .before) .2
 
 slice-aggregate-list-used-3 : tie.Need-slice-aggregate-list-used-3
 slice-aggregate-list-used-3 c = let r = c .before .before .before in sym (length-take-le (r .less2 .result) (now (begun r .args .py)) (room-in r .2))
@@ -144,6 +144,27 @@ listed-is l =
     ends-listed (a .s) (lent-columns s) (a .z) (a .tx) (a .ty) (now (a .places)) (now (a .px)) (now (a .py)) (sound t) (sym (tile-test t) ∙ not-false _ (r .before .before .if2 .left))
     (r .less2 .result) (room-is r) (l .list-used .result) _ _ _ (l .list-used .ensures)
 
+-- a column whose first part keeps its length keeps its own
+rest-kept : {A : Type 0} (r : ℕ) (p l : List A) → length p ≡ length (take r l) → length (p ++ drop r l) ≡ length l
+rest-kept r p l e =
+    length-append p (drop r l) ∙ ap (λ (k : ℕ). k + length (drop r l)) e ∙ sym (length-append (take r l) (drop r l)) ∙ ap length (take-append-drop r l)
+
+places-kept : (l : tie.After-list-used) → length (places-after l) ≡ length (now (begun (room-of l) .args .places))
+places-kept l = rest-kept (room-of l .less2 .result) (l .list-used .last .1 .1 .1 .1 .1 .1 .1 .1 .1 .1 .1 .1 .0) (now (begun (room-of l) .args .places)) (l .list-used .kept .1 .1 .1 .1 .1 .1 .1 .1 .1 .1 .1 .1 .0)
+
+px-kept : (l : tie.After-list-used) → length (px-after l) ≡ length (now (begun (room-of l) .args .px))
+px-kept l = rest-kept (room-of l .less2 .result) (l .list-used .last .1 .1 .1 .1 .1 .1 .1 .1 .1 .1 .1 .1 .1 .0) (now (begun (room-of l) .args .px)) (l .list-used .kept .1 .1 .1 .1 .1 .1 .1 .1 .1 .1 .1 .1 .1 .0)
+
+py-kept : (l : tie.After-list-used) → length (py-after l) ≡ length (now (begun (room-of l) .args .py))
+py-kept l = rest-kept (room-of l .less2 .result) (l .list-used .last .1 .1 .1 .1 .1 .1 .1 .1 .1 .1 .1 .1 .1 .1 .0) (now (begun (room-of l) .args .py)) (l .list-used .kept .1 .1 .1 .1 .1 .1 .1 .1 .1 .1 .1 .1 .1 .1 .0)
+
+-- the call, seen from the two ends after it
+abbrev listing : tie.After-enum-told → tie.After-list-used
+listing c = c .before .before .before .before .before .before
+
+abbrev listing-some : tie.After-some-of → tie.After-list-used
+listing-some c = c .before .before .before .before .before .before .before .before
+
 enum-told : tie.Need-enum-told
 enum-told c = search needs
 
@@ -154,32 +175,32 @@ some-of-requires : tie.Need-some-of-requires
 some-of-requires c κs = search needs
 
 same-length : tie.Need-same-length
-same-length c = search needs
+same-length c = places-kept (listing c)
 
 same-length-2 : tie.Need-same-length-2
-same-length-2 c = search needs
+same-length-2 c = px-kept (listing c)
 
 same-length-3 : tie.Need-same-length-3
-same-length-3 c = search needs
+same-length-3 c = py-kept (listing c)
 
 returns-3 : tie.Need-returns-3
 returns-3 c =
-    let l = c .before .before .before .before .before .before in
+    let l = listing c in
     sym (ap (λ (q : Ran). outcome (finish q (room-of l .less2 .result)) (places-after l) (px-after l) (py-after l)) (c .enum-told .given .1)) ∙ listed-is l
 
 same-length-4 : tie.Need-same-length-4
-same-length-4 c = search needs
+same-length-4 c = places-kept (listing-some c)
 
 same-length-5 : tie.Need-same-length-5
-same-length-5 c = search needs
+same-length-5 c = px-kept (listing-some c)
 
 same-length-6 : tie.Need-same-length-6
-same-length-6 c = search needs
+same-length-6 c = py-kept (listing-some c)
 
 returns-4 : tie.Need-returns-4
 returns-4 c =
     let k = c .before .before in
-    let l = k .before .before .before .before .before .before in
+    let l = listing-some c in
     ap (λ (q : Answer). outcome q (places-after l) (px-after l) (py-after l)) (c .some-of .ensures)
     ∙ sym (ap (λ (q : Ran). outcome (finish q (room-of l .less2 .result)) (places-after l) (px-after l) (py-after l)) (k .k .given .1))
     ∙ listed-is l
