@@ -1,7 +1,7 @@
 -- `kdsort::sort` meets its contract: a leaf is left as it is, a node is its selection and then its two sides. The measure is the interval's length.
 -- Assumes nothing.
-use mathlib.Core.Path.{sym, ap, _∙_}
-use Prim.Native.Nat.{ℕ, _+_, _-_, _<_}
+use mathlib.Core.Path.{_≡_, sym, ap, _∙_}
+use Prim.Native.Nat.{ℕ, _+_, _-_, _*_, _<_, _≤_}
 use native.Mathlib.Omega.{arith}
 use Rattle.kdsort.specs.Cols.{Cols, cols}
 use Rattle.kdsort.specs.Shape.{shape, mid}
@@ -27,6 +27,11 @@ sort-below t = and 2 sort-kinds.ps (falls 2 sort-kinds.ps _<_ μ-sort t) sort.Pr
 
 abbrev sort-told : ℕ → sort-lts.Claims
 sort-told t = (select-reads.Asked, select-reads.Learnt, sort-below t, sort.Post)
+
+-- the right side of a node: shorter, and in the columns
+right : {t most n m n' m' a : ℕ} (lo hi : ℕ) → hi - lo ≡ t → most < hi - lo → hi ≤ n → 2 * hi ≤ m → a < 2 → 2 ≤ most → n' ≡ n → m' ≡ m
+    → (hi - (mid lo hi + 1) < t) × ((mid lo hi + 1 ≤ hi) × (hi ≤ n') × (2 * hi ≤ m') × (a < 2) × (2 ≤ most))
+right lo hi e d hn hm a2 m2 n-is m-is = (omega arith, (omega arith, omega arith, omega arith, a2, m2))
 
 sort-sub-if1 : (t : ℕ) → sort-lts.Need-sub-if1 (sort-told t) (sort-at t) sort.Post
 sort-sub-if1 t c = omega arith
@@ -62,13 +67,28 @@ sort-sub-sort-2 : (t : ℕ) → sort-lts.Need-sub-sort-2 (sort-told t) (sort-at 
 sort-sub-sort-2 t c = omega arith
 
 sort-sort-requires-2 : (t : ℕ) → sort-lts.Need-sort-requires-2 (sort-told t) (sort-at t) sort.Post
-sort-sort-requires-2 t c κs = omega arith
+sort-sort-requires-2 t c κs =
+    let first = c .before .before .before .before .before .before in
+    let one = first .before .before .before .before .before .before .before in
+    let e = one .before .before .before in
+    let s = e .before .before .before in
+    let h = s .pre .1 in
+    right (s .args .lo) (s .args .hi) (s .pre .0) (e .if1 .left) (h .1) (h .2) (omega arith) (h .4)
+    (first .sort .kept .0 ∙ one .select .kept .0) (first .sort .kept .1 .0 ∙ one .select .kept .1 .0)
 
 sort-same-length : (t : ℕ) → sort-lts.Need-same-length (sort-told t) (sort-at t) sort.Post
-sort-same-length t c = omega arith
+sort-same-length t c =
+    let last = c .before .before .before .before in
+    let first = last .before .before .before .before .before .before .before in
+    let one = first .before .before .before .before .before .before .before in
+    last .sort2 .kept .0 ∙ first .sort .kept .0 ∙ one .select .kept .0
 
 sort-same-length-2 : (t : ℕ) → sort-lts.Need-same-length-2 (sort-told t) (sort-at t) sort.Post
-sort-same-length-2 t c = omega arith
+sort-same-length-2 t c =
+    let last = c .before .before .before .before in
+    let first = last .before .before .before .before .before .before .before in
+    let one = first .before .before .before .before .before .before .before in
+    last .sort2 .kept .1 .0 ∙ first .sort .kept .1 .0 ∙ one .select .kept .1 .0
 
 sort-returns-2 : (t : ℕ) → sort-lts.Need-returns-2 (sort-told t) (sort-at t) sort.Post
 sort-returns-2 t c =

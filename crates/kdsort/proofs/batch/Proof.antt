@@ -49,6 +49,7 @@ record Known (i j len m n count : ℕ) (a : ℕ) (t : Float) (s : Cols) (xs ys :
   to-n : count ≤ n
   xs-long : count ≤ length xs
   ys-long : count ≤ length ys
+  few : count < 65
   ids : j < length (s .ids)
   co : 2 * j + 1 < length (s .co)
   axis : a < 2
@@ -74,6 +75,7 @@ known c =
       to-n = least .1;
       xs-long = omega arith;
       ys-long = omega arith;
+      few = omega arith;
       ids = h .1;
       co = h .2;
       axis = h .3;
@@ -122,19 +124,19 @@ mul-t13 : tie.Need-mul-t13
 mul-t13 c = search needs
 
 array-read-t15 : tie.Need-array-read-t15
-array-read-t15 c = search needs
+array-read-t15 c = known (c .before .before .before .before .before) .few
 
 mul-t35 : tie.Need-mul-t35
 mul-t35 c = search needs
 
 array-read-t38 : tie.Need-array-read-t38
-array-read-t38 c = search needs
+array-read-t38 c = known (c .before .before .before .before .before) .few
 
 same-length : tie.Need-same-length
-same-length c = search needs
+same-length c = c .before .before .before .before .exchange .kept .0
 
 same-length-2 : tie.Need-same-length-2
-same-length-2 c = search needs
+same-length-2 c = c .before .before .before .before .exchange .kept .1 .0
 
 returns-2 : tie.Need-returns-2
 returns-2 c =

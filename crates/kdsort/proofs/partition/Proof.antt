@@ -11,10 +11,10 @@ use borrow.Author.Tests.{not-true, not-false}
 use Rattle.kdsort.specs.Cols.{Cols, cols, key}
 use Rattle.kdsort.specs.Scans.{up-none, up-more, down-none, down-more, placed-stops}
 use Rattle.kdsort.specs.Passes.{passing-starts}
-use Rattle.kdsort.proofs.Turns.{parted-then, parted-else, cut-eq}
+use Rattle.kdsort.proofs.Turns.{parted-then, parted-else, cut-eq, le-more, lt-more}
 use Rattle.kdsort.proofs.partition.Statement.{statement}
 use Rattle.kdsort.proofs.partition.Tie as tie
-use Rattle.kdsort.proofs.partition.Proof.Places.{Inv-up, μ-up, Inv-down, μ-down, Inv-pass, μ-pass, columns, pivot, placed-of, j1→start, placed-is, placed-long, s→pass, s→start, swapped-long, turn, m→s, up-of, step, scanning, up-ahead, down-ahead, ap→start, passes-is}
+use Rattle.kdsort.proofs.partition.Proof.Places.{Inv-up, μ-up, Inv-down, μ-down, Inv-pass, μ-pass, columns, pivot, placed-of, j1→start, placed-is, placed-long, s→pass, s→start, swapped-long, turn, m→s, up-of, step, next-of, both, scanning, up-ahead, down-ahead, ap→start, passed-long, passes-is}
 
 mul-t : tie.Need-mul-t Inv-up μ-up Inv-down μ-down Inv-pass μ-pass
 mul-t c = omega arith
@@ -68,9 +68,10 @@ pass-holds c =
 
 swap-item-requires-3 : tie.Need-swap-item-requires-3 Inv-up μ-up Inv-down μ-down Inv-pass μ-pass
 swap-item-requires-3 c κs =
-    let e = placed-long (c .before .before .before .before) in
-    let h = j1→start (c .before .before .before .before) .pre in
-    omega arith
+    let j = c .before .before .before .before in
+    let e = placed-long j in
+    let p = c .before .before .before .pass .inv in
+    both _ _ _ _ (j1→start j .pre) (p .i-to) (p .j-to) (p .ids-long ∙ e .ids-as) (p .co-long ∙ e .co-as)
 
 add-i : tie.Need-add-i Inv-up μ-up Inv-down μ-down Inv-pass μ-pass
 add-i c = omega arith
@@ -130,12 +131,12 @@ slice-read-if3 : tie.Need-slice-read-if3 Inv-up μ-up Inv-down μ-down Inv-pass 
 slice-read-if3 c = let h = step (c .before .before .before .before .before) in omega arith
 
 pass-less : tie.Need-pass-less Inv-up μ-up Inv-down μ-down Inv-pass μ-pass
-pass-less c = let h = step (c .before .before .before .before .before .before) in omega arith
+pass-less c = next-of c .less
 
 pass-again : tie.Need-pass-again Inv-up μ-up Inv-down μ-down Inv-pass μ-pass
 pass-again c =
     let s = c .before .before .before .before .before .before in
-    let h = step s in
+    let n = next-of c in
     let g = swapped-long (m→s s) in
     let w = s .before .before .before .before .batch .kept in
     let u = c .before .before .before .before .before .up .inv in
@@ -146,13 +147,13 @@ pass-again c =
     record {
       ids-long = w .0 ∙ g .ids-as ∙ v .ids-long;
       co-long = w .1 .0 ∙ g .co-as ∙ v .co-long;
-      i-from = omega arith;
-      i-to = omega arith;
-      j-from = omega arith;
-      j-to = omega arith;
+      i-from = n .i-from;
+      i-to = n .i-to;
+      j-from = n .j-from;
+      j-to = n .j-to;
       i-stop = i-end;
       j-stop = j-end;
-      moved = λ l. omega arith;
+      moved = λ l. n .moved;
       goes = scanning s .goes _ _ (u .1) (u .0) i-end (d .0) j-end;
     }
 
@@ -185,15 +186,16 @@ slice-read-if4 c =
 
 swap-item-requires-4 : tie.Need-swap-item-requires-4 Inv-up μ-up Inv-down μ-down Inv-pass μ-pass
 swap-item-requires-4 c κs =
-    let h = ap→start (c .before .before .before .before) .pre in
-    let e = placed-long (c .before .before .before .before .before .before) in
-    omega arith
+    let q = c .before .before .before .before in
+    let h = ap→start q .pre in
+    let e = passed-long q in
+    both _ _ _ _ h (le-of-lt (h .lr)) (q .before .pass .inv .j-to) (e .ids-as) (e .co-as)
 
 same-length : tie.Need-same-length Inv-up μ-up Inv-down μ-down Inv-pass μ-pass
-same-length c = let e = placed-long (c .before .before .before .before .before .before .before .before .before .before .before) in omega arith
+same-length c = c .before .before .before .before .swap-item4 .kept .0 ∙ passed-long (c .before .before .before .before .before .before .before .before .before) .ids-as
 
 same-length-2 : tie.Need-same-length-2 Inv-up μ-up Inv-down μ-down Inv-pass μ-pass
-same-length-2 c = let e = placed-long (c .before .before .before .before .before .before .before .before .before .before .before) in omega arith
+same-length-2 c = c .before .before .before .before .swap-item4 .kept .1 .0 ∙ passed-long (c .before .before .before .before .before .before .before .before .before) .co-as
 
 returns : tie.Need-returns Inv-up μ-up Inv-down μ-down Inv-pass μ-pass
 returns c =
@@ -211,19 +213,19 @@ add-swap-item c = omega arith
 
 swap-item-requires-5 : tie.Need-swap-item-requires-5 Inv-up μ-up Inv-down μ-down Inv-pass μ-pass
 swap-item-requires-5 c κs =
-    let h = ap→start (c .before .before .before .before) .pre in
-    let e = placed-long (c .before .before .before .before .before .before) in
-    let t = c .before .before .before .before .before .pass .inv .moved (c .before .before .before .before .pass-test .left) in
-    omega arith
+    let q = c .before .before .before .before in
+    let e = passed-long q in
+    let t = q .before .pass .inv .moved (q .pass-test .left) in
+    both _ _ _ _ (ap→start q .pre) (lt-more t) (le-refl _) (e .ids-as) (e .co-as)
 
 add-result : tie.Need-add-result Inv-up μ-up Inv-down μ-down Inv-pass μ-pass
 add-result c = omega arith
 
 same-length-3 : tie.Need-same-length-3 Inv-up μ-up Inv-down μ-down Inv-pass μ-pass
-same-length-3 c = let e = placed-long (c .before .before .before .before .before .before .before .before .before .before .before) in omega arith
+same-length-3 c = c .before .before .before .before .swap-item5 .kept .0 ∙ passed-long (c .before .before .before .before .before .before .before .before .before) .ids-as
 
 same-length-4 : tie.Need-same-length-4 Inv-up μ-up Inv-down μ-down Inv-pass μ-pass
-same-length-4 c = let e = placed-long (c .before .before .before .before .before .before .before .before .before .before .before) in omega arith
+same-length-4 c = c .before .before .before .before .swap-item5 .kept .1 .0 ∙ passed-long (c .before .before .before .before .before .before .before .before .before) .co-as
 
 returns-2 : tie.Need-returns-2 Inv-up μ-up Inv-down μ-down Inv-pass μ-pass
 returns-2 c =
@@ -235,7 +237,7 @@ returns-2 c =
     let f = q .before .pass .inv .j-from in (
       cut-eq (c .before .before .before .before .swap-item5 .ensures) refl
           ∙ sym (parted-else (a .axis) (a .k) (columns s) x (a .left) (a .right) (q .before .pass .j) (passes-is q) (c .before .before .before .before .before .before .before .if4 .left)),
-      (omega arith, omega arith),
+      (le-more f, lt-more t),
     )
 
 pub partition-spec : {M : Type 1} → statement M

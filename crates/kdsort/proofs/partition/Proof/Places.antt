@@ -10,6 +10,7 @@ use lib.ListN.{length}
 use lib.Ieee.{Float, lt}
 use borrow.Author.Tests.{not-false}
 use Rattle.kdsort.specs.Cols.{Cols, cols, swapItem, key}
+use Rattle.kdsort.specs.Room.{Here}
 use Rattle.kdsort.specs.Select.{Cut, cut, passes, placed}
 use Rattle.kdsort.specs.Swaps.{length-swapIds, length-swapCo}
 use Rattle.kdsort.specs.Scans.{Up, Down, before-stop, after-stop, length-placed-ids, length-placed-co}
@@ -193,6 +194,31 @@ step c =
       m-is = w .kept .1 .0 ∙ h .m'-is;
     }
 
+-- the orders of the next pass, whose scans went from x up to u and from y down to d
+pub record Next (l r i j u d : ℕ) : Type 0 where
+  pub i-from : l ≤ u
+  pub i-to : u ≤ r
+  pub j-from : l ≤ d
+  pub j-to : d ≤ r
+  pub moved : d < r
+  pub less : d - u < j - i
+
+pub next : {i j x y l r a n m low : ℕ} {s : Cols} (u d : ℕ) → Step i j x y l r a n m s → x ≤ u → u ≤ y + 1 → l ≤ low → low ≤ d → d ≤ y → Next l r i j u d
+next u d h xu uy ll ld dy = record { i-from = omega arith; i-to = omega arith; j-from = omega arith; j-to = omega arith; moved = omega arith; less = omega arith }
+
+pub next-of : (c : tie.Then3 Inv-up μ-up Inv-down μ-down Inv-pass μ-pass)
+    → let q = c .before .before .before .before .before .before in
+    let s = s→start (m→s q) in
+    Next (s .args .left) (s .args .right) (i-of (m→s q)) (j-of (m→s q)) (c .before .before .before .before .before .up .i) (c .before .before .down .j)
+next-of c =
+    let u = c .before .before .before .before .before .up in
+    let d = c .before .before .down in
+    next (u .i) (d .j) (step (c .before .before .before .before .before .before)) (u .inv .0 .from) (u .inv .1) (d .inv .1 .from) (d .inv .1 .to) (d .inv .0 .from)
+
+-- two slots up to r are in columns as long as those of a cut
+pub both : {l r k a n m : ℕ} (i j x y : ℕ) → Here k l r a n m → i ≤ r → j ≤ r → x ≡ n → y ≡ m → (i < x) × (j < x) × (2 * i + 1 < y) × (2 * j + 1 < y)
+both i j x y h ir jr xn ym = (omega arith, omega arith, omega arith, omega arith)
+
 -- what all the passes come to
 abbrev pub end-of : Met → Cut
 end-of c =
@@ -229,6 +255,12 @@ down-ahead c =
 -- ---- after the passes
 abbrev pub ap→start : After-pass → Start
 ap→start c = j1→start (c .before .before)
+
+pub passed-long : (c : After-pass) → Long (cols (c .before .pass .ids) (c .before .pass .coords)) (columns (ap→start c))
+passed-long c =
+    let p = c .before .pass .inv in
+    let e = placed-long (c .before .before) in
+    record { ids-as = p .ids-long ∙ e .ids-as; co-as = p .co-long ∙ e .co-as }
 
 pub passes-is : (c : After-pass) → let s = ap→start c in let a = s .args in
     passes (a .right - a .left) (ltb (a .left) (a .right)) (a .axis) (pivot s) (placed-of s) (a .left) (a .right) ≡ cut (cols (c .before .pass .ids) (c .before .pass .coords)) (c .before .pass .j)
