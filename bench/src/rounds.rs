@@ -1,5 +1,6 @@
-//! Measures sides in turn: in every round each of them once, beginning with another, so that a change of
-//! the machine's pace meets all of them. One round before is not counted: it warms the caches.
+//! Measures sides in turn: in every round each of them once, so that a change of the machine's pace meets all
+//! of them. The order is always the same, so that for each side its own last turn lies equally far back, and no
+//! side finds more of its data in the caches than another. One round before is not counted: it warms them.
 
 /// What a side found: compared between the sides, so that they do the same and nothing is left undone.
 #[derive(Clone, Copy, Debug, PartialEq, Eq)]
@@ -43,12 +44,11 @@ pub fn measured(rounds: usize, sides: &mut [Side]) -> Result<Measured, String> {
     let mut times = vec![Vec::with_capacity(rounds); sides.len()];
     let mut found = Vec::new();
     for round in 0..=rounds {
-        for turn in 0..sides.len() {
-            let at = (round + turn) % sides.len();
-            let (what, nanoseconds) = (sides[at].work)();
-            found.push((sides[at].name, what));
+        for (side, times) in sides.iter_mut().zip(&mut times) {
+            let (what, nanoseconds) = (side.work)();
+            found.push((side.name, what));
             if round > 0 {
-                times[at].push(nanoseconds);
+                times.push(nanoseconds);
             }
         }
     }
