@@ -8,6 +8,9 @@ use tables::Options;
 use vectors::Byte;
 use vectors::Count;
 use vectors::Pattern;
+ghost use mathlib.Core.Path.{_≡_};
+ghost use lib.Dec.{eqb};
+ghost use Rattle.tables.specs.Given.{settingOf};
 
 // An offset or a scale, or words that are none.
 enum Settled {
@@ -27,15 +30,22 @@ pub enum Chosen {
     Bad,
 }
 
+// The offset or the scale of a case, by the word before it: 1 where it is given.
+fn setting_of(word: usize, v: f64) -> Setting
+    ensures { λ r. ⌜ r ≡ settingOf (eqb word 1) v ⌝ }
+{
+    tables::setting(word == 1, v)
+}
+
 // Reads an offset or a scale.
 fn read_setting() -> Settled {
-    let Count::Is(given) = vectors::next_count(1, false) else {
+    let Count::Is(word) = vectors::next_count(1, false) else {
         return Settled::Bad;
     };
     let Pattern::Bits(bits) = vectors::next_bits(false) else {
         return Settled::Bad;
     };
-    Settled::Setting(tables::setting(given == 1, vectors::float_of(bits)))
+    Settled::Setting(setting_of(word, vectors::float_of(bits)))
 }
 
 // Reads a range.
