@@ -99,7 +99,7 @@ pub fn list_kids(
     let start = g.start;
     let n = g.len;
     let mut k = 0;
-    let mut page = [0usize; 64];
+    let mut page = [0usize; 16];
     let mut from = kdwalk::begin();
     loop {
         let t = asking::next_in(g, coords, &mut page, from);

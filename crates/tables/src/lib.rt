@@ -153,19 +153,21 @@ fn is_table(start: u32, len: u32, n: u32, at: usize) -> bool
 }
 
 impl State {
-    // Where the table of a zoom starts, and how many entries it has.
+    // Where the table of a zoom starts, and how many entries it has. The array alone is copied, not the state.
     pub fn start_of(self, zoom: usize) -> usize
         requires { ⌜ zoom < 32 ⌝ }
         ensures { λ r. ⌜ r ≡ startOf self zoom ⌝ }
     {
-        self.starts[zoom] as usize
+        let starts = self.starts;
+        starts[zoom] as usize
     }
 
     pub fn len_of(self, zoom: usize) -> usize
         requires { ⌜ zoom < 32 ⌝ }
         ensures { λ r. ⌜ r ≡ lenOf self zoom ⌝ }
     {
-        self.lens[zoom] as usize
+        let lens = self.lens;
+        lens[zoom] as usize
     }
 
     // Whether the tables are packed from 0 on, the largest zoom first, within columns of cap entries.

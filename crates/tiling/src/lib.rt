@@ -14,7 +14,7 @@ ghost use Rattle.floats.specs.Unit.{In01};
 ghost use Rattle.kdslots.specs.Bounds.{coordsOk};
 ghost use Rattle.tables.specs.Bounds.{InBounds};
 ghost use Rattle.tables.specs.Rows.{rows, Even};
-ghost use Rattle.tiling.specs.Tile.{isTile, atEnd, strip, here, east, west, visited, namedAt, rounded, itemOf};
+ghost use Rattle.tiling.specs.Tile.{isTile, atEnd, side, strip, here, east, west, visited, namedAt, rounded, itemOf};
 ghost use Rattle.tiling.specs.Framed.{Framed, IsTile};
 ghost use Rattle.tiling.specs.Runs.{left, run};
 ghost use Rattle.tiling.specs.Turns.{walked};
@@ -114,13 +114,12 @@ pub fn is_tile(z: u32, x: u32, y: u32) -> bool
     wide(y) < s
 }
 
-// A search of the row y, from a to b on x, where v stands for the tile's x.
-fn strip_of(o: Options, z: u32, y: u32, made: bool, a: f64, b: f64, v: f64) -> Search
-    requires { ⌜ z < 32 ⌝ }
+// A search of the row y, from a to b on x, where v stands for the tile's x. z2 is 2^z, which the caller has read from the table already.
+fn strip_of(o: Options, z: u32, z2: f64, y: u32, made: bool, a: f64, b: f64, v: f64) -> Search
+    requires { ⌜ z2 ≡ side z ⌝ }
     ensures { λ r. ⌜ r ≡ strip o z y made a b v ⌝ }
 {
     let p = o.radius / o.extent;
-    let z2 = floats::power(z);
     let fy = y as f64;
     let query = Query::Range {
         min_x: a,
@@ -147,7 +146,7 @@ fn search_here(o: Options, z: u32, x: u32, y: u32) -> Search
     let p = o.radius / o.extent;
     let z2 = floats::power(z);
     let fx = x as f64;
-    strip_of(o, z, y, true, (fx - p) / z2, (fx + 1.0 + p) / z2, fx)
+    strip_of(o, z, z2, y, true, (fx - p) / z2, (fx + 1.0 + p) / z2, fx)
 }
 
 // The strip at the east end, for the first tile of a row.
@@ -157,7 +156,7 @@ fn search_east(o: Options, z: u32, x: u32, y: u32) -> Search
 {
     let z2 = floats::power(z);
     let e = o.radius / o.extent / z2;
-    strip_of(o, z, y, x == 0, 1.0 - e, 1.0, z2)
+    strip_of(o, z, z2, y, x == 0, 1.0 - e, 1.0, z2)
 }
 
 // The strip at the west end, for the last tile of a row.
@@ -168,7 +167,7 @@ fn search_west(o: Options, z: u32, x: u32, y: u32) -> Search
     let z2 = floats::power(z);
     let e = o.radius / o.extent / z2;
     let last = wide(x) + 1 == across(z);
-    strip_of(o, z, y, last, 0.0, e, -1.0)
+    strip_of(o, z, z2, y, last, 0.0, e, -1.0)
 }
 
 // Whether a tile has a strip: it is the first or the last of its row.
@@ -284,7 +283,7 @@ fn list_by(
     let size = g.node_size;
     let n = x.len();
     let mut k = at;
-    let mut page = [0usize; 64];
+    let mut page = [0usize; 16];
     let mut pages = kdwalk::begin();
     loop {
         let t = kdwalk::next_slot(q, size, n, coords, &mut page, pages);
@@ -407,7 +406,7 @@ fn tally_by(
     let q = g.query;
     let size = g.node_size;
     let n = x.len();
-    let mut page = [0usize; 64];
+    let mut page = [0usize; 16];
     let mut pages = kdwalk::begin();
     loop {
         let u = kdwalk::next_slot(q, size, n, coords, &mut page, pages);

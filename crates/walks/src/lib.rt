@@ -395,7 +395,7 @@ fn walk_into(
     let g = asking::ring_of(s, leg.cap, leg.table, origin, x, y, seen, id, parent, num);
     let mut any = false;
     let mut so = was;
-    let mut page = [0usize; 64];
+    let mut page = [0usize; 16];
     let mut from = kdwalk::begin();
     loop {
         match kids::next_child(

@@ -16,7 +16,7 @@ use Rattle.kids.proofs.list_kids.Tie as tie
 
 abbrev Inv-loop : tie.InvT-loop
 Inv-loop g x y seen id parent num ids coords cid out₀ start len k₀ page₀ from₀ out k page from =
-    (length page ≡ 64) × Going g (columns x y seen id parent num ids coords) cid out₀ out k (aheadIn g coords page from)
+    (length page ≡ 16) × Going g (columns x y seen id parent num ids coords) cid out₀ out k (aheadIn g coords page from)
 
 abbrev μ-loop : tie.MeasureT-loop
 μ-loop g x y seen id parent num ids coords cid out₀ start len k₀ page₀ from₀ out k page from = length (aheadIn g coords page from)
@@ -44,7 +44,7 @@ module _ (q : tie.After-from Inv-loop μ-loop) where
   abbrev is : List ℕ
   is = let a = start-of loop-of .args in aheadIn (a .g) (now (a .coords)) (stepped .next-in .last .1 .1 .0) (stepped .next-in .result .pages)
 
-  page-same : length (stepped .next-in .last .1 .1 .0) ≡ 64
+  page-same : length (stepped .next-in .last .1 .1 .0) ≡ 16
   page-same = stepped .next-in .kept .1 .1 .0 ∙ loop-of .loop .inv .0
 
   out-same : length (loop-of .loop .out) ≡ length (now (start-of loop-of .args .out))

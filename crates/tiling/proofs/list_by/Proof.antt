@@ -29,7 +29,7 @@ Inv-loop g x y seen id parent num ids coords at out₀ px₀ py₀ q size n k₀
     × (k + length (aheadOf q size n coords page pages) ≤ at + n)
     × (run (rows x y seen id parent num) k (visitsOf g (places ids (aheadOf q size n coords page pages))) out px py
     ≡ run (rows x y seen id parent num) at (visitsOf g (places ids (walk q size n coords))) out₀ px₀ py₀)
-    × (length page ≡ 64)
+    × (length page ≡ 16)
 
 abbrev μ-loop : tie.MeasureT-loop
 μ-loop g x y seen id parent num ids coords at out₀ px₀ py₀ q size n k₀ page₀ pages₀ out px py k page pages = length (aheadOf q size n coords page pages)

@@ -29,7 +29,7 @@ abbrev Inv-loop : tie.InvT-loop
 Inv-loop x y seen id parent num ids coords marks₀ k₀ t₀ q size n page₀ pages₀ marks k t page pages =
     AllBelow n (aheadOf q size n coords page pages) × (k + length (aheadOf q size n coords page pages) ≤ k₀ + n) × (t ≤ k * 4294967295)
     × (counted (rows x y seen id parent num) k t (places ids (aheadOf q size n coords page pages)) marks ≡ counted (rows x y seen id parent num) k₀ t₀ (places ids (walk q size n coords)) marks₀)
-    × (length page ≡ 64) × (length marks ≡ length marks₀)
+    × (length page ≡ 16) × (length marks ≡ length marks₀)
 
 abbrev μ-loop : tie.MeasureT-loop
 μ-loop x y seen id parent num ids coords marks₀ k₀ t₀ q size n page₀ pages₀ marks k t page pages = length (aheadOf q size n coords page pages)

@@ -122,7 +122,7 @@ enter-returns-2 t c =
 
 abbrev walk-into-Inv-loop : walk-into-lts.InvT-loop
 walk-into-Inv-loop s x y seen id parent num ids coords cid origin leg out₀ g any₀ so₀ page₀ from₀ out any so page from =
-    (length page ≡ 64) × Walking s (columns x y seen id parent num ids coords) (leg .limit) (leg .offset) cid (leg .table) origin so₀ out₀ g out any so (aheadIn g coords page from)
+    (length page ≡ 16) × Walking s (columns x y seen id parent num ids coords) (leg .limit) (leg .offset) cid (leg .table) origin so₀ out₀ g out any so (aheadIn g coords page from)
 
 abbrev walk-into-μ-loop : walk-into-lts.MeasureT-loop
 walk-into-μ-loop s x y seen id parent num ids coords cid origin leg out₀ g any₀ so₀ page₀ from₀ out any so page from = length (aheadIn g coords page from)
