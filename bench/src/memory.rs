@@ -1,4 +1,5 @@
-//! The peak memory of a process, as the system counts it: the pages that were in memory at once.
+//! The peak memory of a process, as the system counts it: the pages that were in memory at once, but for those of the
+//! program's own file and its libraries.
 
 use std::{env, fmt, fs, hint::black_box, process::Command, str::FromStr};
 
@@ -28,9 +29,9 @@ impl FromStr for Peak {
 
 /// The peak of this process until the work on this input is done; what it gives is kept until then.
 pub fn peak<I, T>(input: I, work: impl FnOnce(I) -> T) -> Peak {
-    let before = kilobytes("VmRSS");
+    let before = kilobytes("VmRSS") - kilobytes("RssFile");
     let result = work(input);
-    let most = kilobytes("VmHWM");
+    let most = kilobytes("VmHWM") - kilobytes("RssFile");
     black_box(&result);
     Peak { before, most }
 }
