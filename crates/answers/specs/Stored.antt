@@ -14,7 +14,7 @@ use Rattle.kdslots.specs.All.{All, all-map}
 use Rattle.tables.specs.declared.Options.{Options}
 use Rattle.tables.specs.declared.State.{State}
 use Rattle.tables.specs.Bounds.{options-are}
-use Rattle.tables.specs.Columns.{part}
+use Rattle.tables.specs.Columns.{part, heldAt}
 use Rattle.tables.specs.Entries.{Table, xsOf, ysOf, seenOf, idsOf, parentsOf, numsOf}
 use Rattle.tables.specs.Options.{tableCount}
 use Rattle.tables.specs.State.{startOf, lenOf}
@@ -26,7 +26,7 @@ use Rattle.zooms.specs.Zooms.{Plan, planOf, run, slotsOf, zoomsOf, joined, join
 use Rattle.zooms.specs.Running.{slots-ids, slots-co}
 use Rattle.supercluster.specs.Build.{tablesOf, stateOf, Lent, written, need}
 use Rattle.supercluster.specs.Fill.{lamps, lamps-length}
-use Rattle.supercluster.specs.Held.{Laid, heldAt, held, built-laid, built-held}
+use Rattle.supercluster.specs.Held.{Laid, held, built-laid, built-held}
 use Rattle.supercluster.specs.Load.{Holds, rowsIn}
 use Rattle.supercluster.specs.Over.{over-length}
 use Rattle.supercluster.specs.Ready.{Accepted}

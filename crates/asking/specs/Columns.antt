@@ -12,7 +12,7 @@ use Rattle.tables.specs.State.{startOf, lenOf}
 use Rattle.tables.specs.Sound.{Stands}
 use Rattle.tables.specs.Entries.{Table}
 use Rattle.tables.specs.Rows.{rows, rows-length, Even}
-use Rattle.tables.specs.Columns.{part, part-long, rows-take, rows-drop}
+use Rattle.tables.specs.Columns.{part, heldAt, part-long, rows-take, rows-drop}
 
 -- six columns of entries, and two of the index
 pub record Columns : Type 0 where
@@ -40,7 +40,7 @@ roomOf c =
 
 -- the table of zoom z, and its index: the places of the slots, and their coordinates
 abbrev pub tableAt : State → Columns → ℕ → Table
-tableAt s c z = part (startOf s z) (lenOf s z) (rows (c .x) (c .y) (c .seen) (c .id) (c .parent) (c .num))
+tableAt s c z = heldAt (s .starts) (s .lens) (rows (c .x) (c .y) (c .seen) (c .id) (c .parent) (c .num)) z
 
 abbrev pub idsAt : State → List ℕ → ℕ → List ℕ
 idsAt s ids z = part (startOf s z) (lenOf s z) ids

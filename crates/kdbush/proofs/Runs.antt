@@ -6,7 +6,7 @@ use Prim.Native.Nat.{ℕ, suc, _+_, _-_, _≤_, _<_}
 use native.Mathlib.Nat.{add-zero}
 use native.Mathlib.Omega.{arith}
 use lib.Dec.{ltb}
-use lib.ListN.{length, getD, set, length-map}
+use lib.ListN.{length, getD, set}
 use lib.Seq.{set-out}
 use borrow.Author.Tests.{le-ltb, lt-ltb}
 use Rattle.kdbush.specs.declared.Found.{Found}
@@ -14,7 +14,7 @@ use Rattle.kdbush.specs.declared.Found.the-variants.{All, Spoiled}
 use Rattle.kdsort.specs.Shape.{shape, mid, spans}
 use Rattle.kdslots.specs.Slots.{Search, when, scanned, slots, below}
 use Rattle.kdslots.specs.Intervals.{scanned-suc, slots-leaf, slots-node, when-length, slots-length}
-use Rattle.kdbush.specs.Run.{Ran, ran, run, run-append, places, reply, sound, filled, run-filled}
+use Rattle.kdbush.specs.Run.{Ran, ran, run, run-append, places, places-length, reply, sound, filled, run-filled}
 
 -- ---- one slot
 
@@ -41,11 +41,6 @@ put-past n at ids i b out e h l = ap (ran (All (at + 1))) (sym (set-out out at (
 places-append : (ids ps qs : List ℕ) → places ids (ps ++ qs) ≡ places ids ps ++ places ids qs
 unfolding places
 places-append ids ps qs = map-append (λ i. getD ids i 0) ps qs
-
--- there are as many places as slots
-pub places-length : (ids ps : List ℕ) → length (places ids ps) ≡ length ps
-unfolding places
-places-length ids ps = length-map ps (λ i. getD ids i 0)
 
 -- a run over two lists goes on with the second where the first was whole
 pub run-more : (n at k : ℕ) (ids ps qs out o : List ℕ) → ran (All k) o ≡ run n at (places ids ps) out

@@ -8,7 +8,7 @@ use Prim.Native.Nat.{ℕ, zero, suc, _≤_, _<_}
 use native.Mathlib.Omega.{arith}
 use borrow.Author.Tests.{lt-ltb, le-leb}
 use lib.Dec.{T}
-use lib.ListN.{length, getD, drop, length-map}
+use lib.ListN.{length, getD, drop}
 use lib.Seq.{take-all}
 use lib.Ieee.{Float, nan, binary64, le, fits}
 use lib.Ieee.Scale.{finite}
@@ -23,7 +23,7 @@ use Rattle.kdslots.specs.declared.Query.the-variants.{Range, Within}
 use Rattle.kdbush.specs.declared.SearchReply.the-variants.{Found}
 use Rattle.kdslots.specs.Query.{passesQ, least, greatest, queryOk}
 use Rattle.kdslots.specs.Slots.{answers}
-use Rattle.kdbush.specs.Run.{places, sound, whole}
+use Rattle.kdbush.specs.Run.{places, places-length, sound, whole}
 use Rattle.kdslots.specs.Bounds.{coordsOk}
 use Rattle.kdbush.specs.Reply.{found, listed, listedColumn, searched, columnAfter}
 use Rattle.kdslots.specs.Members.{no-nil, In, NotIn, Distinct, Between}
@@ -76,10 +76,6 @@ pub all-sound : (n : ℕ) (l : List ℕ) → AllBelow n l → sound n l ≡ l
 unfolding All sound
 all-sound n [] w = refl
 all-sound n (k ∷ ks) w = rw (lt-ltb k n (w .0), sound) (ap (λ (z : List ℕ). k ∷ z) (all-sound n ks (w .1)))
-
-pub places-length : (ids l : List ℕ) → length (places ids l) ≡ length l
-unfolding places
-places-length ids l = length-map l (λ i. getD ids i 0)
 
 -- ---- an index built from the points
 

@@ -7,7 +7,7 @@ use native.Mathlib.Omega.{arith}
 use native.Mathlib.Numerals.{add-one}
 use native.Mathlib.Nat.{add-zero, zero-add}
 use lib.Dec.{ltb}
-use lib.ListN.{length, getD, set, take, drop}
+use lib.ListN.{length, getD, set, take, drop, length-map}
 use lib.Seq.{sets, drop-nil}
 use Rattle.kdbush.specs.declared.Found.{Found}
 use Rattle.kdbush.specs.declared.Found.the-variants.{All, Spoiled}
@@ -46,6 +46,11 @@ run-append n at (p ∷ ps) qs out = go (ltb p n) refl (run-append n (at + 1) ps 
 -- the places of the slots of a list
 unfoldable pub places : List ℕ → List ℕ → List ℕ
 places ids is = map (λ i. getD ids i 0) is
+
+-- there are as many places as slots
+pub places-length : (ids is : List ℕ) → length (places ids is) ≡ length is
+unfolding places
+places-length ids is = length-map is (λ i. getD ids i 0)
 
 -- ---- the same, without the run
 

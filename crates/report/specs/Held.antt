@@ -5,10 +5,10 @@ use Prim.Native.Nat.{ℕ, suc, _+_, _-_, _*_, _<_, _≤_}
 use native.Mathlib.Omega.{arith}
 use lib.ListN.{length, getD, length-append}
 use Rattle.tables.specs.declared.State.{State}
-use Rattle.tables.specs.Columns.{part-long}
+use Rattle.tables.specs.Columns.{part-long, heldAt}
 use Rattle.tables.specs.Entries.{Table}
 use Rattle.zooms.specs.Zooms.{joined}
-use Rattle.supercluster.specs.Held.{heldAt, held, heldBy}
+use Rattle.supercluster.specs.Held.{held, heldBy}
 use Rattle.report.specs.Lines.{tableText, tablesText}
 
 -- each table lies within the rows, and there is room for a line of 136 bytes for each entry

@@ -8,7 +8,7 @@ ghost use mathlib.Core.Path.{_≡_};
 ghost use mathlib.Core.List.{[], _∷_};
 ghost use Prim.Native.Nat.{_+_, _*_, _<_, _≤_};
 ghost use lib.ListN.{length, getD, take};
-ghost use Rattle.tables.specs.Columns.{part};
+ghost use Rattle.tables.specs.Columns.{part, heldAt};
 ghost use Rattle.tables.specs.Rows.{rows, Even};
 ghost use Rattle.listing.specs.Digits.{decimalOf};
 ghost use Rattle.listing.specs.Values.{optionsOf};
@@ -17,7 +17,7 @@ ghost use Rattle.report.specs.Lines.{orDash, bitsOf, placeText, pointTex
 ghost use Rattle.report.specs.Report.{buildText, lending, Reports};
 ghost use Rattle.report.specs.Put.{Put};
 ghost use Rattle.supercluster.specs.Build.{lent, loaded};
-ghost use Rattle.supercluster.specs.Held.{heldAt, heldBy};
+ghost use Rattle.supercluster.specs.Held.{heldBy};
 ghost use Rattle.report.specs.Held.{Holding};
 
 // A byte. The place past it.

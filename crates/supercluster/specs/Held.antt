@@ -9,7 +9,7 @@ use lib.Dec.{ltb}
 use lib.ListN.{length, getD, set, take, drop, length-append, length-drop, length-set, replicate, length-replicate}
 use lib.Seq.{getD-set-same, getD-set-other, drop-drop, drop-append-seam, take-append-seam}
 use lib.Ieee.{Float}
-use Rattle.tables.specs.Columns.{part}
+use Rattle.tables.specs.Columns.{part, heldAt}
 use Rattle.tables.specs.Entries.{Table}
 use Rattle.tables.specs.Bounds.{options-are}
 use Rattle.tables.specs.declared.Options.{Options}
@@ -22,10 +22,6 @@ use Rattle.supercluster.specs.Load.{rowsIn}
 use Rattle.supercluster.specs.Right.{tables-count}
 
 -- ---- definitions
-
--- the table of the zoom z: starts and lengths stand in ss and ll
-abbrev pub heldAt : List ℕ → List ℕ → Table → ℕ → Table
-heldAt ss ll t z = part (getD ss z 0) (getD ll z 0) t
 
 -- the tables of k zooms, low the smallest, from the finest down
 unfoldable pub held : List ℕ → List ℕ → Table → ℕ → ℕ → List Table

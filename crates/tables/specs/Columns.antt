@@ -15,6 +15,10 @@ use Rattle.tables.specs.Rows.{rows, tail, Even}
 abbrev pub part : {A : Type 0} → ℕ → ℕ → List A → List A
 part a n l = take n (drop a l)
 
+-- the table of the zoom z among the rows t, where starts and lengths stand in ss and ll
+abbrev pub heldAt : List ℕ → List ℕ → Table → ℕ → Table
+heldAt ss ll t z = part (getD ss z 0) (getD ll z 0) t
+
 pub part-long : {A : Type 0} (a n : ℕ) (l : List A) → a + n ≤ length l → length (part a n l) ≡ n
 part-long a n l h = length-take-le n (drop a l) (rw (length-drop a l) (omega arith))
 

@@ -13,10 +13,9 @@ use Rattle.floats.specs.Fraction.{yes-of}
 use Rattle.floats.specs.Unit.{In01, in01, in01→In01}
 use Rattle.kdslots.specs.Query.{queryOk}
 use Rattle.kdslots.specs.Slots.{when}
-use Rattle.kdbush.specs.Run.{places}
+use Rattle.kdbush.specs.Run.{places, places-length}
 use Rattle.kdslots.specs.Bounds.{coordsOk, and-both}
 use Rattle.kdwalk.specs.Reply.{walk}
-use Rattle.kdbush.specs.Promise.{places-length}
 use Rattle.kdslots.specs.Intervals.{when-length}
 use Rattle.kdwalk.specs.Walk.{walk-length}
 use Rattle.tables.specs.declared.Entry.{Entry}

@@ -13,7 +13,8 @@ use Rattle.tables.specs.Rows.{rows, rows-length}
 use Rattle.zooms.specs.Zooms.{joined}
 use Rattle.report.specs.Lines.{tableText, tablesText}
 use Rattle.report.specs.Put.{Storing, storing-start, storing-step, storing-end}
-use Rattle.supercluster.specs.Held.{heldAt, held, heldBy}
+use Rattle.tables.specs.Columns.{heldAt}
+use Rattle.supercluster.specs.Held.{held, heldBy}
 use Rattle.report.specs.Held.{Holding, text-step, text-end, held-long}
 use Rattle.report.proofs.put_tables.Statement.{statement}
 use Rattle.report.proofs.put_tables.Tie as tie
