@@ -11,9 +11,8 @@ use lib.Seq.{drop-nil}
 use lib.Ieee.{Float}
 use Rattle.kdslots.specs.declared.Query.{Query}
 use Rattle.kdslots.specs.Slots.{answers}
-use Rattle.kdbush.specs.Run.{sound, whole, filled}
+use Rattle.kdbush.specs.Run.{places-length, sound, whole, filled}
 use Rattle.kdbush.specs.Reply.{found}
-use Rattle.kdbush.specs.Promise.{places-length}
 use Rattle.kdslots.specs.Intervals.{answers-length}
 use Rattle.tables.specs.Columns.{from, from-drop, back}
 use Rattle.asking.specs.declared.Answer.the-variants.{Spoiled}
