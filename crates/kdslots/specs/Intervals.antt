@@ -10,6 +10,10 @@ use Rattle.kdsort.specs.Shape.{Shape, shape, mid, Spans, all, both, spans, shap
 use Rattle.kdslots.specs.declared.Query.{Query}
 use Rattle.kdslots.specs.Slots.{Search, when, scanned, slots, below, over, answers}
 
+-- two intervals, the axis of each before it, that answer the same, whatever is the size up to `stop` at which an interval is not split
+abbrev pub Alike : Search → ℕ → ℕ → ℕ → ℕ → ℕ → ℕ → ℕ → Type 0
+Alike s stop ax lo hi ax' lo' hi' = (most : ℕ) → most ≤ stop → slots s ax (shape most lo hi) ≡ slots s ax' (shape most lo' hi')
+
 pub scanned-suc : (s : Search) (i hi : ℕ) → i < hi → scanned s i (hi - i) ≡ when (s .test i) (i ∷ []) ++ scanned s (i + 1) (hi - (i + 1))
 unfolding scanned
 scanned-suc s i hi h = go (hi - i) (hi - (i + 1)) (omega arith)

@@ -1,143 +1,66 @@
--- `kdslots::narrow` meets its contract: what is left out answers nothing. The measure is the interval's length. Assumes nothing.
-use mathlib.Core.Path.{_≡_, refl, sym, _∙_}
-use mathlib.Core.Bool.{true, false}
-use Prim.Native.Nat.{_-_, _≤_, _<_}
+-- `kdslots::narrow` meets its contract: it narrows at once, or to 2,048 slots first; what is looked at in between decides only where it ends. Assumes nothing.
+use mathlib.Core.Path.{_≡_, _∙_}
+use Prim.Native.Nat.{_≤_}
 use native.Mathlib.Omega.{arith}
-use borrow.Author.Tests.{not-false}
-use denote.Ref.{now}
-use Rattle.kdsort.specs.Shape.{shape, mid}
-use Rattle.kdslots.specs.Slots.{over, slots}
-use Rattle.kdslots.proofs.Narrows.{only-right, only-left, unanswered}
 use Rattle.kdslots.proofs.narrow.Statement.{statement}
 use Rattle.kdslots.proofs.narrow.Tie as tie
 
-abbrev Inv-loop : tie.InvT-loop
-Inv-loop q coords most n lo₀ hi₀ axis₀ lo hi axis = (lo ≤ hi) × (hi ≤ n) × (axis < 2) × (slots (over q coords) axis (shape most lo hi) ≡ slots (over q coords) 0 (shape most 0 n))
+narrow-to-requires : tie.Need-narrow-to-requires
+narrow-to-requires c κs = omega arith
 
-abbrev μ-loop : tie.MeasureT-loop
-μ-loop q coords most n lo₀ hi₀ axis₀ lo hi axis = hi - lo
+returns : tie.Need-returns
+returns c = (c .narrow-to .ensures .0 _ (omega arith), c .narrow-to .ensures .1)
 
--- what the loop knows is what is returned
-told : (w : tie.At-loop Inv-loop μ-loop) → let a = w .before .before .args in
-    (slots (over (a .q) (now (a .coords))) (w .loop .axis) (shape (a .most) (w .loop .lo) (w .loop .hi)) ≡ slots (over (a .q) (now (a .coords))) 0 (shape (a .most) 0 (a .n)))
-    × ((w .loop .lo ≤ w .loop .hi) × (w .loop .hi ≤ a .n) × (w .loop .axis < 2))
-told w = (w .loop .inv .3, (w .loop .inv .0, w .loop .inv .1, w .loop .inv .2))
+narrow-to-requires-2 : tie.Need-narrow-to-requires-2
+narrow-to-requires-2 c κs = omega arith
 
-loop-holds : tie.Need-loop-holds Inv-loop μ-loop
-loop-holds c = (omega arith, omega arith, omega arith, refl)
+returns-2 : tie.Need-returns-2
+returns-2 c = (c .narrow-to2 .ensures .0 _ (omega arith), c .narrow-to2 .ensures .1)
 
-sub-loop : tie.Need-sub-loop Inv-loop μ-loop
-sub-loop c = omega arith
+narrow-to-requires-3 : tie.Need-narrow-to-requires-3
+narrow-to-requires-3 c κs = omega arith
 
-sub-m : tie.Need-sub-m Inv-loop μ-loop
-sub-m c = omega arith
+sub-if3 : tie.Need-sub-if3
+sub-if3 c = omega arith
 
-sub-m-2 : tie.Need-sub-m-2 Inv-loop μ-loop
-sub-m-2 c = omega arith
+returns-3 : tie.Need-returns-3
+returns-3 c =
+    let v = c .before .before .narrow-to3 .ensures in
+    (v .0 _ (omega arith), v .1)
 
-add-m : tie.Need-add-m Inv-loop μ-loop
-add-m c = omega arith
+bounds-of-requires : tie.Need-bounds-of-requires
+bounds-of-requires c κs = omega arith
 
-right-at-requires : tie.Need-right-at-requires Inv-loop μ-loop
-right-at-requires c κs = omega arith
+look-ahead-requires : tie.Need-look-ahead-requires
+look-ahead-requires c κs = omega arith
 
-left-at-requires : tie.Need-left-at-requires Inv-loop μ-loop
-left-at-requires c κs = omega arith
+returns-4 : tie.Need-returns-4
+returns-4 c =
+    let v = c .before .before .before .before .before .narrow-to3 .ensures in
+    (v .0 _ (omega arith), v .1)
 
-returns : tie.Need-returns Inv-loop μ-loop
-returns c = told (c .before .before .before .before .before)
+narrow-to-requires-4 : tie.Need-narrow-to-requires-4
+narrow-to-requires-4 c κs = omega arith
 
-alone-at-requires : tie.Need-alone-at-requires Inv-loop μ-loop
-alone-at-requires c κs = omega arith
-
-returns-2 : tie.Need-returns-2 Inv-loop μ-loop
-returns-2 c = told (c .before .before .before .before .before .before .before)
-
-add-lo : tie.Need-add-lo Inv-loop μ-loop
-add-lo c = omega arith
-
-sub-axis : tie.Need-sub-axis Inv-loop μ-loop
-sub-axis c = omega arith
-
-loop-less : tie.Need-loop-less Inv-loop μ-loop
-loop-less c = omega arith
-
-loop-again : tie.Need-loop-again Inv-loop μ-loop
-loop-again c =
-    let o = c .before in
-    let u = o .before .before in
-    let t = u .before .before in
-    let w = t .before .before in
-    let a = w .before .before .args in
-    let s = over (a .q) (now (a .coords)) in
-    let m = mid (w .loop .lo) (w .loop .hi) in
-    let r : s .right (w .loop .axis) m ≡ true = sym (t .right-at .ensures) ∙ u .before .if1 .taken in
-    let l : s .left (w .loop .axis) m ≡ false = sym (u .left-at .ensures) ∙ o .before .if2 .left in
-    let no = unanswered (a .q) (now (a .coords)) (w .loop .axis) m (w .loop .inv .2) (rw (r, l)) (sym (o .alone-at .ensures) ∙ c .if3 .left) in
-    let e = only-right s (w .loop .axis) (a .most) (w .loop .lo) (w .loop .hi) (t .before .loop-test .taken) no r l in
-    (omega arith, omega arith, omega arith, sym e ∙ w .loop .inv .3)
-
-left-at-requires-2 : tie.Need-left-at-requires-2 Inv-loop μ-loop
-left-at-requires-2 c κs = omega arith
-
-returns-3 : tie.Need-returns-3 Inv-loop μ-loop
-returns-3 c = told (c .before .before .before .before .before)
-
-alone-at-requires-2 : tie.Need-alone-at-requires-2 Inv-loop μ-loop
-alone-at-requires-2 c κs = omega arith
-
-returns-4 : tie.Need-returns-4 Inv-loop μ-loop
-returns-4 c = told (c .before .before .before .before .before .before .before)
-
-sub-axis-2 : tie.Need-sub-axis-2 Inv-loop μ-loop
-sub-axis-2 c = omega arith
-
-loop-less-2 : tie.Need-loop-less-2 Inv-loop μ-loop
-loop-less-2 c = omega arith
-
-loop-again-2 : tie.Need-loop-again-2 Inv-loop μ-loop
-loop-again-2 c =
-    let o = c .before in
-    let u = o .before .before in
-    let t = u .before .before in
-    let w = t .before .before in
-    let a = w .before .before .args in
-    let s = over (a .q) (now (a .coords)) in
-    let m = mid (w .loop .lo) (w .loop .hi) in
-    let r : s .right (w .loop .axis) m ≡ false = sym (t .right-at .ensures) ∙ u .before .if1 .left in
-    let l : s .left (w .loop .axis) m ≡ true = sym (u .left-at2 .ensures) ∙ not-false _ (o .before .if4 .left) in
-    let no = unanswered (a .q) (now (a .coords)) (w .loop .axis) m (w .loop .inv .2) (rw r) (sym (o .alone-at2 .ensures) ∙ c .if5 .left) in
-    let e = only-left s (w .loop .axis) (a .most) (w .loop .lo) (w .loop .hi) (t .before .loop-test .taken) no r l in
-    (omega arith, omega arith, omega arith, sym e ∙ w .loop .inv .3)
-
-returns-5 : tie.Need-returns-5 Inv-loop μ-loop
-returns-5 c = told (c .before)
+returns-5 : tie.Need-returns-5
+returns-5 c =
+    let w = c .narrow-to4 .ensures in
+    let v = c .before .before .before .before .before .before .narrow-to3 .ensures in
+    (w .0 _ (omega arith) ∙ v .0 _ (omega arith), (w .1 .0, omega arith, w .1 .2))
 
 pub narrow-spec : {M : Type 1} → statement M
 narrow-spec =
     tie.close
     (tie.spec
-    Inv-loop
-    μ-loop
-    loop-holds
-    sub-loop
-    sub-m
-    sub-m-2
-    add-m
-    right-at-requires
-    left-at-requires
+    narrow-to-requires
     returns
-    alone-at-requires
+    narrow-to-requires-2
     returns-2
-    add-lo
-    sub-axis
-    loop-less
-    loop-again
-    left-at-requires-2
+    narrow-to-requires-3
+    sub-if3
     returns-3
-    alone-at-requires-2
+    bounds-of-requires
+    look-ahead-requires
     returns-4
-    sub-axis-2
-    loop-less-2
-    loop-again-2
+    narrow-to-requires-4
     returns-5)

@@ -1,0 +1,150 @@
+-- `kdslots::narrow_to` meets its contract: what is left out answers nothing. The measure is the interval's length. Assumes nothing.
+use mathlib.Core.Path.{_≡_, refl, sym, _∙_}
+use mathlib.Core.Bool.{true, false}
+use Prim.Native.Nat.{_-_, _≤_, _<_}
+use native.Mathlib.Omega.{arith}
+use borrow.Author.Tests.{not-false}
+use denote.Ref.{now}
+use Rattle.kdsort.specs.Shape.{mid}
+use Rattle.kdslots.specs.Slots.{over}
+use Rattle.kdslots.specs.Intervals.{Alike}
+use Rattle.kdslots.proofs.Narrows.{only-right, only-left, unanswered}
+use Rattle.kdslots.proofs.narrow_to.Statement.{statement}
+use Rattle.kdslots.proofs.narrow_to.Tie as tie
+
+abbrev Inv-loop : tie.InvT-loop
+Inv-loop q coords stop lo₀ hi₀ axis₀ lo hi axis = (lo ≤ hi) × (hi ≤ hi₀) × (axis < 2) × Alike (over q coords) stop axis lo hi axis₀ lo₀ hi₀
+
+abbrev μ-loop : tie.MeasureT-loop
+μ-loop q coords stop lo₀ hi₀ axis₀ lo hi axis = hi - lo
+
+-- what the loop knows is what is returned
+told : (w : tie.At-loop Inv-loop μ-loop) → let a = w .before .before .args in
+    Alike (over (a .q) (now (a .coords))) (a .stop) (w .loop .axis) (w .loop .lo) (w .loop .hi) (a .v .axis) (a .v .lo) (a .v .hi)
+    × ((w .loop .lo ≤ w .loop .hi) × (w .loop .hi ≤ a .v .hi) × (w .loop .axis < 2))
+told w = (w .loop .inv .3, (w .loop .inv .0, w .loop .inv .1, w .loop .inv .2))
+
+loop-holds : tie.Need-loop-holds Inv-loop μ-loop
+loop-holds c = (omega arith, omega arith, omega arith, λ most h. refl)
+
+sub-loop : tie.Need-sub-loop Inv-loop μ-loop
+sub-loop c = omega arith
+
+sub-m : tie.Need-sub-m Inv-loop μ-loop
+sub-m c = omega arith
+
+sub-m-2 : tie.Need-sub-m-2 Inv-loop μ-loop
+sub-m-2 c = omega arith
+
+add-m : tie.Need-add-m Inv-loop μ-loop
+add-m c = omega arith
+
+right-at-requires : tie.Need-right-at-requires Inv-loop μ-loop
+right-at-requires c κs = omega arith
+
+left-at-requires : tie.Need-left-at-requires Inv-loop μ-loop
+left-at-requires c κs = omega arith
+
+returns : tie.Need-returns Inv-loop μ-loop
+returns c = told (c .before .before .before .before .before)
+
+alone-at-requires : tie.Need-alone-at-requires Inv-loop μ-loop
+alone-at-requires c κs = omega arith
+
+returns-2 : tie.Need-returns-2 Inv-loop μ-loop
+returns-2 c = told (c .before .before .before .before .before .before .before)
+
+add-lo : tie.Need-add-lo Inv-loop μ-loop
+add-lo c = omega arith
+
+sub-axis : tie.Need-sub-axis Inv-loop μ-loop
+sub-axis c = omega arith
+
+loop-less : tie.Need-loop-less Inv-loop μ-loop
+loop-less c = omega arith
+
+loop-again : tie.Need-loop-again Inv-loop μ-loop
+loop-again c =
+    let o = c .before in
+    let u = o .before .before in
+    let t = u .before .before in
+    let w = t .before .before in
+    let a = w .before .before .args in
+    let s = over (a .q) (now (a .coords)) in
+    let m = mid (w .loop .lo) (w .loop .hi) in
+    let r : s .right (w .loop .axis) m ≡ true = sym (t .right-at .ensures) ∙ u .before .if1 .taken in
+    let l : s .left (w .loop .axis) m ≡ false = sym (u .left-at .ensures) ∙ o .before .if2 .left in
+    let no = unanswered (a .q) (now (a .coords)) (w .loop .axis) m (w .loop .inv .2) (rw (r, l)) (sym (o .alone-at .ensures) ∙ c .if3 .left) in (
+      omega arith,
+      omega arith,
+      omega arith,
+      λ most h. sym (only-right s (w .loop .axis) most (w .loop .lo) (w .loop .hi) (omega (arith, h, t .before .loop-test .taken)) no r l) ∙ w .loop .inv .3 most h,
+    )
+
+left-at-requires-2 : tie.Need-left-at-requires-2 Inv-loop μ-loop
+left-at-requires-2 c κs = omega arith
+
+returns-3 : tie.Need-returns-3 Inv-loop μ-loop
+returns-3 c = told (c .before .before .before .before .before)
+
+alone-at-requires-2 : tie.Need-alone-at-requires-2 Inv-loop μ-loop
+alone-at-requires-2 c κs = omega arith
+
+returns-4 : tie.Need-returns-4 Inv-loop μ-loop
+returns-4 c = told (c .before .before .before .before .before .before .before)
+
+sub-axis-2 : tie.Need-sub-axis-2 Inv-loop μ-loop
+sub-axis-2 c = omega arith
+
+loop-less-2 : tie.Need-loop-less-2 Inv-loop μ-loop
+loop-less-2 c = omega arith
+
+loop-again-2 : tie.Need-loop-again-2 Inv-loop μ-loop
+loop-again-2 c =
+    let o = c .before in
+    let u = o .before .before in
+    let t = u .before .before in
+    let w = t .before .before in
+    let a = w .before .before .args in
+    let s = over (a .q) (now (a .coords)) in
+    let m = mid (w .loop .lo) (w .loop .hi) in
+    let r : s .right (w .loop .axis) m ≡ false = sym (t .right-at .ensures) ∙ u .before .if1 .left in
+    let l : s .left (w .loop .axis) m ≡ true = sym (u .left-at2 .ensures) ∙ not-false _ (o .before .if4 .left) in
+    let no = unanswered (a .q) (now (a .coords)) (w .loop .axis) m (w .loop .inv .2) (rw r) (sym (o .alone-at2 .ensures) ∙ c .if5 .left) in (
+      omega arith,
+      omega arith,
+      omega arith,
+      λ most h. sym (only-left s (w .loop .axis) most (w .loop .lo) (w .loop .hi) (omega (arith, h, t .before .loop-test .taken)) no r l) ∙ w .loop .inv .3 most h,
+    )
+
+returns-5 : tie.Need-returns-5 Inv-loop μ-loop
+returns-5 c = told (c .before)
+
+pub narrow-to-spec : {M : Type 1} → statement M
+narrow-to-spec =
+    tie.close
+    (tie.spec
+    Inv-loop
+    μ-loop
+    loop-holds
+    sub-loop
+    sub-m
+    sub-m-2
+    add-m
+    right-at-requires
+    left-at-requires
+    returns
+    alone-at-requires
+    returns-2
+    add-lo
+    sub-axis
+    loop-less
+    loop-again
+    left-at-requires-2
+    returns-3
+    alone-at-requires-2
+    returns-4
+    sub-axis-2
+    loop-less-2
+    loop-again-2
+    returns-5)
