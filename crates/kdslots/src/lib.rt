@@ -274,9 +274,7 @@ fn look_ahead(q: Query, coords: &[f64], most: usize, v: Interval, bounds: Bounds
     }
 }
 
-// An interval that has all that is answered of the slots below n. The memory of a large index is seldom in the caches, and each median is known only when the
-// one before it was read. So the last of them are looked at before they are needed, and are fetched together. What `look_ahead` says decides only how far is
-// narrowed, which changes no answer; and no slot of a built index has no number.
+// An interval that has all that is answered of the slots below n.
 pub fn narrow(q: Query, coords: &[f64], most: usize, n: usize) -> Interval
     requires { ⌜ 2 * n ≤ length (now coords) ⌝ }
     ensures { λ r. ⌜ slots (over q (now (coords .entry))) (r .axis) (shape most (r .lo) (r .hi)) ≡ slots (over q (now (coords .entry))) 0 (shape most 0 n) ⌝ }
@@ -287,12 +285,28 @@ pub fn narrow(q: Query, coords: &[f64], most: usize, n: usize) -> Interval
         hi: n,
         axis: 0,
     };
+    narrow_to(q, coords, most, all)
+}
+
+// The same, for a walk, which most often ends with few slots. The memory of a large index is seldom in the caches, and each median is known only when the one
+// before it was read. So the last of them are looked at before they are needed, and are fetched together. What `look_ahead` says decides only how far is
+// narrowed, which changes no answer; and no slot of a built index has no number.
+pub fn narrow_ahead(q: Query, coords: &[f64], most: usize, n: usize) -> Interval
+    requires { ⌜ 2 * n ≤ length (now coords) ⌝ }
+    ensures { λ r. ⌜ slots (over q (now (coords .entry))) (r .axis) (shape most (r .lo) (r .hi)) ≡ slots (over q (now (coords .entry))) 0 (shape most 0 n) ⌝ }
+    ensures { λ r. ⌜ (r .lo ≤ r .hi) × (r .hi ≤ n) × (r .axis < 2) ⌝ }
+{
     if n <= 131072 {
-        return narrow_to(q, coords, most, all);
+        return narrow(q, coords, most, n);
     }
     if 2048 < most {
-        return narrow_to(q, coords, most, all);
+        return narrow(q, coords, most, n);
     }
+    let all = Interval {
+        lo: 0,
+        hi: n,
+        axis: 0,
+    };
     let v = narrow_to(q, coords, 2048, all);
     if 2048 < v.hi - v.lo {
         return v;

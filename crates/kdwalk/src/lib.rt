@@ -386,7 +386,7 @@ fn fill_page(
     }
     match from {
         Onward::Start => {
-            let v = kdslots::narrow(q, coords, node_size + 1, n);
+            let v = kdslots::narrow_ahead(q, coords, node_size + 1, n);
             if v.hi - v.lo <= node_size + 1 {
                 return fill_from(q, coords, v.lo, v.hi, 0, page);
             }

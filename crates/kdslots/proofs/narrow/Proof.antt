@@ -1,5 +1,4 @@
--- `kdslots::narrow` meets its contract: it narrows at once, or to 2,048 slots first; what is looked at in between decides only where it ends. Assumes nothing.
-use mathlib.Core.Path.{_≡_, _∙_}
+-- `kdslots::narrow` meets its contract: all slots are narrowed. Assumes nothing.
 use Prim.Native.Nat.{_≤_}
 use native.Mathlib.Omega.{arith}
 use Rattle.kdslots.proofs.narrow.Statement.{statement}
@@ -11,56 +10,5 @@ narrow-to-requires c κs = omega arith
 returns : tie.Need-returns
 returns c = (c .narrow-to .ensures .0 _ (omega arith), c .narrow-to .ensures .1)
 
-narrow-to-requires-2 : tie.Need-narrow-to-requires-2
-narrow-to-requires-2 c κs = omega arith
-
-returns-2 : tie.Need-returns-2
-returns-2 c = (c .narrow-to2 .ensures .0 _ (omega arith), c .narrow-to2 .ensures .1)
-
-narrow-to-requires-3 : tie.Need-narrow-to-requires-3
-narrow-to-requires-3 c κs = omega arith
-
-sub-if3 : tie.Need-sub-if3
-sub-if3 c = omega arith
-
-returns-3 : tie.Need-returns-3
-returns-3 c =
-    let v = c .before .before .narrow-to3 .ensures in
-    (v .0 _ (omega arith), v .1)
-
-bounds-of-requires : tie.Need-bounds-of-requires
-bounds-of-requires c κs = omega arith
-
-look-ahead-requires : tie.Need-look-ahead-requires
-look-ahead-requires c κs = omega arith
-
-returns-4 : tie.Need-returns-4
-returns-4 c =
-    let v = c .before .before .before .before .before .narrow-to3 .ensures in
-    (v .0 _ (omega arith), v .1)
-
-narrow-to-requires-4 : tie.Need-narrow-to-requires-4
-narrow-to-requires-4 c κs = omega arith
-
-returns-5 : tie.Need-returns-5
-returns-5 c =
-    let w = c .narrow-to4 .ensures in
-    let v = c .before .before .before .before .before .before .narrow-to3 .ensures in
-    (w .0 _ (omega arith) ∙ v .0 _ (omega arith), (w .1 .0, omega arith, w .1 .2))
-
 pub narrow-spec : {M : Type 1} → statement M
-narrow-spec =
-    tie.close
-    (tie.spec
-    narrow-to-requires
-    returns
-    narrow-to-requires-2
-    returns-2
-    narrow-to-requires-3
-    sub-if3
-    returns-3
-    bounds-of-requires
-    look-ahead-requires
-    returns-4
-    narrow-to-requires-4
-    returns-5)
+narrow-spec = tie.close (tie.spec narrow-to-requires returns)

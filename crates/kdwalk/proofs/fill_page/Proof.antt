@@ -62,20 +62,20 @@ returns-2 c =
 enum-told : tie.Need-enum-told
 enum-told c = search needs
 
-add-narrow : tie.Need-add-narrow
-add-narrow c = let w = bounds (c .before .before) in omega arith
+add-narrow-ahead : tie.Need-add-narrow-ahead
+add-narrow-ahead c = let w = bounds (c .before .before) in omega arith
 
-narrow-requires : tie.Need-narrow-requires
-narrow-requires c κs = let w = bounds (c .before .before) in omega arith
+narrow-ahead-requires : tie.Need-narrow-ahead-requires
+narrow-ahead-requires c κs = let w = bounds (c .before .before) in omega arith
 
 sub-if3 : tie.Need-sub-if3
-sub-if3 c = omega (arith, c .before .narrow .ensures .1)
+sub-if3 c = omega (arith, c .before .narrow-ahead .ensures .1)
 
 add-if3 : tie.Need-add-if3
 add-if3 c = let w = bounds (c .before .before .before .before) in omega arith
 
 fill-from-requires : tie.Need-fill-from-requires
-fill-from-requires c κs = let w = bounds (c .before .before .before .before .before .before) in omega (arith, c .before .before .before .narrow .ensures .1)
+fill-from-requires c κs = let w = bounds (c .before .before .before .before .before .before) in omega (arith, c .before .before .before .narrow-ahead .ensures .1)
 
 same-length : tie.Need-same-length
 same-length c = c .before .before .fill-from .kept .1 .1 .1 .1 .1 .0
@@ -89,16 +89,16 @@ returns-3 c =
     let t = w .before in
     let k = t .before .before in
     let a = start-of k .args in
-    let r = w .narrow .result in
+    let r = w .narrow-ahead .result in
     page-start (a .q) (a .node-size) (a .n) (now (a .coords)) (fine k) (now (a .page)) (stored (v .fill-from .result) (v .fill-from .last .1 .1 .1 .1 .1 .0))
-    (v .fill-from .ensures ∙ ap (λ (l : List ℕ). store 0 l (now (a .page))) (sym (slots-leaf (over (a .q) (now (a .coords))) (r .axis) (a .node-size + 1) (r .lo) (r .hi) (h .if3 .taken)) ∙ w .narrow .ensures .0))
+    (v .fill-from .ensures ∙ ap (λ (l : List ℕ). store 0 l (now (a .page))) (sym (slots-leaf (over (a .q) (now (a .coords))) (r .axis) (a .node-size + 1) (r .lo) (r .hi) (h .if3 .taken)) ∙ w .narrow-ahead .ensures .0))
     ∙ from-is k Start (t .enum-told .given .1)
 
 add-fill-in : tie.Need-add-fill-in
 add-fill-in c = let w = bounds (c .before .before .before .before .before) in omega arith
 
 fill-in-requires : tie.Need-fill-in-requires
-fill-in-requires c κs = let w = bounds (c .before .before .before .before .before .before) in omega (arith, c .before .before .before .narrow .ensures .1)
+fill-in-requires c κs = let w = bounds (c .before .before .before .before .before .before) in omega (arith, c .before .before .before .narrow-ahead .ensures .1)
 
 enum-told-2 : tie.Need-enum-told-2
 enum-told-2 c = search needs
@@ -130,7 +130,7 @@ returns-5 c =
     let k = t .before .before in
     let a = start-of k .args in
     page-start (a .q) (a .node-size) (a .n) (now (a .coords)) (fine k) (now (a .page)) (stored (v .fill-in .result) (v .fill-in .last .1 .1 .1 .1 .1 .1 .1 .0))
-    (v .fill-in .ensures ∙ ap (λ (l : List ℕ). store 0 l (now (a .page))) (w .narrow .ensures .0))
+    (v .fill-in .ensures ∙ ap (λ (l : List ℕ). store 0 l (now (a .page))) (w .narrow-ahead .ensures .0))
     ∙ from-is k Start (t .enum-told .given .1)
 
 same-length-3 : tie.Need-same-length-3
@@ -160,8 +160,8 @@ fill-page-spec =
     query-ok-requires
     returns-2
     enum-told
-    add-narrow
-    narrow-requires
+    add-narrow-ahead
+    narrow-ahead-requires
     sub-if3
     add-if3
     fill-from-requires
