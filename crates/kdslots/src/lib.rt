@@ -246,7 +246,7 @@ fn has_odd(coords: &[f64], lo: usize, hi: usize) -> bool
 
 // Looks at the medians that a search is likely to come to below the interval v, and for a box at the slots where it is likely to end, and says whether one
 // of them has no number for x. The way there is guessed, as if slots lay evenly between the bounds of an interval, so that no median has to be read before the
-// next one is known. Around a place it ends at the medians: a build asks around every point, and where points are crowded the guess is more often wrong.
+// next one is known. Around a place it ends at the medians: to look at the slots too gained nothing that was measured.
 fn look_ahead(q: Query, coords: &[f64], most: usize, v: Interval, bounds: Bounds) -> bool
     requires { ⌜ (2 * v .hi ≤ length (now coords)) × (v .lo ≤ v .hi) × (v .axis < 2) ⌝ }
 {
