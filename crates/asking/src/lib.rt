@@ -262,7 +262,7 @@ pub fn ring_of(
     }
 }
 
-// The next slot of a walk over a ring that is read a page at a time.
+// The next slot of a walk over a ring that is read a page at a time. Around a place nothing is gained by looking at places ahead, so it is lent none.
 pub fn next_in(g: Ring, coords: &[f64], page: &mut [usize], p: Pages) -> Turned
     requires { ⌜ InRing g (now coords) ⌝ }
     ensures { λ r. ⌜ r .step ≡ nextStep Done (aheadIn g (now (coords .entry)) (now (page .entry)) p) ⌝ }
@@ -275,5 +275,6 @@ pub fn next_in(g: Ring, coords: &[f64], page: &mut [usize], p: Pages) -> Turned
         qy: g.y,
         radius: g.radius,
     };
-    kdwalk::next_slot(q, g.node_size, g.len, &coords[from..to], page, p)
+    let none = [0u32; 0];
+    kdwalk::next_slot(q, g.node_size, g.len, &none, &coords[from..to], page, p)
 }

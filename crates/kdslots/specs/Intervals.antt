@@ -1,4 +1,5 @@
--- What an interval answers, by its first slot or its median, and how many slots that are. Assumes nothing.
+-- What an interval answers, by its first slot or its median, and how many slots that are; and when two intervals answer alike (`Alike`), by which narrowing is
+-- stated. Assumes nothing.
 use mathlib.Core.Path.{_≡_}
 use mathlib.Core.Bool.{Bool, true, false}
 use mathlib.Core.List.{List, [], _∷_, _++_}

@@ -41,7 +41,7 @@ fn passes(q: Query, x: f64, y: f64) -> bool
             min_y,
             max_x,
             max_y,
-        } => (x >= min_x) & (x <= max_x) & (y >= min_y) & (y <= max_y),
+        } => (x >= min_x) & (y >= min_y) & (x <= max_x) & (y <= max_y),
         Query::Within { qx, qy, radius } => {
             let dx = x - qx;
             let dy = y - qy;
@@ -244,10 +244,32 @@ fn has_odd(coords: &[f64], lo: usize, hi: usize) -> bool
     odd
 }
 
-// Looks at the medians that a search is likely to come to below the interval v, and for a box at the slots where it is likely to end, and says whether one
-// of them has no number for x. The way there is guessed, as if slots lay evenly between the bounds of an interval, so that no median has to be read before the
-// next one is known. Around a place it ends at the medians: to look at the slots too gained nothing that was measured.
-fn look_ahead(q: Query, coords: &[f64], most: usize, v: Interval, bounds: Bounds) -> bool
+// Whether one of the slots from lo up to hi names the place after all places, by every sixteenth of them: one in each line of memory.
+fn has_none(ids: &[u32], lo: usize, hi: usize) -> bool {
+    let mut none = false;
+    let mut i = lo;
+    while i < hi {
+        if ids.len() <= i {
+            return none;
+        }
+        none = none | (ids[i] == 4294967295);
+        i += 16;
+    }
+    none
+}
+
+// Looks at the medians that a search is likely to come to below the interval v, and for a box at the slots where it is likely to end and at their places, and
+// says whether one of them is odd: a slot with no number for x, or a place after all places. The way there is guessed, as if slots lay evenly between the
+// bounds of an interval, so that no median has to be read before the next one is known. Around a place it ends at the medians: to look at the slots too
+// gained nothing that was measured.
+fn look_ahead(
+    q: Query,
+    ids: &[u32],
+    coords: &[f64],
+    most: usize,
+    v: Interval,
+    bounds: Bounds,
+) -> bool
     requires { ⌜ (2 * v .hi ≤ length (now coords)) × (v .lo ≤ v .hi) × (v .axis < 2) ⌝ }
 {
     let mut b = bounds;
@@ -269,7 +291,7 @@ fn look_ahead(q: Query, coords: &[f64], most: usize, v: Interval, bounds: Bounds
         }
     }
     match q {
-        Query::Range { .. } => odd | has_odd(coords, lo, hi),
+        Query::Range { .. } => odd | has_odd(coords, lo, hi) | has_none(ids, lo, hi),
         Query::Within { .. } => odd,
     }
 }
@@ -291,7 +313,7 @@ pub fn narrow(q: Query, coords: &[f64], most: usize, n: usize) -> Interval
 // The same, for a walk, which most often ends with few slots. The memory of a large index is seldom in the caches, and each median is known only when the one
 // before it was read. So the last of them are looked at before they are needed, and are fetched together. What `look_ahead` says decides only how far is
 // narrowed, which changes no answer; and no slot of a built index has no number.
-pub fn narrow_ahead(q: Query, coords: &[f64], most: usize, n: usize) -> Interval
+pub fn narrow_ahead(q: Query, ids: &[u32], coords: &[f64], most: usize, n: usize) -> Interval
     requires { ⌜ 2 * n ≤ length (now coords) ⌝ }
     ensures { λ r. ⌜ slots (over q (now (coords .entry))) (r .axis) (shape most (r .lo) (r .hi)) ≡ slots (over q (now (coords .entry))) 0 (shape most 0 n) ⌝ }
     ensures { λ r. ⌜ (r .lo ≤ r .hi) × (r .hi ≤ n) × (r .axis < 2) ⌝ }
@@ -311,7 +333,7 @@ pub fn narrow_ahead(q: Query, coords: &[f64], most: usize, n: usize) -> Interval
     if 2048 < v.hi - v.lo {
         return v;
     }
-    if look_ahead(q, coords, most, v, bounds_of(coords, n, v)) {
+    if look_ahead(q, ids, coords, most, v, bounds_of(coords, n, v)) {
         return v;
     }
     narrow_to(q, coords, most, v)

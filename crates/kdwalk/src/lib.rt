@@ -371,6 +371,7 @@ fn fill_page(
     q: Query,
     node_size: usize,
     n: usize,
+    ids: &[u32],
     coords: &[f64],
     from: Onward,
     last: usize,
@@ -386,7 +387,7 @@ fn fill_page(
     }
     match from {
         Onward::Start => {
-            let v = kdslots::narrow_ahead(q, coords, node_size + 1, n);
+            let v = kdslots::narrow_ahead(q, ids, coords, node_size + 1, n);
             if v.hi - v.lo <= node_size + 1 {
                 return fill_from(q, coords, v.lo, v.hi, 0, page);
             }
@@ -407,6 +408,7 @@ fn turn(
     q: Query,
     node_size: usize,
     n: usize,
+    ids: &[u32],
     coords: &[f64],
     page: &mut [usize],
     from: Onward,
@@ -421,7 +423,7 @@ fn turn(
     if page.len() == 0 {
         return lone(q, node_size, n, coords, from, last);
     }
-    let k = fill_page(q, node_size, n, coords, from, last, page);
+    let k = fill_page(q, node_size, n, ids, coords, from, last, page);
     if k == 0 {
         return stepped(Step::Done);
     }
@@ -449,11 +451,13 @@ fn turn(
     }
 }
 
-// The next slot of a walk that is read a page at a time, over any lent page; the page is turned where it is read. The walk is done where it is refused.
+// The next slot of a walk that is read a page at a time, over any lent page; the page is turned where it is read. The walk is done where it is refused. The
+// places that slots name are lent only to be looked at before the caller needs them, and may be fewer or none.
 pub fn next_slot(
     q: Query,
     node_size: usize,
     n: usize,
+    ids: &[u32],
     coords: &[f64],
     page: &mut [usize],
     p: Pages,
@@ -465,10 +469,10 @@ pub fn next_slot(
     let onward = p.onward;
     let last = p.last;
     if p.len <= at {
-        return turn(q, node_size, n, coords, page, onward, last);
+        return turn(q, node_size, n, ids, coords, page, onward, last);
     }
     if page.len() <= at {
-        return turn(q, node_size, n, coords, page, onward, last);
+        return turn(q, node_size, n, ids, coords, page, onward, last);
     }
     let c = page[at];
     Turned {

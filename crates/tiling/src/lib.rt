@@ -286,7 +286,7 @@ fn list_by(
     let mut page = [0usize; 16];
     let mut pages = kdwalk::begin();
     loop {
-        let t = kdwalk::next_slot(q, size, n, coords, &mut page, pages);
+        let t = kdwalk::next_slot(q, size, n, ids, coords, &mut page, pages);
         pages = t.pages;
         let s = t.step;
         let Step::Slot(c) = s else {
@@ -409,7 +409,7 @@ fn tally_by(
     let mut page = [0usize; 16];
     let mut pages = kdwalk::begin();
     loop {
-        let u = kdwalk::next_slot(q, size, n, coords, &mut page, pages);
+        let u = kdwalk::next_slot(q, size, n, ids, coords, &mut page, pages);
         pages = u.pages;
         let s = u.step;
         let Step::Slot(c) = s else {

@@ -1,4 +1,4 @@
--- `kdslots::look_ahead` looks only at slots of the interval that it is given, and ends: the measure is the interval's length. Nothing is claimed of its answer. Assumes nothing.
+-- `kdslots::look_ahead` looks only at slots of the interval that it is given and at places that there are, and ends: the measure is the interval's length. Nothing is claimed of its answer. Assumes nothing.
 use Prim.Native.Nat.{_-_, _≤_, _<_}
 use native.Mathlib.Omega.{arith}
 use borrow.Author.Needs.{needs}
@@ -6,10 +6,10 @@ use Rattle.kdslots.proofs.look_ahead.Statement.{statement}
 use Rattle.kdslots.proofs.look_ahead.Tie as tie
 
 abbrev Inv-loop : tie.InvT-loop
-Inv-loop q coords most b₀ lo₀ hi₀ axis₀ odd₀ b lo hi axis odd = (lo ≤ hi) × (hi ≤ hi₀) × (axis < 2)
+Inv-loop q ids coords most b₀ lo₀ hi₀ axis₀ odd₀ b lo hi axis odd = (lo ≤ hi) × (hi ≤ hi₀) × (axis < 2)
 
 abbrev μ-loop : tie.MeasureT-loop
-μ-loop q coords most b₀ lo₀ hi₀ axis₀ odd₀ b lo hi axis odd = hi - lo
+μ-loop q ids coords most b₀ lo₀ hi₀ axis₀ odd₀ b lo hi axis odd = hi - lo
 
 loop-holds : tie.Need-loop-holds Inv-loop μ-loop
 loop-holds c = (omega arith, omega arith, omega arith)
@@ -71,6 +71,9 @@ enum-told c = search needs
 has-odd-requires : tie.Need-has-odd-requires Inv-loop μ-loop
 has-odd-requires c κs = omega arith
 
+has-none-requires : tie.Need-has-none-requires Inv-loop μ-loop
+has-none-requires c κs = omega arith
+
 enum-told-2 : tie.Need-enum-told-2 Inv-loop μ-loop
 enum-told-2 c = search needs
 
@@ -106,6 +109,7 @@ look-ahead-spec =
     loop-again-2
     enum-told
     has-odd-requires
+    has-none-requires
     enum-told-2
     returns
     returns-2)

@@ -23,7 +23,7 @@ use Rattle.kdwalk.proofs.fill_page.Tie as tie
 -- ---- what is known where nothing is refused
 
 abbrev start-of : tie.Else2 → tie.Start
-start-of k = k .before .before .before .before .before .before
+start-of k = k .before .before .before .before .before .before .before
 
 coords-fine : (k : tie.Else2) → let a = start-of k .args in coordsOk (a .node-size) (a .n) (length (now (a .coords))) ≡ true
 coords-fine k = let e = k .before .before in sym (e .before .coords-ok .ensures) ∙ not-false _ (e .if1 .left)
@@ -47,7 +47,7 @@ coords-ok-requires c κs = search needs
 
 returns : tie.Need-returns
 returns c =
-    let a = c .before .before .before .before .args in
+    let a = c .before .before .before .before .before .args in
     page-refused (a .q) (a .node-size) (a .n) (now (a .coords)) (first-false (queryOk (a .q)) (sym (c .before .coords-ok .ensures) ∙ not-true _ (c .if1 .taken))) (a .from) (a .last) (now (a .page))
 
 query-ok-requires : tie.Need-query-ok-requires
@@ -56,7 +56,7 @@ query-ok-requires c κs = search needs
 returns-2 : tie.Need-returns-2
 returns-2 c =
     let e = c .before .before in
-    let a = e .before .before .before .before .args in
+    let a = e .before .before .before .before .before .args in
     page-refused (a .q) (a .node-size) (a .n) (now (a .coords)) (second-false (sym (e .before .coords-ok .ensures) ∙ not-false _ (e .if1 .left)) (sym (c .before .query-ok .ensures) ∙ not-true _ (c .if2 .taken))) (a .from) (a .last) (now (a .page))
 
 enum-told : tie.Need-enum-told

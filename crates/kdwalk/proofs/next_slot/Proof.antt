@@ -15,8 +15,8 @@ returns : tie.Need-returns
 returns c =
     let v = c .before .before in
     let i = v .before .before in
-    let a = i .before .before .before .before .args in
-    by-turn (a .q) (a .node-size) (a .n) (now (a .coords)) (now (a .page)) (v .turn .last .1 .1 .1 .1 .0) (a .p) (v .turn .result) (read-out (a .q) (a .node-size) (a .n) (now (a .coords)) (now (a .page)) (a .p) (i .if1 .taken)) (v .turn .ensures)
+    let a = i .before .before .before .before .before .args in
+    by-turn (a .q) (a .node-size) (a .n) (now (a .coords)) (now (a .page)) (v .turn .last .1 .1 .1 .1 .1 .0) (a .p) (v .turn .result) (read-out (a .q) (a .node-size) (a .n) (now (a .coords)) (now (a .page)) (a .p) (i .if1 .taken)) (v .turn .ensures)
 
 turn-requires-2 : tie.Need-turn-requires-2
 turn-requires-2 c κs = search needs
@@ -28,8 +28,8 @@ returns-2 : tie.Need-returns-2
 returns-2 c =
     let v = c .before .before in
     let i = v .before .before in
-    let a = i .before .before .before .before .before .args in
-    by-turn (a .q) (a .node-size) (a .n) (now (a .coords)) (now (a .page)) (v .turn2 .last .1 .1 .1 .1 .0) (a .p) (v .turn2 .result) (past-page (a .q) (a .node-size) (a .n) (now (a .coords)) (now (a .page)) (a .p) (i .if2 .taken)) (v .turn2 .ensures)
+    let a = i .before .before .before .before .before .before .args in
+    by-turn (a .q) (a .node-size) (a .n) (now (a .coords)) (now (a .page)) (v .turn2 .last .1 .1 .1 .1 .1 .0) (a .p) (v .turn2 .result) (past-page (a .q) (a .node-size) (a .n) (now (a .coords)) (now (a .page)) (a .p) (i .if2 .taken)) (v .turn2 .ensures)
 
 mul-c : tie.Need-mul-c
 mul-c c = search needs
@@ -37,13 +37,13 @@ mul-c c = search needs
 slice-read-c : tie.Need-slice-read-c
 slice-read-c c = search needs
 
-add-t14 : tie.Need-add-t14
-add-t14 c = search needs
+add-t15 : tie.Need-add-t15
+add-t15 c = search needs
 
 returns-3 : tie.Need-returns-3
 returns-3 c =
     let e = c .before in
-    let a = e .before .before .before .before .before .args in
+    let a = e .before .before .before .before .before .before .args in
     on-page (a .q) (a .node-size) (a .n) (now (a .coords)) (now (a .page)) (a .p) (e .before .if1 .left) (e .if2 .left)
 
 pub next-slot-spec : {M : Type 1} → statement M
@@ -58,5 +58,5 @@ next-slot-spec =
     returns-2
     mul-c
     slice-read-c
-    add-t14
+    add-t15
     returns-3)

@@ -13,10 +13,10 @@ use Rattle.kdwalk.proofs.turn.Statement.{statement}
 use Rattle.kdwalk.proofs.turn.Tie as tie
 
 -- the page that was filled has no more slots than it is long
-room : (v : tie.After-fill-page) → v .fill-page .result ≤ length (v .fill-page .last .1 .1 .1 .1 .1 .1 .0)
+room : (v : tie.After-fill-page) → v .fill-page .result ≤ length (v .fill-page .last .1 .1 .1 .1 .1 .1 .1 .0)
 room v =
-    let a = v .before .before .before .before .before .before .args in
-    page-room (a .q) (a .node-size) (a .n) (now (a .coords)) (a .from) (a .last) (now (a .page)) (v .fill-page .last .1 .1 .1 .1 .1 .1 .0) (v .fill-page .result) (v .fill-page .ensures)
+    let a = v .before .before .before .before .before .before .before .args in
+    page-room (a .q) (a .node-size) (a .n) (now (a .coords)) (a .from) (a .last) (now (a .page)) (v .fill-page .last .1 .1 .1 .1 .1 .1 .1 .0) (v .fill-page .result) (v .fill-page .ensures)
 
 enum-told : tie.Need-enum-told
 enum-told c = search needs
@@ -27,7 +27,7 @@ stepped-requires c κs = search needs
 returns : tie.Need-returns
 returns c =
     let t = c .before in
-    let a = t .before .before .before .before .args in
+    let a = t .before .before .before .before .before .args in
     turn-lone (a .q) (a .node-size) (a .n) (now (a .coords)) (a .from) (a .last) (now (a .page)) (c .stepped .result)
     (c .stepped .ensures ∙ sym (ap (λ (o : Onward). loneOf (onwardOf (a .q) (a .node-size) (a .n) (now (a .coords)) o (a .last))) (t .enum-told .given .1)))
 
@@ -36,7 +36,7 @@ lone-requires c κs = search needs
 
 returns-2 : tie.Need-returns-2
 returns-2 c =
-    let a = c .before .before .before .before .before .args in
+    let a = c .before .before .before .before .before .before .args in
     turn-lone (a .q) (a .node-size) (a .n) (now (a .coords)) (a .from) (a .last) (now (a .page)) (c .lone .result) (c .lone .ensures)
 
 fill-page-requires : tie.Need-fill-page-requires
@@ -46,28 +46,28 @@ stepped-requires-2 : tie.Need-stepped-requires-2
 stepped-requires-2 c κs = search needs
 
 same-length : tie.Need-same-length
-same-length c = c .before .before .before .before .fill-page .kept .1 .1 .1 .1 .1 .1 .0
+same-length c = c .before .before .before .before .fill-page .kept .1 .1 .1 .1 .1 .1 .1 .0
 
 returns-3 : tie.Need-returns-3
 returns-3 c =
     let i = c .before in
     let v = i .before .before .before in
     let e = v .before .before in
-    let a = e .before .before .before .before .args in
-    turn-none (a .q) (a .node-size) (a .n) (now (a .coords)) (a .from) (a .last) (now (a .page)) (v .fill-page .last .1 .1 .1 .1 .1 .1 .0) (v .fill-page .result) (v .fill-page .ensures) (i .if2 .taken) (omega (arith, e .if1 .left)) (c .stepped2 .result) (c .stepped2 .ensures)
+    let a = e .before .before .before .before .before .args in
+    turn-none (a .q) (a .node-size) (a .n) (now (a .coords)) (a .from) (a .last) (now (a .page)) (v .fill-page .last .1 .1 .1 .1 .1 .1 .1 .0) (v .fill-page .result) (v .fill-page .ensures) (i .if2 .taken) (omega (arith, e .if1 .left)) (c .stepped2 .result) (c .stepped2 .ensures)
 
 slice-read-c : tie.Need-slice-read-c
 slice-read-c c = let v = c .before .before .before .before in omega (arith, room v, c .before .if2 .left)
 
 same-length-2 : tie.Need-same-length-2
-same-length-2 c = c .before .before .before .before .before .fill-page .kept .1 .1 .1 .1 .1 .1 .0
+same-length-2 c = c .before .before .before .before .before .fill-page .kept .1 .1 .1 .1 .1 .1 .1 .0
 
 returns-4 : tie.Need-returns-4
 returns-4 c =
     let e = c .before .before in
     let v = e .before .before .before in
-    let a = v .before .before .before .before .before .before .args in
-    turn-part (a .q) (a .node-size) (a .n) (now (a .coords)) (a .from) (a .last) (now (a .page)) (v .fill-page .last .1 .1 .1 .1 .1 .1 .0) (v .fill-page .result) (v .fill-page .ensures) 0 (omega (arith, e .if2 .left)) (c .if3 .taken)
+    let a = v .before .before .before .before .before .before .before .args in
+    turn-part (a .q) (a .node-size) (a .n) (now (a .coords)) (a .from) (a .last) (now (a .page)) (v .fill-page .last .1 .1 .1 .1 .1 .1 .1 .0) (v .fill-page .result) (v .fill-page .ensures) 0 (omega (arith, e .if2 .left)) (c .if3 .taken)
 
 sub-d : tie.Need-sub-d
 sub-d c = omega (arith, c .before .before .if2 .left)
@@ -79,14 +79,14 @@ slice-read-d : tie.Need-slice-read-d
 slice-read-d c = let v = c .before .before .before .before .before .before in omega (arith, room v, c .before .before .before .if2 .left)
 
 same-length-3 : tie.Need-same-length-3
-same-length-3 c = c .before .before .before .before .before .before .fill-page .kept .1 .1 .1 .1 .1 .1 .0
+same-length-3 c = c .before .before .before .before .before .before .fill-page .kept .1 .1 .1 .1 .1 .1 .1 .0
 
 returns-5 : tie.Need-returns-5
 returns-5 c =
     let e = c .before .before .before in
     let v = e .before .before .before in
-    let a = v .before .before .before .before .before .before .args in
-    turn-full (a .q) (a .node-size) (a .n) (now (a .coords)) (a .from) (a .last) (now (a .page)) (v .fill-page .last .1 .1 .1 .1 .1 .1 .0) (v .fill-page .result) (v .fill-page .ensures) (omega (arith, e .if2 .left))
+    let a = v .before .before .before .before .before .before .before .args in
+    turn-full (a .q) (a .node-size) (a .n) (now (a .coords)) (a .from) (a .last) (now (a .page)) (v .fill-page .last .1 .1 .1 .1 .1 .1 .1 .0) (v .fill-page .result) (v .fill-page .ensures) (omega (arith, e .if2 .left))
 
 pub turn-spec : {M : Type 1} → statement M
 turn-spec =

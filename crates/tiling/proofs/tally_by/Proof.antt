@@ -84,7 +84,7 @@ loop-of t = t .before .before .before .before
 
 -- what is ahead after it
 abbrev onward : Turn → List ℕ
-onward t = let u = t .before .before .next-slot in slots (begin (loop-of t)) (u .last .1 .1 .1 .1 .0) (u .result .pages)
+onward t = let u = t .before .before .next-slot in slots (begin (loop-of t)) (u .last .1 .1 .1 .1 .1 .0) (u .result .pages)
 
 abbrev Found : Type 0
 Found = tie.After-s Inv-loop μ-loop
@@ -268,7 +268,7 @@ loop-again c =
           (w .ensures .0 ∙ ap (λ (v : ℕ). cond (marked (l .loop .marks) v) (l .loop .t) (l .loop .t + g .0 .0 .num)) (i .index .ensures))
           (w .ensures .1 ∙ ap (λ (v : ℕ). marking v (l .loop .marks)) (i .index .ensures))
           ∙ l .loop .inv .3,
-      t .before .before .next-slot .kept .1 .1 .1 .1 .0 ∙ l .loop .inv .4,
+      t .before .before .next-slot .kept .1 .1 .1 .1 .1 .0 ∙ l .loop .inv .4,
       w .kept .0 ∙ l .loop .inv .5,
     )
 
