@@ -4,7 +4,9 @@ use range::CoordinateSystem;
 use range::DataRange;
 use range::Setting;
 ghost use mathlib.Core.Path.{_≡_};
-ghost use Prim.Native.Nat.{_<_, _≤_};
+ghost use mathlib.Core.Bool.{_&&_};
+ghost use Prim.Native.Nat.{_+_, _<_, _≤_};
+ghost use lib.Dec.{eqb};
 ghost use lib.ListN.{length, set};
 ghost use Rattle.tables.specs.Given.{settingOf, systemOf};
 ghost use Rattle.tables.specs.Options.{optionsOk, zoomsOk, radiusOk, extentOk, tableCount, raised, zoomUsed};
@@ -170,14 +172,18 @@ impl State {
         lens[zoom] as usize
     }
 
-    // Whether the tables are packed from 0 on, the largest zoom first, within columns of cap entries.
-    fn is_packed(self, cap: usize) -> bool
+    // Whether the finest table has N entries, and the tables are packed from 0 on, the largest zoom first, within columns of cap entries. The arrays are
+    // copied once for both.
+    fn is_filled(self, cap: usize) -> bool
         requires { ⌜ (self .options .«min_zoom» ≤ self .options .«max_zoom») × (self .options .«max_zoom» ≤ 30) × (self .count ≤ 1048576) ⌝ }
-        ensures { λ r. ⌜ r ≡ packed self cap (tableCount (self .options)) 0 ⌝ }
+        ensures { λ r. ⌜ r ≡ (eqb (lenOf self (self .options .«max_zoom» + 1)) (self .count) && packed self cap (tableCount (self .options)) 0) ⌝ }
     {
         let o = self.options;
         let starts = self.starts;
         let lens = self.lens;
+        if lens[o.max_zoom as usize + 1] != self.count {
+            return false;
+        }
         let low = o.min_zoom as usize;
         let mut left = o.table_count();
         let mut at = 0;
@@ -206,10 +212,7 @@ impl State {
         if 1048576 < self.count {
             return false;
         }
-        if self.len_of(o.max_zoom as usize + 1) != self.count as usize {
-            return false;
-        }
-        self.is_packed(cap)
+        self.is_filled(cap)
     }
 }
 

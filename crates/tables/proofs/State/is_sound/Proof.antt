@@ -1,8 +1,7 @@
 -- `State::is_sound` meets its contract: each test is one of `stateOk`, in its order. Assumes nothing.
 use mathlib.Core.Path.{_≡_, sym, _∙_}
 use mathlib.Core.Bool.{true}
-use native.Mathlib.Omega.{arith}
-use borrow.Author.Tests.{le-leb, lt-leb, eq-eqb, ne-eqb, not-true, not-false}
+use borrow.Author.Tests.{le-leb, lt-leb, not-true, not-false}
 use borrow.Author.Needs.{needs}
 use Rattle.tables.specs.Options.{optionsOk}
 use Rattle.tables.specs.Bounds.{InBounds, options-are}
@@ -42,40 +41,15 @@ returns-3 : tie.Need-returns-3
 unfolding stateOk
 returns-3 c = let d = c .before .before in simp (options (first d), le-leb _ _ (d .if2 .left), lt-leb _ _ (c .if3 .taken))
 
-cast-len-of : tie.Need-cast-len-of
-cast-len-of c = search needs
-
-add-len-of : tie.Need-add-len-of
-add-len-of c = search needs
-
-len-of-requires : tie.Need-len-of-requires
-len-of-requires c κs = let b = bounds (c .before) in omega (arith, b .zoom-to)
-
-cast-if4 : tie.Need-cast-if4
-cast-if4 c = search needs
+is-filled-requires : tie.Need-is-filled-requires
+is-filled-requires c κs = let b = bounds c in (b .zooms, b .zoom-to, c .if3 .left)
 
 returns-4 : tie.Need-returns-4
 unfolding stateOk
 returns-4 c =
-    let l = c .before .before in
-    let e = l .before .before in
+    let e = c .before in
     let d = second e in
-    simp (options (first d), le-leb _ _ (d .if2 .left), le-leb _ _ (e .if3 .left), ne-eqb _ _ (λ q. c .if4 .taken (l .len-of .ensures ∙ q)))
-
-is-packed-requires : tie.Need-is-packed-requires
-is-packed-requires c κs =
-    let e = c .before .before .before .before in
-    let b = bounds e in
-    (b .zooms, b .zoom-to, e .if3 .left)
-
-returns-5 : tie.Need-returns-5
-unfolding stateOk
-returns-5 c =
-    let f = c .before in
-    let l = f .before .before in
-    let e = l .before .before in
-    let d = second e in
-    simp (options (first d), le-leb _ _ (d .if2 .left), le-leb _ _ (e .if3 .left), eq-eqb _ _ (sym (l .len-of .ensures) ∙ f .if4 .left), c .is-packed .ensures)
+    simp (options (first d), le-leb _ _ (d .if2 .left), le-leb _ _ (e .if3 .left), c .is-filled .ensures)
 
 pub is-sound-spec : {M : Type 1} → statement M
 is-sound-spec =
@@ -85,10 +59,5 @@ is-sound-spec =
     returns
     returns-2
     returns-3
-    cast-len-of
-    add-len-of
-    len-of-requires
-    cast-if4
-    returns-4
-    is-packed-requires
-    returns-5)
+    is-filled-requires
+    returns-4)

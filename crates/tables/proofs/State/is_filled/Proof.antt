@@ -1,14 +1,16 @@
--- `State::is_packed` meets its contract: what is left to test from a table on is the whole test. Assumes nothing.
+-- `State::is_filled` meets its contract: past the test of the finest table, what is left to test from a table on is the whole test. Assumes nothing.
 use mathlib.Core.Path.{_≡_, sym, ap, _∙_}
-use mathlib.Core.Bool.{true}
+use mathlib.Core.Bool.{Bool, true, _&&_}
 use Prim.Native.Nat.{ℕ, _+_, _-_, _*_, _≤_}
 use native.Mathlib.Omega.{arith}
-use borrow.Author.Tests.{not-true, not-false}
+use lib.Dec.{eqb}
+use borrow.Author.Tests.{ne-eqb, eq-eqb, not-true, not-false}
 use borrow.Author.Needs.{needs}
 use Rattle.tables.specs.Options.{tableCount}
+use Rattle.tables.specs.State.{lenOf}
 use Rattle.tables.specs.Sound.{tableOk, packed, packed-next, packed-last, table-is}
-use Rattle.tables.proofs.State.is_packed.Statement.{statement}
-use Rattle.tables.proofs.State.is_packed.Tie as tie
+use Rattle.tables.proofs.State.is_filled.Statement.{statement}
+use Rattle.tables.proofs.State.is_filled.Tie as tie
 
 abbrev Inv-loop : tie.InvT-loop
 Inv-loop self cap starts lens low left₀ at₀ left at =
@@ -21,14 +23,38 @@ abbrev Loop : Type 0
 Loop = tie.At-loop Inv-loop μ-loop
 
 abbrev start-of : Loop → tie.Start Inv-loop μ-loop
-start-of w = w .before .before .before .before .before .before
+start-of w = w .before .before .before .before .before .before .before .before .before
 
-abbrev loop-of : tie.Else1 Inv-loop μ-loop → Loop
+abbrev loop-of : tie.Else2 Inv-loop μ-loop → Loop
 loop-of e = e .before .before .before
 
+-- the finest table has N entries
+finest : (w : Loop) → let s = start-of w .args .self in eqb (lenOf s (s .options .«max_zoom» + 1)) (s .count) ≡ true
+finest w = eq-eqb _ _ (w .before .before .before .if1 .left)
+
+-- the whole contract, from the tables' part of it
+whole : (w : Loop) (b : Bool) → let a = start-of w .args in b ≡ packed (a .self) (a .cap) (tableCount (a .self .options)) 0
+    → b ≡ (eqb (lenOf (a .self) (a .self .options .«max_zoom» + 1)) (a .self .count) && packed (a .self) (a .cap) (tableCount (a .self .options)) 0)
+whole w b e = e ∙ sym (simp (finest w))
+
 -- the table that was tested is as it should be
-this : (e : tie.Else1 Inv-loop μ-loop) → let s = start-of (loop-of e) .args .self in tableOk s (s .options .«min_zoom» + (loop-of e .loop .left - 1)) (loop-of e .loop .at) ≡ true
-this e = sym (e .before .is-table .ensures) ∙ not-false _ (e .if1 .left)
+this : (e : tie.Else2 Inv-loop μ-loop) → let s = start-of (loop-of e) .args .self in tableOk s (s .options .«min_zoom» + (loop-of e .loop .left - 1)) (loop-of e .loop .at) ≡ true
+this e = sym (e .before .is-table .ensures) ∙ not-false _ (e .if2 .left)
+
+cast-if1 : tie.Need-cast-if1 Inv-loop μ-loop
+cast-if1 c = search needs
+
+add-if1 : tie.Need-add-if1 Inv-loop μ-loop
+add-if1 c = search needs
+
+mul-if1 : tie.Need-mul-if1 Inv-loop μ-loop
+mul-if1 c = search needs
+
+array-read-if1 : tie.Need-array-read-if1 Inv-loop μ-loop
+array-read-if1 c = search needs
+
+returns : tie.Need-returns Inv-loop μ-loop
+returns c = simp (ne-eqb _ _ (c .if1 .taken))
 
 cast-low : tie.Need-cast-low Inv-loop μ-loop
 cast-low c = search needs
@@ -38,7 +64,7 @@ table-count-requires c κs = search needs
 
 loop-holds : tie.Need-loop-holds Inv-loop μ-loop
 loop-holds c =
-    let a = c .before .before .before .before .before .args in
+    let a = c .before .before .before .before .before .before .before .before .args in
     let e = c .table-count .ensures in
     (omega (arith, e), omega (arith, e), ap (λ (k : ℕ). packed (a .self) (a .cap) k 0) e)
 
@@ -66,15 +92,18 @@ array-read-is-table c = search needs
 is-table-requires : tie.Need-is-table-requires Inv-loop μ-loop
 is-table-requires c κs = search needs
 
-returns : tie.Need-returns Inv-loop μ-loop
-returns c =
+returns-2 : tie.Need-returns-2 Inv-loop μ-loop
+returns-2 c =
     let w = c .before .before .before in
     let a = start-of w .args in
-    sym (packed-next (a .self) (a .cap) (w .loop .left) (w .loop .at) (c .before .before .loop-test .taken)
-    ∙ simp (sym (c .before .is-table .ensures) ∙ not-true _ (c .if1 .taken))) ∙ w .loop .inv .2
+    whole w _ (sym (packed-next (a .self) (a .cap) (w .loop .left) (w .loop .at) (c .before .before .loop-test .taken)
+    ∙ simp (sym (c .before .is-table .ensures) ∙ not-true _ (c .if2 .taken))) ∙ w .loop .inv .2)
 
 cast-at : tie.Need-cast-at Inv-loop μ-loop
-cast-at c = search needs
+cast-at c =
+    let w = loop-of c in
+    let t = table-is (start-of w .args .self) _ _ (this c) in
+    omega (arith, t, start-of w .pre)
 
 add-at : tie.Need-add-at Inv-loop μ-loop
 add-at c =
@@ -96,18 +125,23 @@ loop-again c =
       sym (packed-next (a .self) (a .cap) (w .loop .left) (w .loop .at) (c .before .before .loop-test .taken) ∙ simp (this c)) ∙ w .loop .inv .2,
     )
 
-returns-2 : tie.Need-returns-2 Inv-loop μ-loop
-returns-2 c =
+returns-3 : tie.Need-returns-3 Inv-loop μ-loop
+returns-3 c =
     let w = c .before in
     let a = start-of w .args in
-    sym (packed-last (a .self) (a .cap) (w .loop .left) (w .loop .at) (c .loop-test .left)) ∙ w .loop .inv .2
+    whole w _ (sym (packed-last (a .self) (a .cap) (w .loop .left) (w .loop .at) (c .loop-test .left)) ∙ w .loop .inv .2)
 
-pub is-packed-spec : {M : Type 1} → statement M
-is-packed-spec =
+pub is-filled-spec : {M : Type 1} → statement M
+is-filled-spec =
     tie.close
     (tie.spec
     Inv-loop
     μ-loop
+    cast-if1
+    add-if1
+    mul-if1
+    array-read-if1
+    returns
     cast-low
     table-count-requires
     loop-holds
@@ -119,9 +153,9 @@ is-packed-spec =
     mul-is-table
     array-read-is-table
     is-table-requires
-    returns
+    returns-2
     cast-at
     add-at
     loop-less
     loop-again
-    returns-2)
+    returns-3)
