@@ -4,8 +4,9 @@ use crate::{boxes, clusters, rings, tiles, Scene};
 use questions::Question;
 use splitmix::Splitmix;
 
-/// Boxes, rings and tiles of every kind, so many times.
+/// Boxes, rings and tiles of every kind, so many times; of a build of more lamps, more often.
 const TIMES: usize = 4;
+const LARGE: (u32, usize) = (100_000, 40);
 
 /// Builds of at most so many points are asked for all tiles of the zooms up to this one.
 const ALL_TILES: [(u32, u32); 2] = [(2, 4), (8, 3)];
@@ -13,7 +14,8 @@ const ALL_TILES: [(u32, u32); 2] = [(2, 4), (8, 3)];
 /// Many questions: what a whole build is asked.
 pub fn many(scene: &Scene, source: &mut Splitmix) -> Vec<Question> {
     let mut all = Vec::new();
-    for kind in 0..8 * TIMES {
+    let times = if scene.state.count > LARGE.0 { LARGE.1 } else { TIMES };
+    for kind in 0..8 * times {
         all.push(boxes::question(scene, kind, source));
         all.push(rings::question(scene, kind, source));
         all.extend(tiles::questions(scene, kind, source));

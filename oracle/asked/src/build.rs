@@ -1,6 +1,7 @@
-//! The builds that are asked: every number of points up to 700, options at 01's bounds and ordinary ones.
+//! The builds that are asked: every number of points up to 700, options at 01's bounds and ordinary ones; and a few
+//! large ones.
 
-use crate::{edges, latitudes::latitudes, Columns, Form, Scene};
+use crate::{edges, large, latitudes::latitudes, Columns, Form, Scene};
 use options::{corners, Options, Plane};
 use points::{Drawn, SHAPES};
 use questions::State;
@@ -84,8 +85,8 @@ fn sizes() -> [(Vec<usize>, [usize; 2]); 4] {
 /// How many builds have their lamps on the edges of tiles, in the short form and in the full one.
 const ON_EDGES: [usize; 2] = [150, 4_800];
 
-/// Every build of a form, half of them with options as users have them and half with any; and those with lamps
-/// on the edges of tiles.
+/// Every build of a form, half of them with options as users have them and half with any; those with lamps on the
+/// edges of tiles; and the large ones.
 pub fn each(form: Form, source: &mut Splitmix, mut ask: impl FnMut(&Build, &mut Splitmix)) {
     let [short, full] = ON_EDGES;
     for _ in 0..if form == Form::Full { full } else { short } {
@@ -103,4 +104,5 @@ pub fn each(form: Form, source: &mut Splitmix, mut ask: impl FnMut(&Build, &mut 
             }
         }
     }
+    large::each(form, source, |build, source| ask(&build, source));
 }

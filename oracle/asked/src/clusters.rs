@@ -8,6 +8,9 @@ use std::collections::BTreeMap;
 /// How many clusters of a build are asked for their leaves at every limit and offset.
 const THOROUGH: usize = 5;
 
+/// A build with more clusters than this is asked for so many, by chance.
+const MOST: usize = 1_000;
+
 /// Every cluster of the tables with its num.
 fn clusters(scene: &Scene) -> BTreeMap<u32, u32> {
     let entries = scene.lent.id.iter().zip(scene.lent.num);
@@ -17,7 +20,10 @@ fn clusters(scene: &Scene) -> BTreeMap<u32, u32> {
 /// Every cluster's children and expansion zoom, and its leaves at some limits and offsets; those of a few at
 /// many.
 pub fn of_all(scene: &Scene, source: &mut Splitmix) -> Vec<Question> {
-    let clusters: Vec<(u32, u32)> = clusters(scene).into_iter().collect();
+    let mut clusters: Vec<(u32, u32)> = clusters(scene).into_iter().collect();
+    if clusters.len() > MOST {
+        clusters = (0..MOST).map(|_| source.pick(&clusters)).collect();
+    }
     let mut all = Vec::new();
     for (id, num) in &clusters {
         let (id, num) = (*id, *num);

@@ -7,6 +7,7 @@ mod build;
 mod clusters;
 mod columns;
 mod edges;
+mod large;
 mod latitudes;
 mod rings;
 mod rooms;

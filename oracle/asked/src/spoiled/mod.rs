@@ -7,7 +7,7 @@ mod most;
 mod slots;
 mod states;
 
-use crate::{Build, Form};
+use crate::{large, Build, Form};
 use options::{corners, Options};
 use splitmix::Splitmix;
 
@@ -40,6 +40,10 @@ const CHANGES: [(&str, Change); 22] = [
     ("slots named twice", slots::named_twice),
 ];
 
+/// How often a large build is changed, and how often it is asked after each change.
+const LARGE_CHANGES: usize = 12;
+const LARGE_TIMES: usize = 10;
+
 /// Every spoiled state of a form.
 pub fn each(form: Form, source: &mut Splitmix, mut ask: impl FnMut(&Build, &mut Splitmix)) {
     let times = match form {
@@ -47,8 +51,29 @@ pub fn each(form: Form, source: &mut Splitmix, mut ask: impl FnMut(&Build, &mut 
         Form::Full => 200_000,
     };
     most::states().iter().for_each(|build| ask(build, source));
+    large::each(form, source, |build, source| changed_slots(build, source, &mut ask));
     for number in 0..times {
         ask(&one(number, source), source);
+    }
+}
+
+/// A large build, asked a few times after each change of its index.
+fn changed_slots(
+    mut build: Build,
+    source: &mut Splitmix,
+    ask: &mut impl FnMut(&Build, &mut Splitmix),
+) {
+    let changes: [(&str, Change); 4] = [
+        ("places of slots past the table", slots::past_the_table),
+        ("coordinates of entries", entries::coordinates),
+        ("coordinates of slots", slots::coordinates),
+        ("slots named twice", slots::named_twice),
+    ];
+    for (name, change) in changes.iter().cycle().take(LARGE_CHANGES) {
+        change(&mut build, source);
+        build.what += ", ";
+        build.what += name;
+        (0..LARGE_TIMES).for_each(|_| ask(&build, source));
     }
 }
 
