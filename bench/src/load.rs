@@ -3,42 +3,14 @@
 use crate::{
     clock::timed,
     memory::{self, Peak},
-    points::{clustered, uniform, Points},
+    points::{Points, Shape, SHAPES},
     rounds::{measured, Found, Side},
     table, Size,
 };
 use builds::Row;
 use options::{Options, USUAL};
 use ported::{Columns, State, ZOOMS};
-use splitmix::Splitmix;
 use std::cell::Cell;
-
-/// How the points lie.
-#[derive(Clone, Copy)]
-enum Shape {
-    Uniform,
-    Clustered,
-}
-
-const SHAPES: [Shape; 2] = [Shape::Uniform, Shape::Clustered];
-
-impl Shape {
-    fn name(self) -> &'static str {
-        match self {
-            Shape::Uniform => "uniform",
-            Shape::Clustered => "clustered",
-        }
-    }
-
-    /// So many points, the same ones in every process.
-    fn points(self, count: usize) -> Points {
-        let mut source = Splitmix(1);
-        match self {
-            Shape::Uniform => uniform(count, &mut source),
-            Shape::Clustered => clustered(count, &mut source),
-        }
-    }
-}
 
 /// The two sides, whose memory is measured too.
 const PORT: &str = "port";

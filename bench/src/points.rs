@@ -8,6 +8,33 @@ pub struct Points {
     pub ys: Vec<f64>,
 }
 
+/// How points lie that tables are built of.
+#[derive(Clone, Copy)]
+pub enum Shape {
+    Uniform,
+    Clustered,
+}
+
+pub const SHAPES: [Shape; 2] = [Shape::Uniform, Shape::Clustered];
+
+impl Shape {
+    pub fn name(self) -> &'static str {
+        match self {
+            Shape::Uniform => "uniform",
+            Shape::Clustered => "clustered",
+        }
+    }
+
+    /// So many points, the same ones in every process.
+    pub fn points(self, count: usize) -> Points {
+        let mut source = Splitmix(1);
+        match self {
+            Shape::Uniform => uniform(count, &mut source),
+            Shape::Clustered => clustered(count, &mut source),
+        }
+    }
+}
+
 /// Points spread evenly over the unit square.
 pub fn uniform(count: usize, source: &mut Splitmix) -> Points {
     let xs = (0..count).map(|_| source.unit()).collect();

@@ -5,7 +5,7 @@
 
 use crate::{
     clock::timed,
-    points::uniform,
+    points::{Points, SHAPES},
     rounds::{measured, Found, Side},
     table, Size,
 };
@@ -48,23 +48,24 @@ struct Both {
 
 /// A line for each question and size; or what differed.
 pub fn run(size: &Size) -> Result<(), String> {
-    for [count, rounds] in size.loads {
-        println!();
-        println!("questions to a build of {count} points, uniform");
-        println!();
-        table::head("answers");
-        let both = Both::of(*count);
-        let bench = Bench { both, count: *count, rounds: *rounds, fewer: size.fewer };
-        bench.run()?;
+    for shape in SHAPES {
+        for [count, rounds] in size.loads {
+            println!();
+            println!("questions to a build of {count} points, {}", shape.name());
+            println!();
+            table::head("answers");
+            let both = Both::of(&shape.points(*count));
+            let bench = Bench { both, count: *count, rounds: *rounds, fewer: size.fewer };
+            bench.run()?;
+        }
     }
     Ok(())
 }
 
 impl Both {
-    /// So many points, built by the port.
-    fn of(count: usize) -> Both {
-        let points = uniform(count, &mut Splitmix(1));
-        let mut columns = Columns::zeros(&USUAL, count);
+    /// These points, built by the port.
+    fn of(points: &Points) -> Both {
+        let mut columns = Columns::zeros(&USUAL, points.xs.len());
         let [mut starts, mut lens] = [[0; ZOOMS]; 2];
         let state = State { starts: &mut starts, lens: &mut lens };
         let reply = ported::load(&USUAL, &points.xs, &points.ys, columns.lent(), state);
