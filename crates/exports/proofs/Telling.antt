@@ -6,11 +6,11 @@ use lib.ListN.{length}
 use lib.IntN.{ℤ}
 use Rattle.tables.specs.declared.Options.{Options}
 use Rattle.tables.specs.declared.State.{State}
+use Rattle.tables.specs.State.{stateOf}
 use Rattle.asking.specs.declared.Answer.{Answer}
 use Rattle.asking.specs.Answers.{answerNumber, answerCarried}
 use Rattle.asking.specs.Asked.{Asked, answerOf, columnOf}
 use Rattle.tiles.specs.Asked.{Outcome, outcome}
-use Rattle.exports.specs.Given.{stateOf}
 use Rattle.exports.specs.Told.{said, told, toldOf, tileTold, tileOf}
 
 -- the state that is passed on

@@ -1,10 +1,8 @@
--- Options and a state as a C caller gives them. Definitions only.
+-- Options as a C caller gives them. Definitions only.
 use mathlib.Core.Bool.{Bool}
-use mathlib.Core.List.{List}
 use Prim.Native.Nat.{ℕ}
 use lib.Ieee.{Float}
 use Rattle.tables.specs.declared.Options.{Options}
-use Rattle.tables.specs.declared.State.{State}
 use Rattle.tables.specs.Given.{settingOf, systemOf}
 
 -- the options, in the order in which every function takes them
@@ -21,7 +19,3 @@ given low high least radius extent size cartesian a b c d offsetGiven offset sca
           systemOf cartesian
           (record { «min_x» = a; «min_y» = b; «max_x» = c; «max_y» = d; offset = settingOf offsetGiven offset; scale = settingOf scaleGiven scale });
     }
-
--- the state of a build: its options, N, and where each table starts and how long it is
-abbrev pub stateOf : Options → ℕ → List ℕ → List ℕ → State
-stateOf o n starts lens = record { options = o; count = n; starts = starts; lens = lens }

@@ -12,12 +12,13 @@ ghost use lib.ListN.{length};
 ghost use Rattle.kdbush.specs.Reply.{buildNumber, buildCarried, built, checked, searchNumber, searchCarried, searched, columnAfter};
 ghost use Rattle.kdwalk.specs.Reply.{stepNumber, firstStep, afterStep};
 ghost use Rattle.exports.specs.Numbers.{slotOf};
-ghost use Rattle.exports.specs.Given.{given, stateOf};
+ghost use Rattle.exports.specs.Given.{given};
 ghost use Rattle.exports.specs.Told.{said, zoomSaid, tallySaid, told, toldOf, tileTold, tileOf};
 ghost use Rattle.exports.specs.Laid.{replied, repliedOf, laid, laidOf};
 ghost use Rattle.kdbush.specs.Run.{filled};
 ghost use Rattle.supercluster.specs.Build.{lent, loaded};
 ghost use Rattle.kdsort.specs.Cols.{cols};
+ghost use Rattle.tables.specs.State.{stateOf};
 ghost use Rattle.asking.specs.Columns.{columns};
 ghost use Rattle.boxes.specs.Lists.{boxAsked, ringAsked};
 ghost use Rattle.walks.specs.Children.{childrenOf};
@@ -737,9 +738,11 @@ pub extern "C" fn supercluster_tile(
         scale_given,
         scale,
     );
-    let s = state(o, count, starts, lens);
-    let r = tiles::tile(
-        s,
+    let r = tiles::tile_lent(
+        o,
+        count,
+        starts,
+        lens,
         x,
         y,
         seen,
@@ -816,9 +819,11 @@ pub extern "C" fn supercluster_tally(
         scale_given,
         scale,
     );
-    let s = state(o, count, starts, lens);
-    let r = tiles::tally(
-        s,
+    let r = tiles::tally_lent(
+        o,
+        count,
+        starts,
+        lens,
         x,
         y,
         seen,

@@ -1,8 +1,13 @@
 -- The state of a build: a value of its options, its number of points, and where each table starts and how long it is. Definitions only.
+use mathlib.Core.List.{List}
 use Prim.Native.Nat.{ℕ}
 use lib.ListN.{getD, set, replicate}
 use Rattle.tables.specs.declared.Options.{Options}
 use Rattle.tables.specs.declared.State.{State}
+
+-- the state of these parts
+abbrev pub stateOf : Options → ℕ → List ℕ → List ℕ → State
+stateOf o n starts lens = record { options = o; count = n; starts = starts; lens = lens }
 
 -- no tables yet: zeros
 abbrev pub newState : Options → ℕ → State

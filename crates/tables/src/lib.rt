@@ -172,15 +172,14 @@ impl State {
         lens[zoom] as usize
     }
 
-    // Whether the finest table has N entries, and the tables are packed from 0 on, the largest zoom first, within columns of cap entries. The arrays are
-    // copied once for both.
-    fn is_filled(self, cap: usize) -> bool
+    // Whether the finest table has N entries, and the tables are packed from 0 on, the largest zoom first, within columns of cap entries. The state's arrays
+    // are lent beside it, so that they are read in place.
+    fn is_filled(self, starts: &[u32; 32], lens: &[u32; 32], cap: usize) -> bool
         requires { ⌜ (self .options .«min_zoom» ≤ self .options .«max_zoom») × (self .options .«max_zoom» ≤ 30) × (self .count ≤ 1048576) ⌝ }
+        requires { ⌜ (now starts ≡ self .starts) × (now lens ≡ self .lens) ⌝ }
         ensures { λ r. ⌜ r ≡ (eqb (lenOf self (self .options .«max_zoom» + 1)) (self .count) && packed self cap (tableCount (self .options)) 0) ⌝ }
     {
         let o = self.options;
-        let starts = self.starts;
-        let lens = self.lens;
         if lens[o.max_zoom as usize + 1] != self.count {
             return false;
         }
@@ -198,8 +197,9 @@ impl State {
         at <= cap
     }
 
-    // Whether a question may go by this state over columns of cap entries: 01's 11 is for any other.
-    pub fn is_sound(self, cap: usize) -> bool
+    // Whether a question may go by this state over columns of cap entries: 01's 11 is for any other. The state's arrays are lent beside it.
+    pub fn is_sound_by(self, starts: &[u32; 32], lens: &[u32; 32], cap: usize) -> bool
+        requires { ⌜ (now starts ≡ self .starts) × (now lens ≡ self .lens) ⌝ }
         ensures { λ r. ⌜ r ≡ stateOk self cap ⌝ }
     {
         let o = self.options;
@@ -212,7 +212,16 @@ impl State {
         if 1048576 < self.count {
             return false;
         }
-        self.is_filled(cap)
+        self.is_filled(starts, lens, cap)
+    }
+
+    // The same, with copies of the arrays.
+    pub fn is_sound(self, cap: usize) -> bool
+        ensures { λ r. ⌜ r ≡ stateOk self cap ⌝ }
+    {
+        let starts = self.starts;
+        let lens = self.lens;
+        self.is_sound_by(&starts, &lens, cap)
     }
 }
 

@@ -1,11 +1,13 @@
 // The questions 'tile' and 'tile tally' to a build. Nothing is asked of the caller: what 01 does not take is refused with its number.
 use asking::Answer;
+use tables::Options;
 use tables::State;
 use tiling::Ran;
 use tiling::Running;
 use tiling::Tally;
 ghost use mathlib.Core.Path.{_≡_};
 ghost use mathlib.Core.Bool.{true};
+ghost use Rattle.tables.specs.State.{stateOf};
 ghost use Rattle.tables.specs.Sound.{stateOk};
 ghost use Rattle.asking.specs.Columns.{columns, roomOf};
 ghost use Rattle.tiling.specs.Framed.{IsTile};
@@ -36,9 +38,11 @@ fn some_of(k: usize, room: usize) -> Answer
     asking::fit(k, room)
 }
 
-// Lists what a tile finds in the table of the zoom used.
+// Lists what a tile finds in the table of the zoom used. The state's arrays are lent beside it, so that they are read in place.
 fn list_used(
     s: State,
+    starts: &[u32; 32],
+    lens: &[u32; 32],
     x: &[f64],
     y: &[f64],
     seen: &[u8],
@@ -55,6 +59,7 @@ fn list_used(
     py: &mut [i64],
 ) -> Ran
     requires { ⌜ (stateOk s (roomOf (columns (now x) (now y) (now seen) (now id) (now parent) (now num) (now ids) (now coords))) ≡ true) × IsTile z tx ty ⌝ }
+    requires { ⌜ (now starts ≡ s .starts) × (now lens ≡ s .lens) ⌝ }
     ensures { λ r. ⌜ left r (now (out .exit)) (now (px .exit)) (now (py .exit))
         ≡ run (tableFor s (columns (now (x .entry)) (now (y .entry)) (now (seen .entry)) (now (id .entry)) (now (parent .entry)) (now (num .entry)) (now (ids .entry)) (now (coords .entry))) z) 0
         (visitsFor s (columns (now (x .entry)) (now (y .entry)) (now (seen .entry)) (now (id .entry)) (now (parent .entry)) (now (num .entry)) (now (ids .entry)) (now (coords .entry))) z tx ty)
@@ -62,8 +67,8 @@ fn list_used(
 {
     let o = s.options;
     let u = index(o.zoom_used(z));
-    let a = s.start_of(u);
-    let e = a + s.len_of(u);
+    let a = starts[u] as usize;
+    let e = a + lens[u] as usize;
     let c = 2 * a;
     let d = 2 * e;
     tiling::list(
@@ -85,7 +90,74 @@ fn list_used(
     )
 }
 
-// The entries that the tile (z, tx, ty) lists: their places in the table of the zoom used, and their places in the tile.
+// The entries that the tile (z, tx, ty) lists: their places in the table of the zoom used, and their places in the tile. The state is given by its parts: a
+// caller that holds its arrays elsewhere lends them, and none is copied.
+pub fn tile_lent(
+    options: Options,
+    count: u32,
+    starts: &[u32; 32],
+    lens: &[u32; 32],
+    x: &[f64],
+    y: &[f64],
+    seen: &[u8],
+    id: &[u32],
+    parent: &[u32],
+    num: &[u32],
+    ids: &[u32],
+    coords: &[f64],
+    z: u8,
+    tx: u32,
+    ty: u32,
+    places: &mut [u32],
+    px: &mut [i64],
+    py: &mut [i64],
+) -> Answer
+    ensures { λ r. ⌜ outcome r (now (places .exit)) (now (px .exit)) (now (py .exit))
+        ≡ tiled (stateOf options count (now (starts .entry)) (now (lens .entry))) (columns (now (x .entry)) (now (y .entry)) (now (seen .entry)) (now (id .entry)) (now (parent .entry)) (now (num .entry)) (now (ids .entry)) (now (coords .entry))) z tx ty
+        (now (places .entry)) (now (px .entry)) (now (py .entry)) ⌝ }
+{
+    let s = State {
+        options,
+        count,
+        starts: *starts,
+        lens: *lens,
+    };
+    if !s.is_sound_by(
+        starts,
+        lens,
+        asking::room(x, y, seen, id, parent, num, ids, coords),
+    ) {
+        return Answer::Spoiled;
+    }
+    if !tiling::is_tile(wide(z), tx, ty) {
+        return Answer::Tile;
+    }
+    let room = asking::less(places.len(), asking::less(px.len(), py.len()));
+    match list_used(
+        s,
+        starts,
+        lens,
+        x,
+        y,
+        seen,
+        id,
+        parent,
+        num,
+        ids,
+        coords,
+        z,
+        tx,
+        ty,
+        &mut places[..room],
+        &mut px[..room],
+        &mut py[..room],
+    ) {
+        Ran::Spoiled => Answer::Spoiled,
+        Ran::All(k) => some_of(k, room),
+    }
+}
+
+// The same, of a state as a whole.
 pub fn tile(
     s: State,
     x: &[f64],
@@ -107,15 +179,13 @@ pub fn tile(
         ≡ tiled s (columns (now (x .entry)) (now (y .entry)) (now (seen .entry)) (now (id .entry)) (now (parent .entry)) (now (num .entry)) (now (ids .entry)) (now (coords .entry))) z tx ty
         (now (places .entry)) (now (px .entry)) (now (py .entry)) ⌝ }
 {
-    if !s.is_sound(asking::room(x, y, seen, id, parent, num, ids, coords)) {
-        return Answer::Spoiled;
-    }
-    if !tiling::is_tile(wide(z), tx, ty) {
-        return Answer::Tile;
-    }
-    let room = asking::less(places.len(), asking::less(px.len(), py.len()));
-    match list_used(
-        s,
+    let starts = s.starts;
+    let lens = s.lens;
+    tile_lent(
+        s.options,
+        s.count,
+        &starts,
+        &lens,
         x,
         y,
         seen,
@@ -127,18 +197,17 @@ pub fn tile(
         z,
         tx,
         ty,
-        &mut places[..room],
-        &mut px[..room],
-        &mut py[..room],
-    ) {
-        Ran::Spoiled => Answer::Spoiled,
-        Ran::All(k) => some_of(k, room),
-    }
+        places,
+        px,
+        py,
+    )
 }
 
 // The tally of what a tile finds in the table of the zoom used.
 fn tally_used(
     s: State,
+    starts: &[u32; 32],
+    lens: &[u32; 32],
     x: &[f64],
     y: &[f64],
     seen: &[u8],
@@ -152,13 +221,14 @@ fn tally_used(
     ty: u32,
 ) -> Running
     requires { ⌜ (stateOk s (roomOf (columns (now x) (now y) (now seen) (now id) (now parent) (now num) (now ids) (now coords))) ≡ true) × IsTile z tx ty ⌝ }
+    requires { ⌜ (now starts ≡ s .starts) × (now lens ≡ s .lens) ⌝ }
     ensures { λ r. ⌜ r ≡ runningOf (tableFor s (columns (now (x .entry)) (now (y .entry)) (now (seen .entry)) (now (id .entry)) (now (parent .entry)) (now (num .entry)) (now (ids .entry)) (now (coords .entry))) z)
         (visitsFor s (columns (now (x .entry)) (now (y .entry)) (now (seen .entry)) (now (id .entry)) (now (parent .entry)) (now (num .entry)) (now (ids .entry)) (now (coords .entry))) z tx ty) ⌝ }
 {
     let o = s.options;
     let used = index(o.zoom_used(z));
-    let a = s.start_of(used);
-    let e = a + s.len_of(used);
+    let a = starts[used] as usize;
+    let e = a + lens[used] as usize;
     let c = 2 * a;
     let d = 2 * e;
     tiling::add_up(
@@ -190,7 +260,62 @@ fn sum_of(r: Running) -> Tally
     Tally::Sum(r.sum)
 }
 
-// The sum of num over the distinct entries that the tile (z, tx, ty) lists.
+// The sum of num over the distinct entries that the tile (z, tx, ty) lists, of a state that is given by its parts.
+pub fn tally_lent(
+    options: Options,
+    count: u32,
+    starts: &[u32; 32],
+    lens: &[u32; 32],
+    x: &[f64],
+    y: &[f64],
+    seen: &[u8],
+    id: &[u32],
+    parent: &[u32],
+    num: &[u32],
+    ids: &[u32],
+    coords: &[f64],
+    z: u8,
+    tx: u32,
+    ty: u32,
+) -> Tally
+    ensures { λ r. ⌜ r ≡ tallied (stateOf options count (now (starts .entry)) (now (lens .entry))) (columns (now (x .entry)) (now (y .entry)) (now (seen .entry)) (now (id .entry)) (now (parent .entry)) (now (num .entry)) (now (ids .entry)) (now (coords .entry))) z tx ty ⌝ }
+{
+    let s = State {
+        options,
+        count,
+        starts: *starts,
+        lens: *lens,
+    };
+    if !s.is_sound_by(
+        starts,
+        lens,
+        asking::room(x, y, seen, id, parent, num, ids, coords),
+    ) {
+        return Tally::Spoiled;
+    }
+    if !tiling::is_tile(wide(z), tx, ty) {
+        return Tally::Tile;
+    }
+    let r = tally_used(
+        s,
+        starts,
+        lens,
+        x,
+        y,
+        seen,
+        id,
+        parent,
+        num,
+        ids,
+        coords,
+        z,
+        tx,
+        ty,
+    );
+    sum_of(r)
+}
+
+// The same, of a state as a whole.
 pub fn tally(
     s: State,
     x: &[f64],
@@ -207,11 +332,23 @@ pub fn tally(
 ) -> Tally
     ensures { λ r. ⌜ r ≡ tallied s (columns (now (x .entry)) (now (y .entry)) (now (seen .entry)) (now (id .entry)) (now (parent .entry)) (now (num .entry)) (now (ids .entry)) (now (coords .entry))) z tx ty ⌝ }
 {
-    if !s.is_sound(asking::room(x, y, seen, id, parent, num, ids, coords)) {
-        return Tally::Spoiled;
-    }
-    if !tiling::is_tile(wide(z), tx, ty) {
-        return Tally::Tile;
-    }
-    sum_of(tally_used(s, x, y, seen, id, parent, num, ids, coords, z, tx, ty))
+    let starts = s.starts;
+    let lens = s.lens;
+    tally_lent(
+        s.options,
+        s.count,
+        &starts,
+        &lens,
+        x,
+        y,
+        seen,
+        id,
+        parent,
+        num,
+        ids,
+        coords,
+        z,
+        tx,
+        ty,
+    )
 }

@@ -3,9 +3,10 @@ use mathlib.Core.Path.{_≡_, ap, _∙_}
 use denote.Ref.{now}
 use borrow.Author.Needs.{needs}
 use Rattle.tables.specs.declared.State.{State}
+use Rattle.tables.specs.State.{stateOf}
 use Rattle.asking.specs.Columns.{columns}
 use Rattle.walks.specs.Expansion.{zoomOf}
-use Rattle.exports.specs.Given.{given, stateOf}
+use Rattle.exports.specs.Given.{given}
 use Rattle.exports.specs.Told.{zoomSaid}
 use Rattle.exports.proofs.Telling.{state-is, said-is}
 use Rattle.exports.proofs.supercluster_expansion_zoom.Statement.{statement}

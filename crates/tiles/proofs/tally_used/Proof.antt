@@ -1,8 +1,9 @@
 -- `tiles::tally_used` meets its contract: what is lent of the columns is the table of the zoom used, with its index. Assumes nothing.
 use mathlib.Core.Path.{_≡_, sym, ap, _∙_, subst}
 use mathlib.Core.List.{List}
-use Prim.Native.Nat.{ℕ, _+_, _*_}
+use Prim.Native.Nat.{ℕ, _+_, _*_, _<_}
 use native.Mathlib.Omega.{arith}
+use lib.ListN.{getD}
 use denote.Ref.{now}
 use borrow.Author.Needs.{needs}
 use Rattle.tables.specs.Options.{zoomUsed}
@@ -17,36 +18,43 @@ use Rattle.tiles.specs.Used.{Spot, spot, spot-at, lent-ok, lent-ids, len
 use Rattle.tiles.proofs.tally_used.Statement.{statement}
 use Rattle.tiles.proofs.tally_used.Tie as tie
 
--- ---- the table, once its start and its length are read
+-- ---- the table: its start and its length, as they are read of the lent arrays
 
-abbrev begin : tie.After-len-of → tie.Start
-begin w = w .before .before .before .before .before .before .before .before .before .before .before .before .before
+abbrev begin : tie.After-index → tie.Start
+begin i = i .before .before .before .before .before .before .before .before .before .before .before
 
 abbrev lent-columns : tie.Start → Columns
 lent-columns s = let a = s .args in columns (now (a .x)) (now (a .y)) (now (a .seen)) (now (a .id)) (now (a .parent)) (now (a .num)) (now (a .ids)) (now (a .coords))
 
-abbrev from-of : tie.After-len-of → ℕ
-from-of w = w .before .start-of .result
+abbrev from-of : tie.After-index → ℕ
+from-of i = getD (now (begin i .args .starts)) (i .index .result) 0
 
-abbrev len-of : tie.After-len-of → ℕ
-len-of w = w .len-of .result
+abbrev len-of : tie.After-index → ℕ
+len-of i = getD (now (begin i .args .lens)) (i .index .result) 0
 
-abbrev used : tie.After-len-of → ℕ
-used w = zoomUsed (begin w .args .s .options) (begin w .args .z)
+abbrev used : tie.After-index → ℕ
+used i = zoomUsed (begin i .args .s .options) (begin i .args .z)
 
-used-is : (w : tie.After-len-of) → w .before .before .index .result ≡ used w
-used-is w = w .before .before .index .ensures ∙ w .before .before .before .zoom-used .ensures
+used-is : (i : tie.After-index) → i .index .result ≡ used i
+used-is i = i .index .ensures ∙ i .before .zoom-used .ensures
 
-from-is : (w : tie.After-len-of) → from-of w ≡ startOf (begin w .args .s) (used w)
-from-is w = w .before .start-of .ensures ∙ ap (startOf (begin w .args .s)) (used-is w)
+from-is : (i : tie.After-index) → from-of i ≡ startOf (begin i .args .s) (used i)
+from-is i = let s = begin i in ap (λ (l : List ℕ). getD l (i .index .result) 0) (s .pre .1 .0) ∙ ap (startOf (s .args .s)) (used-is i)
 
-len-is : (w : tie.After-len-of) → len-of w ≡ lenOf (begin w .args .s) (used w)
-len-is w = w .len-of .ensures ∙ ap (lenOf (begin w .args .s)) (used-is w)
+len-is : (i : tie.After-index) → len-of i ≡ lenOf (begin i .args .s) (used i)
+len-is i = let s = begin i in ap (λ (l : List ℕ). getD l (i .index .result) 0) (s .pre .1 .1) ∙ ap (lenOf (s .args .s)) (used-is i)
 
-spot-of : (w : tie.After-len-of) → Spot (begin w .args .s) (lent-columns (begin w)) (used w) (from-of w) (len-of w)
-spot-of w =
-    let s = begin w in
-    spot-at (s .args .s) (lent-columns s) (s .args .z) (from-of w) (len-of w) (s .pre .0) (from-is w) (len-is w)
+spot-of : (i : tie.After-index) → Spot (begin i .args .s) (lent-columns (begin i)) (used i) (from-of i) (len-of i)
+spot-of i =
+    let s = begin i in
+    spot-at (s .args .s) (lent-columns s) (s .args .z) (from-of i) (len-of i) (s .pre .0 .0) (from-is i) (len-is i)
+
+-- the zoom used has a table
+below : (i : tie.After-index) → i .index .result < 32
+below i =
+    let s = begin i in
+    let p = spot (s .args .s) (lent-columns s) (s .args .z) (s .pre .0 .0) in
+    omega (arith, p .table, used-is i)
 
 -- ---- the parts
 
@@ -56,122 +64,128 @@ zoom-used-requires c κs = search needs
 index-requires : tie.Need-index-requires
 index-requires c κs = search needs
 
-start-of-requires : tie.Need-start-of-requires
-start-of-requires c κs =
-    let s = c .before .before .before .before .before .before .before .before .before .before .before in
-    let p = spot (s .args .s) (lent-columns s) (s .args .z) (s .pre .0) in
-    omega (arith, p .table, c .index .ensures, c .before .zoom-used .ensures)
+mul-a : tie.Need-mul-a
+mul-a c = search needs
 
-len-of-requires : tie.Need-len-of-requires
-len-of-requires c κs =
-    let s = c .before .before .before .before .before .before .before .before .before .before .before .before in
-    let p = spot (s .args .s) (lent-columns s) (s .args .z) (s .pre .0) in
-    omega (arith, p .table, c .before .index .ensures, c .before .before .zoom-used .ensures)
+element-copy-out-a : tie.Need-element-copy-out-a
+element-copy-out-a c = below c
+
+cast-a : tie.Need-cast-a
+cast-a c = let i = c .before in omega (arith, spot-of i .ids-held, begin i .good)
+
+mul-e : tie.Need-mul-e
+mul-e c = search needs
+
+element-copy-out-e : tie.Need-element-copy-out-e
+element-copy-out-e c = below (c .before)
+
+cast-e : tie.Need-cast-e
+cast-e c = let i = c .before .before in omega (arith, spot-of i .ids-held, begin i .good)
 
 add-e : tie.Need-add-e
-add-e c = omega (arith, spot-of c .ids-held, begin c .good)
+add-e c = let i = c .before .before in omega (arith, spot-of i .ids-held, begin i .good)
 
 mul-c : tie.Need-mul-c
-mul-c c = omega (arith, spot-of c .ids-held, begin c .good)
+mul-c c = let i = c .before .before in omega (arith, spot-of i .ids-held, begin i .good)
 
 mul-d : tie.Need-mul-d
-mul-d c = omega (arith, spot-of c .ids-held, begin c .good)
+mul-d c = let i = c .before .before in omega (arith, spot-of i .ids-held, begin i .good)
 
 wide-requires : tie.Need-wide-requires
 wide-requires c κs = search needs
 
 mul-add-up : tie.Need-mul-add-up
-mul-add-up c = let w = c .before in omega (arith, spot-of w .rows-held .hx, begin w .good)
+mul-add-up c = let w = c .before .before .before in omega (arith, spot-of w .rows-held .hx, begin w .good)
 
 sub-add-up : tie.Need-sub-add-up
 sub-add-up c = omega arith
 
 part-add-up-start : tie.Need-part-add-up-start
-part-add-up-start c = let w = c .before in omega (arith, spot-of w .rows-held .hx)
+part-add-up-start c = let w = c .before .before .before in omega (arith, spot-of w .rows-held .hx)
 
 part-add-up-end : tie.Need-part-add-up-end
-part-add-up-end c = let w = c .before in omega (arith, spot-of w .rows-held .hx)
+part-add-up-end c = let w = c .before .before .before in omega (arith, spot-of w .rows-held .hx)
 
 mul-add-up-2 : tie.Need-mul-add-up-2
-mul-add-up-2 c = let w = c .before .before in omega (arith, spot-of w .rows-held .hy, begin w .good)
+mul-add-up-2 c = let w = c .before .before .before .before in omega (arith, spot-of w .rows-held .hy, begin w .good)
 
 sub-add-up-2 : tie.Need-sub-add-up-2
 sub-add-up-2 c = omega arith
 
 part-add-up-start-2 : tie.Need-part-add-up-start-2
-part-add-up-start-2 c = let w = c .before .before in omega (arith, spot-of w .rows-held .hy)
+part-add-up-start-2 c = let w = c .before .before .before .before in omega (arith, spot-of w .rows-held .hy)
 
 part-add-up-end-2 : tie.Need-part-add-up-end-2
-part-add-up-end-2 c = let w = c .before .before in omega (arith, spot-of w .rows-held .hy)
+part-add-up-end-2 c = let w = c .before .before .before .before in omega (arith, spot-of w .rows-held .hy)
 
 sub-add-up-3 : tie.Need-sub-add-up-3
 sub-add-up-3 c = omega arith
 
 part-add-up-start-3 : tie.Need-part-add-up-start-3
-part-add-up-start-3 c = let w = c .before .before .before in omega (arith, spot-of w .rows-held .hs)
+part-add-up-start-3 c = let w = c .before .before .before .before .before in omega (arith, spot-of w .rows-held .hs)
 
 part-add-up-end-3 : tie.Need-part-add-up-end-3
-part-add-up-end-3 c = let w = c .before .before .before in omega (arith, spot-of w .rows-held .hs)
+part-add-up-end-3 c = let w = c .before .before .before .before .before in omega (arith, spot-of w .rows-held .hs)
 
 mul-add-up-3 : tie.Need-mul-add-up-3
-mul-add-up-3 c = let w = c .before .before .before .before in omega (arith, spot-of w .rows-held .hi, begin w .good)
+mul-add-up-3 c = let w = c .before .before .before .before .before .before in omega (arith, spot-of w .rows-held .hi, begin w .good)
 
 sub-add-up-4 : tie.Need-sub-add-up-4
 sub-add-up-4 c = omega arith
 
 part-add-up-start-4 : tie.Need-part-add-up-start-4
-part-add-up-start-4 c = let w = c .before .before .before .before in omega (arith, spot-of w .rows-held .hi)
+part-add-up-start-4 c = let w = c .before .before .before .before .before .before in omega (arith, spot-of w .rows-held .hi)
 
 part-add-up-end-4 : tie.Need-part-add-up-end-4
-part-add-up-end-4 c = let w = c .before .before .before .before in omega (arith, spot-of w .rows-held .hi)
+part-add-up-end-4 c = let w = c .before .before .before .before .before .before in omega (arith, spot-of w .rows-held .hi)
 
 mul-add-up-4 : tie.Need-mul-add-up-4
-mul-add-up-4 c = let w = c .before .before .before .before .before in omega (arith, spot-of w .rows-held .hp, begin w .good)
+mul-add-up-4 c = let w = c .before .before .before .before .before .before .before in omega (arith, spot-of w .rows-held .hp, begin w .good)
 
 sub-add-up-5 : tie.Need-sub-add-up-5
 sub-add-up-5 c = omega arith
 
 part-add-up-start-5 : tie.Need-part-add-up-start-5
-part-add-up-start-5 c = let w = c .before .before .before .before .before in omega (arith, spot-of w .rows-held .hp)
+part-add-up-start-5 c = let w = c .before .before .before .before .before .before .before in omega (arith, spot-of w .rows-held .hp)
 
 part-add-up-end-5 : tie.Need-part-add-up-end-5
-part-add-up-end-5 c = let w = c .before .before .before .before .before in omega (arith, spot-of w .rows-held .hp)
+part-add-up-end-5 c = let w = c .before .before .before .before .before .before .before in omega (arith, spot-of w .rows-held .hp)
 
 mul-add-up-5 : tie.Need-mul-add-up-5
-mul-add-up-5 c = let w = c .before .before .before .before .before .before in omega (arith, spot-of w .rows-held .hn, begin w .good)
+mul-add-up-5 c = let w = c .before .before .before .before .before .before .before .before in omega (arith, spot-of w .rows-held .hn, begin w .good)
 
 sub-add-up-6 : tie.Need-sub-add-up-6
 sub-add-up-6 c = omega arith
 
 part-add-up-start-6 : tie.Need-part-add-up-start-6
-part-add-up-start-6 c = let w = c .before .before .before .before .before .before in omega (arith, spot-of w .rows-held .hn)
+part-add-up-start-6 c = let w = c .before .before .before .before .before .before .before .before in omega (arith, spot-of w .rows-held .hn)
 
 part-add-up-end-6 : tie.Need-part-add-up-end-6
-part-add-up-end-6 c = let w = c .before .before .before .before .before .before in omega (arith, spot-of w .rows-held .hn)
+part-add-up-end-6 c = let w = c .before .before .before .before .before .before .before .before in omega (arith, spot-of w .rows-held .hn)
 
 mul-add-up-6 : tie.Need-mul-add-up-6
-mul-add-up-6 c = let w = c .before .before .before .before .before .before .before in omega (arith, spot-of w .ids-held, begin w .good)
+mul-add-up-6 c = let w = c .before .before .before .before .before .before .before .before .before in omega (arith, spot-of w .ids-held, begin w .good)
 
 sub-add-up-7 : tie.Need-sub-add-up-7
 sub-add-up-7 c = omega arith
 
 part-add-up-start-7 : tie.Need-part-add-up-start-7
-part-add-up-start-7 c = let w = c .before .before .before .before .before .before .before in omega (arith, spot-of w .ids-held)
+part-add-up-start-7 c = let w = c .before .before .before .before .before .before .before .before .before in omega (arith, spot-of w .ids-held)
 
 part-add-up-end-7 : tie.Need-part-add-up-end-7
-part-add-up-end-7 c = let w = c .before .before .before .before .before .before .before in omega (arith, spot-of w .ids-held)
+part-add-up-end-7 c = let w = c .before .before .before .before .before .before .before .before .before in omega (arith, spot-of w .ids-held)
 
 mul-add-up-7 : tie.Need-mul-add-up-7
-mul-add-up-7 c = let w = c .before .before .before .before .before .before .before .before in omega (arith, spot-of w .coords-held, begin w .good)
+mul-add-up-7 c = let w = c .before .before .before .before .before .before .before .before .before .before in omega (arith, spot-of w .coords-held, begin w .good)
 
 sub-add-up-8 : tie.Need-sub-add-up-8
 sub-add-up-8 c = omega arith
 
 part-add-up-start-8 : tie.Need-part-add-up-start-8
-part-add-up-start-8 c = let w = c .before .before .before .before .before .before .before .before in omega (arith, spot-of w .coords-held)
+part-add-up-start-8 c = let w = c .before .before .before .before .before .before .before .before .before .before in omega (arith, spot-of w .coords-held)
 
 part-add-up-end-8 : tie.Need-part-add-up-end-8
-part-add-up-end-8 c = let w = c .before .before .before .before .before .before .before .before in omega (arith, spot-of w .coords-held)
+part-add-up-end-8 c = let w = c .before .before .before .before .before .before .before .before .before .before in omega (arith, spot-of w .coords-held)
 
 abbrev wide-of : tie.After-add-up-arg8 → tie.After-wide
 wide-of c = c .before .before .before .before .before .before .before .before
@@ -179,10 +193,10 @@ wide-of c = c .before .before .before .before .before .before .before .before
 add-up-requires : tie.Need-add-up-requires
 add-up-requires c κs =
     let v = wide-of c in
-    let w = v .before in
+    let w = v .before .before .before in
     let s = begin w in
     let p = spot-of w in
-    let t : IsTile (v .wide .result) (s .args .tx) (s .args .ty) = subst (λ (k : ℕ). IsTile k (s .args .tx) (s .args .ty)) (sym (v .wide .ensures)) (s .pre .1) in (
+    let t : IsTile (v .wide .result) (s .args .tx) (s .args .ty) = subst (λ (k : ℕ). IsTile k (s .args .tx) (s .args .ty)) (sym (v .wide .ensures)) (s .pre .0 .1) in (
       (p .bounds, t),
       (
         lent-even (from-of w) (len-of w) _ _ _ _ _ _ (p .rows-held),
@@ -193,7 +207,7 @@ add-up-requires c κs =
 returns : tie.Need-returns
 returns c =
     let v = wide-of (c .before) in
-    let w = v .before in
+    let w = v .before .before .before in
     let s = begin w in
     let a = s .args in
     let k = lent-columns s in
@@ -210,8 +224,12 @@ tally-used-spec =
     (tie.spec
     zoom-used-requires
     index-requires
-    start-of-requires
-    len-of-requires
+    mul-a
+    element-copy-out-a
+    cast-a
+    mul-e
+    element-copy-out-e
+    cast-e
     add-e
     mul-c
     mul-d

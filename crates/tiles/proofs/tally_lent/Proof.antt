@@ -1,35 +1,40 @@
--- `tiles::tally` meets its contract: each return is one of its ends. Assumes nothing.
-use mathlib.Core.Path.{_≡_, sym, ap, _∙_}
+-- `tiles::tally_lent` meets its contract: each return is one of its ends. Assumes nothing.
+use mathlib.Core.Path.{_≡_, refl, sym, ap, _∙_}
 use mathlib.Core.Bool.{true}
 use Prim.Native.Nat.{ℕ}
 use denote.Ref.{now}
 use borrow.Author.Needs.{needs}
 use borrow.Author.Tests.{not-true, not-false}
+use Rattle.tables.specs.declared.State.{State}
+use Rattle.tables.specs.State.{stateOf}
 use Rattle.tables.specs.Sound.{stateOk}
 use Rattle.asking.specs.Columns.{Columns, columns, roomOf}
 use Rattle.tiling.specs.Tile.{isTile}
 use Rattle.tiling.specs.Framed.{tile-is}
 use Rattle.tiles.specs.Ends.{tally-spoiled, tally-no-tile, tally-summed}
-use Rattle.tiles.proofs.tally.Statement.{statement}
-use Rattle.tiles.proofs.tally.Tie as tie
+use Rattle.tiles.proofs.tally_lent.Statement.{statement}
+use Rattle.tiles.proofs.tally_lent.Tie as tie
 
 -- ---- the state, looked at
 
-abbrev begin : tie.After-is-sound → tie.Start
-begin c = c .before .before .before .before .before .before .before .before .before .before
+abbrev begin : tie.After-is-sound-by → tie.Start
+begin c = c .before .before .before .before .before .before .before .before .before .before .before .before
 
 abbrev lent-columns : tie.Start → Columns
 lent-columns s = let a = s .args in columns (now (a .x)) (now (a .y)) (now (a .seen)) (now (a .id)) (now (a .parent)) (now (a .num)) (now (a .ids)) (now (a .coords))
 
-sound-is : (c : tie.After-is-sound) → c .is-sound .result ≡ stateOk (begin c .args .s) (roomOf (lent-columns (begin c)))
-sound-is c = c .is-sound .ensures ∙ ap (stateOk (begin c .args .s)) (c .before .room .ensures)
+abbrev state-of : tie.Start → State
+state-of s = let a = s .args in stateOf (a .options) (a .count) (now (a .starts)) (now (a .lens))
+
+sound-is : (c : tie.After-is-sound-by) → c .is-sound-by .result ≡ stateOk (state-of (begin c)) (roomOf (lent-columns (begin c)))
+sound-is c = c .is-sound-by .ensures ∙ ap (stateOk (state-of (begin c))) (c .before .room .ensures)
 
 -- ---- the tile, looked at
 
-abbrev sound-of : tie.After-is-tile → tie.After-is-sound
+abbrev sound-of : tie.After-is-tile → tie.After-is-sound-by
 sound-of c = c .before .before .before
 
-sound : (c : tie.After-is-tile) → stateOk (begin (sound-of c) .args .s) (roomOf (lent-columns (begin (sound-of c)))) ≡ true
+sound : (c : tie.After-is-tile) → stateOk (state-of (begin (sound-of c))) (roomOf (lent-columns (begin (sound-of c)))) ≡ true
 sound c = sym (sound-is (sound-of c)) ∙ not-false _ (c .before .before .if1 .left)
 
 tile-test : (c : tie.After-is-tile) → let a = begin (sound-of c) .args in c .is-tile .result ≡ isTile (a .z) (a .tx) (a .ty)
@@ -43,14 +48,14 @@ a-tile c = sym (tile-test (c .before)) ∙ not-false _ (c .if2 .left)
 room-requires : tie.Need-room-requires
 room-requires c κs = search needs
 
-is-sound-requires : tie.Need-is-sound-requires
-is-sound-requires c κs = search needs
+is-sound-by-requires : tie.Need-is-sound-by-requires
+is-sound-by-requires c κs = (refl, refl)
 
 returns : tie.Need-returns
 returns c =
     let s = begin (c .before) in
     let a = s .args in
-    tally-spoiled (a .s) (lent-columns s) (a .z) (a .tx) (a .ty) (sym (sound-is (c .before)) ∙ not-true _ (c .if1 .taken))
+    tally-spoiled (state-of s) (lent-columns s) (a .z) (a .tx) (a .ty) (sym (sound-is (c .before)) ∙ not-true _ (c .if1 .taken))
 
 wide-requires : tie.Need-wide-requires
 wide-requires c κs = search needs
@@ -63,12 +68,12 @@ returns-2 c =
     let t = c .before in
     let s = begin (sound-of t) in
     let a = s .args in
-    tally-no-tile (a .s) (lent-columns s) (a .z) (a .tx) (a .ty) (sound t) (sym (tile-test t) ∙ not-true _ (c .if2 .taken))
+    tally-no-tile (state-of s) (lent-columns s) (a .z) (a .tx) (a .ty) (sound t) (sym (tile-test t) ∙ not-true _ (c .if2 .taken))
 
 tally-used-requires : tie.Need-tally-used-requires
 tally-used-requires c κs =
     let a = begin (sound-of (c .before)) .args in
-    (sound (c .before), tile-is (a .z) (a .tx) (a .ty) (a-tile c))
+    ((sound (c .before), tile-is (a .z) (a .tx) (a .ty) (a-tile c)), (refl, refl))
 
 sum-of-requires : tie.Need-sum-of-requires
 sum-of-requires c κs = search needs
@@ -79,14 +84,14 @@ returns-3 c =
     let e = u .before in
     let s = begin (sound-of (e .before)) in
     let a = s .args in
-    c .sum-of .ensures ∙ tally-summed (a .s) (lent-columns s) (a .z) (a .tx) (a .ty) (sound (e .before)) (a-tile e) (u .tally-used .result) (u .tally-used .ensures)
+    c .sum-of .ensures ∙ tally-summed (state-of s) (lent-columns s) (a .z) (a .tx) (a .ty) (sound (e .before)) (a-tile e) (u .tally-used .result) (u .tally-used .ensures)
 
-pub tally-spec : {M : Type 1} → statement M
-tally-spec =
+pub tally-lent-spec : {M : Type 1} → statement M
+tally-lent-spec =
     tie.close
     (tie.spec
     room-requires
-    is-sound-requires
+    is-sound-by-requires
     returns
     wide-requires
     is-tile-requires

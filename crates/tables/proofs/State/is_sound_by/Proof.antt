@@ -1,4 +1,4 @@
--- `State::is_sound` meets its contract: each test is one of `stateOk`, in its order. Assumes nothing.
+-- `State::is_sound_by` meets its contract: each test is one of `stateOk`, in its order. Assumes nothing.
 use mathlib.Core.Path.{_≡_, sym, _∙_}
 use mathlib.Core.Bool.{true}
 use borrow.Author.Tests.{le-leb, lt-leb, not-true, not-false}
@@ -6,8 +6,8 @@ use borrow.Author.Needs.{needs}
 use Rattle.tables.specs.Options.{optionsOk}
 use Rattle.tables.specs.Bounds.{InBounds, options-are}
 use Rattle.tables.specs.Sound.{stateOk}
-use Rattle.tables.proofs.State.is_sound.Statement.{statement}
-use Rattle.tables.proofs.State.is_sound.Tie as tie
+use Rattle.tables.proofs.State.is_sound_by.Statement.{statement}
+use Rattle.tables.proofs.State.is_sound_by.Tie as tie
 
 -- ---- the branches that were not taken, from the later ones
 
@@ -42,7 +42,9 @@ unfolding stateOk
 returns-3 c = let d = c .before .before in simp (options (first d), le-leb _ _ (d .if2 .left), lt-leb _ _ (c .if3 .taken))
 
 is-filled-requires : tie.Need-is-filled-requires
-is-filled-requires c κs = let b = bounds c in (b .zooms, b .zoom-to, c .if3 .left)
+is-filled-requires c κs =
+    let b = bounds c in
+    ((b .zooms, b .zoom-to, c .if3 .left), first (second c) .before .before .before .pre)
 
 returns-4 : tie.Need-returns-4
 unfolding stateOk
@@ -51,8 +53,8 @@ returns-4 c =
     let d = second e in
     simp (options (first d), le-leb _ _ (d .if2 .left), le-leb _ _ (e .if3 .left), c .is-filled .ensures)
 
-pub is-sound-spec : {M : Type 1} → statement M
-is-sound-spec =
+pub is-sound-by-spec : {M : Type 1} → statement M
+is-sound-by-spec =
     tie.close
     (tie.spec
     is-in-bounds-requires

@@ -1,5 +1,5 @@
--- `tiles::tile` meets its contract: each return is one of its ends. Assumes nothing.
-use mathlib.Core.Path.{_≡_, sym, ap, _∙_}
+-- `tiles::tile_lent` meets its contract: each return is one of its ends. Assumes nothing.
+use mathlib.Core.Path.{_≡_, refl, sym, ap, _∙_}
 use mathlib.Core.Bool.{true}
 use mathlib.Core.List.{List, _++_}
 use Prim.Native.Nat.{ℕ, _+_, min, _≤_}
@@ -10,6 +10,8 @@ use lib.Seq.{length-take-le}
 use denote.Ref.{now}
 use borrow.Author.Needs.{needs}
 use borrow.Author.Tests.{not-true, not-false}
+use Rattle.tables.specs.declared.State.{State}
+use Rattle.tables.specs.State.{stateOf}
 use Rattle.tables.specs.Sound.{stateOk}
 use Rattle.asking.specs.declared.Answer.{Answer}
 use Rattle.asking.specs.Columns.{Columns, columns, roomOf}
@@ -18,26 +20,29 @@ use Rattle.tiling.specs.Tile.{isTile}
 use Rattle.tiling.specs.Framed.{tile-is}
 use Rattle.tiles.specs.Asked.{shortest, outcome, tiled}
 use Rattle.tiles.specs.Ends.{finish, room-fits, ends-spoiled, ends-no-tile, ends-listed}
-use Rattle.tiles.proofs.tile.Statement.{statement}
-use Rattle.tiles.proofs.tile.Tie as tie
+use Rattle.tiles.proofs.tile_lent.Statement.{statement}
+use Rattle.tiles.proofs.tile_lent.Tie as tie
 
 -- ---- the state, looked at
 
-abbrev begin : tie.After-is-sound → tie.Start
-begin c = c .before .before .before .before .before .before .before .before .before .before .before
+abbrev begin : tie.After-is-sound-by → tie.Start
+begin c = c .before .before .before .before .before .before .before .before .before .before .before .before .before
 
 abbrev lent-columns : tie.Start → Columns
 lent-columns s = let a = s .args in columns (now (a .x)) (now (a .y)) (now (a .seen)) (now (a .id)) (now (a .parent)) (now (a .num)) (now (a .ids)) (now (a .coords))
 
-sound-is : (c : tie.After-is-sound) → c .is-sound .result ≡ stateOk (begin c .args .s) (roomOf (lent-columns (begin c)))
-sound-is c = c .is-sound .ensures ∙ ap (stateOk (begin c .args .s)) (c .before .room .ensures)
+abbrev state-of : tie.Start → State
+state-of s = let a = s .args in stateOf (a .options) (a .count) (now (a .starts)) (now (a .lens))
+
+sound-is : (c : tie.After-is-sound-by) → c .is-sound-by .result ≡ stateOk (state-of (begin c)) (roomOf (lent-columns (begin c)))
+sound-is c = c .is-sound-by .ensures ∙ ap (stateOk (state-of (begin c))) (c .before .room .ensures)
 
 -- ---- the tile, looked at
 
-abbrev sound-of : tie.After-is-tile → tie.After-is-sound
+abbrev sound-of : tie.After-is-tile → tie.After-is-sound-by
 sound-of c = c .before .before .before
 
-sound : (c : tie.After-is-tile) → stateOk (begin (sound-of c) .args .s) (roomOf (lent-columns (begin (sound-of c)))) ≡ true
+sound : (c : tie.After-is-tile) → stateOk (state-of (begin (sound-of c))) (roomOf (lent-columns (begin (sound-of c)))) ≡ true
 sound c = sym (sound-is (sound-of c)) ∙ not-false _ (c .before .before .if1 .left)
 
 tile-test : (c : tie.After-is-tile) → let a = begin (sound-of c) .args in c .is-tile .result ≡ isTile (a .z) (a .tx) (a .ty)
@@ -66,14 +71,14 @@ room-in c =
 room-requires : tie.Need-room-requires
 room-requires c κs = search needs
 
-is-sound-requires : tie.Need-is-sound-requires
-is-sound-requires c κs = search needs
+is-sound-by-requires : tie.Need-is-sound-by-requires
+is-sound-by-requires c κs = (refl, refl)
 
 returns : tie.Need-returns
 returns c =
     let s = begin (c .before) in
     let a = s .args in
-    ends-spoiled (a .s) (lent-columns s) (a .z) (a .tx) (a .ty) (now (a .places)) (now (a .px)) (now (a .py)) (sym (sound-is (c .before)) ∙ not-true _ (c .if1 .taken))
+    ends-spoiled (state-of s) (lent-columns s) (a .z) (a .tx) (a .ty) (now (a .places)) (now (a .px)) (now (a .py)) (sym (sound-is (c .before)) ∙ not-true _ (c .if1 .taken))
 
 wide-requires : tie.Need-wide-requires
 wide-requires c κs = search needs
@@ -86,7 +91,7 @@ returns-2 c =
     let t = c .before in
     let s = begin (sound-of t) in
     let a = s .args in
-    ends-no-tile (a .s) (lent-columns s) (a .z) (a .tx) (a .ty) (now (a .places)) (now (a .px)) (now (a .py)) (sound t) (sym (tile-test t) ∙ not-true _ (c .if2 .taken))
+    ends-no-tile (state-of s) (lent-columns s) (a .z) (a .tx) (a .ty) (now (a .places)) (now (a .px)) (now (a .py)) (sound t) (sym (tile-test t) ∙ not-true _ (c .if2 .taken))
 
 less-requires : tie.Need-less-requires
 less-requires c κs = search needs
@@ -117,7 +122,7 @@ list-used-requires c κs =
     let r = c .before .before .before in
     let t = tile-of r in
     let a = begun r .args in
-    (sound t, tile-is (a .z) (a .tx) (a .ty) (sym (tile-test t) ∙ not-false _ (r .before .before .if2 .left)))
+    ((sound t, tile-is (a .z) (a .tx) (a .ty) (sym (tile-test t) ∙ not-false _ (r .before .before .if2 .left))), (refl, refl))
 
 -- ---- what was listed
 
@@ -126,22 +131,22 @@ room-of l = l .before .before .before .before
 
 -- the columns, the part that was lent and the rest
 abbrev places-after : tie.After-list-used → List ℕ
-places-after l = l .list-used .last .1 .1 .1 .1 .1 .1 .1 .1 .1 .1 .1 .1 .0 ++ drop (room-of l .less2 .result) (now (begun (room-of l) .args .places))
+places-after l = l .list-used .last .1 .1 .1 .1 .1 .1 .1 .1 .1 .1 .1 .1 .1 .1 .0 ++ drop (room-of l .less2 .result) (now (begun (room-of l) .args .places))
 
 abbrev px-after : tie.After-list-used → List ℤ
-px-after l = l .list-used .last .1 .1 .1 .1 .1 .1 .1 .1 .1 .1 .1 .1 .1 .0 ++ drop (room-of l .less2 .result) (now (begun (room-of l) .args .px))
+px-after l = l .list-used .last .1 .1 .1 .1 .1 .1 .1 .1 .1 .1 .1 .1 .1 .1 .1 .0 ++ drop (room-of l .less2 .result) (now (begun (room-of l) .args .px))
 
 abbrev py-after : tie.After-list-used → List ℤ
-py-after l = l .list-used .last .1 .1 .1 .1 .1 .1 .1 .1 .1 .1 .1 .1 .1 .1 .0 ++ drop (room-of l .less2 .result) (now (begun (room-of l) .args .py))
+py-after l = l .list-used .last .1 .1 .1 .1 .1 .1 .1 .1 .1 .1 .1 .1 .1 .1 .1 .1 .0 ++ drop (room-of l .less2 .result) (now (begun (room-of l) .args .py))
 
 listed-is : (l : tie.After-list-used) → let a = begun (room-of l) .args in outcome (finish (l .list-used .result) (room-of l .less2 .result)) (places-after l) (px-after l) (py-after l)
-    ≡ tiled (a .s) (lent-columns (begun (room-of l))) (a .z) (a .tx) (a .ty) (now (a .places)) (now (a .px)) (now (a .py))
+    ≡ tiled (state-of (begun (room-of l))) (lent-columns (begun (room-of l))) (a .z) (a .tx) (a .ty) (now (a .places)) (now (a .px)) (now (a .py))
 listed-is l =
     let r = room-of l in
     let t = tile-of r in
     let s = begun r in
     let a = s .args in
-    ends-listed (a .s) (lent-columns s) (a .z) (a .tx) (a .ty) (now (a .places)) (now (a .px)) (now (a .py)) (sound t) (sym (tile-test t) ∙ not-false _ (r .before .before .if2 .left))
+    ends-listed (state-of s) (lent-columns s) (a .z) (a .tx) (a .ty) (now (a .places)) (now (a .px)) (now (a .py)) (sound t) (sym (tile-test t) ∙ not-false _ (r .before .before .if2 .left))
     (r .less2 .result) (room-is r) (l .list-used .result) _ _ _ (l .list-used .ensures)
 
 -- a column whose first part keeps its length keeps its own
@@ -150,13 +155,13 @@ rest-kept r p l e =
     length-append p (drop r l) ∙ ap (λ (k : ℕ). k + length (drop r l)) e ∙ sym (length-append (take r l) (drop r l)) ∙ ap length (take-append-drop r l)
 
 places-kept : (l : tie.After-list-used) → length (places-after l) ≡ length (now (begun (room-of l) .args .places))
-places-kept l = rest-kept (room-of l .less2 .result) (l .list-used .last .1 .1 .1 .1 .1 .1 .1 .1 .1 .1 .1 .1 .0) (now (begun (room-of l) .args .places)) (l .list-used .kept .1 .1 .1 .1 .1 .1 .1 .1 .1 .1 .1 .1 .0)
+places-kept l = rest-kept (room-of l .less2 .result) (l .list-used .last .1 .1 .1 .1 .1 .1 .1 .1 .1 .1 .1 .1 .1 .1 .0) (now (begun (room-of l) .args .places)) (l .list-used .kept .1 .1 .1 .1 .1 .1 .1 .1 .1 .1 .1 .1 .1 .1 .0)
 
 px-kept : (l : tie.After-list-used) → length (px-after l) ≡ length (now (begun (room-of l) .args .px))
-px-kept l = rest-kept (room-of l .less2 .result) (l .list-used .last .1 .1 .1 .1 .1 .1 .1 .1 .1 .1 .1 .1 .1 .0) (now (begun (room-of l) .args .px)) (l .list-used .kept .1 .1 .1 .1 .1 .1 .1 .1 .1 .1 .1 .1 .1 .0)
+px-kept l = rest-kept (room-of l .less2 .result) (l .list-used .last .1 .1 .1 .1 .1 .1 .1 .1 .1 .1 .1 .1 .1 .1 .1 .0) (now (begun (room-of l) .args .px)) (l .list-used .kept .1 .1 .1 .1 .1 .1 .1 .1 .1 .1 .1 .1 .1 .1 .1 .0)
 
 py-kept : (l : tie.After-list-used) → length (py-after l) ≡ length (now (begun (room-of l) .args .py))
-py-kept l = rest-kept (room-of l .less2 .result) (l .list-used .last .1 .1 .1 .1 .1 .1 .1 .1 .1 .1 .1 .1 .1 .1 .0) (now (begun (room-of l) .args .py)) (l .list-used .kept .1 .1 .1 .1 .1 .1 .1 .1 .1 .1 .1 .1 .1 .1 .0)
+py-kept l = rest-kept (room-of l .less2 .result) (l .list-used .last .1 .1 .1 .1 .1 .1 .1 .1 .1 .1 .1 .1 .1 .1 .1 .1 .0) (now (begun (room-of l) .args .py)) (l .list-used .kept .1 .1 .1 .1 .1 .1 .1 .1 .1 .1 .1 .1 .1 .1 .1 .1 .0)
 
 -- the call, seen from the two ends after it
 abbrev listing : tie.After-enum-told → tie.After-list-used
@@ -205,12 +210,12 @@ returns-4 c =
     ∙ sym (ap (λ (q : Ran). outcome (finish q (room-of l .less2 .result)) (places-after l) (px-after l) (py-after l)) (k .k .given .1))
     ∙ listed-is l
 
-pub tile-spec : {M : Type 1} → statement M
-tile-spec =
+pub tile-lent-spec : {M : Type 1} → statement M
+tile-lent-spec =
     tie.close
     (tie.spec
     room-requires
-    is-sound-requires
+    is-sound-by-requires
     returns
     wide-requires
     is-tile-requires
