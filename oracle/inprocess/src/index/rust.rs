@@ -1,7 +1,7 @@
 //! The Rust's index: arranged by both builds, and its searches over any columns.
 
 use super::{arrangement::Columns, queries::Query};
-use oracle_untouched::KDBush;
+use oracle_patched::KDBush;
 use ported::Lent;
 
 macro_rules! arranged {
@@ -21,7 +21,7 @@ macro_rules! arranged {
 arranged!(untouched, oracle_untouched);
 arranged!(patched, oracle_patched);
 
-/// The untouched Rust's searches over lent columns, whoever made them.
+/// The patched Rust's searches over lent columns, whoever made them.
 pub struct Searcher(KDBush);
 
 impl Searcher {
