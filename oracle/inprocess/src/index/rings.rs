@@ -13,6 +13,7 @@ use crate::{
     report::{other_column, Group},
     Form,
 };
+use points::steps_beside as beside;
 use ported::Lent;
 use splitmix::Splitmix;
 
@@ -21,9 +22,6 @@ const NODE_SIZES: [usize; 5] = [1, 2, 3, 8, 64];
 /// The most points of an index, and how many rings each is asked.
 const MOST: u64 = 30;
 const RINGS: usize = 20;
-
-/// How many steps of the format a number may be moved.
-const STEPS: u64 = 3;
 
 /// Indexes of a few points, and rings around each: a million in all, with the long form ten million.
 pub fn run(form: Form, built: &mut Group, judged: &mut Group) -> [Group; 2] {
@@ -102,17 +100,10 @@ impl Scene {
     }
 }
 
-/// A number a few steps of the format up or down from this one, or this one.
-fn beside(v: f64, source: &mut Splitmix) -> f64 {
-    let up = source.below(2) == 0;
-    let step = |v: f64, _| if up { v.next_up() } else { v.next_down() };
-    (0..source.below(STEPS + 1)).fold(v, step)
-}
-
 /// A ring with an edge within [0,1], on either axis and either side; the edge is often much closer to 0 than the
 /// centre is, so that it is finer than the distance.
 fn circle(source: &mut Splitmix) -> [f64; 3] {
-    let edge = source.unit() / (1_u64 << source.below(10)) as f64;
+    let edge = points::fine(source);
     let centre = match source.below(4) {
         0 => 1.0,
         1 => source.unit(),

@@ -24,6 +24,7 @@ pub fn run(form: Form) -> ExitCode {
     let mut beside = Beside::new();
     cases::corners(form, &mut source, |case, source| beside.compare(case, source));
     cases::counts(form, &mut source, |case, source| beside.compare(case, source));
+    cases::at_rings(form, &mut source, |case, source| beside.compare(case, source));
     let mut groups = beside.told();
     if form == Form::Full {
         groups.push(large::run(&mut source));
@@ -82,8 +83,10 @@ impl Beside {
         self.untouched.compare(|| case.name(), difference);
     }
 
-    /// Says how often a listed difference; the groups.
-    fn told(self) -> Vec<Group> {
+    /// Says how often a listed difference; the groups. Builds that come to none do not try the rule.
+    fn told(mut self) -> Vec<Group> {
+        let never = (self.skips == 0).then(|| "nothing is skipped".to_string());
+        self.untouched.compare(|| "all builds".to_string(), never);
         println!("differences listed under E5: {}", self.skips);
         vec![self.patched, self.ringed, self.untouched]
     }
