@@ -1,6 +1,6 @@
 -- Of a build that is accepted, in columns that hold it, what a box and a ring answer: a Cartesian box lists exactly the entries between its normalised corners,
--- each once; so does a box of longitudes between the edges after the rule, and each half of one that is split. A ring lists entries that pass the distance test,
--- each once, and every one that passes it inside the four rounded edges. Nothing is asked but that the numbers of the question are taken (any other is 01's 9), and
+-- each once; so does a box of longitudes between the edges after the rule, and each half of one that is split. A ring lists exactly the entries that pass the
+-- distance test, each once. Nothing is asked but that the numbers of the question are taken (any other is 01's 9), and
 -- neither is ever refused 11. Assumes nothing.
 use mathlib.Core.Path.{_≡_, refl, ap, ap₂, sym, _∙_, subst}
 use mathlib.Core.Bool.{Bool, true, false, cond, _&&_}
@@ -11,7 +11,7 @@ use native.Mathlib.Nat.{le-refl}
 use borrow.Author.Tests.{leb-true, le-leb}
 use lib.Dec.{T, eqb, leb}
 use lib.ListN.{length, getD, length-map, List·getD-map}
-use lib.Ieee.{Float, nan, binary64, add, sub, mul, neg, le}
+use lib.Ieee.{Float, nan, binary64, mul, neg, le}
 use Rattle.floats.specs.Distance.{sqDist}
 use Rattle.floats.specs.Fraction.{is-true, yes-of}
 use Rattle.floats.specs.Unit.{In01}
@@ -39,7 +39,7 @@ use Rattle.asking.specs.declared.Answer.the-variants.{Listed, NoRoom, Box, Spoi
 use Rattle.asking.specs.Answers.{answerNumber, fitted}
 use Rattle.asking.specs.Asked.{Asked, refused, told, answerOf}
 use Rattle.asking.specs.Columns.{indexRoom, roomOf, room-index, idsAt, coordsAt}
-use Rattle.boxes.specs.Inside.{Indexed, Passes, Exactly, Around, cartesian-box, longitude-box, split-box, ring-around}
+use Rattle.boxes.specs.Inside.{Indexed, Passes, Exactly, cartesian-box, longitude-box, split-box, ring-exactly}
 use Rattle.boxes.specs.Lists.{boxAsked, ringAsked}
 use Rattle.boxes.specs.Rule.{halfCircle, ruled, boxOk}
 use Rattle.zooms.specs.Zooms.{slotsOf}
@@ -89,10 +89,10 @@ pub record Boxes (w s e n : Float) (t : Table) (l : List ℕ) : Type 0 where
 abbrev pub Near : Float → Float → Float → Entry → Type 0
 Near x y r a = T (le (sqDist (a .x) (a .y) x y) (mul binary64 r r))
 
--- each entry of the list passes the distance test, is in it once, and has x and y in [0,1]; each that passes it inside the four rounded edges is in it
+-- the list has each entry of the table that passes the distance test, once, and no other; and each of them has x and y in [0,1]
 pub record Rings (x y r : Float) (t : Table) (l : List ℕ) : Type 0 where
   pub inside : (p : ℕ) → In p l → (p < length t) × Near x y r (entry t p)
-  pub every : (p : ℕ) → p < length t → Near x y r (entry t p) → Lies (sub binary64 x r) (sub binary64 y r) (add binary64 x r) (add binary64 y r) (entry t p) → In p l
+  pub every : (p : ℕ) → p < length t → Near x y r (entry t p) → In p l
   pub single : Distinct l
   pub unit : (p : ℕ) → In p l → In01 (entry t p .x) × In01 (entry t p .y)
 
@@ -138,21 +138,11 @@ boxes-of w s e n t m l h x =
       unit = λ p i. unit-at t p (x .unit p i);
     }
 
-rings-of : (x y r : Float) (t : Table) (m : ℕ) (l : List ℕ) → m ≡ length t → Around x y r m (xsOf t) (ysOf t) l → Rings x y r t l
+rings-of : (x y r : Float) (t : Table) (m : ℕ) (l : List ℕ) → m ≡ length t → Exactly (Within x y r) m (xsOf t) (ysOf t) l → Rings x y r t l
 rings-of x y r t m l h a =
     record {
       inside = λ p i. let q = a .inside p i in (omega (arith, q .0, h), yes-of (passes-at t p (Within x y r) (q .1)));
-      every = λ p k d i.
-          let ex = sym (x-at t p) in
-          let ey = sym (y-at t p) in
-          a .every p (omega (arith, k, h))
-          (record {
-            passes = at-passes t p (Within x y r) (is-true _ d);
-            west = subst (λ (v : Float). T (le (sub binary64 x r) v)) ex (i .west);
-            east = subst (λ (v : Float). T (le v (add binary64 x r))) ex (i .east);
-            south = subst (λ (v : Float). T (le (sub binary64 y r) v)) ey (i .south);
-            north = subst (λ (v : Float). T (le v (add binary64 y r))) ey (i .north);
-          });
+      every = λ p k d. a .every p (omega (arith, k, h)) (at-passes t p (Within x y r) (is-true _ d));
       single = a .single;
       unit = λ p i. unit-at t p (a .unit p i);
     }
@@ -284,11 +274,11 @@ module _ (o : Options) (xs ys : List Float) (a : Accepted o xs ys) where
             by false f h = let x = sym (ap (λ (q : Asked). answerOf q room) (box-refused f)) ∙ h in omega (arith, ap answerNumber x)
 
       module _ (x y radius : Float) where
-        -- a ring lists entries that pass the distance test, each once, and each that passes it inside the four rounded edges
+        -- a ring lists exactly the entries that pass the distance test, each once
         pub ring-listed : queryOk (Within x y radius) ≡ true → (p : List ℕ) × (ringBy o xs ys l zoom x y radius ≡ told true p) × Rings x y radius (usedBy o xs ys zoom) p
         ring-listed fine =
             let t = usedBy o xs ys zoom in
-            let g = ring-around (stateBy o xs ys) (columnsBy o xs ys l .ids) (columnsBy o xs ys l .coords) zoom (xsOf t) (ysOf t) index-sound indexed x y radius fine in
+            let g = ring-exactly (stateBy o xs ys) (columnsBy o xs ys l .ids) (columnsBy o xs ys l .coords) zoom (xsOf t) (ysOf t) index-sound indexed x y radius fine in
             (g .0, g .1, rings-of x y radius t _ (g .0) long (g .2))
 
         -- any other is 9

@@ -14,6 +14,7 @@ use Rattle.kdslots.specs.declared.Query.the-variants.{Within}
 use Rattle.kdslots.specs.All.{AllBelow}
 use Rattle.kdbush.specs.Promise.{Promised, all-whole, all-sound}
 use Rattle.kdslots.specs.Query.{queryOk}
+use Rattle.kdslots.specs.Keep.{keep}
 use Rattle.kdwalk.specs.Reply.{walk}
 use Rattle.kdbush.specs.Run.{places, sound, whole}
 use Rattle.tables.specs.declared.Options.{Options}
@@ -25,7 +26,6 @@ use Rattle.tables.specs.State.{lenOf}
 use Rattle.zoom.specs.Keeps.{all-at}
 use Rattle.zoom.specs.Near.{query-fine}
 use Rattle.zoom.specs.Sound.{Body}
-use Rattle.groups.specs.Sums.{keep}
 use Rattle.asking.specs.Around.{slotsOf as around-slots}
 use Rattle.asking.specs.Columns.{Columns, idsAt, coordsAt}
 use Rattle.kids.specs.Kids.{kidsOf, placesAround, kidsAt, cleanAt}

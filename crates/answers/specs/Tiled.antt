@@ -19,7 +19,7 @@ use Rattle.kdsort.specs.Tree.{Index}
 use Rattle.kdslots.specs.declared.Query.the-variants.{Range}
 use Rattle.kdslots.specs.All.{All, all-append}
 use Rattle.kdslots.specs.Members.{In, in-right}
-use Rattle.kdbush.specs.Promise.{answered-once, range-sound, range-complete}
+use Rattle.kdbush.specs.Promise.{answered-once, answered-sound, answered-complete}
 use Rattle.kdslots.specs.Query.{passesQ}
 use Rattle.kdbush.specs.Reply.{found}
 use Rattle.kdslots.specs.Slots.{when}
@@ -139,10 +139,10 @@ module _ (size : ℕ) (t : Table) (old S : Cols) (I : Index size (xsOf t) (ysOf 
       subst (λ (m : ℕ). Boxes w s e n t (found (Range w s e n) size m (S .ids) (S .co))) long
       (boxes-of w s e n t (length (xsOf t)) _ long
       (record {
-        inside = range-sound size (xsOf t) (ysOf t) old S I w s e n;
-        every = range-complete size (xsOf t) (ysOf t) old S I w s e n;
+        inside = answered-sound size (xsOf t) (ysOf t) old S I (Range w s e n);
+        every = answered-complete size (xsOf t) (ysOf t) old S I (Range w s e n);
         single = answered-once size (xsOf t) (ysOf t) old S I (Range w s e n);
-        unit = λ p m. table-inside t b p (range-sound size (xsOf t) (ysOf t) old S I w s e n p m .0);
+        unit = λ p m. table-inside t b p (answered-sound size (xsOf t) (ysOf t) old S I (Range w s e n) p m .0);
       }))
 
   strip-of : (made : Bool) → Strip made w s e n t (when made (found (Range w s e n) size (length t) (S .ids) (S .co)))

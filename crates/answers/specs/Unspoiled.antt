@@ -11,13 +11,14 @@ use lib.Dec.{leb, ltb, eqb}
 use lib.ListN.{length, take, drop}
 use lib.Ieee.{Float}
 use Rattle.kdslots.specs.All.{All, AllBelow}
+use Rattle.kdslots.specs.Keep.{keep}
 use Rattle.tables.specs.declared.Options.{Options}
 use Rattle.tables.specs.declared.State.{State}
 use Rattle.tables.specs.Entries.{entry, unset}
 use Rattle.tables.specs.Ids.{originOf, tableOf}
 use Rattle.tables.specs.Sound.{stateOk}
 use Rattle.tables.specs.State.{lenOf}
-use Rattle.groups.specs.Sums.{below, keep}
+use Rattle.groups.specs.Sums.{below}
 use Rattle.asking.specs.declared.Answer.the-variants.{NoTree, NoCluster, Spoiled}
 use Rattle.asking.specs.declared.Target.{Target}
 use Rattle.asking.specs.declared.Target.the-variants.{At, NoTree as Target·NoTree, NoCluster as Target·NoCluster}

@@ -11,6 +11,7 @@ use lib.Dec.{eqb}
 use lib.ListN.{length, length-append}
 use lib.Ieee.{Float}
 use Rattle.kdslots.specs.All.{All, AllBelow}
+use Rattle.kdslots.specs.Keep.{put, keep}
 use Rattle.tables.specs.declared.Entry.{Entry}
 use Rattle.tables.specs.declared.Options.{Options}
 use Rattle.tables.specs.declared.State.{State}
@@ -19,7 +20,7 @@ use Rattle.tables.specs.Entries.{Table, entry}
 use Rattle.tables.specs.Ids.{originOf, tableOf}
 use Rattle.zoom.specs.Keeps.{all-at}
 use Rattle.zoom.specs.Sound.{Body}
-use Rattle.groups.specs.Sums.{below, put, keep}
+use Rattle.groups.specs.Sums.{below}
 use Rattle.asking.specs.Columns.{Columns, tableAt}
 use Rattle.asking.specs.declared.Target.{Target}
 use Rattle.kids.specs.Kids.{kidsAt}

@@ -1,13 +1,12 @@
 -- Of an index that is built from its table: a Cartesian box lists exactly the entries inside, each once, and each of them lies within [0,1]; so does a box of
--- longitudes that is not split, and each half of one that is. A ring lists entries that pass the distance test, each once, within [0,1] too, and every one that
--- passes it and lies inside the four rounded edges. No such question is refused for a place past the table. Assumes nothing.
+-- longitudes that is not split, and each half of one that is; and a ring lists exactly the entries that pass the distance test. No such question is refused for a
+-- place past the table. Assumes nothing.
 use mathlib.Core.Path.{_≡_, ap, _∙_, subst}
 use mathlib.Core.Bool.{true, false}
 use mathlib.Core.List.{List, [], _∷_, _++_, append-nil}
 use Prim.Native.Nat.{ℕ, _<_}
-use lib.Dec.{T}
 use lib.ListN.{length, getD}
-use lib.Ieee.{Float, nan, binary64, add, sub, le}
+use lib.Ieee.{Float, nan}
 use Rattle.floats.specs.Unit.{In01}
 use Rattle.range.specs.declared.DataRange.{DataRange}
 use Rattle.range.specs.declared.CoordinateSystem.the-variants.{LatLng, Cartesian}
@@ -22,7 +21,7 @@ use Rattle.kdbush.specs.Reply.{found, checked, built}
 use Rattle.kdslots.specs.Members.{In, Distinct}
 use Rattle.kdbush.specs.Built.{accepted, build-is-index}
 use Rattle.kdslots.specs.All.{AllBelow, all-append}
-use Rattle.kdbush.specs.Promise.{all-whole, all-sound, answered-below, answered-once, answered-sound, answered-complete, range-sound, range-complete}
+use Rattle.kdbush.specs.Promise.{all-whole, all-sound, answered-below, answered-once, answered-sound, answered-complete}
 use Rattle.tables.specs.declared.State.{State}
 use Rattle.tables.specs.Options.{zoomUsed}
 use Rattle.tables.specs.State.{lenOf}
@@ -59,21 +58,6 @@ pub record Exactly (q : Query) (n : ℕ) (xs ys : List Float) (l : List ℕ) : T
   pub single : Distinct l
   pub unit : (p : ℕ) → In p l → In01 (getD xs p nan) × In01 (getD ys p nan)
 
--- the entry p passes the distance test, and lies inside the four rounded edges
-pub record InEdges (x y r : Float) (xs ys : List Float) (p : ℕ) : Type 0 where
-  pub passes : Passes (Within x y r) xs ys p
-  pub west : T (le (sub binary64 x r) (getD xs p nan))
-  pub east : T (le (getD xs p nan) (add binary64 x r))
-  pub south : T (le (sub binary64 y r) (getD ys p nan))
-  pub north : T (le (getD ys p nan) (add binary64 y r))
-
--- each entry of the list passes the distance test, is in it once, and lies within [0,1]; each one inside the edges is in it
-pub record Around (x y r : Float) (n : ℕ) (xs ys : List Float) (l : List ℕ) : Type 0 where
-  pub inside : (p : ℕ) → In p l → (p < n) × Passes (Within x y r) xs ys p
-  pub every : (p : ℕ) → p < n → InEdges x y r xs ys p → In p l
-  pub single : Distinct l
-  pub unit : (p : ℕ) → In p l → In01 (getD xs p nan) × In01 (getD ys p nan)
-
 -- ---- one search of such an index
 
 walked-all : (n : ℕ) (l : List ℕ) → AllBelow n l → walked n l ≡ told true l
@@ -92,26 +76,15 @@ module _ (s : State) (ids : List ℕ) (co : List Float) (z : ℕ) (xs ys : List 
   two-told : (a b : Query) → listedAt s ids co z (record { first = a; second = b; two = true }) ≡ told true (foundIn (lenOf s z) a ++ foundIn (lenOf s z) b)
   two-told a b = walked-all (lenOf s z) (foundIn (lenOf s z) a ++ foundIn (lenOf s z) b) (all-append (λ (k : ℕ). k < lenOf s z) (foundIn (lenOf s z) a) (foundIn (lenOf s z) b) (below a) (below b))
 
-  range-exactly : (a b c d : Float) → Exactly (Range a b c d) (lenOf s z) xs ys (foundIn (lenOf s z) (Range a b c d))
-  range-exactly a b c d =
+  found-exactly : (q : Query) → Exactly q (lenOf s z) xs ys (foundIn (lenOf s z) q)
+  found-exactly q =
       let I = J .index in
-      subst (λ (n : ℕ). Exactly (Range a b c d) n xs ys (foundIn n (Range a b c d))) (J .long)
+      subst (λ (n : ℕ). Exactly q n xs ys (foundIn n q)) (J .long)
       (record {
-        inside = range-sound _ xs ys (J .lent) _ I a b c d;
-        every = range-complete _ xs ys (J .lent) _ I a b c d;
-        single = answered-once _ xs ys (J .lent) _ I (Range a b c d);
-        unit = λ p m. J .unit p (range-sound _ xs ys (J .lent) _ I a b c d p m .0);
-      })
-
-  within-around : (x y r : Float) → Around x y r (lenOf s z) xs ys (foundIn (lenOf s z) (Within x y r))
-  within-around x y r =
-      let I = J .index in
-      subst (λ (n : ℕ). Around x y r n xs ys (foundIn n (Within x y r))) (J .long)
-      (record {
-        inside = answered-sound _ xs ys (J .lent) _ I (Within x y r);
-        every = λ p h w. answered-complete _ xs ys (J .lent) _ I (Within x y r) p h (record { passes = w .passes; west = w .west; east = w .east; south = w .south; north = w .north });
-        single = answered-once _ xs ys (J .lent) _ I (Within x y r);
-        unit = λ p m. J .unit p (answered-sound _ xs ys (J .lent) _ I (Within x y r) p m .0);
+        inside = answered-sound _ xs ys (J .lent) _ I q;
+        every = answered-complete _ xs ys (J .lent) _ I q;
+        single = answered-once _ xs ys (J .lent) _ I q;
+        unit = λ p m. J .unit p (answered-sound _ xs ys (J .lent) _ I q p m .0);
       })
 
 -- ---- the questions
@@ -132,14 +105,14 @@ module _ (st : State) (ids : List ℕ) (co : List Float) (zoom : ℕ) (xs ys : L
     unfolding planOf converted
     cartesian-box d c =
         let q = Range (normalized d w) (normalized d s) (normalized d e) (normalized d n) in
-        (foundIn st ids co z xs ys J (lenOf st z) q, box-is ∙ rw c (one-told st ids co z xs ys J q), range-exactly st ids co z xs ys J _ _ _ _)
+        (foundIn st ids co z xs ys J (lenOf st z) q, box-is ∙ rw c (one-told st ids co z xs ys J q), found-exactly st ids co z xs ys J _)
 
     -- longitudes: exactly the entries between the edges after the rule
     pub longitude-box : st .options .«coordinate_system» ≡ LatLng → ruled w e .split ≡ false
         → (l : List ℕ) × (boxAsked st ids co zoom w s e n ≡ told true l) × Exactly (edged (ruled w e) s n) (lenOf st z) xs ys l
     unfolding planOf
     longitude-box c f =
-        (foundIn st ids co z xs ys J (lenOf st z) (edged (ruled w e) s n), box-is ∙ rw (c, f) (one-told st ids co z xs ys J (edged (ruled w e) s n)), range-exactly st ids co z xs ys J _ _ _ _)
+        (foundIn st ids co z xs ys J (lenOf st z) (edged (ruled w e) s n), box-is ∙ rw (c, f) (one-told st ids co z xs ys J (edged (ruled w e) s n)), found-exactly st ids co z xs ys J _)
 
     -- or, where it is split, those of the one half and then those of the other
     pub split-box : st .options .«coordinate_system» ≡ LatLng → ruled w e .split ≡ true
@@ -151,12 +124,13 @@ module _ (st : State) (ids : List ℕ) (co : List Float) (zoom : ℕ) (xs ys : L
           foundIn st ids co z xs ys J (lenOf st z) (h .first),
           foundIn st ids co z xs ys J (lenOf st z) (h .second),
           box-is ∙ rw (c, f) (two-told st ids co z xs ys J (h .first) (h .second)),
-          range-exactly st ids co z xs ys J _ _ _ _,
-          range-exactly st ids co z xs ys J _ _ _ _,
+          found-exactly st ids co z xs ys J _,
+          found-exactly st ids co z xs ys J _,
         )
 
-  pub ring-around : (x y r : Float) → queryOk (Within x y r) ≡ true
-      → (l : List ℕ) × (ringAsked st ids co zoom x y r ≡ told true l) × Around x y r (lenOf st z) xs ys l
+  -- a ring: exactly the entries that pass the distance test
+  pub ring-exactly : (x y r : Float) → queryOk (Within x y r) ≡ true
+      → (l : List ℕ) × (ringAsked st ids co zoom x y r ≡ told true l) × Exactly (Within x y r) (lenOf st z) xs ys l
   unfolding ringAsked
-  ring-around x y r fine =
-      (foundIn st ids co z xs ys J (lenOf st z) (Within x y r), rw (good, fine) (one-told st ids co z xs ys J (Within x y r)), within-around st ids co z xs ys J x y r)
+  ring-exactly x y r fine =
+      (foundIn st ids co z xs ys J (lenOf st z) (Within x y r), rw (good, fine) (one-told st ids co z xs ys J (Within x y r)), found-exactly st ids co z xs ys J (Within x y r))

@@ -44,13 +44,11 @@ module _ (size : ℕ) (t : Table) (n1 : 1 ≤ size) (some : 1 ≤ length t) (b :
       let ex = List·getD-map (λ e. e .x) t i none in
       let ey = List·getD-map (λ e. e .y) t i none in
       let w = all-at Body t i b h in
-      let v = all-at Held t i f h in
       let s = indexOf size (xsOf t) (ysOf t) in
       let a : In i (found (Within (getD (xsOf t) i nan) (getD (ysOf t) i nan) r) size (length (xsOf t)) (s .ids) (s .co)) =
       own-place size (xsOf t) (ysOf t) (blank (length (xsOf t))) s (index-of size (xsOf t) (ysOf t) n1 (omega (arith, lx)) (table-inside t b)) i (omega (arith, lx)) r
-      (subst (λ (q : Float). Fits64 q) (sym ex) (v .0)) (subst (λ (q : Float). Fits64 q) (sym ey) (v .1))
       (subst (λ (q : Float). T (finite q)) (sym ex) (In01-finite (entry t i .x) (w .0))) (subst (λ (q : Float). T (finite q)) (sym ey) (In01-finite (entry t i .y) (w .1)))
-      fr nr in
+      fr in
       subst (λ (n : ℕ). In i (found (Within (entry t i .x) (entry t i .y) r) size n (s .ids) (s .co))) lx
       (subst (λ (q : Float). In i (found (Within (entry t i .x) q r) size (length (xsOf t)) (s .ids) (s .co))) ey
       (subst (λ (q : Float). In i (found (Within q (getD (ysOf t) i nan) r) size (length (xsOf t)) (s .ids) (s .co))) ex a))

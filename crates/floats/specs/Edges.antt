@@ -1,16 +1,14 @@
--- The rounded edges of a search, q - radius and q + radius: a place lies inside its own, though they are rounded and may be infinities. A rounded edge
--- can skip a place that passes the distance test: 01's example. Assumes nothing.
+-- A float lies between the rounded edges around it, x - r and x + r, though they are rounded and may be infinities. Assumes nothing.
 use mathlib.Core.Path.{_≡_, refl, sym, ap, _∙_, subst}
 use Prim.Native.Nat.{ℕ, _+_, _*_, _≤_}
 use native.Mathlib.Nat.{mul-pos, zero-mul, add-mul, add-zero}
 use native.Mathlib.Omega.{arith}
 use mathlib.Core.Bool.{true, false}
-use lib.IntN.{negsuc}
 use lib.Dec.{T}
-use lib.Ieee.{Float, nan, inf, fin, Format, binary64, le, lt, round, sum, neg, add, sub, mul, fits}
+use lib.Ieee.{Float, nan, inf, fin, Format, le, neg, add, sub, fits}
 use lib.Ieee.Scale.{finite}
 use lib.Ieee.Positive.{den, den-pos}
-use Rattle.floats.specs.Numbers.{zero, one}
+use Rattle.floats.specs.Numbers.{zero}
 use Rattle.floats.specs.Fraction.{plus, mins}
 use Rattle.floats.specs.Rounding.{rounds-mono}
 use Rattle.floats.specs.Operations.{ring, add-rounds}
@@ -56,15 +54,3 @@ sub-le f x r t p q h =
     rounds-mono f (add f x (neg r)) x (plus x * den (neg r) + plus (neg r) * den x) (mins x * den (neg r) + mins (neg r) * den x) (den x * den (neg r)) (plus x) (mins x) (den x)
     (mul-pos (den-pos x) (den-pos (neg r))) (den-pos x) (add-rounds f x (neg r) p (neg-finite r q)) (own-rounds f x t p)
     (less-below (plus x) (mins x) (den x) (plus (neg r)) (mins (neg r)) (den (neg r)) (plus-neg r q h))
-
--- ---- a rounded edge skips what the distance test takes: q = 1, radius 0.75, x = 0.25 - 2 ^ -55
-abbrev radius : Float
-radius = fin false 3 (negsuc 1)
-
-abbrev near : Float
-near = fin false 9007199254740991 (negsuc 54)
-
--- x is a float, is below the edge q - radius, and passes the test
-pub edge-skips : T (fits binary64 near) × T (lt near (sub binary64 one radius)) × T (le (mul binary64 (sub binary64 near one) (sub binary64 near one)) (mul binary64 radius radius))
-unfolding fits lt le sub neg mul round add sum
-edge-skips = (tt, tt, tt)

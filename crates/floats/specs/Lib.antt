@@ -19,4 +19,5 @@ pub mod Radius
 pub mod Away
 pub mod Tile
 pub mod Distance
+pub mod Skip
 pub mod Replies

@@ -14,11 +14,12 @@ use Rattle.floats.specs.Numbers.{float}
 use Rattle.kdslots.specs.All.{All, all-append}
 use Rattle.kdslots.specs.Bounds.{and-both}
 use Rattle.kdslots.specs.Members.{In, Distinct}
+use Rattle.kdslots.specs.Keep.{keep}
 use Rattle.tables.specs.declared.Entry.{Entry}
 use Rattle.tables.specs.Entries.{Table, entry, none, unset, unseen, marked}
 use Rattle.tables.specs.Ids.{clusterId, id-small}
 use Rattle.zoom.specs.Zoom.{Scan, cluster}
-use Rattle.groups.specs.Sums.{pick, not-both, one, eqb-same, below, sum, count, count-head, sum-ext, keep, keep-ext, keep-in, range, range-in, range-out}
+use Rattle.groups.specs.Sums.{pick, not-both, one, eqb-same, below, sum, count, count-head, sum-ext, keep-ext, keep-in, range, range-in, range-out}
 use Rattle.groups.specs.Groups.{Group, copied, unseenAt, turn, weighed, without, meanOf, others, members, total, joins, groupsAt, after, around, groupsOf}
 use Rattle.groups.specs.Counts.{all-counted}
 use Rattle.groups.specs.Sweeps.{inside, seen-alike}

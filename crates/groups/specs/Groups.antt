@@ -7,11 +7,12 @@ use lib.Dec.{eqb}
 use lib.ListN.{length, set}
 use lib.Ieee.{Float, binary64, add, mul, div}
 use Rattle.floats.specs.Numbers.{float}
+use Rattle.kdslots.specs.Keep.{keep}
 use Rattle.tables.specs.declared.Entry.{Entry}
 use Rattle.tables.specs.Entries.{Table, entry, unseen, marked, under}
 use Rattle.tables.specs.Ids.{clusterId}
 use Rattle.zoom.specs.Zoom.{absorbed, centre, enough}
-use Rattle.groups.specs.Sums.{sum, keep, range}
+use Rattle.groups.specs.Sums.{sum, range}
 
 -- ---- groups
 

@@ -9,10 +9,11 @@ use lib.Dec.{eqb}
 use lib.ListN.{length, getD}
 use Rattle.kdslots.specs.All.{All, AllBelow, all-getD}
 use Rattle.kdslots.specs.Members.{NotIn, Distinct}
+use Rattle.kdslots.specs.Keep.{keep}
 use Rattle.tables.specs.declared.Entry.{Entry}
 use Rattle.tables.specs.Entries.{Table, entry, never, unset, marked}
 use Rattle.tables.specs.Ids.{clusterId}
-use Rattle.groups.specs.Sums.{one, below, sum, count, sum-append, keep, range}
+use Rattle.groups.specs.Sums.{one, below, sum, count, sum-append, range}
 use Rattle.groups.specs.Counts.{count-distinct, count-below, permutes}
 use Rattle.groups.specs.Groups.{Group, copied, joined, from, froms, took, without, meanOf}
 

@@ -11,10 +11,11 @@ use borrow.Author.Tests.{le-ltb, ne-eqb}
 use lib.Dec.{ltb, eqb}
 use lib.ListN.{length}
 use lib.Seq.{getD-set-same, getD-set-other}
+use Rattle.kdslots.specs.Keep.{keep-both}
 use Rattle.tables.specs.declared.Entry.{Entry}
 use Rattle.tables.specs.Entries.{Table, entry, none, marked}
 use Rattle.tables.specs.Ids.{clusterId}
-use Rattle.groups.specs.Sums.{pick, one, gate, eqb-same, Hit, hit, below, sum, count, sum-append, count-keep, keep-both, sum-split}
+use Rattle.groups.specs.Sums.{pick, one, gate, eqb-same, Hit, hit, below, sum, count, sum-append, count-keep, sum-split}
 use Rattle.groups.specs.Groups.{Group, copied, from, froms, unseenAt, markedAt, turn, without, others, members, joins, groupsAt, after, turning, groupsFrom}
 use Rattle.groups.specs.Sweeps.{inside, seen-alike, turn-seen, length-sweep, sweep-seen, sweep-out, sweep-in}
 

@@ -1,12 +1,13 @@
--- Sums over a list of places, how often a place is in it, the places of it that pass a test, and the places from one on. Assumes nothing.
+-- Sums over a list of places and over those of it that pass a test, how often a place is in it, and the places from one on. Assumes nothing.
 use mathlib.Core.Path.{_≡_, refl, sym, ap, ap₂, _∙_}
 use mathlib.Core.Logic.{_⊎_, inl, inr, ⊎-elim}
 use mathlib.Core.List.{List, [], _∷_, _++_}
-use mathlib.Core.Bool.{Bool, true, false, _&&_}
+use mathlib.Core.Bool.{Bool, true, false}
 use Prim.Native.Nat.{ℕ, zero, suc, _+_, _≤_, _<_}
 use native.Mathlib.Omega.{arith}
 use lib.Dec.{eqb}
 use borrow.Author.Tests.{eqb-true, eqb-false, eq-eqb, ne-eqb}
+use Rattle.kdslots.specs.Keep.{put, keep}
 
 -- ---- tests
 
@@ -77,16 +78,6 @@ sum-ext f g (x ∷ xs) h =
 
 -- ---- the places that pass a test, in order
 
--- x in front where a test is true
-abbrev pub put : Bool → ℕ → List ℕ → List ℕ
-put true x r = x ∷ r
-put false x r = r
-
--- those of the list that pass p
-abbrev pub keep : (ℕ → Bool) → List ℕ → List ℕ
-keep p [] = []
-keep p (x ∷ xs) = put (p x) x (keep p xs)
-
 sum-put : (f : ℕ → ℕ) (b : Bool) (x : ℕ) (r : List ℕ) → sum f (put b x r) ≡ gate b (f x) + sum f r
 sum-put f true x r = refl
 sum-put f false x r = omega arith
@@ -128,15 +119,6 @@ keep-in p xs k h = go (p k) (count-keep k p xs)
 pub keep-ext : (p q : ℕ → Bool) (xs : List ℕ) → ((k : ℕ) → 0 < count k xs → p k ≡ q k) → keep p xs ≡ keep q xs
 keep-ext p q [] h = refl
 keep-ext p q (x ∷ xs) h = ap₂ (λ (b : Bool) (r : List ℕ). put b x r) (h x (count-head x xs)) (keep-ext p q xs (λ k l. h k (omega arith)))
-
--- kept by one test and then by another
-keep-put : (p : ℕ → Bool) (b : Bool) (x : ℕ) (xs r : List ℕ) → r ≡ keep p xs → put (b && p x) x r ≡ keep p (put b x xs)
-keep-put p true x xs r h = ap (λ (l : List ℕ). put (p x) x l) h
-keep-put p false x xs r h = h
-
-pub keep-both : (p q r : ℕ → Bool) → ((k : ℕ) → r k ≡ (p k && q k)) → (xs : List ℕ) → keep r xs ≡ keep q (keep p xs)
-keep-both p q r h [] = refl
-keep-both p q r h (x ∷ xs) = ap (λ (b : Bool). put b x (keep r xs)) (h x) ∙ keep-put q (p x) x (keep p xs) (keep r xs) (keep-both p q r h xs)
 
 -- one that is there once, taken out in front
 pub sum-split : (f : ℕ → ℕ) (p q : ℕ → Bool) (i : ℕ) (xs : List ℕ) → count i xs ≡ 1 → p i ≡ true → q i ≡ false → ((k : ℕ) → (k ≡ i → ⊥) → p k ≡ q k) →

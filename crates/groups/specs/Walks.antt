@@ -9,10 +9,11 @@ use lib.ListN.{set}
 use lib.Seq.{getD-set-other, append-snoc}
 use lib.Ieee.{Float, binary64, add, mul}
 use Rattle.floats.specs.Numbers.{float}
+use Rattle.kdslots.specs.Keep.{put, keep}
 use Rattle.tables.specs.declared.Entry.{Entry}
 use Rattle.tables.specs.Entries.{Table, entry, none, marked}
 use Rattle.zoom.specs.Zoom.{more, Absorbed, absorbed, absorbOne, absorb, Scan, copyOne, copyAll}
-use Rattle.groups.specs.Sums.{one, eqb-same, sum, count, count-head, put, keep, keep-ext, keep-in}
+use Rattle.groups.specs.Sums.{one, eqb-same, sum, count, count-head, keep-ext, keep-in}
 use Rattle.groups.specs.Groups.{unseenAt, took, change, sweep, weighed}
 
 -- ---- lists of places that stand once

@@ -1,27 +1,25 @@
--- Of an index built from its points, what the searches answer, in places: `range` exactly the points in the box; `within` only points that pass the distance
--- test, and each one that passes it and lies inside the four rounded edges, the own place of a query among them. No place is answered twice, and each is
--- below the number of points, so that no search of it is refused as spoiled. Assumes nothing.
+-- Of an index built from its points, what every search answers, in places, `range` and `within` alike: exactly the points that pass its test, each once, in one
+-- order of all places that no query changes (`answered-kept`). The own place of a query that is a point of the index is among them, and no search of such an index
+-- is refused as spoiled. Assumes nothing.
 use mathlib.Core.Path.{_≡_, refl, sym, ap, _∙_, subst}
-use mathlib.Core.Bool.{true}
+use mathlib.Core.Bool.{Bool, true, false, _&&_}
 use mathlib.Core.List.{List, [], _∷_, _++_}
-use Prim.Native.Nat.{ℕ, zero, suc, _≤_, _<_}
+use Prim.Native.Nat.{ℕ, _≤_, _<_}
 use native.Mathlib.Omega.{arith}
 use borrow.Author.Tests.{lt-ltb, le-leb}
 use lib.Dec.{T}
 use lib.ListN.{length, getD, drop}
 use lib.Seq.{take-all}
-use lib.Ieee.{Float, nan, binary64, le, fits}
+use lib.Ieee.{Float, nan}
 use lib.Ieee.Scale.{finite}
-use Rattle.floats.specs.Numbers.{zero as fzero}
 use Rattle.floats.specs.Fraction.{is-true}
-use Rattle.floats.specs.Edges.{le-add, sub-le}
 use Rattle.floats.specs.Distance.{passes-self}
 use Rattle.kdsort.specs.Cols.{Cols, key}
 use Rattle.kdsort.specs.Tree.{Index}
 use Rattle.kdslots.specs.declared.Query.{Query}
-use Rattle.kdslots.specs.declared.Query.the-variants.{Range, Within}
+use Rattle.kdslots.specs.declared.Query.the-variants.{Within}
 use Rattle.kdbush.specs.declared.SearchReply.the-variants.{Found}
-use Rattle.kdslots.specs.Query.{passesQ, least, greatest, queryOk}
+use Rattle.kdslots.specs.Query.{passesQ, queryOk}
 use Rattle.kdslots.specs.Slots.{answers}
 use Rattle.kdbush.specs.Run.{places, places-length, sound, whole}
 use Rattle.kdslots.specs.Bounds.{coordsOk}
@@ -30,7 +28,9 @@ use Rattle.kdslots.specs.Members.{no-nil, In, NotIn, Distinct, Between}
 use Rattle.kdslots.specs.Intervals.{answers-length}
 use Rattle.kdslots.specs.All.{All, AllBelow}
 use Rattle.kdslots.specs.Sound.{answers-sound, answers-between, answers-distinct}
-use Rattle.kdslots.specs.Complete.{Inside, answers-complete, in-box}
+use Rattle.kdslots.specs.Keep.{put, keep, keep-both}
+use Rattle.kdslots.specs.Order.{order, order-between}
+use Rattle.kdslots.specs.Complete.{passesAt, answers-complete, answers-kept}
 
 -- ---- slots and their places
 
@@ -67,6 +67,16 @@ unfolding places Between
 distinct-places ids n f [] w d = tt
 distinct-places ids n f (k ∷ ks) w d = (notin-places ids n f k (w .1) ks (w .2) (d .0), distinct-places ids n f ks (w .2) (d .1))
 
+-- what passes is kept before its places are taken, or after
+places-kept : (ids : List ℕ) (p q : ℕ → Bool) (n : ℕ) → ((i : ℕ) → i < n → q i ≡ p (getD ids i 0)) → (l : List ℕ) → Between 0 n l → places ids (keep q l) ≡ keep p (places ids l)
+unfolding places Between
+places-kept ids p q n f [] w = refl
+places-kept ids p q n f (k ∷ ks) w = rw (f k (w .1)) (go (p (getD ids k 0)) (keep q ks) (keep p (places ids ks)) (places-kept ids p q n f ks (w .2)))
+  where
+    go : (b : Bool) (u v : List ℕ) → places ids u ≡ v → places ids (put b k u) ≡ put b (getD ids k 0) v
+    go true u v e = ap (λ (z : List ℕ). getD ids k 0 ∷ z) e
+    go false u v e = e
+
 pub all-whole : (n : ℕ) (l : List ℕ) → AllBelow n l → whole n l ≡ true
 unfolding All whole
 all-whole n [] w = refl
@@ -78,6 +88,14 @@ all-sound n [] w = refl
 all-sound n (k ∷ ks) w = rw (lt-ltb k n (w .0), sound) (ap (λ (z : List ℕ). k ∷ z) (all-sound n ks (w .1)))
 
 -- ---- an index built from the points
+
+-- whether the point p passes
+abbrev pub passesIn : Query → List Float → List Float → ℕ → Bool
+passesIn q xs ys p = passesQ q (getD xs p nan) (getD ys p nan)
+
+-- all places, in the order in which a search of the index comes to them
+abbrev pub treeOrder : ℕ → ℕ → List ℕ → List ℕ
+treeOrder size n ids = places ids (order size n)
 
 module _ (size : ℕ) (xs ys : List Float) (s S : Cols) (I : Index size xs ys s S) (q : Query) where
   -- the places that the query answers
@@ -98,7 +116,7 @@ module _ (size : ℕ) (xs ys : List Float) (s S : Cols) (I : Index size xs ys s 
   answered-length = omega (arith, places-length (S .ids) (answers q (S .co) size (length xs)), answers-length q (S .co) size (length xs))
 
   -- each answer is a point that passes the test
-  pub answered-sound : (p : ℕ) → In p answered → (p < length xs) × (passesQ q (getD xs p nan) (getD ys p nan) ≡ true)
+  pub answered-sound : (p : ℕ) → In p answered → (p < length xs) × (passesIn q xs ys p ≡ true)
   answered-sound p m =
       let w = from-slot (S .ids) (answers q (S .co) size (length xs)) (m .0) p (m .1) (m .2) in
       let v = answers-sound q (S .co) size (length xs) (w .0) (w .1) in
@@ -107,46 +125,39 @@ module _ (size : ℕ) (xs ys : List Float) (s S : Cols) (I : Index size xs ys s 
       (subst (λ (u : Float). passesQ q u (key 1 (S .co) (w .0)) ≡ true) (I .x-of (w .0) (v .0)) (v .1)) in
       subst (λ (k : ℕ). (k < length xs) × (passesQ q (getD xs k nan) (getD ys k nan) ≡ true)) (sym (w .2)) (I .id-in (w .0) (v .0), c)
 
-  -- the point p passes the test and lies inside the edges of the search, on both axes
-  pub record Reached (p : ℕ) : Type 0 where
-    pub passes : passesQ q (getD xs p nan) (getD ys p nan) ≡ true
-    pub west : T (le (least q 0) (getD xs p nan))
-    pub east : T (le (getD xs p nan) (greatest q 0))
-    pub south : T (le (least q 1) (getD ys p nan))
-    pub north : T (le (getD ys p nan) (greatest q 1))
-
   x-at : (p : ℕ) → p < length xs → getD xs p nan ≡ key 0 (S .co) (I .slot-of p)
   x-at p h = ap (λ (k : ℕ). getD xs k nan) (sym (I .id-back p h)) ∙ sym (I .x-of (I .slot-of p) (I .slot-in p h))
 
   y-at : (p : ℕ) → p < length xs → getD ys p nan ≡ key 1 (S .co) (I .slot-of p)
   y-at p h = ap (λ (k : ℕ). getD ys k nan) (sym (I .id-back p h)) ∙ sym (I .y-of (I .slot-of p) (I .slot-in p h))
 
-  inside-is : (p : ℕ) → p < length xs → Reached p → Inside q (S .co) (I .slot-of p)
-  inside-is p h w =
-      let ex = x-at p h in
-      let ey = y-at p h in
-      record {
-        passes = subst (λ (u : Float). passesQ q (key 0 (S .co) (I .slot-of p)) u ≡ true) ey (subst (λ (u : Float). passesQ q u (getD ys p nan) ≡ true) ex (w .passes));
-        from = low (subst (λ (u : Float). T (le (least q 0) u)) ex (w .west)) (subst (λ (u : Float). T (le (least q 1) u)) ey (w .south));
-        to = high (subst (λ (u : Float). T (le u (greatest q 0))) ex (w .east)) (subst (λ (u : Float). T (le u (greatest q 1))) ey (w .north));
-      }
-    where
-      low : T (le (least q 0) (key 0 (S .co) (I .slot-of p))) → T (le (least q 1) (key 1 (S .co) (I .slot-of p))) → (ax : ℕ) → ax < 2 → T (le (least q ax) (key ax (S .co) (I .slot-of p)))
-      low a b zero k = a
-      low a b (suc zero) k = b
-      low a b (suc (suc j)) k = absurd (omega arith)
-
-      high : T (le (key 0 (S .co) (I .slot-of p)) (greatest q 0)) → T (le (key 1 (S .co) (I .slot-of p)) (greatest q 1)) → (ax : ℕ) → ax < 2 → T (le (key ax (S .co) (I .slot-of p)) (greatest q ax))
-      high a b zero k = a
-      high a b (suc zero) k = b
-      high a b (suc (suc j)) k = absurd (omega arith)
-
-  -- each point that passes the test and lies inside the edges is answered
-  pub answered-complete : (p : ℕ) → p < length xs → Reached p → In p answered
-  answered-complete p h w =
-      let m = answers-complete q (S .co) size (length xs) (I .tree) (I .slot-of p) (I .slot-in p h) (inside-is p h w) in
+  -- each point that passes the test is answered
+  pub answered-complete : (p : ℕ) → p < length xs → passesIn q xs ys p ≡ true → In p answered
+  answered-complete p h e =
+      let f : passesAt q (S .co) (I .slot-of p) ≡ true =
+      subst (λ (u : Float). passesQ q (key 0 (S .co) (I .slot-of p)) u ≡ true) (y-at p h) (subst (λ (u : Float). passesQ q u (getD ys p nan) ≡ true) (x-at p h) e) in
+      let m = answers-complete q (S .co) size (length xs) (I .tree) (I .slot-of p) (I .slot-in p h) f in
       let t = to-place (S .ids) (m .0) (I .slot-of p) (m .1) in
       subst (λ (l : List ℕ). In p (places (S .ids) l)) (sym (m .2)) (subst (λ (k : ℕ). In k (places (S .ids) (m .0 ++ I .slot-of p ∷ m .1))) (I .id-back p h) t)
+
+  -- the one law of both searches: those places of the tree's order that pass, in that order
+  pub answered-kept : answered ≡ keep (passesIn q xs ys) (treeOrder size (length xs) (S .ids))
+  answered-kept =
+      ap (places (S .ids)) (answers-kept q (S .co) size (length xs) (I .tree))
+      ∙ places-kept (S .ids) (passesIn q xs ys) (passesAt q (S .co)) (length xs) (λ i h. rw (I .x-of i h, I .y-of i h)) (order size (length xs)) (order-between size (length xs))
+
+-- whatever the node size is, and whatever stood in the columns before, a query has the same members
+module _ (size more : ℕ) (xs ys : List Float) (s t S U : Cols) (I : Index size xs ys s S) (J : Index more xs ys t U) (q : Query) where
+  pub same-members : (p : ℕ) → In p (answered size xs ys s S I q) → In p (answered more xs ys t U J q)
+  same-members p m = let w = answered-sound size xs ys s S I q p m in answered-complete more xs ys t U J q p (w .0) (w .1)
+
+-- a query that passes what two others pass answers what the one answers of the other's answers, in the same order
+module _ (size : ℕ) (xs ys : List Float) (s S : Cols) (I : Index size xs ys s S) (p q b : Query) (both : (x y : Float) → passesQ b x y ≡ (passesQ p x y && passesQ q x y)) where
+  pub answered-both : answered size xs ys s S I b ≡ keep (passesIn q xs ys) (answered size xs ys s S I p)
+  answered-both =
+      answered-kept size xs ys s S I b
+      ∙ keep-both (passesIn p xs ys) (passesIn q xs ys) (passesIn b xs ys) (λ k. both (getD xs k nan) (getD ys k nan)) (treeOrder size (length xs) (S .ids))
+      ∙ ap (keep (passesIn q xs ys)) (sym (answered-kept size xs ys s S I p))
 
 -- ---- what the clustering rests on: an index of n places, whose answers name each of them at most once, and nothing else
 
@@ -184,28 +195,9 @@ module _ (size n : ℕ) (ids : List ℕ) (co : List Float) (P : Promised size n 
     unfolding columnAfter
     promised-column = rw fine (promised-listed-column out room)
 
--- ---- `range`: exactly the points in the box
-
-module _ (size : ℕ) (xs ys : List Float) (s S : Cols) (I : Index size xs ys s S) (a b c d : Float) where
-  pub range-sound : (p : ℕ) → In p (found (Range a b c d) size (length xs) (S .ids) (S .co)) → (p < length xs) × (passesQ (Range a b c d) (getD xs p nan) (getD ys p nan) ≡ true)
-  range-sound p m = answered-sound size xs ys s S I (Range a b c d) p m
-
-  pub range-complete : (p : ℕ) → p < length xs → passesQ (Range a b c d) (getD xs p nan) (getD ys p nan) ≡ true → In p (found (Range a b c d) size (length xs) (S .ids) (S .co))
-  range-complete p h e =
-      let w = in-box a b c d (getD xs p nan ∷ getD ys p nan ∷ []) 0 e in
-      answered-complete size xs ys s S I (Range a b c d) p h (record { passes = e; west = w .from 0 (omega arith); east = w .to 0 (omega arith); south = w .from 1 (omega arith); north = w .to 1 (omega arith) })
-
--- ---- `within`: the own place of a query that is a point of the index, for a finite radius not below 0
+-- ---- the own place of a query that is a point of the index, for finite coordinates and a finite radius
 
 module _ (size : ℕ) (xs ys : List Float) (s S : Cols) (I : Index size xs ys s S) (p : ℕ) (h : p < length xs) (r : Float)
-    (fx : T (fits binary64 (getD xs p nan))) (fy : T (fits binary64 (getD ys p nan))) (x : T (finite (getD xs p nan))) (y : T (finite (getD ys p nan))) (fr : T (finite r)) (nr : T (le fzero r)) where
+    (x : T (finite (getD xs p nan))) (y : T (finite (getD ys p nan))) (fr : T (finite r)) where
   pub own-place : In p (found (Within (getD xs p nan) (getD ys p nan) r) size (length xs) (S .ids) (S .co))
-  own-place =
-      answered-complete size xs ys s S I (Within (getD xs p nan) (getD ys p nan) r) p h
-      (record {
-        passes = is-true _ (passes-self (getD xs p nan) (getD ys p nan) r x y fr);
-        west = sub-le binary64 (getD xs p nan) r fx x fr nr;
-        east = le-add binary64 (getD xs p nan) r fx x fr nr;
-        south = sub-le binary64 (getD ys p nan) r fy y fr nr;
-        north = le-add binary64 (getD ys p nan) r fy y fr nr;
-      })
+  own-place = answered-complete size xs ys s S I (Within (getD xs p nan) (getD ys p nan) r) p h (is-true _ (passes-self (getD xs p nan) (getD ys p nan) r x y fr))

@@ -1,16 +1,16 @@
--- What a search of an interval answers where its median does not pass and only one side is searched: what that side answers. In a box no median passes
--- there. Assumes nothing.
-use mathlib.Core.Path.{_≡_, refl, ap}
-use mathlib.Core.Bool.{Bool, true, false, _&&_}
+-- What a search of an interval answers where only one side is searched: what that side answers, since no median passes there. Assumes nothing.
+use mathlib.Core.Path.{_≡_, refl, sym, ap, _∙_, subst}
+use mathlib.Core.Bool.{Bool, true, false, _&&_, true≢false}
 use mathlib.Core.List.{List, [], _∷_, _++_}
-use Prim.Native.Nat.{ℕ, zero, suc, _+_, _-_, _<_}
-use native.Mathlib.Omega.{arith}
-use lib.Ieee.{Float, le}
+use Prim.Native.Nat.{ℕ, _+_, _-_, _<_}
+use lib.Ieee.{Float}
 use Rattle.kdsort.specs.Cols.{key}
 use Rattle.kdsort.specs.Shape.{shape, mid}
 use Rattle.kdslots.specs.declared.Query.{Query}
-use Rattle.kdslots.specs.declared.Query.the-variants.{Range, Within}
+use Rattle.kdslots.specs.Query.{goesLeft, goesRight}
 use Rattle.kdslots.specs.Slots.{Search, slots, over, alone}
+use Rattle.kdslots.specs.Bounds.{both-true}
+use Rattle.kdslots.specs.Reaches.{on-axis, median-reached}
 use Rattle.kdslots.specs.Intervals.{slots-node}
 
 and-no-more : (l : List ℕ) → l ++ [] ≡ l
@@ -24,27 +24,16 @@ module _ (s : Search) (ax most lo hi : ℕ) (h : most < hi - lo) (no : s .test (
   pub only-left : s .right ax (mid lo hi) ≡ false → s .left ax (mid lo hi) ≡ true → slots s ax (shape most lo hi) ≡ slots s (1 - ax) (shape most lo (mid lo hi))
   only-left r l = rw (slots-node s ax most lo hi h, no, r, l)
 
--- ---- a median that passes in a box lies between the edges on both axes
+-- ---- where a side is skipped, the median does not pass
 
-no-bool : true ≡ false → ⊥
-no-bool e = let z : _≡_ {A = ℕ} 0 1 = cc in omega arith
-
-past-x : (a c b d : Bool) → (c && a) ≡ false → (a && c && b && d) ≡ false
-past-x true true b d e = absurd (no-bool e)
-past-x true false b d e = refl
-past-x false c b d e = refl
-
-past-y : (a c b d : Bool) → (d && b) ≡ false → (a && c && b && d) ≡ false
-past-y true true true true e = absurd (no-bool e)
-past-y true true true false e = refl
-past-y true true false d e = refl
-past-y true false b d e = refl
-past-y false c b d e = refl
-
--- where only one side is searched, a median that is not answered alone does not pass
 pub unanswered : (q : Query) (cs : List Float) (ax m : ℕ) → ax < 2 → (over q cs .right ax m && over q cs .left ax m) ≡ false → alone q (over q cs .test m) ≡ false
     → over q cs .test m ≡ false
-unanswered (Range a b c d) cs zero m h e f = past-x (le a (key 0 cs m)) (le (key 0 cs m) c) (le b (key 1 cs m)) (le (key 1 cs m) d) e
-unanswered (Range a b c d) cs (suc zero) m h e f = past-y (le a (key 0 cs m)) (le (key 0 cs m) c) (le b (key 1 cs m)) (le (key 1 cs m) d) e
-unanswered (Range a b c d) cs (suc (suc ax)) m h e f = absurd (omega arith)
-unanswered (Within qx qy r) cs ax m h e f = f
+unanswered q cs ax m h e f = go (over q cs .test m) refl
+  where
+    go : (b : Bool) → over q cs .test m ≡ b → b ≡ false
+    go false f = refl
+    go true f =
+        let w = median-reached (key 0 cs m) (key 1 cs m) q ax h f in
+        let r : over q cs .right ax m ≡ true = subst (λ (z : Float). goesRight q ax z ≡ true) (on-axis cs m ax h) (w .0) in
+        let l : over q cs .left ax m ≡ true = subst (λ (z : Float). goesLeft q ax z ≡ true) (on-axis cs m ax h) (w .1) in
+        absurd (true≢false (sym (both-true r l) ∙ e))

@@ -6,5 +6,8 @@ pub mod Intervals
 pub mod All
 pub mod Members
 pub mod Sound
+pub mod Keep
+pub mod Order
+pub mod Reaches
 pub mod Complete
-pub mod Skips
+pub mod Corner

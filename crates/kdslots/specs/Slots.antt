@@ -3,12 +3,12 @@
 use mathlib.Core.Bool.{Bool, true, false}
 use mathlib.Core.List.{List, [], _∷_, _++_}
 use Prim.Native.Nat.{ℕ, zero, suc, _+_, _-_}
-use lib.Ieee.{Float, le}
+use lib.Ieee.{Float}
 use Rattle.kdsort.specs.Cols.{key}
 use Rattle.kdsort.specs.Shape.{Shape, leaf, node, shape, mid}
 use Rattle.kdslots.specs.declared.Query.{Query}
 use Rattle.kdslots.specs.declared.Query.the-variants.{Range, Within}
-use Rattle.kdslots.specs.Query.{passesQ, least, greatest}
+use Rattle.kdslots.specs.Query.{passesQ, goesLeft, goesRight}
 
 -- a search: whether a slot passes, and whether the part right of a median and the part left of it are gone into, on the axis on which it is split
 pub record Search : Type 0 where
@@ -40,8 +40,8 @@ below s ax most lo hi = when (s .right ax (mid lo hi)) (slots s (1 - ax) (shape 
 abbrev pub over : Query → List Float → Search
 over q cs = record {
   test = λ i. passesQ q (key 0 cs i) (key 1 cs i);
-  right = λ ax m. le (key ax cs m) (greatest q ax);
-  left = λ ax m. le (least q ax) (key ax cs m);
+  right = λ ax m. goesRight q ax (key ax cs m);
+  left = λ ax m. goesLeft q ax (key ax cs m);
 }
 
 -- a median that passes or not, as it is asked for where only one side of it is searched: in a box none passes there

@@ -58,7 +58,7 @@ scanned-distinct s i zero = tt
 scanned-distinct s i (suc k) =
     distinct-one (s .test i) i (scanned s (i + 1) k) (apart-left i (i + 1) (i + 1 + k) (scanned s (i + 1) k) (scanned-between s (i + 1) k) (omega arith)) (scanned-distinct s (i + 1) k)
 
-slots-between : (s : Search) (ax : ℕ) (lo hi : ℕ) (t : Shape) → Spans lo hi t → lo ≤ hi → Between lo hi (slots s ax t)
+pub slots-between : (s : Search) (ax : ℕ) (lo hi : ℕ) (t : Shape) → Spans lo hi t → lo ≤ hi → Between lo hi (slots s ax t)
 unfolding slots
 slots-between s ax lo hi _ all h = widen lo (lo + (hi - lo)) lo hi (scanned s lo (hi - lo)) (le-refl lo) (omega arith) (scanned-between s lo (hi - lo))
 slots-between s ax lo hi _ (both {m = m} {r = r} {l = l} a b p q) h =
@@ -68,7 +68,7 @@ slots-between s ax lo hi _ (both {m = m} {r = r} {l = l} a b p q) h =
     (between-when (s .right ax m) lo hi (slots s (1 - ax) r) (widen (m + 1) hi lo hi (slots s (1 - ax) r) (omega arith) (le-refl hi) (slots-between s (1 - ax) (m + 1) hi r p (omega arith))))
     (between-when (s .left ax m) lo hi (slots s (1 - ax) l) (widen lo m lo hi (slots s (1 - ax) l) (le-refl lo) (omega arith) (slots-between s (1 - ax) lo m l q a))))
 
-slots-distinct : (s : Search) (ax : ℕ) (lo hi : ℕ) (t : Shape) → Spans lo hi t → lo ≤ hi → Distinct (slots s ax t)
+pub slots-distinct : (s : Search) (ax : ℕ) (lo hi : ℕ) (t : Shape) → Spans lo hi t → lo ≤ hi → Distinct (slots s ax t)
 unfolding slots
 slots-distinct s ax lo hi _ all h = scanned-distinct s lo (hi - lo)
 slots-distinct s ax lo hi _ (both {m = m} {r = r} {l = l} a b p q) h =

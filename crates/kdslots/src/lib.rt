@@ -73,9 +73,11 @@ pub fn left_at(q: Query, coords: &[f64], axis: usize, m: usize) -> bool
         } => { if axis == 0 { min_x <= v } else { min_y <= v } }
         Query::Within { qx, qy, radius } => {
             if axis == 0 {
-                qx - radius <= v
+                let d = v - qx;
+                !((v < qx) & (radius * radius < d * d))
             } else {
-                qy - radius <= v
+                let d = v - qy;
+                !((v < qy) & (radius * radius < d * d))
             }
         }
     }
@@ -96,9 +98,11 @@ pub fn right_at(q: Query, coords: &[f64], axis: usize, m: usize) -> bool
         } => { if axis == 0 { max_x >= v } else { max_y >= v } }
         Query::Within { qx, qy, radius } => {
             if axis == 0 {
-                qx + radius >= v
+                let d = v - qx;
+                !((qx < v) & (radius * radius < d * d))
             } else {
-                qy + radius >= v
+                let d = v - qy;
+                !((qy < v) & (radius * radius < d * d))
             }
         }
     }

@@ -8,13 +8,14 @@ use native.Mathlib.Omega.{arith}
 use lib.Dec.{eqb}
 use lib.ListN.{length}
 use lib.Ieee.{Float}
+use Rattle.kdslots.specs.Keep.{keep}
 use Rattle.tables.specs.Bounds.{options-are}
 use Rattle.tables.specs.declared.Entry.{Entry}
 use Rattle.tables.specs.declared.Options.{Options}
 use Rattle.tables.specs.Entries.{entry}
 use Rattle.tables.specs.Ids.{clusterId, originOf, tableOf, id-from, id-origin}
 use Rattle.tables.specs.Radius.{radiusAt}
-use Rattle.groups.specs.Sums.{below, count, keep}
+use Rattle.groups.specs.Sums.{below, count}
 use Rattle.groups.specs.Groups.{Group, copied, joined, entryOf}
 use Rattle.groups.specs.OneZoom.{Copied, Joined, Fits}
 use Rattle.zooms.specs.Zooms.{nearIn}

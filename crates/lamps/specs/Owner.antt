@@ -6,12 +6,13 @@ use Prim.Native.Nat.{ℕ, zero, suc, _+_, _-_}
 use lib.Dec.{ltb, eqb}
 use lib.ListN.{length}
 use lib.Ieee.{Float}
+use Rattle.kdslots.specs.Keep.{keep}
 use Rattle.tables.specs.declared.Entry.{Entry}
 use Rattle.tables.specs.declared.Options.{Options}
 use Rattle.tables.specs.Entries.{entry, unset}
 use Rattle.tables.specs.Ids.{originOf, tableOf}
 use Rattle.tables.specs.Radius.{radiusAt}
-use Rattle.groups.specs.Sums.{count, keep}
+use Rattle.groups.specs.Sums.{count}
 use Rattle.groups.specs.Groups.{Group, from, around}
 use Rattle.zooms.specs.Zooms.{nearIn}
 use Rattle.builds.specs.Came.{tableAt}

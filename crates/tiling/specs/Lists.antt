@@ -17,7 +17,7 @@ use Rattle.kdslots.specs.Slots.{when}
 use Rattle.kdbush.specs.Reply.{found}
 use Rattle.kdslots.specs.Members.{In}
 use Rattle.kdslots.specs.All.{All, AllBelow}
-use Rattle.kdbush.specs.Promise.{answered-below, range-complete}
+use Rattle.kdbush.specs.Promise.{answered-below, answered-complete}
 use Rattle.tables.specs.declared.Options.{Options}
 use Rattle.tables.specs.Bounds.{InBounds}
 use Rattle.tables.specs.Entries.{Table, entry, none, xsOf, ysOf}
@@ -108,7 +108,7 @@ module _ (t : Table) (placed : (p : ℕ) → p < length t → In01 (entry t p .x
         let ey : getD (ysOf t) p nan ≡ entry t p .y = List·getD-map (λ e. e .y) t p none in
         let q : passesQ (here o z x y .query) (getD (xsOf t) p nan) (getD (ysOf t) p nan) ≡ true = rw (ex, ey) e in
         subst (λ (n : ℕ). In p (found (here o z x y .query) (o .«node_size») n (S .ids) (S .co))) long
-        (range-complete (o .«node_size») (xsOf t) (ysOf t) s S I (least o z x) (least o z y) (greatest o z x) (greatest o z y) p (omega (arith, long)) q)
+        (answered-complete (o .«node_size») (xsOf t) (ysOf t) s S I (here o z x y .query) p (omega (arith, long)) q)
 
     -- an entry that lies in the tile is listed, at its place in the tile
     pub tile-lists : (z x y : ℕ) → InBounds o → IsTile z x y → (p : ℕ) → p < length t → InTile z x y (entry t p .x) (entry t p .y)

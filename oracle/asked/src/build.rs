@@ -85,8 +85,13 @@ fn sizes() -> [(Vec<usize>, [usize; 2]); 4] {
 /// How many builds have their lamps on the edges of tiles, in the short form and in the full one.
 const ON_EDGES: [usize; 2] = [150, 4_800];
 
+/// How many builds have their lamps at the rounded edge of a ring, in the short form and in the full one, and how many
+/// lamps they have at most.
+const AT_RINGS: [usize; 2] = [150, 4_800];
+const AT_RINGS_MOST: u64 = 24;
+
 /// Every build of a form, half of them with options as users have them and half with any; those with lamps on the
-/// edges of tiles; and the large ones.
+/// edges of tiles; those with lamps at the edges of rings; and the large ones.
 pub fn each(form: Form, source: &mut Splitmix, mut ask: impl FnMut(&Build, &mut Splitmix)) {
     let [short, full] = ON_EDGES;
     for _ in 0..if form == Form::Full { full } else { short } {
@@ -105,4 +110,12 @@ pub fn each(form: Form, source: &mut Splitmix, mut ask: impl FnMut(&Build, &mut 
         }
     }
     large::each(form, source, |build, source| ask(&build, source));
+    // By a generator of their own, so that what comes after all builds does not depend on them.
+    let mut source = Splitmix(5);
+    let [short, full] = AT_RINGS;
+    for _ in 0..if form == Form::Full { full } else { short } {
+        let count = 1 + source.below(AT_RINGS_MOST) as usize;
+        let (options, points) = points::reached(count, &mut source);
+        ask(&Build::of(format!("{count} points at a ring"), options, points), &mut source);
+    }
 }

@@ -1,4 +1,4 @@
-//! One face for both builds of the Rust: every question, put to the Rust's own functions.
+//! One face for the builds of the Rust: every question, put to the Rust's own functions.
 
 use crate::{Entry, Item};
 use geojson::{feature::Id, Feature, Value};
@@ -204,7 +204,9 @@ macro_rules! judge {
 }
 
 judge!(untouched, oracle_untouched, "untouched");
+judge!(ringed, oracle_ringed, "ringed");
 judge!(patched, oracle_patched, "patched");
 
 pub use patched::Build as Patched;
+pub use ringed::Build as Ringed;
 pub use untouched::Build as Untouched;

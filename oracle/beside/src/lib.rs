@@ -8,6 +8,7 @@ mod listed;
 mod plain;
 mod rust;
 mod rusts;
+mod skipped;
 
 pub use case::{Case, Verdict};
 pub use counted::Beside;

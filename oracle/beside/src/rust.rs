@@ -51,6 +51,11 @@ impl<J: Judge> Rust<J> {
         said(self.0.children(id as usize))
     }
 
+    /// The places that a ring answers in the table of a zoom.
+    pub fn within(&self, zoom: u8, [x, y, radius]: [f64; 3]) -> Vec<usize> {
+        self.0.within(zoom, x, y, radius)
+    }
+
     /// Asks, where a box has corners that the Rust can be given. The tally is the tile's.
     pub fn ask(&self, build: &Build, question: &Question) -> Option<Said> {
         let Rust(rust) = self;
@@ -58,9 +63,7 @@ impl<J: Judge> Rust<J> {
             Question::Box { zoom, corners } => {
                 said(rust.in_box(build.rust_corners(corners)?, zoom))
             }
-            Question::Ring { zoom, circle: [x, y, radius] } => {
-                Said::Places(rust.within(zoom, x, y, radius))
-            }
+            Question::Ring { zoom, circle } => Said::Places(self.within(zoom, circle)),
             Question::Children { id } => self.children(id),
             Question::Leaves { id, limit, offset } => {
                 Said::Items(rust.leaves(id as usize, limit as usize, offset as usize))

@@ -14,7 +14,7 @@ fn every_wrong_answer_is_a_difference() {
     for count in [1, 2, 5, 9, 30, 80, 602] {
         let build = Build::made(corners::ordinary(&mut source), count, &mut source);
         let (scene, rusts) = (build.scene(), Rusts::loaded(&build));
-        assert_eq!(rusts.are_two(), count <= 601);
+        assert_eq!(rusts.are_three(), count <= 601);
         for question in asked::many(&scene, &mut source) {
             let case = Case { state: scene.state, lent: scene.lent, question };
             let outcome = question.answered(case.state, &case.lent);

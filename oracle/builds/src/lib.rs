@@ -1,13 +1,14 @@
-//! Both builds of the Rust, asked to load: the Rust's own values from plain ones, and its tables as the
-//! port packs them.
+//! The builds of the Rust, asked to load: the Rust's own values from plain ones, and its tables as the
+//! port packs them; and what only the untouched one skips.
 
+pub mod skipped;
 mod tables;
 
 pub use tables::{Row, Table, Tables, NO_PARENT, UNSEEN};
 
 use geojson::{Feature, Geometry, JsonObject, Value};
 
-/// Up to so many points the untouched build arranges as the patched one does.
+/// Up to so many points the builds with the window block arrange as the patched one does.
 pub const WITHOUT_WINDOW: usize = 601;
 
 /// A point with an empty properties object.
@@ -73,15 +74,31 @@ macro_rules! build {
                 })
             }
 
-            /// Loads these points; the tables.
-            pub fn tables(options: &Options, xs: &[f64], ys: &[f64]) -> Tables {
+            /// The places that a ring answers in the table of a zoom.
+            pub fn within(rust: &Supercluster, zoom: usize, [x, y, r]: [f64; 3]) -> Vec<usize> {
+                rust.trees[&zoom].within(x, y, r)
+            }
+
+            /// Loads these points.
+            pub fn loaded(options: &Options, xs: &[f64], ys: &[f64]) -> Supercluster {
                 let mut rust = unloaded(options);
                 rust.load(features(xs, ys)).expect("points that are loaded");
-                Tables::packed(tables_of(&rust))
+                rust
+            }
+
+            /// The tables of a loaded instance in columns.
+            pub fn packed(rust: &Supercluster) -> Tables {
+                Tables::packed(tables_of(rust))
+            }
+
+            /// Loads these points; the tables.
+            pub fn tables(options: &Options, xs: &[f64], ys: &[f64]) -> Tables {
+                packed(&loaded(options, xs, ys))
             }
         }
     };
 }
 
 build!(untouched, oracle_untouched);
+build!(ringed, oracle_ringed);
 build!(patched, oracle_patched);

@@ -1,6 +1,8 @@
 //! Test vectors for kdbush.rs, made by calling the patched Rust: one case a line. A word is 16 digits.
 //! `node_size n`, the points, the slots `id x y`, the number of queries, and the queries with their places.
 
+use crate::plain::{ABOVE_QUARTER, BELOW_QUARTER};
+use beside::judge::{Judge, Untouched};
 use oracle_patched::KDBush;
 use points::{Points, SHAPES};
 use splitmix::Splitmix;
@@ -19,7 +21,8 @@ enum Query {
     Within([f64; 3]),
 }
 
-/// Writes the cases: each small count twice, then the larger ones, with node sizes and shapes in turn.
+/// Writes the cases: each small count twice, then the larger ones, with node sizes and shapes in turn; then the
+/// corners.
 pub fn write(out: &mut impl Write) -> io::Result<()> {
     let mut source = Splitmix(SEED);
     let small = (1..=20).flat_map(|count| [count; 2]);
@@ -27,10 +30,44 @@ pub fn write(out: &mut impl Write) -> io::Result<()> {
     for (number, count) in small.chain(larger).enumerate() {
         let node_size = NODE_SIZES[number % NODE_SIZES.len()];
         let shape = SHAPES[number % SHAPES.len()];
-        let made = points::made(shape, count, &mut source);
-        out.write_all(line(node_size, &pairs(&made), number, &mut source).as_bytes())?;
+        let points = pairs(&points::made(shape, count, &mut source));
+        // The kinds move on against the shapes.
+        let first_kind = QUERIES * (number + number / SHAPES.len());
+        let one = |turn| query(&points, first_kind + turn, &mut source);
+        let queries: Vec<Query> = (0..QUERIES).map(one).collect();
+        out.write_all(line(node_size, &points, &queries).as_bytes())?;
+    }
+    for node_size in [1, 64] {
+        for line in corners(node_size) {
+            out.write_all(line.as_bytes())?;
+        }
     }
     out.flush()
+}
+
+/// 01's corner: a ring that three points pass, two of which lie outside its rounded edge. Then the like on both axes
+/// and on both sides, with more points, so that the index is split by either.
+fn corners(node_size: usize) -> Vec<String> {
+    let below = [BELOW_QUARTER, BELOW_QUARTER, 0.5].map(|x| [x, 0.5]);
+    let mut all = vec![of_corner(node_size, &below, [1.0, 0.5, 0.75])];
+    for (v, other, centre, radius) in
+        [(BELOW_QUARTER, 0.5, 1.0, 0.75), (ABOVE_QUARTER, 0.0, -1.0, 1.25)]
+    {
+        let along_x = [vec![[v, 0.5]; 6], vec![[other, 0.5]; 3]].concat();
+        let along_y: Vec<[f64; 2]> = along_x.iter().map(|[x, y]| [*y, *x]).collect();
+        all.push(of_corner(node_size, &along_x, [centre, 0.5, radius]));
+        all.push(of_corner(node_size, &along_y, [0.5, centre, radius]));
+    }
+    all
+}
+
+/// A case of a ring of which the untouched Rust skips something, if the index is split.
+fn of_corner(node_size: usize, points: &[[f64; 2]], circle: [f64; 3]) -> String {
+    let answered = Untouched::index_within(node_size, points, circle).len();
+    let passing = Untouched::index_within(points.len(), points, circle).len();
+    let is_split = points.len() > node_size + 1;
+    assert_eq!(answered < passing, is_split, "{circle:?}: {answered} of {passing}");
+    line(node_size, points, &[Query::Within(circle)])
 }
 
 /// The points, x and y together.
@@ -39,7 +76,7 @@ fn pairs(points: &Points) -> Vec<[f64; 2]> {
 }
 
 /// The words of a case and a line feed.
-fn line(node_size: usize, points: &[[f64; 2]], number: usize, source: &mut Splitmix) -> String {
+fn line(node_size: usize, points: &[[f64; 2]], queries: &[Query]) -> String {
     let mut index = KDBush::new(points.len(), node_size);
     points.iter().for_each(|[x, y]| index.add_point(*x, *y));
     index.build_index();
@@ -50,12 +87,8 @@ fn line(node_size: usize, points: &[[f64; 2]], number: usize, source: &mut Split
         words.push(*id as u64);
         words.extend(at.map(f64::to_bits));
     }
-    words.push(QUERIES as u64);
-    // The kinds move on against the shapes.
-    let first_kind = QUERIES * (number + number / SHAPES.len());
-    for turn in 0..QUERIES {
-        words.extend(asked(&index, &query(points, first_kind + turn, source)));
-    }
+    words.push(queries.len() as u64);
+    words.extend(queries.iter().flat_map(|query| asked(&index, query)));
     words.iter().map(|word| format!("{word:016x}")).collect::<Vec<_>>().join(" ") + "\n"
 }
 

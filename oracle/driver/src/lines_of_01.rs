@@ -1,12 +1,12 @@
-//! 01's worked lines, each put to both builds of the Rust: the table lister, 'Worked on that build',
+//! 01's worked lines, each put to the builds of the Rust: the table lister, 'Worked on that build',
 //! 'Easy to get wrong', and a few more answers that 01's text fixes.
 
 use crate::{
     attempt::attempt,
-    plain::{ids, listed, points, spots, Entry, Item, Options, LAMPS, WORKED},
+    plain::{ids, listed, points, spots, Entry, Item, Options, BELOW_QUARTER, LAMPS, WORKED},
     report::Report,
 };
-use beside::judge::{Judge, Patched, Untouched};
+use beside::judge::{Judge, Patched, Ringed, Untouched};
 use std::{hint::black_box, process::ExitCode};
 
 /// What is compared, what 01 says, and the question to the Rust.
@@ -27,11 +27,14 @@ const LISTER: &str = "\
 0 0 3fd6000000000000 3fe0000000000000 - 5 - 4
 ";
 
-/// Runs every line against both builds.
+/// Runs every line against every build; that of the rings only where the Rust has the rule of #106.
 pub fn run() -> ExitCode {
     let mut report = Report::default();
     against::<Untouched>(&mut report);
+    against::<Ringed>(&mut report);
     against::<Patched>(&mut report);
+    compare(rings::<Ringed>(), Ringed::NAME, &mut report);
+    compare(rings::<Patched>(), Patched::NAME, &mut report);
     for what in NOT_THE_RUSTS {
         report.not_the_rusts(what);
     }
@@ -51,8 +54,12 @@ fn against<J: Judge>(report: &mut Report) {
     lines.extend(tiles_and_bounds::<J>());
     lines.extend(easy_to_get_wrong::<J>());
     lines.extend(further::<J>());
+    compare(lines, J::NAME, report);
+}
+
+fn compare(lines: Vec<Line>, build: &str, report: &mut Report) {
     for (what, expected, question) in lines {
-        report.compare(&format!("{}: {what}", J::NAME), expected, &attempt(question));
+        report.compare(&format!("{build}: {what}"), expected, &attempt(question));
     }
 }
 
@@ -105,10 +112,17 @@ fn further<J: Judge>() -> Vec<Line> {
     vec![
         ("id 38 has no children: refused 6", "ClusterNotFound", || children::<J>(38)),
         ("tile (1,1,1) is empty: refused 8", "TileNotFound", tile_111::<J>),
-        ("a rounded edge skips one of three that pass", "1,2", || rounded_edge::<J>(1)),
-        ("the same three in an unsplit index", "0,1,2", || rounded_edge::<J>(64)),
         ("powi gives 2^0 to 2^31 exactly", "32", || powers(|n| 2.0_f64.powi(n))),
         ("powf gives 2^0 to 2^31 exactly", "32", || powers(|n| f64::powf(2.0, f64::from(n)))),
+    ]
+}
+
+/// 01's corner, as #106 has it: no entry that passes is skipped. The untouched Rust's answers are on the page of the
+/// differences.
+fn rings<J: Judge>() -> Vec<Line> {
+    vec![
+        ("three that pass beside a rounded edge", "0,1,2", || rounded_edge::<J>(1)),
+        ("the same three in an unsplit index", "0,1,2", || rounded_edge::<J>(64)),
     ]
 }
 
@@ -263,10 +277,9 @@ fn copied<J: Judge>() -> String {
     table_ids(&load::<J>(Options { min_points: 4, ..NEAR }, &points(&lamps)), 0)
 }
 
-/// 01's example of a rounded edge: each of the three passes the distance test.
+/// The members of 01's example of a rounded edge: each of the three passes the distance test.
 fn rounded_edge<J: Judge>(node_size: usize) -> String {
-    let x = 0.25 - 2.0_f64.powi(-55);
-    let points = [[x, 0.5], [x, 0.5], [0.5, 0.5]];
+    let points = [BELOW_QUARTER, BELOW_QUARTER, 0.5].map(|x| [x, 0.5]);
     let mut places = J::index_within(node_size, &points, [1.0, 0.5, 0.75]);
     places.sort_unstable();
     listed(&places)

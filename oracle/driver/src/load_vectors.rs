@@ -2,7 +2,9 @@
 //! digits. The options, `n` and the points, `m` and the packed entries, each with the slot at its position,
 //! then `start len` for each zoom.
 
-use crate::plain::{points as in_parts, Options, Plane, Range, LAMPS, UNIT, WORKED};
+use crate::plain::{
+    columns, points as in_parts, Options, Plane, Range, LAMPS, REACHED, REACHING, UNIT, WORKED,
+};
 use builds::{patched, Tables};
 use options::corners;
 use points::{Drawn, SHAPES};
@@ -39,12 +41,10 @@ const DEEP: [(usize, [u8; 2]); 7] = [
     (6, [0, 30]),
 ];
 
-/// Writes the cases: 01's worked build, small ones, larger ones, deep ones.
+/// Writes the cases: 01's worked build, small ones, larger ones, deep ones, the lamps of its corner.
 pub fn write(out: &mut impl Write) -> io::Result<()> {
     let mut source = Splitmix(SEED);
-    let lamps = in_parts(&LAMPS);
-    let lamps = [0, 1].map(|axis| lamps.iter().map(|lamp| lamp[axis]).collect());
-    out.write_all(line(&WORKED, &lamps).as_bytes())?;
+    out.write_all(line(&WORKED, &columns(&in_parts(&LAMPS))).as_bytes())?;
     let small = (1..=SMALL).flat_map(|count| ZOOMS.map(|zooms| (count, zooms)));
     for (number, (count, zooms)) in small.enumerate() {
         let options = options(number, zooms, &mut source);
@@ -60,6 +60,7 @@ pub fn write(out: &mut impl Write) -> io::Result<()> {
         let options = Options { min_zoom, max_zoom, min_points: 2, ..ordinary };
         out.write_all(case(number, &options, count, drawn, &mut source).as_bytes())?;
     }
+    out.write_all(line(&REACHING, &columns(&REACHED)).as_bytes())?;
     out.flush()
 }
 

@@ -1,4 +1,4 @@
-//! The driver of the comparison: puts questions to both builds of the Rust. See ../README.md.
+//! The driver of the comparison: puts questions to the builds of the Rust. See ../README.md.
 
 mod attempt;
 mod differences;

@@ -17,6 +17,16 @@ pub const WORKED: Options = Options {
 /// The four lamps of 01's worked build, in 65,536ths.
 pub const LAMPS: [[u32; 2]; 4] = [[16384, 32768], [20480, 32768], [26624, 32768], [26624, 32768]];
 
+/// The numbers beside a quarter: 01's, which the rounded edge of a ring at 1 with radius 0.75 cuts off, and the one
+/// above, which that of a ring at -1 with radius 1.25 does.
+pub const BELOW_QUARTER: f64 = 0.25 - 1.0 / (1_u64 << 55) as f64;
+pub const ABOVE_QUARTER: f64 = 0.25 + 1.0 / (1_u64 << 54) as f64;
+
+/// Options by which a lamp at x = 1 just reaches one below a quarter at zoom 0, in an index that is split; the
+/// three lamps of 01's corner.
+pub const REACHING: Options = Options { max_zoom: 0, radius: 384.0, node_size: 1, ..WORKED };
+pub const REACHED: [[f64; 2]; 3] = [[1.0, 0.5], [BELOW_QUARTER, 0.5], [BELOW_QUARTER, 0.5]];
+
 /// Points in 65,536ths as numbers.
 pub fn points(parts: &[[u32; 2]]) -> Vec<[f64; 2]> {
     parts.iter().map(|part| part.map(|n| f64::from(n) / 65_536.0)).collect()
@@ -29,6 +39,11 @@ pub fn listed<T: ToString>(numbers: &[T]) -> String {
         true => "nothing".to_string(),
         false => texts.join(","),
     }
+}
+
+/// Points as a column of x and one of y.
+pub fn columns(points: &[[f64; 2]]) -> [Vec<f64>; 2] {
+    [0, 1].map(|axis| points.iter().map(|point| point[axis]).collect())
 }
 
 /// The ids of items, listed.

@@ -1,4 +1,4 @@
-//! The comparison in one process: the proved library, linked in, beside both builds of the Rust. See
+//! The comparison in one process: the proved library, linked in, beside the builds of the Rust. See
 //! ../README.md.
 
 mod index;

@@ -22,8 +22,7 @@ pub fn lines(input: &Input) -> Vec<u8> {
 
 /// What the lister answers to this input.
 pub fn answer(input: &Input) -> Answer {
-    let options = options_of(input);
-    let [xs, ys] = [0, 1].map(|axis| column(input, axis));
+    let (options, [xs, ys]) = build_of(input);
     let refused = refusal(&options, &xs, &ys, LENT);
     let printed = match refused {
         None => listed(&options, &patched::tables(&options, &xs, &ys)),
@@ -32,6 +31,11 @@ pub fn answer(input: &Input) -> Answer {
     };
     let number = refused.map_or(0, |refused| refused.number);
     Answer { number, printed: printed.into_bytes() }
+}
+
+/// The options and the points of an input.
+pub(crate) fn build_of(input: &Input) -> (Options, [Vec<f64>; 2]) {
+    (options_of(input), [0, 1].map(|axis| column(input, axis)))
 }
 
 /// The options of an input: Cartesian with offset 0 and scale 1.

@@ -2,8 +2,10 @@
 
 mod drawn;
 mod placed;
+mod reached;
 
 pub use drawn::Drawn;
+pub use reached::{fine, reached, steps_beside};
 
 use splitmix::Splitmix;
 

@@ -55,12 +55,11 @@ impl Search<'_, '_> {
         }
         let m = (left + right) / 2;
         self.slot(m)?;
-        let (least, greatest) = self.edges(axis);
-        let at = self.index.coords[2 * m + axis];
-        if greatest >= at {
+        let (below, above) = self.goes(axis, self.index.coords[2 * m + axis]);
+        if above {
             self.interval(m + 1, right, 1 - axis)?;
         }
-        if least <= at {
+        if below {
             self.interval(left, m - 1, 1 - axis)?;
         }
         Ok(())
@@ -90,11 +89,15 @@ impl Search<'_, '_> {
         }
     }
 
-    /// The least and the greatest edge on an axis, by which a part is skipped.
-    fn edges(&self, axis: usize) -> (f64, f64) {
+    /// Whether the part left of the split coordinate v is gone into, and the part right of it.
+    fn goes(&self, axis: usize, v: f64) -> (bool, bool) {
         match *self.query {
-            Query::Range(corners) => (corners[axis], corners[2 + axis]),
-            Query::Within(circle) => (circle[axis] - circle[2], circle[axis] + circle[2]),
+            Query::Range(corners) => (corners[axis] <= v, v <= corners[2 + axis]),
+            Query::Within(circle) => {
+                let (q, d) = (circle[axis], v - circle[axis]);
+                let far = circle[2] * circle[2] < d * d;
+                (!(v < q && far), !(q < v && far))
+            }
         }
     }
 }

@@ -1,5 +1,5 @@
-//! The work of the two build scripts: find the Rust's five files, write the lines that make them
-//! modules of a crate, and for the patched build apply our patch to a text kept in the build's folder.
+//! The work of the three build scripts: find the Rust's five files, write the lines that make them
+//! modules of a crate, and apply our patches to a text kept in the build's folder.
 
 mod patch;
 
@@ -18,17 +18,16 @@ pub fn untouched() {
     write(&out_folder().join("modules.rs"), &lines);
 }
 
-/// Module lines with one file taken through a patch, which stands beside the build script.
-pub fn patched(changed: &str, patch: &str) {
-    println!("cargo::rerun-if-changed={patch}");
+/// Module lines with one file taken through patches, one after the other. Their paths start at the build script's
+/// folder, and each names its lines as the patches before it leave them.
+pub fn patched(changed: &str, patches: &[&str]) {
     let folder = folder();
     let mut lines = String::new();
     for name in FILES {
         let original = source(&folder, name);
         if name == changed {
             let copy = out_folder().join(format!("{name}.rs"));
-            let text = patch::apply(&read(Path::new(patch)), &read(&original));
-            write(&copy, &text.unwrap_or_else(|why| panic!("{patch}: {why}")));
+            write(&copy, &patches.iter().fold(read(&original), changed_by));
             // What only the removed lines called is left without a caller.
             lines += "#[allow(dead_code)]\n";
             lines += &module(name, &copy);
@@ -37,6 +36,13 @@ pub fn patched(changed: &str, patch: &str) {
         }
     }
     write(&out_folder().join("modules.rs"), &lines);
+}
+
+/// A text taken through a patch; the build runs again when the patch changes.
+fn changed_by(text: String, patch: &&str) -> String {
+    println!("cargo::rerun-if-changed={patch}");
+    let changed = patch::apply(&read(Path::new(patch)), &text);
+    changed.unwrap_or_else(|why| panic!("{patch}: {why}"))
 }
 
 /// Where the five files stand: SUPERCLUSTER_RS, or `shared/docs/src/src` beside the repository.

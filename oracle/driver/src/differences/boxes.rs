@@ -34,7 +34,6 @@ fn searches<J: Judge>() -> Vec<Case> {
         case("S3", || ring::<J>(64, [0.5, 0.5, INF])),
         case("S4", || ring::<J>(64, [INF, 0.5, INF])),
         case("S5", || ring::<J>(64, [0.5, 0.5, -1.0])),
-        case("S6", || ring::<J>(1, [0.5, 0.5, -1.0])),
         case("S7", || range::<J>([NAN, 0.0, 1.0, 1.0])),
         case("S8", || range::<J>([-INF, 0.0, INF, 1.0])),
     ]
@@ -53,7 +52,7 @@ fn globe<J: Judge>(corners: [f64; 4]) -> String {
 }
 
 /// Three points for an index alone.
-const LINE: [[f64; 2]; 3] = [[0.25, 0.5], [0.5, 0.5], [0.75, 0.5]];
+pub const LINE: [[f64; 2]; 3] = [[0.25, 0.5], [0.5, 0.5], [0.75, 0.5]];
 
 fn ring<J: Judge>(node_size: usize, query: [f64; 3]) -> String {
     listed(&J::index_within(node_size, &LINE, query))

@@ -1,5 +1,6 @@
-//! The inputs on which 01 and the Rust differ: each is run against both builds of the Rust, and must
-//! give what its row in docs/DIFFERENCES.md says.
+//! The inputs on which 01 and the Rust differ: each is run against the untouched Rust and the patched one, and must
+//! give what its row in docs/DIFFERENCES.md says. Where a patch of ours has the Rust follow 01, the untouched Rust must
+//! give what the row says of the Rust, and the others what it says of 01.
 
 mod boxes;
 mod child;
@@ -9,6 +10,7 @@ mod options;
 mod page;
 mod points;
 mod ranges;
+mod rings;
 mod tiles;
 mod window;
 
@@ -17,8 +19,8 @@ use crate::{
     plain::{listed, points as in_parts, Options, LAMPS, WORKED},
     report::Report,
 };
-use beside::judge::{Judge, Patched, Untouched};
-use page::Row;
+use beside::judge::{Judge, Patched, Ringed, Untouched};
+use page::{Held, Row};
 use std::process::ExitCode;
 
 /// One input and the question to the Rust. What it is and what comes of it stands on the page.
@@ -60,13 +62,18 @@ pub fn run(page: &str) -> ExitCode {
     let mut report = Report::default();
     compare_codes(&rows, &mut report);
     let builds = [
-        (Untouched::NAME, cases::<Untouched>()),
-        (Patched::NAME, cases::<Patched>()),
-        ("one beside the other", window::cases()),
+        (Untouched::NAME, cases::<Untouched>(), Held::ToTheRust),
+        (Patched::NAME, cases::<Patched>(), Held::ToTheRust),
+        ("one beside the other", window::cases(), Held::ToTheRust),
+        (Untouched::NAME, rings::refused::<Untouched>(), Held::ToTheRust),
+        (Untouched::NAME, rings::cases::<Untouched>(), Held::ToTheRust),
+        (Ringed::NAME, rings::cases::<Ringed>(), Held::ToTheScope),
+        (Patched::NAME, rings::cases::<Patched>(), Held::ToTheScope),
     ];
-    for (build, cases) in builds {
+    for (build, cases, held) in builds {
         for case in cases {
-            compare(build, &case, &rows, with_checks, &mut report);
+            let expected = |row: &Row| row.outcome(held, with_checks).to_string();
+            compare(build, &case, &rows, expected, &mut report);
         }
     }
     report.finish("differences")
@@ -75,6 +82,8 @@ pub fn run(page: &str) -> ExitCode {
 /// The page has a row for each case, and no other.
 fn compare_codes(rows: &[Row], report: &mut Report) {
     let mut cases = cases::<Untouched>();
+    cases.extend(rings::refused::<Untouched>());
+    cases.extend(rings::cases::<Untouched>());
     cases.extend(window::cases());
     let known: Vec<&str> = cases.iter().map(|case| case.code).collect();
     let shown: Vec<&str> = rows.iter().map(|row| row.code).collect();
@@ -89,14 +98,20 @@ fn missing(codes: &[&str], others: &[&str]) -> String {
     listed(&missing)
 }
 
-fn compare(build: &str, case: &Case, rows: &[Row], with_checks: bool, report: &mut Report) {
+fn compare(
+    build: &str,
+    case: &Case,
+    rows: &[Row],
+    expected: impl Fn(&Row) -> String,
+    report: &mut Report,
+) {
     let row = rows.iter().find(|row| row.code == case.code).unwrap_or(&page::MISSING);
     let found = match case.apart {
         true => child::run(case.code, build),
         false => attempt(case.ask),
     };
     let what = format!("{build}: {} {}", case.code, row.input);
-    report.compare(&what, row.outcome(with_checks), &found);
+    report.compare(&what, &expected(row), &found);
 }
 
 /// Runs one case of one build in this process and prints the outcome: the other side of `child::run`.

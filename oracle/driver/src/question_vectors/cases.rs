@@ -4,9 +4,10 @@
 use super::changed;
 use crate::{
     load_vectors::tables,
-    plain::{points as in_parts, LAMPS, WORKED},
+    plain::{columns, points as in_parts, ABOVE_QUARTER, LAMPS, REACHED, REACHING, WORKED},
 };
 use asked::{few, rooms, spoiled, Build, Columns, Rooms, ODD_LONGITUDES};
+use beside::{judge::Untouched, Rust, Said};
 use options::{corners, Options, Plane};
 use points::{Drawn, SHAPES};
 use questions::{Out, Question, State};
@@ -27,6 +28,8 @@ pub fn all() -> Vec<Case> {
     all.extend((0..BUILDS.len()).map(|number| of_points(number, &mut source)));
     all.extend(spoiled_ones());
     all.push(lamps_at_both_edges(&mut source));
+    all.extend([1, 64].map(|node_size| beside_a_quarter(node_size, &mut source)));
+    all.push(above_a_quarter(&mut source));
     all
 }
 
@@ -52,9 +55,7 @@ pub fn with_rooms(build: Build, questions: Vec<Question>, source: &mut Splitmix)
 
 /// The build of 01's first lamps, so many of them.
 pub fn lamps(count: usize) -> Build {
-    let lamps = in_parts(&LAMPS[..count]);
-    let lamps = [0, 1].map(|axis| lamps.iter().map(|lamp| lamp[axis]).collect());
-    built("worked", WORKED, lamps)
+    built("worked", WORKED, columns(&in_parts(&LAMPS[..count])))
 }
 
 /// 01's 'Worked on that build'.
@@ -91,6 +92,44 @@ fn lamp_at_the_edge(source: &mut Splitmix) -> Case {
 fn lamps_at_both_edges(source: &mut Splitmix) -> Case {
     let questions = vec![Question::Tile { z: 0, x: 0, y: 0 }, Question::Tally { z: 0, x: 0, y: 0 }];
     with_rooms(built("edges", WORKED, [vec![0.0, 1.0], vec![0.5, 0.5]]), questions, source)
+}
+
+/// 01's corner: a lamp at x = 1 and two beside a quarter, which a rounded edge cuts off where the index is split. By
+/// the rule of #106 all are one cluster, whose children and leaves they are.
+fn beside_a_quarter(node_size: usize, source: &mut Splitmix) -> Case {
+    let options = Options { node_size, ..REACHING };
+    let build = built("beside a quarter", options, columns(&REACHED));
+    let circle = [1.0, 0.5, 0.75];
+    let mut questions =
+        vec![Question::Ring { zoom: 1, circle }, Question::Ring { zoom: 0, circle }];
+    questions.extend([Question::Children { id: 4 }, Question::ExpansionZoom { id: 4 }]);
+    for (limit, offset) in [(10, 0), (1, 1), (2, 1)] {
+        questions.push(Question::Leaves { id: 4, limit, offset });
+    }
+    let case = with_rooms(build, questions, source);
+    assert_eq!(is_skipped_in(&case), node_size == 1, "a corner where the index is split");
+    case
+}
+
+/// The like on y and on the other side, where the index is split by x first.
+fn above_a_quarter(source: &mut Splitmix) -> Case {
+    let ys = [vec![ABOVE_QUARTER; 9], vec![0.0; 3]].concat();
+    let build = built("above a quarter", REACHING, [vec![0.5; 12], ys]);
+    let circles = [[0.5, -1.0, 1.25], [0.5, -1.0, 1.25_f64.next_down()]];
+    let questions = circles.map(|circle| Question::Ring { zoom: 1, circle }).to_vec();
+    let case = with_rooms(build, questions, source);
+    assert!(is_skipped_in(&case), "a corner");
+    case
+}
+
+/// Whether the untouched Rust skips something in the ring that is asked first.
+fn is_skipped_in(Case { build, questions }: &Case) -> bool {
+    let (question, _) = questions[0];
+    let length = question.answered(&build.state, &build.columns.lent()).length();
+    match Rust::<Untouched>::over(build).ask(build, &question) {
+        Some(Said::Places(places)) => places.len() < length,
+        _ => false,
+    }
 }
 
 /// Lamps around the equator, some of them at the date line, and boxes of all widths.

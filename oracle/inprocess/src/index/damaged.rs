@@ -59,6 +59,7 @@ fn columns(count: usize, node_size: usize, round: usize, source: &mut Splitmix) 
         2 => columns.coords.iter_mut().for_each(|v| *v = source.pick(&EDGES)),
         3 => change_some(&mut columns.coords, source, |source| source.pick(&WILD)),
         4 => change_some(&mut columns.coords, source, |source| source.unit()),
+        5 => change_medians(&mut columns.coords, source),
         _ => {}
     }
     let places = count as u64;
@@ -77,6 +78,18 @@ fn change_some<T>(column: &mut [T], source: &mut Splitmix, value: impl Fn(&mut S
     for _ in 0..1 + source.below(4) {
         let at = source.below(column.len() as u64) as usize;
         column[at] = value(source);
+    }
+}
+
+/// Changes coordinates by which the whole index and its halves are split, each or none: x of the first median, y of
+/// the next two.
+fn change_medians(coords: &mut [f64], source: &mut Splitmix) {
+    let last = coords.len() / 2 - 1;
+    let m = last / 2;
+    for (slot, axis) in [(m, 0), (m / 2, 1), ((m + 1 + last) / 2, 1)] {
+        if source.below(3) > 0 {
+            coords[2 * slot.min(last) + axis] = source.pick(&WILD);
+        }
     }
 }
 
@@ -108,7 +121,7 @@ fn one_index(
     searches: &mut Searches,
     judged: &mut Group,
 ) {
-    let rust = rust::Searcher::over(lent);
+    let rust = rust::Patched::over(lent);
     let first = 4 * round % 16;
     for query in queries::around(lent, first..first + 4, source) {
         let about = || {

@@ -1,13 +1,15 @@
-//! The index: its build, both searches and their cursors, what they refuse, and columns that no build
-//! made.
+//! The index: its build, both searches and their cursors, what they refuse, rings at rounded edges, and columns
+//! that no build made.
 
 mod arrangement;
 mod damaged;
 mod queries;
 mod reference;
 mod refusals;
+mod rings;
 mod rust;
 mod searches;
+mod untouched;
 
 use crate::{
     report::{finish, Group},
@@ -18,6 +20,7 @@ use ported::Lent;
 use searches::Searches;
 use splitmix::Splitmix;
 use std::process::ExitCode;
+use untouched::BesideUntouched;
 
 /// Node sizes: the least, odd and even, the usual one, the greatest.
 const NODE_SIZES: [usize; 6] = [1, 2, 3, 8, 64, 65_535];
@@ -31,19 +34,29 @@ pub fn run(form: Form) -> ExitCode {
     let mut built = Group::new("index, build");
     let mut searches = Searches::new("index, range", "index, within", "index, cursor");
     let mut judged = Group::new("index, 01's reference beside the Rust");
+    let mut untouched = BesideUntouched::new("index, searches beside the untouched Rust");
     for (counts, queries) in sizes(form) {
         for count in counts {
             for shape in SHAPES {
                 let points = points::made(shape, count, &mut source);
                 for node_size in NODE_SIZES {
                     let plan = Plan { node_size, points: &points, queries };
-                    one_index(&plan, &mut source, &mut built, &mut searches, &mut judged);
+                    let groups = Groups {
+                        built: &mut built,
+                        searches: &mut searches,
+                        judged: &mut judged,
+                        untouched: &mut untouched,
+                    };
+                    one_index(&plan, &mut source, groups);
                 }
             }
         }
     }
+    let at_edges = rings::run(form, &mut built, &mut judged);
     let mut groups = vec![built];
     groups.extend(searches.groups());
+    groups.push(untouched.told());
+    groups.extend(at_edges);
     groups.push(refusals::of_builds());
     groups.push(refusals::of_searches());
     groups.extend(damaged::run(form, &mut judged));
@@ -76,26 +89,30 @@ struct Plan<'a> {
     queries: usize,
 }
 
+/// Where its comparisons are counted.
+struct Groups<'a> {
+    built: &'a mut Group,
+    searches: &'a mut Searches,
+    judged: &'a mut Group,
+    untouched: &'a mut BesideUntouched,
+}
+
 /// Compares the build of one index, then the searches over it.
-fn one_index(
-    plan: &Plan,
-    source: &mut Splitmix,
-    built: &mut Group,
-    searches: &mut Searches,
-    judged: &mut Group,
-) {
+fn one_index(plan: &Plan, source: &mut Splitmix, groups: Groups) {
+    let Groups { built, searches, judged, untouched } = groups;
     let Plan { node_size, points, queries } = *plan;
     let about = format!("{}, node_size {node_size}", points.name());
     let tail = source.below(4) as usize;
     let arranged = arrangement::compare(node_size, points, tail, &about, built);
     let (ids, coords) = arranged.lengthened(tail);
     let lent = Lent { node_size, count: points.xs.len(), ids: &ids, coords: &coords };
-    let rust = rust::Searcher::over(&lent);
+    let (rust, bare) = (rust::Patched::over(&lent), rust::Untouched::over(&lent));
     for query in queries::around(&lent, 0..queries, source) {
         let about = || format!("{about}, {query:?}");
         let slots = reference::slots(&lent, &query);
         let places = rust.places(&query);
         judged.compare(about, searches::other_places(&lent, &slots, &places));
+        untouched.compare(&points.xs, &points.ys, &query, &places, &bare, about);
         searches.compare(&lent, &query, &slots, &places, about);
         searches.compare_any_slot(&lent, &query, source, about);
     }

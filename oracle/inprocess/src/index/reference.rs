@@ -109,16 +109,16 @@ impl Walk<'_> {
         right - left + 1 > self.lent.node_size + 1
     }
 
-    /// What stands right of m, unless the greatest edge lies below m.
+    /// What stands right of m, unless it is skipped.
     fn right_part(&mut self, m: usize, right: usize, axis: usize) {
-        if self.lent.coords[2 * m + axis] <= edges(self.query, axis).1 {
+        if goes(self.query, axis, self.lent.coords[2 * m + axis]).1 {
             self.interval(m + 1, right, 1 - axis);
         }
     }
 
-    /// What stands left of m, unless the least edge lies above m.
+    /// What stands left of m, unless it is skipped.
     fn left_part(&mut self, left: usize, m: usize, axis: usize) {
-        if edges(self.query, axis).0 <= self.lent.coords[2 * m + axis] {
+        if goes(self.query, axis, self.lent.coords[2 * m + axis]).0 {
             self.interval(left, m - 1, 1 - axis);
         }
     }
@@ -143,11 +143,16 @@ fn passes(query: &Query, x: f64, y: f64) -> bool {
     }
 }
 
-/// The least and the greatest edge on an axis, by which a part is skipped; those of a circle are rounded.
-fn edges(query: &Query, axis: usize) -> (f64, f64) {
+/// Whether the part left of the split coordinate v is gone into, and the part right of it: in a box by its
+/// edges; around a place a part is skipped only behind v, where v itself is too far on the axis.
+fn goes(query: &Query, axis: usize, v: f64) -> (bool, bool) {
     match *query {
-        Query::Range(corners) => (corners[axis], corners[2 + axis]),
-        Query::Within(circle) => (circle[axis] - circle[2], circle[axis] + circle[2]),
+        Query::Range(corners) => (corners[axis] <= v, v <= corners[2 + axis]),
+        Query::Within(circle) => {
+            let (q, d) = (circle[axis], v - circle[axis]);
+            let far = circle[2] * circle[2] < d * d;
+            (!(v < q && far), !(q < v && far))
+        }
     }
 }
 

@@ -1,7 +1,6 @@
-//! The Rust's index: arranged by both builds, and its searches over any columns.
+//! The Rust's index: arranged by two builds, and their searches over any columns.
 
 use super::{arrangement::Columns, queries::Query};
-use oracle_untouched::KDBush;
 use ported::Lent;
 
 macro_rules! arranged {
@@ -21,26 +20,36 @@ macro_rules! arranged {
 arranged!(untouched, oracle_untouched);
 arranged!(patched, oracle_patched);
 
-/// The untouched Rust's searches over lent columns, whoever made them.
-pub struct Searcher(KDBush);
+macro_rules! searcher {
+    ($name:ident, $rust:ident) => {
+        /// The searches of this build over lent columns, whoever made them.
+        pub struct $name($rust::KDBush);
 
-impl Searcher {
-    pub fn over(lent: &Lent) -> Searcher {
-        let mut index = KDBush::new(0, lent.node_size);
-        index.ids = lent.ids[..lent.count].iter().map(|id| *id as usize).collect();
-        index.coords = lent.coords[..2 * lent.count].to_vec();
-        Searcher(index)
-    }
+        impl $name {
+            pub fn over(lent: &Lent) -> $name {
+                let mut index = $rust::KDBush::new(0, lent.node_size);
+                index.ids = lent.ids[..lent.count].iter().map(|id| *id as usize).collect();
+                index.coords = lent.coords[..2 * lent.count].to_vec();
+                $name(index)
+            }
 
-    /// The places that a query answers; the Rust looks into none of them.
-    pub fn places(&self, query: &Query) -> Vec<u32> {
-        let places = match *query {
-            Query::Range([min_x, min_y, max_x, max_y]) => self.0.range(min_x, min_y, max_x, max_y),
-            Query::Within([x, y, radius]) => self.0.within(x, y, radius),
-        };
-        places.into_iter().map(narrow).collect()
-    }
+            /// The places that a query answers; the Rust looks into none of them.
+            pub fn places(&self, query: &Query) -> Vec<u32> {
+                let $name(index) = self;
+                let places = match *query {
+                    Query::Range([min_x, min_y, max_x, max_y]) => {
+                        index.range(min_x, min_y, max_x, max_y)
+                    }
+                    Query::Within([x, y, radius]) => index.within(x, y, radius),
+                };
+                places.into_iter().map(narrow).collect()
+            }
+        }
+    };
 }
+
+searcher!(Patched, oracle_patched);
+searcher!(Untouched, oracle_untouched);
 
 /// A place as the port keeps it.
 fn narrow(place: usize) -> u32 {

@@ -128,7 +128,7 @@ pub fn list_differs(
 
 /// How the port's cursor, walked to its end, differs from these slots, and the ids in them from these
 /// places.
-fn walk_differs(lent: &Lent, query: &Query, slots: &[usize], places: &[u32]) -> Option<String> {
+pub fn walk_differs(lent: &Lent, query: &Query, slots: &[usize], places: &[u32]) -> Option<String> {
     let mut walked = Vec::with_capacity(slots.len());
     let mut reply = query.first(lent);
     while reply.number == 0 && reply.carried < lent.count && walked.len() <= lent.count {

@@ -17,15 +17,18 @@ const NAMES: [&str; 7] = [
     "questions, tally beside the Rust",
 ];
 
-/// What was compared so far, and how many builds the untouched Rust was asked of too.
+/// What was compared so far; how many builds the Rusts with the window block were asked of too, and of how many of
+/// these the untouched one makes other tables.
 pub struct BesideRust {
     beside: Beside,
-    untouched: usize,
+    by_three: usize,
+    skips: usize,
 }
 
 impl BesideRust {
     pub fn new() -> BesideRust {
-        BesideRust { beside: Beside::new("builds beside the Rust", &NAMES), untouched: 0 }
+        let beside = Beside::new("builds beside the Rust", &NAMES);
+        BesideRust { beside, by_three: 0, skips: 0 }
     }
 
     /// These questions to one build.
@@ -39,13 +42,15 @@ impl BesideRust {
             self.beside.count(verdict, question, || format!("{}, {question:?}", build.name()));
         }
         self.beside.builds += 1;
-        self.untouched += usize::from(rusts.are_two());
+        self.by_three += usize::from(rusts.are_three());
+        self.skips += usize::from(rusts.skip_in_tables());
     }
 
     /// Says how much there was; the groups.
     pub fn told(self) -> Vec<Group> {
         let groups = self.beside.told();
-        println!("builds beside the untouched Rust too: {}", self.untouched);
+        println!("builds beside the ringed and the untouched Rust too: {}", self.by_three);
+        println!("differences of tables listed under E5: {}", self.skips);
         groups
     }
 }

@@ -1,4 +1,5 @@
-//! The builds that are compared: options at 01's bounds crossed, and every number of points up to 700.
+//! The builds that are compared: options at 01's bounds crossed, every number of points up to 700, and points at
+//! the rounded edges of rings.
 
 use crate::Form;
 use options::{corners, Options};
@@ -8,8 +9,8 @@ use splitmix::Splitmix;
 /// One build: options, and the points as a caller of the Rust has them.
 pub struct Case {
     pub options: Options,
-    pub shape: Shape,
-    pub drawn: Drawn,
+    /// How the points lie, in words.
+    what: String,
     pub xs: Vec<f64>,
     pub ys: Vec<f64>,
 }
@@ -28,13 +29,13 @@ impl Case {
     ) -> Case {
         let points = points::made(shape, count, source).drawn(drawn, source);
         let [xs, ys] = points.placed(&options.plane);
-        Case { options, shape, drawn, xs, ys }
+        Case { options, what: format!("{shape:?}, drawn {drawn:?}"), xs, ys }
     }
 
     /// In words.
     pub fn name(&self) -> String {
-        let Case { options, shape, drawn, xs, .. } = self;
-        format!("{} points, {shape:?}, drawn {drawn:?}, {options:?}", xs.len())
+        let Case { options, what, xs, .. } = self;
+        format!("{} points, {what}, {options:?}", xs.len())
     }
 }
 
@@ -100,5 +101,18 @@ pub fn counts(form: Form, source: &mut Splitmix, mut compare: impl FnMut(&Case, 
                 compare(&Case::made(options, shape, drawn, count, source), source);
             }
         }
+    }
+}
+
+/// Few points at the rounded edge of a ring by which clusters are made.
+pub fn at_rings(form: Form, source: &mut Splitmix, mut compare: impl FnMut(&Case, &mut Splitmix)) {
+    let builds = match form {
+        Form::Short => 2_000,
+        Form::Full => 20_000,
+    };
+    for _ in 0..builds {
+        let count = 1 + source.below(30) as usize;
+        let (options, [xs, ys]) = points::reached(count, source);
+        compare(&Case { options, what: "at a ring".to_string(), xs, ys }, source);
     }
 }

@@ -10,10 +10,10 @@ use crate::{
     report::{finish, Group},
     Form,
 };
-use builds::WITHOUT_WINDOW;
+use builds::{patched, ringed, skipped, untouched, WITHOUT_WINDOW};
 use cases::Case;
 use options::Options;
-use outcome::Request;
+use outcome::{Outcome, Request};
 use ported::{Lengths, COLUMNS, ZOOMS};
 use splitmix::Splitmix;
 use std::process::ExitCode;
@@ -24,7 +24,8 @@ pub fn run(form: Form) -> ExitCode {
     let mut beside = Beside::new();
     cases::corners(form, &mut source, |case, source| beside.compare(case, source));
     cases::counts(form, &mut source, |case, source| beside.compare(case, source));
-    let mut groups = vec![beside.patched, beside.untouched];
+    cases::at_rings(form, &mut source, |case, source| beside.compare(case, source));
+    let mut groups = beside.told();
     if form == Form::Full {
         groups.push(large::run(&mut source));
     }
@@ -35,33 +36,59 @@ pub fn run(form: Form) -> ExitCode {
     finish("tables", groups)
 }
 
-/// The builds, beside either build of the Rust.
+/// The builds, beside each build of the Rust.
 struct Beside {
     patched: Group,
+    ringed: Group,
     untouched: Group,
+    skips: usize,
 }
 
 impl Beside {
     fn new() -> Beside {
         Beside {
             patched: Group::new("tables, beside the patched Rust"),
+            ringed: Group::new("tables, beside the ringed Rust"),
             untouched: Group::new("tables, beside the untouched Rust"),
+            skips: 0,
         }
     }
 
     /// Compares one build, in columns that are longer than need be by a few entries.
     fn compare(&mut self, case: &Case, source: &mut Splitmix) {
         let Case { options, xs, ys, .. } = case;
-        let patched = builds::patched::tables(options, xs, ys);
+        let patched = patched::tables(options, xs, ys);
         let lent_ys = patched.lent_ys(&options.plane, ys);
         let lengths = needed(options, xs.len()).map(|length| length + source.below(3) as usize);
         let request = Request { options, xs, ys: &lent_ys, lengths, zooms: ZOOMS };
         let outcome = request.made();
         self.patched.compare(|| case.name(), outcome.is_not(&patched));
         if xs.len() <= WITHOUT_WINDOW {
-            let untouched = builds::untouched::tables(options, xs, ys);
-            self.untouched.compare(|| case.name(), outcome.is_not(&untouched));
+            self.compare_others(case, &outcome);
         }
+    }
+
+    /// The two builds with the window block, where it does not run. What the untouched one differs in must come of
+    /// what its rings skip.
+    fn compare_others(&mut self, case: &Case, outcome: &Outcome) {
+        let Case { options, xs, ys, .. } = case;
+        let ringed = ringed::loaded(options, xs, ys);
+        let untouched = untouched::loaded(options, xs, ys);
+        self.ringed.compare(|| case.name(), outcome.is_not(&ringed::packed(&ringed)));
+        let mut difference = outcome.is_not(&untouched::packed(&untouched));
+        if difference.is_some() && skipped::tables(&ringed, &untouched) == skipped::Beside::Skips {
+            self.skips += 1;
+            difference = None;
+        }
+        self.untouched.compare(|| case.name(), difference);
+    }
+
+    /// Says how often a listed difference; the groups. Builds that come to none do not try the rule.
+    fn told(mut self) -> Vec<Group> {
+        let never = (self.skips == 0).then(|| "nothing is skipped".to_string());
+        self.untouched.compare(|| "all builds".to_string(), never);
+        println!("differences listed under E5: {}", self.skips);
+        vec![self.patched, self.ringed, self.untouched]
     }
 }
 

@@ -1,5 +1,5 @@
-//! 01's rounded edge, reached by a text: an index that is split passes by an entry that passes the distance
-//! test, and so the tables differ from those of an index that is not.
+//! 01's rounded edge, reached by a text: there the untouched Rust skips an entry that passes the distance test if the
+//! index is split, and so makes other tables. By #106 nothing is skipped, and an index that is not split makes the same.
 
 use super::Draft;
 
@@ -11,7 +11,8 @@ const FIRST: u64 = 337_214;
 
 /// A lamp at x = 1 and two clusters, one beside it and one below, with the radius of zoom 0 just reaching from
 /// the lamp to the centre of the first. Both centres have the same x. With node_size 1 the cluster below is the
-/// median, and the one beside the lamp is in the part on its left, which the rounded edge cuts off.
+/// median, and the one beside the lamp is in the part on its left, which the rounded edge cuts off in the
+/// untouched Rust.
 pub fn rounded_edge(node_size: u64) -> Draft {
     let mut points = vec![[65_536, 32_768]];
     for y in [65_000, 32_768] {
@@ -25,7 +26,8 @@ pub fn rounded_edge(node_size: u64) -> Draft {
 #[cfg(test)]
 mod tests {
     use super::*;
-    use crate::answer_to;
+    use crate::{answer_to, lines::build_of, read};
+    use builds::untouched;
 
     /// The nums of the last table.
     fn nums(node_size: u64) -> Vec<String> {
@@ -35,9 +37,23 @@ mod tests {
         last.map(|line| line.rsplit(' ').next().unwrap().to_string()).collect()
     }
 
+    /// The same by the untouched Rust.
+    fn untouched_nums(node_size: u64) -> Vec<u32> {
+        let (options, [xs, ys]) = build_of(&read(&rounded_edge(node_size).text()).unwrap());
+        let tables = untouched::tables(&options, &xs, &ys);
+        let [start, len] = [tables.starts[0], tables.lens[0]].map(|number| number as usize);
+        tables.num[start..start + len].to_vec()
+    }
+
     #[test]
     fn the_edge_is_reached() {
-        assert_eq!(nums(1), ["1", "72"]);
+        assert_eq!(untouched_nums(1), [1, 72]);
+        assert_eq!(untouched_nums(64), [37, 36]);
+    }
+
+    #[test]
+    fn nothing_is_skipped_at_the_edge() {
+        assert_eq!(nums(1), ["37", "36"]);
         assert_eq!(nums(64), ["37", "36"]);
     }
 }
