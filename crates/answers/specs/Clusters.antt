@@ -1,4 +1,4 @@
--- Of a build that is accepted and whose given ys are binary64 numbers: the id of each of its clusters leads to its origin, where it is asked for and where a walk goes
+-- Of a build that is accepted: the id of each of its clusters leads to its origin, where it is asked for and where a walk goes
 -- on into it; it has two children or more, its members in the order of the answers; and it expands at the zoom after the one that made it. Assumes nothing.
 use mathlib.Core.Path.{_≡_, refl, ap, ap₂, sym, _∙_, subst}
 use mathlib.Core.Logic.{inl, inr}
@@ -31,7 +31,6 @@ use Rattle.supercluster.specs.Build.{Lent, need}
 use Rattle.supercluster.specs.Load.{Holds}
 use Rattle.supercluster.specs.Ready.{Accepted}
 use Rattle.builds.specs.Came.{came, tableAt as built}
-use Rattle.builds.specs.Fitting.{Fitting}
 use Rattle.builds.specs.GroupsOfBuild.{groupsBy, nearBy}
 use Rattle.builds.specs.Identities.{Known, Cluster, identities}
 use Rattle.builds.specs.Places.{groupAt}
@@ -41,7 +40,7 @@ use Rattle.lamps.specs.Copies.{Clustered, clustered, members-are}
 use Rattle.answers.specs.Stored.{stateBy, columnsBy, state-sound, long-is}
 use Rattle.answers.specs.Children.{clean, kids-at}
 
-module _ (o : Options) (xs ys : List Float) (a : Accepted o xs ys) (l : Lent) (r : Holds (need o (length xs)) l) (f : Fitting (o .«coordinate_system») xs ys) where
+module _ (o : Options) (xs ys : List Float) (a : Accepted o xs ys) (l : Lent) (r : Holds (need o (length xs)) l) where
   abbrev S : State
   S = stateBy o xs ys
 
@@ -61,7 +60,7 @@ module _ (o : Options) (xs ys : List Float) (a : Accepted o xs ys) (l : Lent) (r
 
     -- what is known of it
     known : Cluster o xs ys z (entry (built o xs ys z) j .id) (entry (built o xs ys z) j .num)
-    known = by (identities o xs ys a f z h k j q)
+    known = by (identities o xs ys a z h k j q)
       where
         by : Known o xs ys z (entry (built o xs ys z) j) → Cluster o xs ys z (entry (built o xs ys z) j .id) (entry (built o xs ys z) j .num)
         by (inl w) = absurd (let v = w .below in omega arith)
@@ -113,8 +112,8 @@ module _ (o : Options) (xs ys : List Float) (a : Accepted o xs ys) (l : Lent) (r
     pub kids-are : kidsAt (stateBy o xs ys) (columnsBy o xs ys l) (entry (built o xs ys z) j .id) T I ≡ membersOf o xs ys (entry (built o xs ys z) j .id)
     kids-are = kids-at o xs ys a l r T I (let w = above in omega arith) top inside Id
 
-    made : Clustered o xs ys a f (entry (built o xs ys z) j .id) (lampsOf o xs ys z j)
-    made = clustered o xs ys a f z h k j q b
+    made : Clustered o xs ys a (entry (built o xs ys z) j .id) (lampsOf o xs ys z j)
+    made = clustered o xs ys a z h k j q b
 
     -- a sole member would be the origin, with all the lamps
     not-sole : (x : ℕ) → membersOf o xs ys (entry (built o xs ys z) j .id) ≡ x ∷ [] → ⊥
@@ -123,7 +122,7 @@ module _ (o : Options) (xs ys : List Float) (a : Accepted o xs ys) (l : Lent) (r
         sole-lamps : I ≡ x → length (lampsOf o xs ys z j) ≡ entry (built o xs ys T) I .num
         sole-lamps w =
             ap length (made .lamps ∙ ap (gather (λ y. lampsOf o xs ys T y)) e ∙ append-nil (lampsOf o xs ys T x) ∙ ap (lampsOf o xs ys T) (sym w))
-            ∙ sym (lamps-long o xs ys a f T (let v = above in omega arith) top I inside)
+            ∙ sym (lamps-long o xs ys a T (let v = above in omega arith) top I inside)
 
         meet : Hit I x → ⊥
         meet (inl w) = let n = sole-lamps (w .0) in let m = made .beyond in omega arith
@@ -173,14 +172,14 @@ module _ (o : Options) (xs ys : List Float) (a : Accepted o xs ys) (l : Lent) (r
   pub children-group : (z : ℕ) → o .«min_zoom» ≤ z → z ≤ o .«max_zoom» → (j i : ℕ) (ks : List ℕ) (e : Entry) → j < length (built o xs ys z) → groupAt (groupsBy o xs ys z) j ≡ joined i ks e
       → childrenOf (stateBy o xs ys) (columnsBy o xs ys l) (e .id) ≡ told true ks
   children-group z h k j i ks e q p =
-      let d : entry (built o xs ys z) j .id ≡ e .id = group-id o xs ys a f z h k j q ∙ ap (λ (g : Group). entryOf g .id) p in
+      let d : entry (built o xs ys z) j .id ≡ e .id = group-id o xs ys a z h k j q ∙ ap (λ (g : Group). entryOf g .id) p in
       let m = made-above z h k j i ks e q p in
       subst (λ (v : ℕ). childrenOf S C v ≡ told true (membersOf o xs ys v)) d (children-are z j h (omega arith) q (omega arith))
-      ∙ ap (told true) (members-are o xs ys a f z h k j i ks e q p)
+      ∙ ap (told true) (members-are o xs ys a z h k j i ks e q p)
     where
       made-above : (z : ℕ) → o .«min_zoom» ≤ z → z ≤ o .«max_zoom» → (j i : ℕ) (ks : List ℕ) (e : Entry) → j < length (built o xs ys z) → groupAt (groupsBy o xs ys z) j ≡ joined i ks e → length xs ≤ e .id
       made-above z h k j i ks e q p =
           let w : Joined (length xs) (o .«min_points») z (nearBy o xs ys z) (came o xs ys (suc z)) (built o xs ys (suc z)) i ks e =
-          subst (λ (g : Group). Fits (length xs) (o .«min_points») z (nearBy o xs ys z) (came o xs ys (suc z)) (built o xs ys (suc z)) g) p (group-fits o xs ys a f z h k j q) in
+          subst (λ (g : Group). Fits (length xs) (o .«min_points») z (nearBy o xs ys z) (came o xs ys (suc z)) (built o xs ys (suc z)) g) p (group-fits o xs ys a z h k j q) in
           let m = w .made-id in
           omega arith

@@ -1,4 +1,4 @@
--- Of a build that is accepted and whose converted points are binary64 numbers, of each of its clusters: its leaves with a limit of 1 or more are its lamps after the
+-- Of a build that is accepted, of each of its clusters: its leaves with a limit of 1 or more are its lamps after the
 -- first `offset`, up to the limit; with limit 0 they are all its lamps at offset 0, and none at a larger one. So a larger limit never changes what a smaller one of 1 or
 -- more listed. Assumes nothing.
 use mathlib.Core.Path.{_≡_, refl, ap, ap₂, sym, _∙_, subst}
@@ -24,7 +24,6 @@ use Rattle.supercluster.specs.Build.{Lent, need}
 use Rattle.supercluster.specs.Load.{Holds}
 use Rattle.supercluster.specs.Ready.{Accepted}
 use Rattle.builds.specs.Came.{tableAt as built}
-use Rattle.builds.specs.Fitting.{Fitting}
 use Rattle.lamps.specs.Owner.{lampsOf, owner}
 use Rattle.lamps.specs.Owners.{lamps-long, num-owned}
 use Rattle.answers.specs.Stored.{stateBy, columnsBy}
@@ -124,7 +123,7 @@ ones-few p lo (suc n) = let a = ones-few p (suc lo) n in let b = few (p lo) in o
     few true = omega arith
     few false = omega arith
 
-module _ (o : Options) (xs ys : List Float) (a : Accepted o xs ys) (l : Lent) (r : Holds (need o (length xs)) l) (f : Fitting (o .«coordinate_system») xs ys)
+module _ (o : Options) (xs ys : List Float) (a : Accepted o xs ys) (l : Lent) (r : Holds (need o (length xs)) l)
     (z j : ℕ) (h : o .«min_zoom» ≤ z) (k : z ≤ o .«max_zoom» + 1) (q : j < length (built o xs ys z)) (b : length xs ≤ entry (built o xs ys z) j .id) where
   abbrev S : State
   S = stateBy o xs ys
@@ -141,8 +140,8 @@ module _ (o : Options) (xs ys : List Float) (a : Accepted o xs ys) (l : Lent) (r
   -- not more than there are lamps
   few : 0 + length (lampsOf o xs ys z j) ≤ length xs
   few =
-      let e = lamps-long o xs ys a f z h k j q in
-      let d = num-owned o xs ys a f z h k j q in
+      let e = lamps-long o xs ys a z h k j q in
+      let d = num-owned o xs ys a z h k j q in
       let w = ones-few (λ i. eqb (owner o xs ys z i) j) 0 (length xs) in
       omega arith
 
@@ -155,13 +154,13 @@ module _ (o : Options) (xs ys : List Float) (a : Accepted o xs ys) (l : Lent) (r
 
     leaves-by : leavesOf (stateBy o xs ys) (columnsBy o xs ys l) (entry (built o xs ys z) j .id) limit offset ≡ listed walked
     unfolding leavesOf leavesAt
-    leaves-by = ap (λ (t : Target). atTarget t (λ u i. leavesAt S C Id limit offset u i)) (target-is o xs ys a l r f z j h k q b) ∙ rw (not-childless o xs ys a l r f z j h k q b)
+    leaves-by = ap (λ (t : Target). atTarget t (λ u i. leavesAt S C Id limit offset u i)) (target-is o xs ys a l r z j h k q b) ∙ rw (not-childless o xs ys a l r z j h k q b)
 
   -- with a limit of 1 or more: after the first `offset`, up to the limit
   pub leaves-page : (limit offset : ℕ) → 1 ≤ limit
       → leavesOf (stateBy o xs ys) (columnsBy o xs ys l) (entry (built o xs ys z) j .id) limit offset ≡ told true (take limit (drop offset (lampsOf o xs ys z j)))
   leaves-page limit offset m =
-      let w = walks o xs ys a l r f limit offset (Going limit offset) (Pages limit offset) (page-rules limit offset) 32 z j h k q b deep 0 []
+      let w = walks o xs ys a l r limit offset (Going limit offset) (Pages limit offset) (page-rules limit offset) 32 z j h k q b deep 0 []
       (record { few = m; most = omega arith; begun = λ v. absurd (omega arith) }) few in
       let e : limit - 0 ≡ limit = omega arith in
       let d : offset - 0 ≡ offset = omega arith in
@@ -169,9 +168,9 @@ module _ (o : Options) (xs ys : List Float) (a : Accepted o xs ys) (l : Lent) (r
 
   -- with limit 0: all at offset 0, none at a larger one
   pub leaves-all : leavesOf (stateBy o xs ys) (columnsBy o xs ys l) (entry (built o xs ys z) j .id) 0 0 ≡ told true (lampsOf o xs ys z j)
-  leaves-all = leaves-by 0 0 ∙ ap listed (walks o xs ys a l r f 0 0 (λ n out. n ≡ 0) AllOf all-rules 32 z j h k q b deep 0 [] refl few)
+  leaves-all = leaves-by 0 0 ∙ ap listed (walks o xs ys a l r 0 0 (λ n out. n ≡ 0) AllOf all-rules 32 z j h k q b deep 0 [] refl few)
 
   pub leaves-none : (offset : ℕ) → 1 ≤ offset → leavesOf (stateBy o xs ys) (columnsBy o xs ys l) (entry (built o xs ys z) j .id) 0 offset ≡ told true []
   leaves-none offset m =
-      let w = walks o xs ys a l r f 0 offset (Early offset) (NoneOf offset) (none-rules offset) 32 z j h k q b deep 0 [] (m, refl) few in
+      let w = walks o xs ys a l r 0 offset (Early offset) (NoneOf offset) (none-rules offset) 32 z j h k q b deep 0 [] (m, refl) few in
       leaves-by 0 offset ∙ ap listed (w .1)

@@ -1,4 +1,4 @@
--- Of a build that is accepted and whose converted points are binary64 numbers: no question for children, leaves or an expansion zoom is refused 11, whatever the
+-- Of a build that is accepted: no question for children, leaves or an expansion zoom is refused 11, whatever the
 -- id, the limit, the offset and the room. Assumes nothing.
 use mathlib.Core.Path.{_≡_, refl, ap, sym, _∙_, subst}
 use mathlib.Core.Logic.{_⊎_, inl, inr, ⊎-elim}
@@ -35,7 +35,6 @@ use Rattle.supercluster.specs.Build.{Lent, need}
 use Rattle.supercluster.specs.Load.{Holds}
 use Rattle.supercluster.specs.Ready.{Accepted}
 use Rattle.builds.specs.Came.{tableAt as built}
-use Rattle.builds.specs.Fitting.{Fitting}
 use Rattle.builds.specs.Parents.{Alone, Under, parents}
 use Rattle.builds.specs.RightAt.{right-at}
 use Rattle.lamps.specs.Owner.{answersAt, lampsOf}
@@ -112,7 +111,7 @@ module _ (s : State) (cap id : ℕ) (good : stateOk s cap ≡ true) (P : Target 
 
 -- ---- an id that leads to a place of a build
 
-module _ (o : Options) (xs ys : List Float) (a : Accepted o xs ys) (l : Lent) (r : Holds (need o (length xs)) l) (f : Fitting (o .«coordinate_system») xs ys) where
+module _ (o : Options) (xs ys : List Float) (a : Accepted o xs ys) (l : Lent) (r : Holds (need o (length xs)) l) where
   abbrev S : State
   S = stateBy o xs ys
 
@@ -125,7 +124,7 @@ module _ (o : Options) (xs ys : List Float) (a : Accepted o xs ys) (l : Lent) (r
 
   -- the parent of an entry of table z + 1 is unset, or a cluster of table z
   parent-made : (z i id : ℕ) → o .«min_zoom» ≤ z → z ≤ o .«max_zoom» → i < length (built o xs ys (suc z)) → entry (built o xs ys (suc z)) i .parent ≡ id → (id ≡ unset → ⊥) → Made z id
-  parent-made z i id h k q e u = by (parents o xs ys a f z h k i q)
+  parent-made z i id h k q e u = by (parents o xs ys a z h k i q)
     where
       by : Alone (built o xs ys (suc z)) (built o xs ys z) i ⊎ Under (length xs) z (built o xs ys (suc z)) (built o xs ys z) i → Made z id
       by (inl w) = absurd (u (sym e ∙ w .parent))
@@ -193,9 +192,9 @@ module _ (o : Options) (xs ys : List Float) (a : Accepted o xs ys) (l : Lent) (r
         above = omega arith
 
         by : (limit offset : ℕ) → Fine (leavesOf S C (entry (built o xs ys (T - 1)) j .id) limit offset)
-        by zero zero = subst Fine (sym (leaves-all o xs ys a l r f (T - 1) j low top q above)) (fine-told (lampsOf o xs ys (T - 1) j))
-        by zero (suc d) = subst Fine (sym (leaves-none o xs ys a l r f (T - 1) j low top q above (suc d) (omega arith))) (fine-told [])
-        by (suc m) d = subst Fine (sym (leaves-page o xs ys a l r f (T - 1) j low top q above (suc m) d (omega arith))) (fine-told (take (suc m) (drop d (lampsOf o xs ys (T - 1) j))))
+        by zero zero = subst Fine (sym (leaves-all o xs ys a l r (T - 1) j low top q above)) (fine-told (lampsOf o xs ys (T - 1) j))
+        by zero (suc d) = subst Fine (sym (leaves-none o xs ys a l r (T - 1) j low top q above (suc d) (omega arith))) (fine-told [])
+        by (suc m) d = subst Fine (sym (leaves-page o xs ys a l r (T - 1) j low top q above (suc m) d (omega arith))) (fine-told (take (suc m) (drop d (lampsOf o xs ys (T - 1) j))))
 
     leaves-fine : (limit offset : ℕ) → Fine (leavesOf (stateBy o xs ys) (columnsBy o xs ys l) id limit offset) ⊎ Fine (leavesAt (stateBy o xs ys) (columnsBy o xs ys l) id limit offset T I)
     unfolding leavesAt
@@ -207,7 +206,7 @@ module _ (o : Options) (xs ys : List Float) (a : Accepted o xs ys) (l : Lent) (r
     made-grows (j, q, e) w =
         let b : length xs ≤ entry (built o xs ys (T - 1)) j .id = omega arith in
         grows-at (tableOf (length xs) (entry (built o xs ys (T - 1)) j .id))
-        (sym (expansion-is o xs ys a l r f (T - 1) j (omega arith) (omega arith) q b) ∙ ap (zoomOf S C) e ∙ w)
+        (sym (expansion-is o xs ys a l r (T - 1) j (omega arith) (omega arith) q b) ∙ ap (zoomOf S C) e ∙ w)
 
     none-grows : kidsAt (stateBy o xs ys) (columnsBy o xs ys l) id T I ≡ [] → Grows (expand (stateBy o xs ys) (columnsBy o xs ys l) (o .«max_zoom» + 1 - (T - 1)) (At T I) id (T - 1) true)
     unfolding expand fetchedAt

@@ -29,7 +29,6 @@ use Rattle.supercluster.specs.Build.{Lent, need}
 use Rattle.supercluster.specs.Load.{Holds}
 use Rattle.supercluster.specs.Ready.{Accepted}
 use Rattle.builds.specs.Came.{tableAt as built}
-use Rattle.builds.specs.Fitting.{Fitting}
 use Rattle.builds.specs.Identities.{Known, identities}
 use Rattle.builds.specs.RightAt.{right-at}
 use Rattle.lamps.specs.Owner.{gather, lampsOf, membersOf}
@@ -71,7 +70,7 @@ pub record Rules (limit offset : ℕ) (G : ℕ → List ℕ → Type 0) (R : ℕ
   pub go : (n : ℕ) (out ls : List ℕ) (m : ℕ) (p : List ℕ) → G n out → 1 ≤ length ls → R n out ls (went m p) → (length p ≡ limit → ⊥) → G m p × (length p ≤ length out + length ls)
   pub more : (n : ℕ) (out ls ms : List ℕ) (m : ℕ) (p : List ℕ) (t : Trip (List ℕ)) → G n out → 1 ≤ length ls → R n out ls (went m p) → (length p ≡ limit → ⊥) → R m p ms t → R n out (ls ++ ms) t
 
-module _ (o : Options) (xs ys : List Float) (a : Accepted o xs ys) (l : Lent) (r : Holds (need o (length xs)) l) (f : Fitting (o .«coordinate_system») xs ys) (limit offset : ℕ)
+module _ (o : Options) (xs ys : List Float) (a : Accepted o xs ys) (l : Lent) (r : Holds (need o (length xs)) l) (limit offset : ℕ)
     (G : ℕ → List ℕ → Type 0) (R : ℕ → List ℕ → List ℕ → Trip (List ℕ) → Type 0) (rules : Rules limit offset G R) where
   abbrev S : State
   S = stateBy o xs ys
@@ -104,7 +103,7 @@ module _ (o : Options) (xs ys : List Float) (a : Accepted o xs ys) (l : Lent) (r
     Visits = R n out (lampsOf o xs ys z j) visited
 
     long : entry (built o xs ys z) j .num ≡ length (lampsOf o xs ys z j)
-    long = lamps-long o xs ys a f z h k j q
+    long = lamps-long o xs ys a z h k j q
 
     by-trip : (t : Trip (List ℕ)) (ls : List ℕ) → visited ≡ t → lampsOf o xs ys z j ≡ ls → R n out ls t → Visits
     by-trip t ls e d w = subst (λ (x : Trip (List ℕ)). R n out (lampsOf o xs ys z j) x) (sym e) (subst (λ (x : List ℕ). R n out x t) (sym d) w)
@@ -114,7 +113,7 @@ module _ (o : Options) (xs ys : List Float) (a : Accepted o xs ys) (l : Lent) (r
     lamp-visit b one = ⊎-elim skipped there (below n offset)
       where
         is : lampsOf o xs ys z j ≡ entry (built o xs ys z) j .id ∷ []
-        is = lamps-of-lamp o xs ys a f z h k j q b
+        is = lamps-of-lamp o xs ys a z h k j q b
 
         skipped : n < offset → Visits
         skipped w = by-trip (went (n + 1) out) (E .id ∷ []) (rw (one, lt-ltb n offset w)) is (rules .skip n out (E .id ∷ []) ok (omega arith) (omega arith))
@@ -138,11 +137,11 @@ module _ (o : Options) (xs ys : List Float) (a : Accepted o xs ys) (l : Lent) (r
         entered w =
             by-trip (walkInto g z j n out) (lampsOf o xs ys z j)
             (rw (lt-ltb 1 (E .num) (omega arith), lt-leb (n + E .num) offset w)
-            (ap (λ (t : Target). enter (walk lamps S C limit offset g) t (E .id) n out) (onward-is o xs ys a l r f z j h k q b z (omega arith))))
-            refl (ih z j h k q b (let t = above o xs ys a l r f z j h k q b in omega arith) n out ok room)
+            (ap (λ (t : Target). enter (walk lamps S C limit offset g) t (E .id) n out) (onward-is o xs ys a l r z j h k q b z (omega arith))))
+            refl (ih z j h k q b (let t = above o xs ys a l r z j h k q b in omega arith) n out ok room)
 
     visit-is : Visits
-    visit-is = by (identities o xs ys a f z h k j q)
+    visit-is = by (identities o xs ys a z h k j q)
       where
         by : Known o xs ys z (entry (built o xs ys z) j) → Visits
         by (inl w) = lamp-visit (w .below) (w .num)
@@ -191,7 +190,7 @@ module _ (o : Options) (xs ys : List Float) (a : Accepted o xs ys) (l : Lent) (r
 
   pub walks : (g : ℕ) → Walks g
   unfolding walk
-  walks zero z j h k q b deep n out ok room = absurd (let t = top o xs ys a l r f z j h k q b in let m = options-are o (a .options) .zoom-to in omega arith)
+  walks zero z j h k q b deep n out ok room = absurd (let t = top o xs ys a l r z j h k q b in let m = options-are o (a .options) .zoom-to in omega arith)
   walks (suc g) z j h k q b deep n out ok room =
       subst (λ (x : Trip (List ℕ)). R n out (lampsOf o xs ys z j) x) (sym opened)
       (subst (λ (x : List ℕ). R n out x (stepsOver g T (membersOf o xs ys Id) n out)) (sym is)
@@ -207,21 +206,21 @@ module _ (o : Options) (xs ys : List Float) (a : Accepted o xs ys) (l : Lent) (r
       I = originOf (length xs) Id
 
       low : o .«min_zoom» ≤ T
-      low = let t = above o xs ys a l r f z j h k q b in omega arith
+      low = let t = above o xs ys a l r z j h k q b in omega arith
 
       up : T ≤ o .«max_zoom» + 1
-      up = top o xs ys a l r f z j h k q b
+      up = top o xs ys a l r z j h k q b
 
       is : lampsOf o xs ys z j ≡ gather (λ i. lampsOf o xs ys T i) (membersOf o xs ys Id)
-      is = clustered o xs ys a f z h k j q b .lamps
+      is = clustered o xs ys a z h k j q b .lamps
 
       within : AllBelow (length (built o xs ys T)) (membersOf o xs ys Id)
       within =
           all-keep (λ (i : ℕ). i < length (built o xs ys T)) _ _
-          (around-below o xs ys a l r T I (let t = above o xs ys a l r f z j h k q b in omega arith) up (inside o xs ys a l r f z j h k q b))
+          (around-below o xs ys a l r T I (let t = above o xs ys a l r z j h k q b in omega arith) up (inside o xs ys a l r z j h k q b))
 
       opened : walkInto (suc g) z j n out ≡ stepsOver g T (membersOf o xs ys Id) n out
       opened =
-          rw (ne-eqb (length (kidsAt S C Id T I)) 0 (λ e. let w = two-members o xs ys a l r f z j h k q b in let v = ap length (kids-are o xs ys a l r f z j h k q b) in omega arith))
-          (ap (λ (c : Bool). steps lamps S C limit offset (walk lamps S C limit offset g) T c (map (entry (tableAt S C T)) (kidsAt S C Id T I)) n out) (no-spoiled-slot o xs ys a l r f z j h k q b)
-          ∙ ap₂ (λ (t : Table) (ks : List ℕ). steps lamps S C limit offset (walk lamps S C limit offset g) T true (map (entry t) ks) n out) (table-is o xs ys a l r T low up) (kids-are o xs ys a l r f z j h k q b))
+          rw (ne-eqb (length (kidsAt S C Id T I)) 0 (λ e. let w = two-members o xs ys a l r z j h k q b in let v = ap length (kids-are o xs ys a l r z j h k q b) in omega arith))
+          (ap (λ (c : Bool). steps lamps S C limit offset (walk lamps S C limit offset g) T c (map (entry (tableAt S C T)) (kidsAt S C Id T I)) n out) (no-spoiled-slot o xs ys a l r z j h k q b)
+          ∙ ap₂ (λ (t : Table) (ks : List ℕ). steps lamps S C limit offset (walk lamps S C limit offset g) T true (map (entry t) ks) n out) (table-is o xs ys a l r T low up) (kids-are o xs ys a l r z j h k q b))

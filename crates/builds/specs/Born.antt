@@ -16,7 +16,6 @@ use Rattle.tables.specs.Ids.{tableOf}
 use Rattle.supercluster.specs.Fill.{lamps}
 use Rattle.supercluster.specs.Ready.{Accepted}
 use Rattle.builds.specs.Came.{came, tableAt, down}
-use Rattle.builds.specs.Fitting.{Fitting}
 use Rattle.builds.specs.GroupsOfBuild.{groupsBy}
 use Rattle.builds.specs.Identities.{Known, came-known, identities, ids-distinct, id-table-suc}
 use Rattle.builds.specs.Places.{Arose}
@@ -46,10 +45,10 @@ born-here o xs ys z j e q h s =
       same = subst (λ (v : ℕ). Same (entry (tableAt o xs ys v) j) e) (sym q) s;
     }
 
-module _ (o : Options) (xs ys : List Float) (a : Accepted o xs ys) (f : Fitting (o .«coordinate_system») xs ys) where
+module _ (o : Options) (xs ys : List Float) (a : Accepted o xs ys) where
   -- no cluster is in the finest table
   none-finest : (i : ℕ) → i < length (came o xs ys (o .«max_zoom» + 1)) → length xs ≤ entry (came o xs ys (o .«max_zoom» + 1)) i .id → ⊥
-  none-finest i h b = by (came-known o xs ys a f (o .«max_zoom» + 1) (let w = options-are o (a .options) .zooms in omega arith) (le-refl (o .«max_zoom» + 1)) i h)
+  none-finest i h b = by (came-known o xs ys a (o .«max_zoom» + 1) (let w = options-are o (a .options) .zooms in omega arith) (le-refl (o .«max_zoom» + 1)) i h)
     where
       by : Known o xs ys (o .«max_zoom» + 1) (entry (came o xs ys (o .«max_zoom» + 1)) i) → ⊥
       by (inl w) = let c = w .below in omega arith
@@ -58,7 +57,7 @@ module _ (o : Options) (xs ys : List Float) (a : Accepted o xs ys) (f : Fitting 
   born-step : (z : ℕ) → o .«min_zoom» ≤ z → z < o .«max_zoom» + 1 →
       ((i : ℕ) → i < length (came o xs ys (suc z)) → length xs ≤ entry (came o xs ys (suc z)) i .id → Born o xs ys (entry (came o xs ys (suc z)) i)) →
       (j : ℕ) → j < length (came o xs ys z) → length xs ≤ entry (came o xs ys z) j .id → Born o xs ys (entry (came o xs ys z) j)
-  born-step z h l ih j k b = by (arose-by o xs ys a f z h (omega arith) j k)
+  born-step z h l ih j k b = by (arose-by o xs ys a z h (omega arith) j k)
     where
       by : Arose (length xs) z (came o xs ys (suc z)) (tableAt o xs ys (suc z)) (came o xs ys z) (groupsBy o xs ys z) j → Born o xs ys (entry (came o xs ys z) j)
       by (inl (i, s)) =
@@ -68,7 +67,7 @@ module _ (o : Options) (xs ys : List Float) (a : Accepted o xs ys) (f : Fitting 
       by (inr (i, s)) =
           let t = options-are o (a .options) .zoom-to in
           let e : tableOf (length xs) (entry (came o xs ys z) j .id) ≡ suc z = ap (tableOf (length xs)) (s .id) ∙ id-table-suc (length xs) z i (omega arith) in
-          let w = table-same o xs ys a f z h (omega arith) in
+          let w = table-same o xs ys a z h (omega arith) in
           let v = w .long in
           born-here o xs ys z j (entry (came o xs ys z) j) (omega arith) (omega arith) (w .each j k)
 
@@ -80,7 +79,7 @@ module _ (o : Options) (xs ys : List Float) (a : Accepted o xs ys) (f : Fitting 
   -- each cluster of each table stands in the table in which it was made
   pub born : (z : ℕ) → o .«min_zoom» ≤ z → z ≤ o .«max_zoom» + 1 → (i : ℕ) → i < length (tableAt o xs ys z) → length xs ≤ entry (tableAt o xs ys z) i .id → Born o xs ys (entry (tableAt o xs ys z) i)
   born z h l i k b =
-      let s = table-same o xs ys a f z h l in
+      let s = table-same o xs ys a z h l in
       let w = s .long in
       let q : i < length (came o xs ys z) = omega arith in
       let e = s .each i q .id in
@@ -89,7 +88,7 @@ module _ (o : Options) (xs ys : List Float) (a : Accepted o xs ys) (f : Fitting 
   -- an id determines the entry
   pub same-id : (z w : ℕ) → o .«min_zoom» ≤ z → z ≤ o .«max_zoom» + 1 → o .«min_zoom» ≤ w → w ≤ o .«max_zoom» + 1 → (i j : ℕ) → i < length (tableAt o xs ys z) → j < length (tableAt o xs ys w) →
       entry (tableAt o xs ys z) i .id ≡ entry (tableAt o xs ys w) j .id → Same (entry (tableAt o xs ys z) i) (entry (tableAt o xs ys w) j)
-  same-id z w h k m n i j p q e = by (identities o xs ys a f z h k i p) (identities o xs ys a f w m n j q)
+  same-id z w h k m n i j p q e = by (identities o xs ys a z h k i p) (identities o xs ys a w m n j q)
     where
       A : Entry
       A = entry (tableAt o xs ys z) i
@@ -115,5 +114,5 @@ module _ (o : Options) (xs ys : List Float) (a : Accepted o xs ys) (f : Fitting 
               let is : Same (entry (tableAt o xs ys W) Q) B = subst (λ (v : ℕ). Same (entry (tableAt o xs ys v) Q) B) r (t .same) in
               let b = u .table-from in
               let c = u .table-to in
-              let one : s .place ≡ Q = ids-distinct o xs ys a f W (omega arith) (omega arith) (s .place) Q (s .there) at (s .same .id ∙ e ∙ sym (is .id)) in
+              let one : s .place ≡ Q = ids-distinct o xs ys a W (omega arith) (omega arith) (s .place) Q (s .there) at (s .same .id ∙ e ∙ sym (is .id)) in
               same-trans _ _ _ (same-sym _ _ (s .same)) (subst (λ (v : ℕ). Same (entry (tableAt o xs ys W) v) B) (sym one) is)

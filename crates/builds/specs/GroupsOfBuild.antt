@@ -1,4 +1,4 @@
--- Of every build that is accepted and whose converted points are binary64 numbers: each zoom is one zoom of the groups. The own place of each entry is answered
+-- Of every build that is accepted: each zoom is one zoom of the groups. The own place of each entry is answered
 -- around it, each place of the table is in one group, and a group is a copy of one entry or the cluster of its members by 01. Assumes nothing.
 use mathlib.Core.Path.{_≡_, sym, ap, _∙_, subst}
 use mathlib.Core.List.{List, map}
@@ -22,7 +22,6 @@ use Rattle.supercluster.specs.Build.{convertedAll}
 use Rattle.supercluster.specs.Fill.{lamps, lamps-length, lamps-at, finest-fine, finest-total}
 use Rattle.supercluster.specs.Ready.{Accepted, able}
 use Rattle.builds.specs.Came.{came, came-first, came-next, tableAt, table-left, down}
-use Rattle.builds.specs.Fitting.{Fitting, lamps-held}
 use Rattle.builds.specs.Steps.{Coming, Grouped, Lone, nearAt, groupsOn, zoom-grouped, coming-next}
 
 -- the places that the zoom z answers around each place of table z + 1
@@ -53,7 +52,7 @@ run-grouped p a (suc k) t h c =
     let d : Coming p (suc (p .options .«min_zoom» + k)) t = rw (add-suc (p .options .«min_zoom») k) at c in
     (zoom-grouped p a z t (omega arith) d, run-grouped p a k (zoomed p z t .next) (omega arith) (coming-next p a z t (omega arith) d))
 
-module _ (o : Options) (xs ys : List Float) (a : Accepted o xs ys) (f : Fitting (o .«coordinate_system») xs ys) where
+module _ (o : Options) (xs ys : List Float) (a : Accepted o xs ys) where
   low : o .«min_zoom» ≤ o .«max_zoom»
   low = options-are o (a .options) .zooms
 
@@ -69,7 +68,6 @@ module _ (o : Options) (xs ys : List Float) (a : Accepted o xs ys) (f : Fitting 
         fine = finest-fine ps 0 (o .«max_zoom» + 1) (omega (arith, high)) (a .inside);
         lamps = finest-total ps 0 ∙ l;
         few = omega (arith, l);
-        held = lamps-held c xs ys (a .same) f;
         lone = all-of Lone (lamps c xs ys) none (λ i h. ap (λ (e : Entry). e .parent) (lamps-at c xs ys (a .same) i (omega (arith, l, h))));
       }
 

@@ -19,7 +19,6 @@ use Rattle.groups.specs.Groups.{from}
 use Rattle.supercluster.specs.Fill.{lamps, lamps-length, lamps-at}
 use Rattle.supercluster.specs.Ready.{Accepted}
 use Rattle.builds.specs.Came.{came, came-first, tableAt, down}
-use Rattle.builds.specs.Fitting.{Fitting}
 use Rattle.builds.specs.GroupsOfBuild.{groupsBy, nearBy, groups-of-build, came-coming}
 use Rattle.builds.specs.Places.{Arose, groupAt, sole}
 use Rattle.builds.specs.Same.{Same, same-trans, same-marked, arose-by, table-same}
@@ -96,7 +95,7 @@ module _ (o : Options) (xs ys : List Float) where
 
 -- ---- of a build
 
-module _ (o : Options) (xs ys : List Float) (a : Accepted o xs ys) (f : Fitting (o .«coordinate_system») xs ys) where
+module _ (o : Options) (xs ys : List Float) (a : Accepted o xs ys) where
   high : o .«max_zoom» ≤ 30
   high = options-are o (a .options) .zoom-to
 
@@ -119,15 +118,15 @@ module _ (o : Options) (xs ys : List Float) (a : Accepted o xs ys) (f : Fitting 
 
   known-step : (z : ℕ) → o .«min_zoom» ≤ z → z < o .«max_zoom» + 1 →
       ((i : ℕ) → i < length (came o xs ys (suc z)) → Known o xs ys (suc z) (entry (came o xs ys (suc z)) i)) → (j : ℕ) → j < length (came o xs ys z) → Known o xs ys z (entry (came o xs ys z) j)
-  known-step z h l ih j k = by (arose-by o xs ys a f z h (omega arith) j k)
+  known-step z h l ih j k = by (arose-by o xs ys a z h (omega arith) j k)
     where
       by : Arose (length xs) z (came o xs ys (suc z)) (tableAt o xs ys (suc z)) (came o xs ys z) (groupsBy o xs ys z) j → Known o xs ys z (entry (came o xs ys z) j)
       by (inl (i, s)) = known-same o xs ys (suc z) z _ _ (omega arith) (same-marked z _ _ (s .copy)) (ih i (s .place))
       by (inr (i, s)) =
           let t = high in
-          let w = table-same o xs ys a f (suc z) (omega arith) (omega arith) .long in
+          let w = table-same o xs ys a (suc z) (omega arith) (omega arith) .long in
           let p = s .place in
-          let c = came-coming o xs ys a f (suc z) (omega arith) (omega arith) .fine in
+          let c = came-coming o xs ys a (suc z) (omega arith) (omega arith) .fine in
           let b = all-at (Next (suc z)) (came o xs ys (suc z)) i c p .0 .2 in
           let m = s .beyond in
           inr (subst (λ (v : ℕ). Cluster o xs ys z v (entry (came o xs ys z) j .num)) (sym (s .id))
@@ -155,7 +154,7 @@ module _ (o : Options) (xs ys : List Float) (a : Accepted o xs ys) (f : Fitting 
   alone : (z : ℕ) → o .«min_zoom» ≤ z → z ≤ o .«max_zoom» → (i j : ℕ) → i < length (came o xs ys z) → j < length (came o xs ys z) → (k m : ℕ) → k ≡ m →
       0 < count k (from (groupAt (groupsBy o xs ys z) i)) → 0 < count m (from (groupAt (groupsBy o xs ys z) j)) → i ≡ j
   alone z h l i j p q k m e u v =
-      let g = groups-of-build o xs ys a f z h l in
+      let g = groups-of-build o xs ys a z h l in
       sole (length xs) (o .«min_points») z (nearBy o xs ys z) (came o xs ys (suc z)) (tableAt o xs ys (suc z)) (came o xs ys z) (groupsBy o xs ys z) (g .groups) (g .next) k i j p q
       u (subst (λ (w : ℕ). 0 < count w (from (groupAt (groupsBy o xs ys z) j))) (sym e) v)
 
@@ -164,7 +163,7 @@ module _ (o : Options) (xs ys : List Float) (a : Accepted o xs ys) (f : Fitting 
   came-distinct =
       down (λ z. (i j : ℕ) → i < length (came o xs ys z) → j < length (came o xs ys z) → entry (came o xs ys z) i .id ≡ entry (came o xs ys z) j .id → i ≡ j) (o .«min_zoom») (o .«max_zoom» + 1)
       (subst (λ (t : Table). (i j : ℕ) → i < length t → j < length t → entry t i .id ≡ entry t j .id → i ≡ j) (sym (came-first o xs ys)) (λ i j h k e. sym (lamps-id i h) ∙ e ∙ lamps-id j k))
-      (λ z h l ih i j p q e. step z h (omega arith) ih i j p q e (arose-by o xs ys a f z h (omega arith) i p) (arose-by o xs ys a f z h (omega arith) j q))
+      (λ z h l ih i j p q e. step z h (omega arith) ih i j p q e (arose-by o xs ys a z h (omega arith) i p) (arose-by o xs ys a z h (omega arith) j q))
     where
       step : (z : ℕ) → o .«min_zoom» ≤ z → z ≤ o .«max_zoom» →
           ((i j : ℕ) → i < length (came o xs ys (suc z)) → j < length (came o xs ys (suc z)) → entry (came o xs ys (suc z)) i .id ≡ entry (came o xs ys (suc z)) j .id → i ≡ j) →
@@ -182,7 +181,7 @@ module _ (o : Options) (xs ys : List Float) (a : Accepted o xs ys) (f : Fitting 
   -- each entry is a lamp or a cluster
   pub identities : (z : ℕ) → o .«min_zoom» ≤ z → z ≤ o .«max_zoom» + 1 → (i : ℕ) → i < length (tableAt o xs ys z) → Known o xs ys z (entry (tableAt o xs ys z) i)
   identities z h l i k =
-      let s = table-same o xs ys a f z h l in
+      let s = table-same o xs ys a z h l in
       let w = s .long in
       let q : i < length (came o xs ys z) = omega arith in
       known-same o xs ys z z _ _ (omega arith) (s .each i q) (came-known z h l i q)
@@ -191,7 +190,7 @@ module _ (o : Options) (xs ys : List Float) (a : Accepted o xs ys) (f : Fitting 
   pub ids-distinct : (z : ℕ) → o .«min_zoom» ≤ z → z ≤ o .«max_zoom» + 1 →
       (i j : ℕ) → i < length (tableAt o xs ys z) → j < length (tableAt o xs ys z) → entry (tableAt o xs ys z) i .id ≡ entry (tableAt o xs ys z) j .id → i ≡ j
   ids-distinct z h l i j p q e =
-      let s = table-same o xs ys a f z h l in
+      let s = table-same o xs ys a z h l in
       let w = s .long in
       let u : i < length (came o xs ys z) = omega arith in
       let v : j < length (came o xs ys z) = omega arith in

@@ -15,7 +15,6 @@ use Rattle.tables.specs.Entries.{Table, entry, never}
 use Rattle.tables.specs.Ids.{tableOf, id-apart}
 use Rattle.supercluster.specs.Ready.{Accepted}
 use Rattle.builds.specs.Came.{came, tableAt, table-last}
-use Rattle.builds.specs.Fitting.{Fitting}
 use Rattle.builds.specs.Identities.{Known, identities, ids-distinct, id-table-suc}
 use Rattle.builds.specs.Marks.{Carried, New, marks-came}
 use Rattle.builds.specs.Same.{Same, table-same}
@@ -27,7 +26,7 @@ MadeAt n z e = (n ≤ e .id) × (tableOf n (e .id) ≡ suc z)
 made-like : (n z : ℕ) (a b : Entry) → Same a b → MadeAt n z b → MadeAt n z a
 made-like n z a b s m = subst (λ (i : ℕ). (n ≤ i) × (tableOf n i ≡ suc z)) (sym (s .id)) m
 
-module _ (o : Options) (xs ys : List Float) (a : Accepted o xs ys) (f : Fitting (o .«coordinate_system») xs ys) where
+module _ (o : Options) (xs ys : List Float) (a : Accepted o xs ys) where
   -- what the zoom z made was made in table z
   pub new-made : (z : ℕ) → z ≤ o .«max_zoom» → (j : ℕ) → New (length xs) z (tableAt o xs ys (suc z)) (came o xs ys z) j → MadeAt (length xs) z (entry (came o xs ys z) j)
   new-made z l j w =
@@ -37,7 +36,7 @@ module _ (o : Options) (xs ys : List Float) (a : Accepted o xs ys) (f : Fitting 
 
   -- what it carried was not
   pub carried-not : (z : ℕ) → o .«min_zoom» ≤ z → z ≤ o .«max_zoom» → (j : ℕ) → Carried z (tableAt o xs ys (suc z)) (came o xs ys z) j → MadeAt (length xs) z (entry (came o xs ys z) j) → ⊥
-  carried-not z h l j c m = by (identities o xs ys a f (suc z) (omega arith) (omega arith) (c .source) (c .place))
+  carried-not z h l j c m = by (identities o xs ys a (suc z) (omega arith) (omega arith) (c .source) (c .place))
     where
       same : entry (came o xs ys z) j .id ≡ entry (tableAt o xs ys (suc z)) (c .source) .id
       same = c .same .id
@@ -50,7 +49,7 @@ module _ (o : Options) (xs ys : List Float) (a : Accepted o xs ys) (f : Fitting 
   pub marks-exact : (z : ℕ) → o .«min_zoom» ≤ z → z ≤ o .«max_zoom» → (j : ℕ) → j < length (came o xs ys z) →
       (MadeAt (length xs) z (entry (came o xs ys z) j) × (entry (came o xs ys z) j .seen ≡ never))
       ⊎ ((MadeAt (length xs) z (entry (came o xs ys z) j) → ⊥) × (entry (came o xs ys z) j .seen ≡ z))
-  marks-exact z h l j k = by (marks-came o xs ys a f z h l j k)
+  marks-exact z h l j k = by (marks-came o xs ys a z h l j k)
     where
       by : Carried z (tableAt o xs ys (suc z)) (came o xs ys z) j ⊎ New (length xs) z (tableAt o xs ys (suc z)) (came o xs ys z) j →
           (MadeAt (length xs) z (entry (came o xs ys z) j) × (entry (came o xs ys z) j .seen ≡ never))
@@ -74,7 +73,7 @@ module _ (o : Options) (xs ys : List Float) (a : Accepted o xs ys) (f : Fitting 
   pub made-once : (z w : ℕ) → o .«min_zoom» ≤ z → z ≤ o .«max_zoom» → w ≤ o .«max_zoom» → (j l : ℕ) → j < length (tableAt o xs ys z) → l < length (tableAt o xs ys w) →
       MadeAt (length xs) z (entry (tableAt o xs ys z) j) → MadeAt (length xs) w (entry (tableAt o xs ys w) l) → entry (tableAt o xs ys z) j .id ≡ entry (tableAt o xs ys w) l .id →
       (z ≡ w) × (j ≡ l)
-  made-once z w h k m j l p q s t e = (same, ids-distinct o xs ys a f z h (omega arith) j l p there at)
+  made-once z w h k m j l p q s t e = (same, ids-distinct o xs ys a z h (omega arith) j l p there at)
     where
       same : z ≡ w
       same = let b = s .1 in let c = t .1 in let d = ap (tableOf (length xs)) e in omega arith
@@ -90,8 +89,8 @@ module _ (o : Options) (xs ys : List Float) (a : Accepted o xs ys) (f : Fitting 
       (p : New (length xs) z (tableAt o xs ys (suc z)) (came o xs ys z) j) → (q : New (length xs) w (tableAt o xs ys (suc w)) (came o xs ys w) l) →
       entry (came o xs ys z) j .id ≡ entry (came o xs ys w) l .id → (z ≡ w) × (j ≡ l) × (p .origin ≡ q .origin)
   new-once z w h k h' k' j l m n p q e =
-      let s = table-same o xs ys a f z h (omega arith) in
-      let t = table-same o xs ys a f w h' (omega arith) in
+      let s = table-same o xs ys a z h (omega arith) in
+      let t = table-same o xs ys a w h' (omega arith) in
       let u = s .long in
       let v = t .long in
       let top = options-are o (a .options) .zoom-to in

@@ -15,7 +15,6 @@ use Rattle.tables.specs.Entries.{Table, entry, never}
 use Rattle.tables.specs.Ids.{clusterId}
 use Rattle.supercluster.specs.Ready.{Accepted}
 use Rattle.builds.specs.Came.{came, tableAt, table-last}
-use Rattle.builds.specs.Fitting.{Fitting}
 use Rattle.builds.specs.GroupsOfBuild.{groupsBy}
 use Rattle.builds.specs.Places.{Arose}
 use Rattle.builds.specs.Same.{Same, Alike, same-trans, same-sym, same-marked, went-by, arose-by, table-same}
@@ -36,20 +35,20 @@ pub record New (n z : ℕ) (T U : Table) (j : ℕ) : Type 0 where
   pub id : entry U j .id ≡ clusterId n z origin
   pub seen : entry U j .seen ≡ never
 
-module _ (o : Options) (xs ys : List Float) (a : Accepted o xs ys) (f : Fitting (o .«coordinate_system») xs ys) where
+module _ (o : Options) (xs ys : List Float) (a : Accepted o xs ys) where
   -- table z + 1: each entry is marked z
   pub marks : (z : ℕ) → o .«min_zoom» ≤ z → z ≤ o .«max_zoom» → (i : ℕ) → i < length (tableAt o xs ys (suc z)) → entry (tableAt o xs ys (suc z)) i .seen ≡ z
   marks z h l i k =
       ⊎-elim (λ s. ap (λ (e : Entry). e .seen) (s .1 .finer)) (λ s. ap (λ (e : Entry). e .seen) (s .2 .finer))
-      (went-by o xs ys a f z h l i (let w = table-same o xs ys a f (suc z) (omega arith) (omega arith) .long in omega arith))
+      (went-by o xs ys a z h l i (let w = table-same o xs ys a (suc z) (omega arith) (omega arith) .long in omega arith))
 
   -- table z as it came: carried and marked z, or new and not marked
   pub marks-came : (z : ℕ) → o .«min_zoom» ≤ z → z ≤ o .«max_zoom» → (j : ℕ) → j < length (came o xs ys z) →
       Carried z (tableAt o xs ys (suc z)) (came o xs ys z) j ⊎ New (length xs) z (tableAt o xs ys (suc z)) (came o xs ys z) j
-  marks-came z h l j k = by (arose-by o xs ys a f z h l j k)
+  marks-came z h l j k = by (arose-by o xs ys a z h l j k)
     where
       alike : Alike (tableAt o xs ys (suc z)) (came o xs ys (suc z))
-      alike = table-same o xs ys a f (suc z) (omega arith) (omega arith)
+      alike = table-same o xs ys a (suc z) (omega arith) (omega arith)
 
       by : Arose (length xs) z (came o xs ys (suc z)) (tableAt o xs ys (suc z)) (came o xs ys z) (groupsBy o xs ys z) j →
           Carried z (tableAt o xs ys (suc z)) (came o xs ys z) j ⊎ New (length xs) z (tableAt o xs ys (suc z)) (came o xs ys z) j

@@ -1,14 +1,12 @@
--- The own place of each entry of a table is answered around it, where its coordinates are binary64 numbers from 0 to 1 and the radius is finite and not below
--- 0. Assumes nothing.
+-- The own place of each entry of a table is answered around it, where its coordinates are from 0 to 1 and the radius is finite. Assumes nothing.
 use mathlib.Core.Path.{sym, subst}
 use mathlib.Core.List.{List}
 use Prim.Native.Nat.{ℕ, _*_, _≤_, _<_}
 use native.Mathlib.Omega.{arith}
 use lib.Dec.{T}
 use lib.ListN.{length, getD, length-map, List·getD-map, length-replicate}
-use lib.Ieee.{Float, nan, le}
+use lib.Ieee.{Float, nan}
 use lib.Ieee.Scale.{finite}
-use Rattle.floats.specs.Numbers.{zero as fzero}
 use Rattle.floats.specs.Unit.{In01-not-nan, In01-finite}
 use Rattle.kdsort.specs.Tree.{Points, Index}
 use Rattle.kdsort.specs.Indexes.{blank, indexed-ok}
@@ -23,7 +21,6 @@ use Rattle.zoom.specs.Sound.{Body}
 use Rattle.zooms.specs.Zooms.{indexOf, slotsOf, nearIn}
 use Rattle.zooms.specs.Parts.{Inside}
 use Rattle.zooms.specs.Running.{table-inside}
-use Rattle.builds.specs.Fitting.{Held, Fits64}
 
 -- an index of points from 0 to 1 is one
 pub index-of : (size : ℕ) (xs ys : List Float) → 1 ≤ size → 1 ≤ length xs → Inside xs ys → Index size xs ys (blank (length xs)) (indexOf size xs ys)
@@ -36,7 +33,7 @@ index-of size xs ys n1 some inside =
     points : Points xs ys
     points p h = let w = inside p h in (In01-not-nan (getD xs p nan) (w .0), In01-not-nan (getD ys p nan) (w .1))
 
-module _ (size : ℕ) (t : Table) (n1 : 1 ≤ size) (some : 1 ≤ length t) (b : All Body t) (f : All Held t) (r : Float) (fr : T (finite r)) (nr : T (le fzero r)) where
+module _ (size : ℕ) (t : Table) (n1 : 1 ≤ size) (some : 1 ≤ length t) (b : All Body t) (r : Float) (fr : T (finite r)) where
   pub own-answered : (i : ℕ) → i < length t → In i (nearIn size r t (entry t i .x) (entry t i .y))
   unfolding slotsOf
   own-answered i h =

@@ -17,7 +17,6 @@ use Rattle.zoom.specs.Keeps.{all-at}
 use Rattle.zooms.specs.Zooms.{planOf}
 use Rattle.supercluster.specs.Ready.{Accepted}
 use Rattle.builds.specs.Came.{came, tableAt, table-last}
-use Rattle.builds.specs.Fitting.{Fitting}
 use Rattle.builds.specs.GroupsOfBuild.{groupsBy, came-coming}
 use Rattle.builds.specs.Places.{Went}
 use Rattle.builds.specs.Same.{Same, Alike, same-trans, same-sym, same-marked, went-by, table-same}
@@ -43,23 +42,23 @@ pub record Under (n z : ℕ) (T U : Table) (i : ℕ) : Type 0 where
   pub there : place < length U
   pub id : entry U place .id ≡ clusterId n z origin
 
-module _ (o : Options) (xs ys : List Float) (a : Accepted o xs ys) (f : Fitting (o .«coordinate_system») xs ys) where
+module _ (o : Options) (xs ys : List Float) (a : Accepted o xs ys) where
   -- table z + 1
   pub parents : (z : ℕ) → o .«min_zoom» ≤ z → z ≤ o .«max_zoom» → (i : ℕ) → i < length (tableAt o xs ys (suc z)) →
       Alone (tableAt o xs ys (suc z)) (tableAt o xs ys z) i ⊎ Under (length xs) z (tableAt o xs ys (suc z)) (tableAt o xs ys z) i
-  parents z h l i k = by (went-by o xs ys a f z h l i here)
+  parents z h l i k = by (went-by o xs ys a z h l i here)
     where
       fine : Alike (tableAt o xs ys (suc z)) (came o xs ys (suc z))
-      fine = table-same o xs ys a f (suc z) (omega arith) (omega arith)
+      fine = table-same o xs ys a (suc z) (omega arith) (omega arith)
 
       next : Alike (tableAt o xs ys z) (came o xs ys z)
-      next = table-same o xs ys a f z h (omega arith)
+      next = table-same o xs ys a z h (omega arith)
 
       here : i < length (came o xs ys (suc z))
       here = let w = fine .long in omega arith
 
       c : Coming (planOf o (length xs)) (suc z) (came o xs ys (suc z))
-      c = came-coming o xs ys a f (suc z) (omega arith) (omega arith)
+      c = came-coming o xs ys a (suc z) (omega arith) (omega arith)
 
       by : Went (length xs) z (came o xs ys (suc z)) (tableAt o xs ys (suc z)) (came o xs ys z) (groupsBy o xs ys z) i →
           Alone (tableAt o xs ys (suc z)) (tableAt o xs ys z) i ⊎ Under (length xs) z (tableAt o xs ys (suc z)) (tableAt o xs ys z) i
@@ -98,4 +97,4 @@ module _ (o : Options) (xs ys : List Float) (a : Accepted o xs ys) (f : Fitting 
       let w = options-are o (a .options) .zooms in
       let e = table-last o xs ys w in
       let v = ap length e in
-      ap (λ (t : Table). entry t i .parent) e ∙ all-at Lone (came o xs ys m) i (came-coming o xs ys a f m (le-refl m) (omega arith) .lone) (omega arith)
+      ap (λ (t : Table). entry t i .parent) e ∙ all-at Lone (came o xs ys m) i (came-coming o xs ys a m (le-refl m) (omega arith) .lone) (omega arith)

@@ -20,7 +20,6 @@ use Rattle.groups.specs.Groups.{took}
 use Rattle.zooms.specs.Zooms.{indexOf, slotsOf, nearIn}
 use Rattle.supercluster.specs.Ready.{Accepted}
 use Rattle.builds.specs.Came.{came, tableAt, table-last}
-use Rattle.builds.specs.Fitting.{Fitting}
 use Rattle.builds.specs.GroupsOfBuild.{groupsBy, nearBy, groups-of-build}
 use Rattle.builds.specs.Places.{Went, Arose, went, arose}
 
@@ -68,23 +67,23 @@ near-alike size r s t w =
     let es : indexOf size (xsOf s) (ysOf s) ≡ indexOf size (xsOf t) (ysOf t) = ap₂ (indexOf size) ex ey in
     ap₂ (λ (n : ℕ) (k : Cols). nearOf size n (k .ids) (k .co) r) (w .long) es
 
-module _ (o : Options) (xs ys : List Float) (a : Accepted o xs ys) (f : Fitting (o .«coordinate_system») xs ys) where
+module _ (o : Options) (xs ys : List Float) (a : Accepted o xs ys) where
   -- where the place k of table z + 1 went
   pub went-by : (z : ℕ) → o .«min_zoom» ≤ z → z ≤ o .«max_zoom» → (k : ℕ) → k < length (came o xs ys (suc z)) →
       Went (length xs) z (came o xs ys (suc z)) (tableAt o xs ys (suc z)) (came o xs ys z) (groupsBy o xs ys z) k
   went-by z h l k =
-      let g = groups-of-build o xs ys a f z h l in
+      let g = groups-of-build o xs ys a z h l in
       went (length xs) (o .«min_points») z (nearBy o xs ys z) (came o xs ys (suc z)) (tableAt o xs ys (suc z)) (came o xs ys z) (groupsBy o xs ys z) (g .groups) (g .next) k
 
   -- where the place j of table z is from
   pub arose-by : (z : ℕ) → o .«min_zoom» ≤ z → z ≤ o .«max_zoom» → (j : ℕ) → j < length (came o xs ys z) →
       Arose (length xs) z (came o xs ys (suc z)) (tableAt o xs ys (suc z)) (came o xs ys z) (groupsBy o xs ys z) j
   arose-by z h l j =
-      let g = groups-of-build o xs ys a f z h l in
+      let g = groups-of-build o xs ys a z h l in
       arose (length xs) (o .«min_points») z (nearBy o xs ys z) (came o xs ys (suc z)) (tableAt o xs ys (suc z)) (came o xs ys z) (groupsBy o xs ys z) (g .groups) (g .next) j
 
   marked-alike : (z : ℕ) → o .«min_zoom» ≤ z → z ≤ o .«max_zoom» → Alike (tableAt o xs ys (suc z)) (came o xs ys (suc z))
-  marked-alike z h l = record { long = groups-of-build o xs ys a f z h l .groups .long; each = λ i k. by i (went-by z h l i k) }
+  marked-alike z h l = record { long = groups-of-build o xs ys a z h l .groups .long; each = λ i k. by i (went-by z h l i k) }
     where
       by : (i : ℕ) → Went (length xs) z (came o xs ys (suc z)) (tableAt o xs ys (suc z)) (came o xs ys z) (groupsBy o xs ys z) i →
           Same (entry (tableAt o xs ys (suc z)) i) (entry (came o xs ys (suc z)) i)

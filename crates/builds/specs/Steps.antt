@@ -1,4 +1,4 @@
--- One zoom of a build. What holds of a table as it comes to a zoom: its entries lie from 0 to 1 on binary64 numbers, are unseen by the zoom, have no parent, and
+-- One zoom of a build. What holds of a table as it comes to a zoom: its entries lie from 0 to 1, are unseen by the zoom, have no parent, and
 -- count the lamps once each. Then the zoom is one zoom of the groups, and the same holds of the table that it makes. Assumes nothing.
 use mathlib.Core.Path.{_≡_, sym, ap, _∙_, subst}
 use mathlib.Core.List.{List, [], _∷_, map}
@@ -10,7 +10,6 @@ use borrow.Author.Tests.{lt-ltb}
 use lib.Dec.{lit≤}
 use lib.ListN.{length}
 use lib.Ieee.{Float, binary64}
-use lib.Ieee.Fits.{div-fits}
 use Rattle.floats.specs.Numbers.{float}
 use Rattle.kdslots.specs.declared.Query.the-variants.{Within}
 use Rattle.kdslots.specs.All.{All, all-map}
@@ -28,7 +27,6 @@ use Rattle.groups.specs.OneZoom.{Copied, Joined, Fits, OneZoom}
 use Rattle.groups.specs.Fits.{one-zoom}
 use Rattle.zooms.specs.Zooms.{Plan, nearIn, zoomed}
 use Rattle.zooms.specs.Running.{Able, total-some, slots-promised}
-use Rattle.builds.specs.Fitting.{Fits64, Held}
 use Rattle.builds.specs.OwnPlace.{own-answered}
 
 -- what the zoom z answers around a place of the table t
@@ -48,7 +46,6 @@ pub record Coming (p : Plan) (z : ℕ) (t : Table) : Type 0 where
   pub fine : All (Next z) t
   pub lamps : total t ≡ p .count
   pub few : length t ≤ p .count
-  pub held : All Held t
   pub lone : All Lone t
 
 -- what the zoom z is on the table t: the own place of each entry is answered around it, no place is answered twice, each place is in one group, each group is a
@@ -86,7 +83,7 @@ module _ (p : Plan) (a : Able p) (z : ℕ) (t : Table) (hz : z ≤ 30) (c : Comi
   own : (i : ℕ) → i < length t → In i (nearAt p z t (entry t i .x) (entry t i .y))
   own =
       let r = radius-fine (p .options .radius) (p .options .extent) z (omega arith) (a .radius-from) (a .radius-to) (a .extent-from) (a .extent-to) in
-      own-answered (p .options .«node_size») t (a .size-from) some body (c .held) (radiusAt (p .options .radius) (p .options .extent) z) (r .0) (r .1)
+      own-answered (p .options .«node_size») t (a .size-from) some body (radiusAt (p .options .radius) (p .options .extent) z) (r .0)
 
   ready : (k : ℕ) → k < length t → unseen z (entry t k) ≡ true
   ready k h = lt-ltb z (entry t k .seen) (let w = all-at (Next (suc z)) t k (c .fine) h .1 in omega arith)
@@ -110,7 +107,7 @@ module _ (p : Plan) (a : Able p) (z : ℕ) (t : Table) (hz : z ≤ 30) (c : Comi
   pub coming-next : Coming p z (zoomed p z t .next)
   coming-next =
       let s = sound in
-      record { fine = s .next; lamps = s .lamps ∙ c .lamps; few = omega (arith, s .shorter, c .few); held = passes Held held-copy held-made; lone = passes Lone lone-copy lone-made }
+      record { fine = s .next; lamps = s .lamps ∙ c .lamps; few = omega (arith, s .shorter, c .few); lone = passes Lone lone-copy lone-made }
     where
       N : ℕ
       N = p .count
@@ -127,15 +124,6 @@ module _ (p : Plan) (a : Able p) (z : ℕ) (t : Table) (hz : z ≤ 30) (c : Comi
       passes : (P : Entry → Type 0) → ((k : ℕ) (e : Entry) → Copied N L z near t T' k e → P e) → ((i : ℕ) (ks : List ℕ) (e : Entry) → Joined N L z near t T' i ks e → P e) →
           All P (zoomed p z t .next)
       passes P f g = subst (λ (q : Table). All P q) (sym (zoom-grouped .next)) (all-next N L z near t T' P f g (groupsOn p z t) (zoom-grouped .groups .fit))
-
-      held-copy : (k : ℕ) (e : Entry) → Copied N L z near t T' k e → Held e
-      held-copy k e w = subst (λ (q : Entry). Held q) (sym (w .same)) (all-at Held t k (c .held) (w .place))
-
-      held-made : (i : ℕ) (ks : List ℕ) (e : Entry) → Joined N L z near t T' i ks e → Held e
-      held-made i ks e w = (
-        subst (λ (q : Float). Fits64 q) (sym (w .made-x)) (div-fits binary64 _ (float (e .num))),
-        subst (λ (q : Float). Fits64 q) (sym (w .made-y)) (div-fits binary64 _ (float (e .num))),
-      )
 
       lone-copy : (k : ℕ) (e : Entry) → Copied N L z near t T' k e → Lone e
       lone-copy k e w = ap (λ (q : Entry). q .parent) (w .same) ∙ all-at Lone t k (c .lone) (w .place)

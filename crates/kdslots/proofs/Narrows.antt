@@ -8,7 +8,7 @@ use Rattle.kdsort.specs.Cols.{key}
 use Rattle.kdsort.specs.Shape.{shape, mid}
 use Rattle.kdslots.specs.declared.Query.{Query}
 use Rattle.kdslots.specs.Query.{goesLeft, goesRight}
-use Rattle.kdslots.specs.Slots.{Search, slots, over, alone}
+use Rattle.kdslots.specs.Slots.{Search, slots, over}
 use Rattle.kdslots.specs.Bounds.{both-true}
 use Rattle.kdslots.specs.Reaches.{on-axis, median-reached}
 use Rattle.kdslots.specs.Intervals.{slots-node}
@@ -26,9 +26,8 @@ module _ (s : Search) (ax most lo hi : ℕ) (h : most < hi - lo) (no : s .test (
 
 -- ---- where a side is skipped, the median does not pass
 
-pub unanswered : (q : Query) (cs : List Float) (ax m : ℕ) → ax < 2 → (over q cs .right ax m && over q cs .left ax m) ≡ false → alone q (over q cs .test m) ≡ false
-    → over q cs .test m ≡ false
-unanswered q cs ax m h e f = go (over q cs .test m) refl
+pub unanswered : (q : Query) (cs : List Float) (ax m : ℕ) → ax < 2 → (over q cs .right ax m && over q cs .left ax m) ≡ false → over q cs .test m ≡ false
+unanswered q cs ax m h e = go (over q cs .test m) refl
   where
     go : (b : Bool) → over q cs .test m ≡ b → b ≡ false
     go false f = refl

@@ -7,7 +7,6 @@ use lib.Ieee.{Float}
 use Rattle.kdsort.specs.Cols.{key}
 use Rattle.kdsort.specs.Shape.{Shape, leaf, node, shape, mid}
 use Rattle.kdslots.specs.declared.Query.{Query}
-use Rattle.kdslots.specs.declared.Query.the-variants.{Range, Within}
 use Rattle.kdslots.specs.Query.{passesQ, goesLeft, goesRight}
 
 -- a search: whether a slot passes, and whether the part right of a median and the part left of it are gone into, on the axis on which it is split
@@ -43,11 +42,6 @@ over q cs = record {
   right = λ ax m. goesRight q ax (key ax cs m);
   left = λ ax m. goesLeft q ax (key ax cs m);
 }
-
--- a median that passes or not, as it is asked for where only one side of it is searched: in a box none passes there
-abbrev pub alone : Query → Bool → Bool
-alone (Range a b c d) t = false
-alone (Within qx qy r) t = t
 
 -- the slots of an index of n that a query answers, for a node size
 abbrev pub answers : Query → List Float → ℕ → ℕ → List ℕ

@@ -5,7 +5,7 @@ ghost use Prim.Native.Nat.{_+_, _*_, _≤_, _<_};
 ghost use lib.ListN.{length};
 ghost use Rattle.kdsort.specs.Shape.{shape};
 ghost use Rattle.kdslots.specs.Query.{passesQ, queryOk};
-ghost use Rattle.kdslots.specs.Slots.{over, slots, alone};
+ghost use Rattle.kdslots.specs.Slots.{over, slots};
 ghost use Rattle.kdslots.specs.Intervals.{Alike};
 ghost use Rattle.kdslots.specs.Bounds.{nodeSizeOk, countOk, coordsOk};
 
@@ -108,18 +108,7 @@ pub fn right_at(q: Query, coords: &[f64], axis: usize, m: usize) -> bool
     }
 }
 
-// Whether the median m is answered where only one side of it is searched. Of a box it is not: between the edges of a box both sides are searched.
-fn alone_at(q: Query, coords: &[f64], m: usize) -> bool
-    requires { ⌜ 2 * m + 1 < length (now coords) ⌝ }
-    ensures { λ r. ⌜ r ≡ alone q (over q (now (coords .entry)) .test m) ⌝ }
-{
-    match q {
-        Query::Range { .. } => false,
-        Query::Within { .. } => test_at(q, coords, m),
-    }
-}
-
-// An interval that answers what v answers: while it has more than `stop` slots, only one side is searched and the median is not answered, the rest is left out.
+// An interval that answers what v answers: while it has more than `stop` slots and only one side is searched, the rest is left out. No median is answered there.
 fn narrow_to(q: Query, coords: &[f64], stop: usize, v: Interval) -> Interval
     requires { ⌜ (2 * v .hi ≤ length (now coords)) × (v .lo ≤ v .hi) × (v .axis < 2) ⌝ }
     ensures { λ r. ⌜ Alike (over q (now (coords .entry))) stop (r .axis) (r .lo) (r .hi) (v .axis) (v .lo) (v .hi) ⌝ }
@@ -134,16 +123,10 @@ fn narrow_to(q: Query, coords: &[f64], stop: usize, v: Interval) -> Interval
             if left_at(q, coords, axis, m) {
                 return Interval { lo, hi, axis };
             }
-            if alone_at(q, coords, m) {
-                return Interval { lo, hi, axis };
-            }
             lo = m + 1;
             axis = 1 - axis;
         } else {
             if !left_at(q, coords, axis, m) {
-                return Interval { lo, hi, axis };
-            }
-            if alone_at(q, coords, m) {
                 return Interval { lo, hi, axis };
             }
             hi = m;

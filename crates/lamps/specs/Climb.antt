@@ -21,7 +21,6 @@ use Rattle.groups.specs.OneZoom.{Fits}
 use Rattle.zooms.specs.Zooms.{planOf}
 use Rattle.supercluster.specs.Ready.{Accepted}
 use Rattle.builds.specs.Came.{came, tableAt}
-use Rattle.builds.specs.Fitting.{Fitting}
 use Rattle.builds.specs.GroupsOfBuild.{groupsBy, nearBy, came-coming}
 use Rattle.builds.specs.Identities.{ids-distinct}
 use Rattle.builds.specs.Places.{groupAt}
@@ -37,26 +36,26 @@ up-lone e h = ap (λ (b : Bool). cond b (e .id) (e .parent)) (eq-eqb (e .parent)
 up-under : (e : Entry) → e .parent < unset → up e ≡ e .parent
 up-under e h = ap (λ (b : Bool). cond b (e .id) (e .parent)) (ne-eqb (e .parent) unset (λ q. omega arith))
 
-module _ (o : Options) (xs ys : List Float) (a : Accepted o xs ys) (f : Fitting (o .«coordinate_system») xs ys) where
+module _ (o : Options) (xs ys : List Float) (a : Accepted o xs ys) where
   -- the entry of table z whose group has the place i of table z + 1
   pub place-up : (z : ℕ) → o .«min_zoom» ≤ z → z ≤ o .«max_zoom» → (i : ℕ) → i < length (tableAt o xs ys (suc z)) →
       entry (tableAt o xs ys z) (placeIn (groupsBy o xs ys z) i) .id ≡ up (entry (tableAt o xs ys (suc z)) i)
-  place-up z h k i l = group-id o xs ys a f z h k j there ∙ by (groupAt (groupsBy o xs ys z) j) (group-fits o xs ys a f z h k j there) has
+  place-up z h k i l = group-id o xs ys a z h k j there ∙ by (groupAt (groupsBy o xs ys z) j) (group-fits o xs ys a z h k j there) has
     where
       j : ℕ
       j = placeIn (groupsBy o xs ys z) i
 
       there : placeIn (groupsBy o xs ys z) i < length (tableAt o xs ys z)
       there =
-          let n = groups-long o xs ys a f z h k in
-          let p = place-in i (groupsBy o xs ys z) (place-once o xs ys a f z h k i l) in
+          let n = groups-long o xs ys a z h k in
+          let p = place-in i (groupsBy o xs ys z) (place-once o xs ys a z h k i l) in
           omega arith
 
       has : count i (from (groupAt (groupsBy o xs ys z) (placeIn (groupsBy o xs ys z) i))) ≡ 1
-      has = place-has i (groupsBy o xs ys z) (place-once o xs ys a f z h k i l)
+      has = place-has i (groupsBy o xs ys z) (place-once o xs ys a z h k i l)
 
       c : Coming (planOf o (length xs)) (suc z) (came o xs ys (suc z))
-      c = came-coming o xs ys a f (suc z) (omega arith) (omega arith)
+      c = came-coming o xs ys a (suc z) (omega arith) (omega arith)
 
       by : (g : Group) → Fits (length xs) (o .«min_points») z (nearBy o xs ys z) (came o xs ys (suc z)) (tableAt o xs ys (suc z)) g → count i (from g) ≡ 1 →
           entryOf g .id ≡ up (entry (tableAt o xs ys (suc z)) i)
@@ -81,12 +80,12 @@ module _ (o : Options) (xs ys : List Float) (a : Accepted o xs ys) (f : Fitting 
       entry (tableAt o xs ys z) (owner o xs ys z l) .id ≡ up (entry (tableAt o xs ys (suc z)) (owner o xs ys (suc z) l))
   owner-up z h k l w =
       ap (λ (j : ℕ). entry (tableAt o xs ys z) j .id) (owner-next o xs ys z k l)
-      ∙ place-up z h k (owner o xs ys (suc z) l) (owner-in o xs ys a f (suc z) (omega arith) (omega arith) l w)
+      ∙ place-up z h k (owner o xs ys (suc z) l) (owner-in o xs ys a (suc z) (omega arith) (omega arith) l w)
 
   -- the entry with that id is the owner, and no other
   pub owner-climbs : (z : ℕ) → o .«min_zoom» ≤ z → z ≤ o .«max_zoom» → (l : ℕ) → l < length xs → (q : ℕ) → q < length (tableAt o xs ys z) →
       (entry (tableAt o xs ys z) q .id ≡ up (entry (tableAt o xs ys (suc z)) (owner o xs ys (suc z) l))) ↔ (q ≡ owner o xs ys z l)
   owner-climbs z h k l w q m = (
-    (λ e. ids-distinct o xs ys a f z h (omega arith) q (owner o xs ys z l) m (owner-in o xs ys a f z h (omega arith) l w) (e ∙ sym (owner-up z h k l w))),
+    (λ e. ids-distinct o xs ys a z h (omega arith) q (owner o xs ys z l) m (owner-in o xs ys a z h (omega arith) l w) (e ∙ sym (owner-up z h k l w))),
     (λ e. ap (λ (j : ℕ). entry (tableAt o xs ys z) j .id) e ∙ owner-up z h k l w),
   )

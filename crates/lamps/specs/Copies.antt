@@ -21,7 +21,6 @@ use Rattle.groups.specs.OneZoom.{Copied, Joined, Fits}
 use Rattle.zooms.specs.Zooms.{nearIn}
 use Rattle.supercluster.specs.Ready.{Accepted}
 use Rattle.builds.specs.Came.{came, tableAt, down}
-use Rattle.builds.specs.Fitting.{Fitting}
 use Rattle.builds.specs.GroupsOfBuild.{groupsBy, nearBy}
 use Rattle.builds.specs.Identities.{Known, identities, ids-distinct, id-table-suc}
 use Rattle.builds.specs.Places.{groupAt}
@@ -29,7 +28,7 @@ use Rattle.builds.specs.Same.{table-same, near-same}
 use Rattle.lamps.specs.Owner.{gather, lampsOf, answersAt, membersOf}
 use Rattle.lamps.specs.Owners.{lamps-first, lamps-joined, lamps-copied, first-long, first-id, lamps-long, group-id, group-num, group-fits}
 
-module _ (o : Options) (xs ys : List Float) (a : Accepted o xs ys) (f : Fitting (o .«coordinate_system») xs ys) where
+module _ (o : Options) (xs ys : List Float) (a : Accepted o xs ys) where
   high : o .«max_zoom» ≤ 30
   high = options-are o (a .options) .zoom-to
 
@@ -44,8 +43,8 @@ module _ (o : Options) (xs ys : List Float) (a : Accepted o xs ys) (f : Fitting 
       let C = came o xs ys (suc z) in
       let e : suc z - 1 ≡ z = omega arith in
       let r = radiusAt (o .radius) (o .extent) z in
-      let s = table-same o xs ys a f (suc z) (omega arith) (omega arith) .each i q in
-      let n = near-same o xs ys a f (suc z) (omega arith) (omega arith) (o .«node_size») r in
+      let s = table-same o xs ys a (suc z) (omega arith) (omega arith) .each i q in
+      let n = near-same o xs ys a (suc z) (omega arith) (omega arith) (o .«node_size») r in
       ap₂ (λ (x y : Float). nearIn (o .«node_size») r C x y) (sym (s .x)) (sym (s .y))
       ∙ ap (λ (g : Float → Float → List ℕ). g (entry T i .x) (entry T i .y)) (sym n)
       ∙ ap (λ (v : ℕ). nearIn (o .«node_size») (radiusAt (o .radius) (o .extent) v) T (entry T i .x) (entry T i .y)) (sym e)
@@ -63,23 +62,23 @@ module _ (o : Options) (xs ys : List Float) (a : Accepted o xs ys) (f : Fitting 
   from-by z h l j q = by (groupAt (groupsBy o xs ys z) j) refl
     where
       fit : (g : Group) → groupAt (groupsBy o xs ys z) j ≡ g → FitsBy z g
-      fit g e = subst (λ (r : Group). FitsBy z r) e (group-fits o xs ys a f z h l j q)
+      fit g e = subst (λ (r : Group). FitsBy z r) e (group-fits o xs ys a z h l j q)
 
       by : (g : Group) → groupAt (groupsBy o xs ys z) j ≡ g → From z j
       by (copied k e) p =
           let w : Copied (length xs) (o .«min_points») z (nearBy o xs ys z) (came o xs ys (suc z)) (tableAt o xs ys (suc z)) k e = fit (copied k e) p in
-          let s = table-same o xs ys a f (suc z) (omega arith) (omega arith) in
+          let s = table-same o xs ys a (suc z) (omega arith) (omega arith) in
           let n = s .long in
           let m = w .place in
           again k (omega arith)
-          (group-id o xs ys a f z h l j q ∙ ap (λ (g : Group). entryOf g .id) p ∙ ap (λ (x : Entry). x .id) (w .same) ∙ sym (s .each k m .id))
+          (group-id o xs ys a z h l j q ∙ ap (λ (g : Group). entryOf g .id) p ∙ ap (λ (x : Entry). x .id) (w .same) ∙ sym (s .each k m .id))
           (lamps-copied o xs ys z l j k e p)
       by (joined i ks e) p =
           let w : Joined (length xs) (o .«min_points») z (nearBy o xs ys z) (came o xs ys (suc z)) (tableAt o xs ys (suc z)) i ks e = fit (joined i ks e) p in
-          let s = table-same o xs ys a f (suc z) (omega arith) (omega arith) .each i (w .place) .num in
-          let n = group-num o xs ys a f z h l j q ∙ ap (λ (g : Group). entryOf g .num) p in
+          let s = table-same o xs ys a (suc z) (omega arith) (omega arith) .each i (w .place) .num in
+          let n = group-num o xs ys a z h l j q ∙ ap (λ (g : Group). entryOf g .num) p in
           let b = w .beyond in
-          anew i ks (group-id o xs ys a f z h l j q ∙ ap (λ (g : Group). entryOf g .id) p ∙ w .made-id) (omega arith) (w .has)
+          anew i ks (group-id o xs ys a z h l j q ∙ ap (λ (g : Group). entryOf g .id) p ∙ w .made-id) (omega arith) (w .has)
           (w .kids ∙ ap (λ (r : List ℕ). keep (λ k. eqb (entry (tableAt o xs ys (suc z)) k .parent) (clusterId (length xs) z i)) r) (near-build z h l i (w .place)))
           (lamps-joined o xs ys z l j i ks e p)
 
@@ -90,7 +89,7 @@ module _ (o : Options) (xs ys : List Float) (a : Accepted o xs ys) (f : Fitting 
       lampsOf o xs ys z j ≡ entry (tableAt o xs ys z) j .id ∷ []
   lamps-of-lamp =
       down (λ z. (j : ℕ) → j < length (tableAt o xs ys z) → entry (tableAt o xs ys z) j .id < length xs → lampsOf o xs ys z j ≡ entry (tableAt o xs ys z) j .id ∷ []) (o .«min_zoom») (o .«max_zoom» + 1)
-      (λ j q b. lamps-first o xs ys j ∙ ap (λ (i : ℕ). i ∷ []) (sym (first-id o xs ys a f j q)))
+      (λ j q b. lamps-first o xs ys j ∙ ap (λ (i : ℕ). i ∷ []) (sym (first-id o xs ys a j q)))
       (λ z h k ih j q b. by z j b ih (from-by z h (omega arith) j q))
     where
       by : (z j : ℕ) → entry (tableAt o xs ys z) j .id < length xs →
@@ -101,7 +100,7 @@ module _ (o : Options) (xs ys : List Float) (a : Accepted o xs ys) (f : Fitting 
 
   -- an entry that counts one is a lamp
   pub one-lamp : (z : ℕ) → o .«min_zoom» ≤ z → z ≤ o .«max_zoom» + 1 → (j : ℕ) → j < length (tableAt o xs ys z) → entry (tableAt o xs ys z) j .num ≡ 1 → entry (tableAt o xs ys z) j .id < length xs
-  one-lamp z h k j q e = by (identities o xs ys a f z h k j q)
+  one-lamp z h k j q e = by (identities o xs ys a z h k j q)
     where
       by : Known o xs ys z (entry (tableAt o xs ys z) j) → entry (tableAt o xs ys z) j .id < length xs
       by (inl w) = w .below
@@ -115,7 +114,7 @@ module _ (o : Options) (xs ys : List Float) (a : Accepted o xs ys) (f : Fitting 
 
   -- no cluster that the zoom z made is in a finer table
   not-yet : (z w i k : ℕ) → z < w → o .«min_zoom» ≤ w → w ≤ o .«max_zoom» + 1 → k < length (tableAt o xs ys w) → entry (tableAt o xs ys w) k .id ≡ clusterId (length xs) z i → ⊥
-  not-yet z w i k h l m q e = by (identities o xs ys a f w l m k q)
+  not-yet z w i k h l m q e = by (identities o xs ys a w l m k q)
     where
       by : Known o xs ys w (entry (tableAt o xs ys w) k) → ⊥
       by (inl u) = let b = u .below in omega arith
@@ -129,7 +128,7 @@ module _ (o : Options) (xs ys : List Float) (a : Accepted o xs ys) (f : Fitting 
       entry (tableAt o xs ys z) j .id ≡ entry (tableAt o xs ys w) k .id → lampsOf o xs ys z j ≡ lampsOf o xs ys w k
   same-above z w h l m k q =
       down (λ v. (j : ℕ) → j < length (tableAt o xs ys v) → entry (tableAt o xs ys v) j .id ≡ entry (tableAt o xs ys w) k .id → lampsOf o xs ys v j ≡ lampsOf o xs ys w k) (o .«min_zoom») w
-      (λ j p e. ap (λ (i : ℕ). lampsOf o xs ys w i) (ids-distinct o xs ys a f w (omega arith) m j k p q e))
+      (λ j p e. ap (λ (i : ℕ). lampsOf o xs ys w i) (ids-distinct o xs ys a w (omega arith) m j k p q e))
       (λ v r s ih j p e. by v r s ih j e (from-by v r (omega arith) j p)) z h l
     where
       by : (v : ℕ) → o .«min_zoom» ≤ v → v < w →
@@ -181,7 +180,7 @@ module _ (o : Options) (xs ys : List Float) (a : Accepted o xs ys) (f : Fitting 
       Clustered (entry (tableAt o xs ys z) j .id) (lampsOf o xs ys z j)
   clustered =
       down (λ z. (j : ℕ) → j < length (tableAt o xs ys z) → length xs ≤ entry (tableAt o xs ys z) j .id → Clustered (entry (tableAt o xs ys z) j .id) (lampsOf o xs ys z j)) (o .«min_zoom») (o .«max_zoom» + 1)
-      (λ j q b. absurd (let n = first-long o xs ys a f in let e = first-id o xs ys a f j q in omega arith))
+      (λ j q b. absurd (let n = first-long o xs ys a in let e = first-id o xs ys a j q in omega arith))
       (λ z h k ih j q b. by z h (omega arith) j q b ih (from-by z h (omega arith) j q))
     where
       by : (z : ℕ) → o .«min_zoom» ≤ z → z ≤ o .«max_zoom» → (j : ℕ) → j < length (tableAt o xs ys z) → length xs ≤ entry (tableAt o xs ys z) j .id →
@@ -191,7 +190,7 @@ module _ (o : Options) (xs ys : List Float) (a : Accepted o xs ys) (f : Fitting 
           subst (λ (id : ℕ). Clustered id (lampsOf o xs ys z j)) (sym e) (subst (λ (ls : List ℕ). Clustered (entry (tableAt o xs ys (suc z)) k .id) ls) (sym s) (ih k p (omega arith)))
       by z h l j q b ih (anew i ks e m w c s) =
           let t = high in
-          let n = lamps-long o xs ys a f z h (omega arith) j q in
+          let n = lamps-long o xs ys a z h (omega arith) j q in
           subst (λ (id : ℕ). Clustered id (lampsOf o xs ys z j)) (sym e)
           (clustered-made z i ks (lampsOf o xs ys z j) (omega arith) (members-made z i (omega arith) ∙ sym c) w s (omega arith))
 
@@ -201,6 +200,6 @@ module _ (o : Options) (xs ys : List Float) (a : Accepted o xs ys) (f : Fitting 
   members-are z h l j i ks e q p =
       let t = high in
       let w : Joined (length xs) (o .«min_points») z (nearBy o xs ys z) (came o xs ys (suc z)) (tableAt o xs ys (suc z)) i ks e =
-      subst (λ (g : Group). FitsBy z g) p (group-fits o xs ys a f z h l j q) in
+      subst (λ (g : Group). FitsBy z g) p (group-fits o xs ys a z h l j q) in
       ap (membersOf o xs ys) (w .made-id) ∙ members-made z i (omega arith)
       ∙ sym (w .kids ∙ ap (λ (r : List ℕ). keep (λ k. eqb (entry (tableAt o xs ys (suc z)) k .parent) (clusterId (length xs) z i)) r) (near-build z h l i (w .place)))

@@ -1,4 +1,4 @@
--- Of every accepted build whose converted points are binary64 numbers: each lamp's owner is a place of each table, and the lamp is among the lamps of this entry
+-- Of every accepted build: each lamp's owner is a place of each table, and the lamp is among the lamps of this entry
 -- once, and of no other. So the lamps of a table's entries are all lamps, in another order. An entry's num is the length of the list of its lamps, and the number
 -- of lamps that it owns. Lamps that share an owner share one in each coarser table. Assumes nothing.
 use mathlib.Core.Path.{_≡_, sym, ap, _∙_}
@@ -25,7 +25,6 @@ use Rattle.groups.specs.OneZoom.{Fits}
 use Rattle.supercluster.specs.Fill.{lamps-length, lamps-at}
 use Rattle.supercluster.specs.Ready.{Accepted}
 use Rattle.builds.specs.Came.{came, came-first, tableAt, down}
-use Rattle.builds.specs.Fitting.{Fitting}
 use Rattle.builds.specs.GroupsOfBuild.{groupsBy, nearBy, groups-of-build}
 use Rattle.builds.specs.Places.{groupAt}
 use Rattle.builds.specs.Same.{table-same}
@@ -83,7 +82,7 @@ module _ (o : Options) (xs ys : List Float) where
 
 -- ---- of a build that is accepted
 
-module _ (o : Options) (xs ys : List Float) (a : Accepted o xs ys) (f : Fitting (o .«coordinate_system») xs ys) where
+module _ (o : Options) (xs ys : List Float) (a : Accepted o xs ys) where
   low : o .«min_zoom» ≤ o .«max_zoom»
   low = options-are o (a .options) .zooms
 
@@ -91,7 +90,7 @@ module _ (o : Options) (xs ys : List Float) (a : Accepted o xs ys) (f : Fitting 
   pub first-long : length (tableAt o xs ys (o .«max_zoom» + 1)) ≡ length xs
   first-long =
       let w = low in
-      table-same o xs ys a f (o .«max_zoom» + 1) (omega arith) (le-refl (o .«max_zoom» + 1)) .long
+      table-same o xs ys a (o .«max_zoom» + 1) (omega arith) (le-refl (o .«max_zoom» + 1)) .long
       ∙ ap length (came-first o xs ys) ∙ lamps-length (o .«coordinate_system») xs ys (a .same)
 
   first-at : (j : ℕ) → j < length (tableAt o xs ys (o .«max_zoom» + 1)) →
@@ -99,7 +98,7 @@ module _ (o : Options) (xs ys : List Float) (a : Accepted o xs ys) (f : Fitting 
   first-at j h =
       let w = low in
       let c = o .«coordinate_system» in
-      let s = table-same o xs ys a f (o .«max_zoom» + 1) (omega arith) (le-refl (o .«max_zoom» + 1)) in
+      let s = table-same o xs ys a (o .«max_zoom» + 1) (omega arith) (le-refl (o .«max_zoom» + 1)) in
       let t = s .long in
       let n = first-long in
       let e = s .each j (omega arith) in
@@ -114,20 +113,20 @@ module _ (o : Options) (xs ys : List Float) (a : Accepted o xs ys) (f : Fitting 
   module _ (z : ℕ) (h : o .«min_zoom» ≤ z) (k : z ≤ o .«max_zoom») where
     -- a place of table z + 1 as it came
     pub place-came : (i : ℕ) → i < length (tableAt o xs ys (suc z)) → i < length (came o xs ys (suc z))
-    place-came i l = let w = table-same o xs ys a f (suc z) (omega arith) (omega arith) .long in omega arith
+    place-came i l = let w = table-same o xs ys a (suc z) (omega arith) (omega arith) .long in omega arith
 
     -- table z has an entry for each group
     pub groups-long : length (tableAt o xs ys z) ≡ length (groupsBy o xs ys z)
     groups-long =
-        let g = groups-of-build o xs ys a f z h k in
-        table-same o xs ys a f z h (omega arith) .long ∙ ap length (g .next) ∙ length-map (groupsBy o xs ys z) entryOf
+        let g = groups-of-build o xs ys a z h k in
+        table-same o xs ys a z h (omega arith) .long ∙ ap length (g .next) ∙ length-map (groupsBy o xs ys z) entryOf
 
     -- with its id and its num
     entry-is : (j : ℕ) → j < length (tableAt o xs ys z) →
         (entry (tableAt o xs ys z) j .id ≡ entryOf (groupAt (groupsBy o xs ys z) j) .id) × (entry (tableAt o xs ys z) j .num ≡ entryOf (groupAt (groupsBy o xs ys z) j) .num)
     entry-is j l =
-        let g = groups-of-build o xs ys a f z h k in
-        let s = table-same o xs ys a f z h (omega arith) in
+        let g = groups-of-build o xs ys a z h k in
+        let s = table-same o xs ys a z h (omega arith) in
         let n = s .long in
         let m = groups-long in
         let e = s .each j (omega arith) in
@@ -146,18 +145,18 @@ module _ (o : Options) (xs ys : List Float) (a : Accepted o xs ys) (f : Fitting 
     group-fits j l =
         let m = groups-long in
         all-getD (Fits (length xs) (o .«min_points») z (nearBy o xs ys z) (came o xs ys (suc z)) (tableAt o xs ys (suc z))) (groupsBy o xs ys z) j (copied 0 none)
-        (groups-of-build o xs ys a f z h k .groups .fit) (omega arith)
+        (groups-of-build o xs ys a z h k .groups .fit) (omega arith)
 
     -- its members are places of table z + 1
     pub group-member : (j : ℕ) → j < length (tableAt o xs ys z) → (i : ℕ) → 0 < count i (from (groupAt (groupsBy o xs ys z) j)) → i < length (tableAt o xs ys (suc z))
     group-member j l i c =
-        let w = table-same o xs ys a f (suc z) (omega arith) (omega arith) .long in
+        let w = table-same o xs ys a (suc z) (omega arith) (omega arith) .long in
         let m = member-in (length xs) (o .«min_points») z (nearBy o xs ys z) (came o xs ys (suc z)) (tableAt o xs ys (suc z)) (groupAt (groupsBy o xs ys z) j) (group-fits j l) i c in
         omega arith
 
     -- a place of table z + 1 is in the groups once
     pub place-once : (i : ℕ) → i < length (tableAt o xs ys (suc z)) → count i (froms (groupsBy o xs ys z)) ≡ 1
-    place-once i l = groups-of-build o xs ys a f z h k .groups .once i (place-came i l)
+    place-once i l = groups-of-build o xs ys a z h k .groups .once i (place-came i l)
 
   -- ---- owners
 
@@ -224,7 +223,7 @@ module _ (o : Options) (xs ys : List Float) (a : Accepted o xs ys) (f : Fitting 
       group-num z h k j q ∙ by (groupAt (groupsBy o xs ys z) j) (group-fits z h k j q) ∙ ap length (sym (lamps-next o xs ys z k j))
     where
       num-came : (i : ℕ) → i < length (came o xs ys (suc z)) → entry (came o xs ys (suc z)) i .num ≡ length (lampsOf o xs ys (suc z) i)
-      num-came i l = let s = table-same o xs ys a f (suc z) (omega arith) (omega arith) in let w = s .long in sym (s .each i l .num) ∙ ih i (omega arith)
+      num-came i l = let s = table-same o xs ys a (suc z) (omega arith) (omega arith) in let w = s .long in sym (s .each i l .num) ∙ ih i (omega arith)
 
       by : (g : Group) → Fits (length xs) (o .«min_points») z (nearBy o xs ys z) (came o xs ys (suc z)) (tableAt o xs ys (suc z)) g →
           entryOf g .num ≡ length (gather (λ k. lampsOf o xs ys (suc z) k) (from g))

@@ -7,7 +7,6 @@ use mathlib.Core.Bool.{true}
 use mathlib.Core.List.{List}
 use Prim.Native.Nat.{ℕ, suc, _+_, _<_, _≤_}
 use lib.Dec.{eqb}
-use lib.Ieee.{Float, nan}
 use lib.ListN.{length, getD, take}
 use Rattle.tables.specs.declared.State.{State}
 use Rattle.tables.specs.Entries.{entry}
@@ -15,12 +14,7 @@ use Rattle.groups.specs.Sums.{one, sum, count, range}
 use Rattle.asking.specs.Asked.{told}
 use Rattle.asking.specs.Columns.{Columns, tableAt}
 use Rattle.walks.specs.Leaves.{leavesOf}
-use Rattle.builds.specs.Fitting.{Fits64}
 use Rattle.lamps.specs.Owner.{up}
-
--- a column of binary64 numbers, which every column of f64 is
-abbrev pub Binary64 : List Float → Type 0
-Binary64 l = (k : ℕ) → k < length l → Fits64 (getD l k nan)
 
 -- the tables that the state names
 pub record Between (s : State) (z : ℕ) : Type 0 where

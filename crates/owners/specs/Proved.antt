@@ -1,5 +1,4 @@
--- Every build that `load` accepts has one owner for every lamp: `one-owner`. The one thing asked besides is that the given ys are binary64 numbers, as whatever an f64
--- column holds is, which `load` of this crate shows by its code: in antt a value of type Float may have any number of digits. Assumes nothing.
+-- Every build that `load` accepts has one owner for every lamp: `one-owner`. Nothing is asked besides. Assumes nothing.
 use mathlib.Core.Path.{_≡_, refl, ap, sym, _∙_, subst}
 use mathlib.Core.Logic.{_↔_, inl, inr}
 use mathlib.Core.Bool.{true}
@@ -8,13 +7,10 @@ use Prim.Native.Nat.{ℕ, zero, suc, _<_, _≤_}
 use native.Mathlib.Omega.{arith}
 use borrow.Author.Tests.{le-leb}
 use lib.Dec.{eqb}
-use lib.ListN.{length, getD, take, drop}
+use lib.ListN.{length, take, drop}
 use lib.Seq.{take-all, take-take}
-use lib.Ieee.{Float, nan}
-use Rattle.range.specs.declared.CoordinateSystem.{CoordinateSystem}
-use Rattle.range.specs.declared.CoordinateSystem.the-variants.{LatLng, Cartesian}
-use Rattle.kdbush.specs.declared.BuildReply.{BuildReply}
-use Rattle.kdbush.specs.declared.BuildReply.the-variants.{Done, Options as No·Options, Count, Point, Tables}
+use lib.Ieee.{Float}
+use Rattle.kdbush.specs.declared.BuildReply.the-variants.{Done}
 use Rattle.tables.specs.declared.Options.{Options}
 use Rattle.tables.specs.declared.State.{State}
 use Rattle.tables.specs.Entries.{Table, entry}
@@ -25,10 +21,9 @@ use Rattle.asking.specs.Asked.{Asked, told, answerOf, columnOf}
 use Rattle.asking.specs.Columns.{Columns, tableAt}
 use Rattle.walks.specs.Leaves.{leavesOf}
 use Rattle.supercluster.specs.Build.{Lent, Outcome, need, checked, byReply, loaded}
-use Rattle.supercluster.specs.Load.{Holds, accepted, holds}
+use Rattle.supercluster.specs.Load.{Holds, accepted, holds, replies}
 use Rattle.supercluster.specs.Ready.{Accepted}
 use Rattle.builds.specs.Came.{tableAt as built}
-use Rattle.builds.specs.Fitting.{Fits64, Fitting, fitting-cartesian, fitting-longitude}
 use Rattle.builds.specs.Identities.{Known, identities}
 use Rattle.builds.specs.RightAt.{right-at}
 use Rattle.lamps.specs.Owner.{up, owner, lampsOf}
@@ -36,7 +31,7 @@ use Rattle.lamps.specs.Owners.{owner-first, owner-in, owns, owns-none, lamps-lo
 use Rattle.lamps.specs.Climb.{owner-climbs}
 use Rattle.answers.specs.Stored.{columnsOf, stateBy, columnsBy, table-is}
 use Rattle.answers.specs.Leaves.{leaves-page}
-use Rattle.owners.specs.Owners.{Binary64, Between, IsCluster, Owned, Owners}
+use Rattle.owners.specs.Owners.{Between, IsCluster, Owned, Owners}
 
 -- the nums of a table, by its places
 sum-shift : (g : ℕ → ℕ) (lo n : ℕ) → sum (λ j. g (suc j)) (range lo n) ≡ sum g (range (suc lo) n)
@@ -48,12 +43,7 @@ unfolding total
 total-sum [] = refl
 total-sum (e ∷ t) = let a = sum-shift (λ j. entry (e ∷ t) j .num) 0 (length t) in let b = total-sum t in omega arith
 
--- ys that are binary64 numbers are enough in both coordinate systems
-fitting : (c : CoordinateSystem) (xs ys : List Float) → ((k : ℕ) → k < length xs → Fits64 (getD ys k nan)) → Fitting c xs ys
-fitting LatLng xs ys f = fitting-longitude xs ys f
-fitting (Cartesian d) xs ys f = fitting-cartesian d xs ys
-
-module _ (o : Options) (xs ys : List Float) (a : Accepted o xs ys) (l : Lent) (r : Holds (need o (length xs)) l) (f : Fitting (o .«coordinate_system») xs ys) where
+module _ (o : Options) (xs ys : List Float) (a : Accepted o xs ys) (l : Lent) (r : Holds (need o (length xs)) l) where
   abbrev S : State
   S = stateBy o xs ys
 
@@ -72,7 +62,7 @@ module _ (o : Options) (xs ys : List Float) (a : Accepted o xs ys) (l : Lent) (r
     place = in-built z j (w .between) (w .place)
 
     above : length xs ≤ entry (built o xs ys z) j .id
-    above = by (identities o xs ys a f z (w .between .low) (w .between .high) j place)
+    above = by (identities o xs ys a z (w .between .low) (w .between .high) j place)
       where
         many : 1 < entry (built o xs ys z) j .num
         many = subst (λ (t : Table). 1 < entry t j .num) (sym (is z (w .between))) (w .many)
@@ -84,17 +74,17 @@ module _ (o : Options) (xs ys : List Float) (a : Accepted o xs ys) (l : Lent) (r
     page : (limit offset : ℕ) → 1 ≤ limit → leavesOf (stateBy o xs ys) (columnsBy o xs ys l) (entry (tableAt (stateBy o xs ys) (columnsBy o xs ys l) z) j .id) limit offset ≡ told true (take limit (drop offset (lampsOf o xs ys z j)))
     page limit offset m =
         subst (λ (t : Table). leavesOf S C (entry t j .id) limit offset ≡ told true (take limit (drop offset (lampsOf o xs ys z j)))) (is z (w .between))
-        (leaves-page o xs ys a l r f z j (w .between .low) (w .between .high) place above limit offset m)
+        (leaves-page o xs ys a l r z j (w .between .low) (w .between .high) place above limit offset m)
 
     long : entry (tableAt (stateBy o xs ys) (columnsBy o xs ys l) z) j .num ≡ length (lampsOf o xs ys z j)
-    long = subst (λ (t : Table). entry t j .num ≡ length (lampsOf o xs ys z j)) (is z (w .between)) (lamps-long o xs ys a f z (w .between .low) (w .between .high) j place)
+    long = subst (λ (t : Table). entry t j .num ≡ length (lampsOf o xs ys z j)) (is z (w .between)) (lamps-long o xs ys a z (w .between .low) (w .between .high) j place)
 
   -- each lamp is listed once where j owns it
   owned : (z j : ℕ) → IsCluster (stateBy o xs ys) (columnsBy o xs ys l) z j → Owned (length xs) (λ k. owner o xs ys z k) j (lampsOf o xs ys z j)
   owned z j w =
       record {
-        each = λ k h. owns o xs ys a f z (w .between .low) (w .between .high) k h j (place z j w);
-        only = λ k h. owns-none o xs ys a f z (w .between .low) (w .between .high) k h j (place z j w);
+        each = λ k h. owns o xs ys a z (w .between .low) (w .between .high) k h j (place z j w);
+        only = λ k h. owns-none o xs ys a z (w .between .low) (w .between .high) k h j (place z j w);
       }
 
   all-leaves : (z j limit : ℕ) → IsCluster (stateBy o xs ys) (columnsBy o xs ys l) z j → entry (tableAt (stateBy o xs ys) (columnsBy o xs ys l) z) j .num ≤ limit
@@ -122,9 +112,9 @@ module _ (o : Options) (xs ys : List Float) (a : Accepted o xs ys) (l : Lent) (r
   owners =
       record {
         first = owner-first o xs ys;
-        there = λ z k b h. subst (λ (t : Table). owner o xs ys z k < length t) (is z b) (owner-in o xs ys a f z (b .low) (b .high) k h);
+        there = λ z k b h. subst (λ (t : Table). owner o xs ys z k < length t) (is z b) (owner-in o xs ys a z (b .low) (b .high) k h);
         climbs = climbing;
-        counts = λ z j b h. subst (λ (t : Table). entry t j .num ≡ sum (λ k. one (eqb (owner o xs ys z k) j)) (range 0 (length xs))) (is z b) (num-owned o xs ys a f z (b .low) (b .high) j (in-built z j b h));
+        counts = λ z j b h. subst (λ (t : Table). entry t j .num ≡ sum (λ k. one (eqb (owner o xs ys z k) j)) (range 0 (length xs))) (is z b) (num-owned o xs ys a z (b .low) (b .high) j (in-built z j b h));
         together = all-together;
         shares = λ z w k m b h e. owners-share o xs ys z w (b .high) h k m e;
         leaves = all-leaves;
@@ -138,35 +128,26 @@ module _ (o : Options) (xs ys : List Float) (a : Accepted o xs ys) (l : Lent) (r
           let d : Between S (suc z) = record { low = omega arith; high = omega arith } in
           subst (λ (t : Table). (entry t q .id ≡ up (entry (tableAt S C (suc z)) (owner o xs ys (suc z) k))) ↔ (q ≡ owner o xs ys z k)) (is z b)
           (subst (λ (t : Table). (entry (built o xs ys z) q .id ≡ up (entry t (owner o xs ys (suc z) k))) ↔ (q ≡ owner o xs ys z k)) (is (suc z) d)
-          (owner-climbs o xs ys a f z h m k n q (in-built z q b w)))
+          (owner-climbs o xs ys a z h m k n q (in-built z q b w)))
 
 -- ---- of every build that `load` accepts
 
--- an outcome that replies no refusal is that of an accepted build
-done-only : (o : Options) (xs ys : List Float) (l : Lent) (r : BuildReply) → byReply o xs ys l r .reply .reply ≡ Done → r ≡ Done
-done-only o xs ys l Done e = refl
-done-only o xs ys l No·Options e = e
-done-only o xs ys l Count e = e
-done-only o xs ys l (Point i) e = e
-done-only o xs ys l Tables e = e
-
 -- what `load` replies and leaves has one owner for every lamp, where it replies no refusal
-pub one-owner : (o : Options) (xs ys : List Float) (l : Lent) → loaded o xs ys l .reply .reply ≡ Done → Binary64 ys
+pub one-owner : (o : Options) (xs ys : List Float) (l : Lent) → loaded o xs ys l .reply .reply ≡ Done
     → Owners (loaded o xs ys l .reply .state) (columnsOf (loaded o xs ys l .columns)) (owner o xs ys)
 unfolding loaded
-one-owner o xs ys l e f =
-    let d = done-only o xs ys l (checked o xs ys l) e in
+one-owner o xs ys l e =
+    let d = sym (replies o xs ys l (checked o xs ys l)) ∙ e in
     let a = accepted o xs ys l d in
-    let n = a .0 .same in
     subst (λ (x : Outcome). Owners (x .reply .state) (columnsOf (x .columns)) (owner o xs ys)) (sym (ap (byReply o xs ys l) d))
-    (owners o xs ys (a .0) l (holds (need o (length xs)) l (a .1)) (fitting (o .«coordinate_system») xs ys (λ k h. f k (omega arith))))
+    (owners o xs ys (a .0) l (holds (need o (length xs)) l (a .1)))
 
 -- so of any outcome that meets the contract of `load`
-pub outcome-owners : (o : Options) (xs ys : List Float) (l : Lent) (x : Outcome) → x ≡ loaded o xs ys l → Binary64 ys → x .reply .reply ≡ Done
+pub outcome-owners : (o : Options) (xs ys : List Float) (l : Lent) (x : Outcome) → x ≡ loaded o xs ys l → x .reply .reply ≡ Done
     → Owners (x .reply .state) (columnsOf (x .columns)) (owner o xs ys)
-outcome-owners o xs ys l x e f d =
+outcome-owners o xs ys l x e d =
     subst (λ (v : Outcome). Owners (v .reply .state) (columnsOf (v .columns)) (owner o xs ys)) (sym e)
-    (one-owner o xs ys l (ap (λ (v : Outcome). v .reply .reply) (sym e) ∙ d) f)
+    (one-owner o xs ys l (ap (λ (v : Outcome). v .reply .reply) (sym e) ∙ d))
 
 -- given room: an answer that goes to its end is the number of its items, and they stand at the front of the column, before what it held
 pub given-room : (q : Asked) (ls out : List ℕ) → q ≡ told true ls → length ls ≤ length out

@@ -5,27 +5,8 @@ ghost use mathlib.Core.Path.{_≡_};
 ghost use Rattle.kdbush.specs.declared.BuildReply.the-variants.{Done};
 ghost use Rattle.asking.specs.Columns.{columns};
 ghost use Rattle.supercluster.specs.Build.{outcome, lent, loaded};
-ghost use Rattle.builds.specs.Fitting.{Fits64};
 ghost use Rattle.lamps.specs.Owner.{owner};
-ghost use Rattle.owners.specs.Owners.{Binary64, Owners};
-
-// The number itself: whatever an f64 holds is a binary64 number.
-fn held(v: f64) -> f64
-    ensures { λ _. ⌜ Fits64 v ⌝ }
-{
-    v
-}
-
-// Each number of a column is a binary64 number.
-fn all_held(column: &[f64])
-    ensures { λ _. ⌜ Binary64 (now (column .entry)) ⌝ }
-{
-    let mut i = 0;
-    while i < column.len() {
-        held(column[i]);
-        i += 1;
-    }
-}
+ghost use Rattle.owners.specs.Owners.{Owners};
 
 // `supercluster::load`, which has one owner for every lamp in what it replies and leaves, where it refuses nothing.
 pub fn load(
@@ -47,6 +28,5 @@ pub fn load(
     ensures { λ r. ⌜ ((r .reply ≡ Done) → Owners (r .state) (columns (now (x .exit)) (now (y .exit)) (now (seen .exit)) (now (id .exit)) (now (parent .exit)) (now (num .exit)) (now (ids .exit)) (now (coords .exit)))
         (owner o (now (xs .entry)) (now (ys .entry)))) ⌝ }
 {
-    all_held(ys);
     supercluster::load(o, xs, ys, x, y, seen, id, parent, num, ids, coords, near)
 }

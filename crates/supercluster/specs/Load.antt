@@ -14,7 +14,7 @@ use Rattle.kdslots.specs.Bounds.{and-both, count-is, countOk}
 use Rattle.kdbush.specs.Built.{done-tests, none-outside}
 use Rattle.kdbush.specs.Reply.{pairOk, firstOutside}
 use Rattle.kdbush.specs.declared.BuildReply.{BuildReply}
-use Rattle.kdbush.specs.declared.BuildReply.the-variants.{Done}
+use Rattle.kdbush.specs.declared.BuildReply.the-variants.{Done, Options as No·Options, Count, Point, Tables}
 use Rattle.tables.specs.Columns.{xs-rows, ys-rows, seen-rows, id-rows, parent-rows, num-rows}
 use Rattle.tables.specs.Entries.{Table}
 use Rattle.tables.specs.Options.{optionsOk}
@@ -39,6 +39,14 @@ accepted o xs ys l e =
     let q = eqb-true (length ys) (length xs) (v .1) in
     let both : length (pys ps) ≡ length (pxs ps) = length-map ps (λ p. p .y) ∙ sym (length-map ps (λ p. p .x)) in
     (record { options = w .0; same = q; some = c .0; few = c .1; inside = none-outside (pxs ps) (pys ps) 0 (w .2) both }, w .3)
+
+-- a build replies what was checked of it
+pub replies : (o : Options) (xs ys : List Float) (l : Lent) (r : BuildReply) → byReply o xs ys l r .reply .reply ≡ r
+replies o xs ys l Done = refl
+replies o xs ys l No·Options = refl
+replies o xs ys l Count = refl
+replies o xs ys l (Point i) = refl
+replies o xs ys l Tables = refl
 
 -- each column holds that much
 pub record Holds (m : ℕ) (l : Lent) : Type 0 where

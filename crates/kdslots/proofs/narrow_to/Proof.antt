@@ -48,12 +48,6 @@ left-at-requires c κs = omega arith
 returns : tie.Need-returns Inv-loop μ-loop
 returns c = told (c .before .before .before .before .before)
 
-alone-at-requires : tie.Need-alone-at-requires Inv-loop μ-loop
-alone-at-requires c κs = omega arith
-
-returns-2 : tie.Need-returns-2 Inv-loop μ-loop
-returns-2 c = told (c .before .before .before .before .before .before .before)
-
 add-lo : tie.Need-add-lo Inv-loop μ-loop
 add-lo c = omega arith
 
@@ -65,16 +59,15 @@ loop-less c = omega arith
 
 loop-again : tie.Need-loop-again Inv-loop μ-loop
 loop-again c =
-    let o = c .before in
-    let u = o .before .before in
+    let u = c .before in
     let t = u .before .before in
     let w = t .before .before in
     let a = w .before .before .args in
     let s = over (a .q) (now (a .coords)) in
     let m = mid (w .loop .lo) (w .loop .hi) in
     let r : s .right (w .loop .axis) m ≡ true = sym (t .right-at .ensures) ∙ u .before .if1 .taken in
-    let l : s .left (w .loop .axis) m ≡ false = sym (u .left-at .ensures) ∙ o .before .if2 .left in
-    let no = unanswered (a .q) (now (a .coords)) (w .loop .axis) m (w .loop .inv .2) (rw (r, l)) (sym (o .alone-at .ensures) ∙ c .if3 .left) in (
+    let l : s .left (w .loop .axis) m ≡ false = sym (u .left-at .ensures) ∙ c .if2 .left in
+    let no = unanswered (a .q) (now (a .coords)) (w .loop .axis) m (w .loop .inv .2) (rw (r, l)) in (
       omega arith,
       omega arith,
       omega arith,
@@ -84,14 +77,8 @@ loop-again c =
 left-at-requires-2 : tie.Need-left-at-requires-2 Inv-loop μ-loop
 left-at-requires-2 c κs = omega arith
 
-returns-3 : tie.Need-returns-3 Inv-loop μ-loop
-returns-3 c = told (c .before .before .before .before .before)
-
-alone-at-requires-2 : tie.Need-alone-at-requires-2 Inv-loop μ-loop
-alone-at-requires-2 c κs = omega arith
-
-returns-4 : tie.Need-returns-4 Inv-loop μ-loop
-returns-4 c = told (c .before .before .before .before .before .before .before)
+returns-2 : tie.Need-returns-2 Inv-loop μ-loop
+returns-2 c = told (c .before .before .before .before .before)
 
 sub-axis-2 : tie.Need-sub-axis-2 Inv-loop μ-loop
 sub-axis-2 c = omega arith
@@ -101,24 +88,23 @@ loop-less-2 c = omega arith
 
 loop-again-2 : tie.Need-loop-again-2 Inv-loop μ-loop
 loop-again-2 c =
-    let o = c .before in
-    let u = o .before .before in
+    let u = c .before in
     let t = u .before .before in
     let w = t .before .before in
     let a = w .before .before .args in
     let s = over (a .q) (now (a .coords)) in
     let m = mid (w .loop .lo) (w .loop .hi) in
     let r : s .right (w .loop .axis) m ≡ false = sym (t .right-at .ensures) ∙ u .before .if1 .left in
-    let l : s .left (w .loop .axis) m ≡ true = sym (u .left-at2 .ensures) ∙ not-false _ (o .before .if4 .left) in
-    let no = unanswered (a .q) (now (a .coords)) (w .loop .axis) m (w .loop .inv .2) (rw r) (sym (o .alone-at2 .ensures) ∙ c .if5 .left) in (
+    let l : s .left (w .loop .axis) m ≡ true = sym (u .left-at2 .ensures) ∙ not-false _ (c .if3 .left) in
+    let no = unanswered (a .q) (now (a .coords)) (w .loop .axis) m (w .loop .inv .2) (rw r) in (
       omega arith,
       omega arith,
       omega arith,
       λ most h. sym (only-left s (w .loop .axis) most (w .loop .lo) (w .loop .hi) (omega (arith, h, t .before .loop-test .taken)) no r l) ∙ w .loop .inv .3 most h,
     )
 
-returns-5 : tie.Need-returns-5 Inv-loop μ-loop
-returns-5 c = told (c .before)
+returns-3 : tie.Need-returns-3 Inv-loop μ-loop
+returns-3 c = told (c .before)
 
 pub narrow-to-spec : {M : Type 1} → statement M
 narrow-to-spec =
@@ -134,17 +120,13 @@ narrow-to-spec =
     right-at-requires
     left-at-requires
     returns
-    alone-at-requires
-    returns-2
     add-lo
     sub-axis
     loop-less
     loop-again
     left-at-requires-2
-    returns-3
-    alone-at-requires-2
-    returns-4
+    returns-2
     sub-axis-2
     loop-less-2
     loop-again-2
-    returns-5)
+    returns-3)

@@ -1,12 +1,8 @@
--- `owners::load` meets its contract: what `supercluster::load` replies and leaves has one owner for every lamp, since the given ys are binary64 numbers. Assumes
--- nothing.
+-- `owners::load` meets its contract: what `supercluster::load` replies and leaves has one owner for every lamp. Assumes nothing.
 use borrow.Author.Needs.{needs}
 use Rattle.owners.specs.Proved.{outcome-owners}
 use Rattle.owners.proofs.load.Statement.{statement}
 use Rattle.owners.proofs.load.Tie as tie
-
-all-held-requires : tie.Need-all-held-requires
-all-held-requires c κs = search needs
 
 load-requires : tie.Need-load-requires
 load-requires c κs = search needs
@@ -41,20 +37,16 @@ same-length-9 c = search needs
 abbrev loaded-at : tie.After-slice-known18 → tie.After-load
 loaded-at c = c .before .before .before .before .before .before .before .before .before .before .before .before .before .before .before .before .before .before
 
-abbrev held-at : tie.After-load → tie.After-all-held
-held-at w = w .before .before .before .before .before .before .before .before .before .before
-
 returns : tie.Need-returns
 returns c =
     let w = loaded-at c in
     let e = w .load .ensures in
-    (e, λ d. outcome-owners _ _ _ _ _ e (held-at w .all-held .ensures) d)
+    (e, λ d. outcome-owners _ _ _ _ _ e d)
 
 pub load-spec : {M : Type 1} → statement M
 load-spec =
     tie.close
     (tie.spec
-    all-held-requires
     load-requires
     same-length
     same-length-2

@@ -1,0 +1,2 @@
+-- Laws: what runs has demand 3.
+pub mod InUse
