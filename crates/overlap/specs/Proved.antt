@@ -1,8 +1,8 @@
 -- #111 holds of every Cartesian build that `load` accepts: `boxes-inside-boxes`. A box visits the places in the order of the index that the
 -- build left, the same order for every box; the rest is Cut's, for any order. Assumes nothing.
-use mathlib.Core.Path.{_≡_, refl, ap, sym, _∙_, subst}
+use mathlib.Core.Path.{_≡_, ap, sym, _∙_, subst}
 use mathlib.Core.Bool.{true}
-use mathlib.Core.List.{List, append-nil}
+use mathlib.Core.List.{List}
 use Prim.Native.Nat.{ℕ}
 use lib.ListN.{length}
 use lib.Ieee.{Float}
@@ -12,25 +12,21 @@ use Rattle.range.specs.declared.DataRange.{DataRange}
 use Rattle.range.specs.declared.CoordinateSystem.the-variants.{Cartesian}
 use Rattle.range.specs.Range.{converted, systemInBounds}
 use Rattle.kdslots.specs.declared.Query.{Query}
-use Rattle.kdslots.specs.All.{AllBelow}
-use Rattle.kdbush.specs.declared.BuildReply.{BuildReply}
-use Rattle.kdbush.specs.declared.BuildReply.the-variants.{Done, Options as No·Options, Count, Point, Tables}
 use Rattle.kdbush.specs.Reply.{found}
-use Rattle.kdbush.specs.Promise.{all-whole, all-sound, answered-below, answered-kept, treeOrder}
+use Rattle.kdbush.specs.Promise.{answered-kept, treeOrder}
 use Rattle.tables.specs.declared.Options.{Options}
 use Rattle.tables.specs.declared.State.{State}
 use Rattle.tables.specs.Bounds.{options-are}
 use Rattle.tables.specs.Entries.{xsOf, ysOf}
 use Rattle.tables.specs.Options.{zoomUsed}
-use Rattle.tables.specs.State.{lenOf}
 use Rattle.tables.specs.Sound.{stateOk}
 use Rattle.asking.specs.Asked.{told}
 use Rattle.asking.specs.Columns.{indexRoom, idsAt, coordsAt}
 use Rattle.boxes.specs.Rule.{once, planOf, boxOk}
-use Rattle.boxes.specs.Lists.{walked, listedAt, boxAsked}
-use Rattle.boxes.specs.Inside.{Indexed}
+use Rattle.boxes.specs.Lists.{listedAt, boxAsked}
+use Rattle.boxes.specs.Inside.{Indexed, one-told}
 use Rattle.supercluster.specs.Build.{Lent, Outcome, need, checked, byReply, loaded}
-use Rattle.supercluster.specs.Load.{Holds, accepted, holds}
+use Rattle.supercluster.specs.Load.{Holds, accepted, holds, replies}
 use Rattle.supercluster.specs.Ready.{Accepted}
 use Rattle.answers.specs.Stored.{columnsOf, stateBy, columnsBy}
 use Rattle.answers.specs.Boxed.{usedBy, between, index-sound, table-indexed}
@@ -39,9 +35,6 @@ use Rattle.overlap.specs.Common.{boxed, Rising, rising}
 use Rattle.overlap.specs.Cut.{listOf, overlaps}
 
 -- ---- over a sound state, of a table with an index that is built from it
-
-walked-all : (n : ℕ) (l : List ℕ) → AllBelow n l → walked n l ≡ told true l
-walked-all n l w = rw (all-whole n l w, all-sound n l w)
 
 module _ (st : State) (ids : List ℕ) (co : List Float) (zoom : ℕ) (xs ys : List Float) (good : stateOk st (indexRoom ids co) ≡ true)
     (J : Indexed st ids co (zoomUsed (st .options) zoom) xs ys) (d : DataRange) (c : st .options .«coordinate_system» ≡ Cartesian d)
@@ -56,12 +49,8 @@ module _ (st : State) (ids : List ℕ) (co : List Float) (zoom : ℕ) (xs ys : L
   abbrev foundIn : ℕ → Query → List ℕ
   foundIn n q = found q (st .options .«node_size») n (idsAt st ids z) (coordsAt st co z)
 
-  one-told : (q : Query) → listedAt st ids co z (once q) ≡ told true (foundIn (length xs) q)
-  one-told q =
-      let below = subst (λ (n : ℕ). AllBelow n (foundIn n q)) (J .long) (answered-below _ xs ys (J .lent) _ (J .index) q) in
-      ap (walked (lenOf st z)) (append-nil (foundIn (lenOf st z) q))
-      ∙ walked-all (lenOf st z) (foundIn (lenOf st z) q) below
-      ∙ ap (λ (n : ℕ). told true (foundIn n q)) (sym (J .long))
+  all-told : (q : Query) → listedAt st ids co z (once q) ≡ told true (foundIn (length xs) q)
+  all-told q = one-told st ids co z xs ys J q ∙ ap (λ (n : ℕ). told true (foundIn n q)) (sym (J .long))
 
   fine : (a : Box) → Taken d a → boxOk (st .options .«coordinate_system») (a .w) (a .s) (a .e) (a .n) ≡ true
   fine a p =
@@ -75,7 +64,7 @@ module _ (st : State) (ids : List ℕ) (co : List Float) (zoom : ℕ) (xs ys : L
   box-told : (a : Box) → Taken d a → boxAsked st ids co zoom (a .w) (a .s) (a .e) (a .n) ≡ told true (listOf d r xs ys order a)
   unfolding boxAsked planOf converted
   box-told a p =
-      rw (good, fine a p, c) (one-told (boxed d a) ∙ ap (told true) (answered-kept _ xs ys (J .lent) _ (J .index) (boxed d a)))
+      rw (good, fine a p, c) (all-told (boxed d a) ∙ ap (told true) (answered-kept _ xs ys (J .lent) _ (J .index) (boxed d a)))
 
   table-overlaps : Overlaps d (λ a. boxAsked st ids co zoom (a .w) (a .s) (a .e) (a .n))
   table-overlaps = overlaps d r xs ys order (λ a. boxAsked st ids co zoom (a .w) (a .s) (a .e) (a .n)) box-told
@@ -97,18 +86,10 @@ module _ (o : Options) (xs ys : List Float) (acc : Accepted o xs ys) (l : Lent) 
 
 -- ---- of every build that `load` accepts
 
--- an outcome that replies no refusal is that of an accepted build
-done-only : (o : Options) (xs ys : List Float) (l : Lent) (r : BuildReply) → byReply o xs ys l r .reply .reply ≡ Done → r ≡ Done
-done-only o xs ys l Done e = refl
-done-only o xs ys l No·Options e = e
-done-only o xs ys l Count e = e
-done-only o xs ys l (Point i) e = e
-done-only o xs ys l Tables e = e
-
 pub boxes-inside-boxes : BoxesInsideBoxes
 unfolding loaded
 boxes-inside-boxes o xs ys l e d c zoom =
-    let f = done-only o xs ys l (checked o xs ys l) e in
+    let f = sym (replies o xs ys l (checked o xs ys l)) ∙ e in
     let a = accepted o xs ys l f in
     subst (λ (x : Outcome). Overlaps d (boxAt (x .reply .state) (columnsOf (x .columns)) zoom)) (sym (ap (byReply o xs ys l) f))
     (build-overlaps o xs ys (a .0) l (holds (need o (length xs)) l (a .1)) d c zoom)
