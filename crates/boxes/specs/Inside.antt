@@ -3,7 +3,7 @@
 -- place past the table. Assumes nothing.
 use mathlib.Core.Path.{_≡_, ap, _∙_, subst}
 use mathlib.Core.Bool.{true, false}
-use mathlib.Core.List.{List, [], _∷_, _++_, append-nil}
+use mathlib.Core.List.{List, _++_, append-nil}
 use Prim.Native.Nat.{ℕ, _<_}
 use lib.ListN.{length, getD}
 use lib.Ieee.{Float, nan}
@@ -70,7 +70,8 @@ module _ (s : State) (ids : List ℕ) (co : List Float) (z : ℕ) (xs ys : List 
   below : (q : Query) → AllBelow (lenOf s z) (foundIn (lenOf s z) q)
   below q = subst (λ (n : ℕ). AllBelow n (foundIn n q)) (J .long) (answered-below _ xs ys (J .lent) _ (J .index) q)
 
-  one-told : (q : Query) → listedAt s ids co z (once q) ≡ told true (foundIn (lenOf s z) q)
+  -- one search is told whole
+  pub one-told : (q : Query) → listedAt s ids co z (once q) ≡ told true (foundIn (lenOf s z) q)
   one-told q = ap (walked (lenOf s z)) (append-nil (foundIn (lenOf s z) q)) ∙ walked-all (lenOf s z) (foundIn (lenOf s z) q) (below q)
 
   two-told : (a b : Query) → listedAt s ids co z (record { first = a; second = b; two = true }) ≡ told true (foundIn (lenOf s z) a ++ foundIn (lenOf s z) b)

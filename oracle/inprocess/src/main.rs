@@ -8,7 +8,8 @@ mod tables;
 use groups as report;
 use std::{env, process::ExitCode};
 
-const USAGE: &str = "usage: inprocess index|tables|questions [--full], or questions --spoiled";
+const USAGE: &str =
+    "usage: inprocess index|tables|questions|overlap [--full], or questions --spoiled";
 
 /// How much is compared.
 #[derive(Clone, Copy, PartialEq, Eq)]
@@ -28,6 +29,8 @@ fn main() -> ExitCode {
         ["questions"] => questions::run(Form::Short, Form::Short),
         ["questions", "--spoiled"] => questions::run(Form::Short, Form::Full),
         ["questions", "--full"] => questions::run(Form::Full, Form::Full),
+        ["overlap"] => questions::overlap::run(Form::Short),
+        ["overlap", "--full"] => questions::overlap::run(Form::Full),
         _ => {
             eprintln!("{USAGE}");
             ExitCode::from(2)

@@ -4,6 +4,7 @@
 
 mod both;
 mod columns;
+pub mod overlap;
 mod port;
 mod rust;
 

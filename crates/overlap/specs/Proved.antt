@@ -1,0 +1,95 @@
+-- #111 holds of every Cartesian build that `load` accepts: `boxes-inside-boxes`. A box visits the places in the order of the index that the
+-- build left, the same order for every box; the rest is Cut's, for any order. Assumes nothing.
+use mathlib.Core.Path.{_≡_, ap, sym, _∙_, subst}
+use mathlib.Core.Bool.{true}
+use mathlib.Core.List.{List}
+use Prim.Native.Nat.{ℕ}
+use lib.ListN.{length}
+use lib.Ieee.{Float}
+use lib.Ieee.Scale.{finite}
+use Rattle.floats.specs.Fraction.{is-true}
+use Rattle.range.specs.declared.DataRange.{DataRange}
+use Rattle.range.specs.declared.CoordinateSystem.the-variants.{Cartesian}
+use Rattle.range.specs.Range.{converted, systemInBounds}
+use Rattle.kdslots.specs.declared.Query.{Query}
+use Rattle.kdbush.specs.Reply.{found}
+use Rattle.kdbush.specs.Promise.{answered-kept, treeOrder}
+use Rattle.tables.specs.declared.Options.{Options}
+use Rattle.tables.specs.declared.State.{State}
+use Rattle.tables.specs.Bounds.{options-are}
+use Rattle.tables.specs.Entries.{xsOf, ysOf}
+use Rattle.tables.specs.Options.{zoomUsed}
+use Rattle.tables.specs.Sound.{stateOk}
+use Rattle.asking.specs.Asked.{told}
+use Rattle.asking.specs.Columns.{indexRoom, idsAt, coordsAt}
+use Rattle.boxes.specs.Rule.{once, planOf, boxOk}
+use Rattle.boxes.specs.Lists.{listedAt, boxAsked}
+use Rattle.boxes.specs.Inside.{Indexed, one-told}
+use Rattle.supercluster.specs.Build.{Lent, Outcome, need, checked, byReply, loaded}
+use Rattle.supercluster.specs.Load.{Holds, accepted, holds, replies}
+use Rattle.supercluster.specs.Ready.{Accepted}
+use Rattle.answers.specs.Stored.{columnsOf, stateBy, columnsBy}
+use Rattle.answers.specs.Boxed.{usedBy, between, index-sound, table-indexed}
+use Rattle.overlap.specs.BoxesInsideBoxes.{Box, Taken, Overlaps, boxAt, BoxesInsideBoxes}
+use Rattle.overlap.specs.Common.{boxed, Rising, rising}
+use Rattle.overlap.specs.Cut.{listOf, overlaps}
+
+-- ---- over a sound state, of a table with an index that is built from it
+
+module _ (st : State) (ids : List ℕ) (co : List Float) (zoom : ℕ) (xs ys : List Float) (good : stateOk st (indexRoom ids co) ≡ true)
+    (J : Indexed st ids co (zoomUsed (st .options) zoom) xs ys) (d : DataRange) (c : st .options .«coordinate_system» ≡ Cartesian d)
+    (r : Rising d) where
+  abbrev z : ℕ
+  z = zoomUsed (st .options) zoom
+
+  -- the order in which its index is visited
+  abbrev order : List ℕ
+  order = treeOrder (st .options .«node_size») (length xs) (idsAt st ids z)
+
+  abbrev foundIn : ℕ → Query → List ℕ
+  foundIn n q = found q (st .options .«node_size») n (idsAt st ids z) (coordsAt st co z)
+
+  all-told : (q : Query) → listedAt st ids co z (once q) ≡ told true (foundIn (length xs) q)
+  all-told q = one-told st ids co z xs ys J q ∙ ap (λ (n : ℕ). told true (foundIn n q)) (sym (J .long))
+
+  fine : (a : Box) → Taken d a → boxOk (st .options .«coordinate_system») (a .w) (a .s) (a .e) (a .n) ≡ true
+  fine a p =
+      let w = is-true (finite (a .w)) (p .w .0) in
+      let s = is-true (finite (a .s)) (p .s .0) in
+      let e = is-true (finite (a .e)) (p .e .0) in
+      let n = is-true (finite (a .n)) (p .n .0) in
+      rw (c, w, s, e, n)
+
+  -- a box is answered whole, with those places of the order that lie in it
+  box-told : (a : Box) → Taken d a → boxAsked st ids co zoom (a .w) (a .s) (a .e) (a .n) ≡ told true (listOf d r xs ys order a)
+  unfolding boxAsked planOf converted
+  box-told a p =
+      rw (good, fine a p, c) (all-told (boxed d a) ∙ ap (told true) (answered-kept _ xs ys (J .lent) _ (J .index) (boxed d a)))
+
+  table-overlaps : Overlaps d (λ a. boxAsked st ids co zoom (a .w) (a .s) (a .e) (a .n))
+  table-overlaps = overlaps d r xs ys order (λ a. boxAsked st ids co zoom (a .w) (a .s) (a .e) (a .n)) box-told
+
+-- ---- of a build that is accepted, in columns that hold it
+
+module _ (o : Options) (xs ys : List Float) (acc : Accepted o xs ys) (l : Lent) (h : Holds (need o (length xs)) l)
+    (d : DataRange) (c : o .«coordinate_system» ≡ Cartesian d) (zoom : ℕ) where
+  range-rising : Rising d
+  unfolding systemInBounds
+  range-rising = rising d (rw c at (options-are o (acc .options) .system))
+
+  build-overlaps : Overlaps d (boxAt (stateBy o xs ys) (columnsBy o xs ys l) zoom)
+  build-overlaps =
+      let t = usedBy o xs ys zoom in
+      let b = between o xs ys acc zoom in
+      table-overlaps (stateBy o xs ys) (columnsBy o xs ys l .ids) (columnsBy o xs ys l .coords) zoom (xsOf t) (ysOf t)
+      (index-sound o xs ys acc l h) (table-indexed o xs ys acc l h (zoomUsed o zoom) (b .0) (b .1)) d c range-rising
+
+-- ---- of every build that `load` accepts
+
+pub boxes-inside-boxes : BoxesInsideBoxes
+unfolding loaded
+boxes-inside-boxes o xs ys l e d c zoom =
+    let f = sym (replies o xs ys l (checked o xs ys l)) ∙ e in
+    let a = accepted o xs ys l f in
+    subst (λ (x : Outcome). Overlaps d (boxAt (x .reply .state) (columnsOf (x .columns)) zoom)) (sym (ap (byReply o xs ys l) f))
+    (build-overlaps o xs ys (a .0) l (holds (need o (length xs)) l (a .1)) d c zoom)
