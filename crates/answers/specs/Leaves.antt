@@ -1,13 +1,13 @@
--- Of a build that is accepted, of each of its clusters: its leaves with a limit of 1 or more are its lamps after the
--- first `offset`, up to the limit; with limit 0 they are all its lamps at offset 0, and none at a larger one. So a larger limit never changes what a smaller one of 1 or
--- more listed. Assumes nothing.
+-- Of a build that is accepted, of each of its clusters: its leaves are its lamps after the first `offset`, as many as the limit, with limit 0 none. So a larger limit
+-- never changes what a smaller one listed. Assumes nothing.
 use mathlib.Core.Path.{_≡_, refl, ap, ap₂, sym, _∙_, subst}
 use mathlib.Core.Bool.{Bool, true, false}
-use mathlib.Core.List.{List, [], _∷_, _++_, append-nil, append-assoc}
+use mathlib.Core.List.{List, [], _∷_, _++_, append-nil}
 use Prim.Native.Nat.{ℕ, zero, suc, _+_, _-_, _<_, _≤_}
 use native.Mathlib.Omega.{arith}
+use borrow.Author.Tests.{ne-eqb}
 use lib.Dec.{eqb}
-use lib.ListN.{length, take, drop, length-append, drop-of-length-le}
+use lib.ListN.{length, take, drop, drop-of-length-le}
 use lib.Seq.{take-nil}
 use lib.Ieee.{Float}
 use Rattle.tables.specs.declared.Options.{Options}
@@ -27,7 +27,7 @@ use Rattle.builds.specs.Came.{tableAt as built}
 use Rattle.lamps.specs.Owner.{lampsOf, owner}
 use Rattle.lamps.specs.Owners.{lamps-long, num-owned}
 use Rattle.answers.specs.Stored.{stateBy, columnsBy}
-use Rattle.answers.specs.Clusters.{target-is, not-childless}
+use Rattle.answers.specs.Clusters.{target-is, no-spoiled-slot, not-childless}
 use Rattle.answers.specs.Page.{skippedBy, listedBy, paged, Going, listed-most, paged-none, paged-more, paged-full, paged-going}
 use Rattle.answers.specs.Walks.{Rules, walks}
 
@@ -40,7 +40,7 @@ same-n m n p q e = cc e
 same-out : (m n : ℕ) (p q : List ℕ) → went m p ≡ went n q → p ≡ q
 same-out m n p q e = cc e
 
--- a limit of 1 or more: the page
+-- of a walk, which has a limit of 1 or more: the page
 module _ (limit offset : ℕ) where
   abbrev Pages : ℕ → List ℕ → List ℕ → Trip (List ℕ) → Type 0
   Pages n out ls t = t ≡ paged limit offset n out ls
@@ -75,42 +75,6 @@ module _ (limit offset : ℕ) where
           (let w = ap length (same-out _ _ _ _ e) in let v = listed-most limit offset n out ls in omega arith),
         );
         more = λ n out ls ms m p t g s e f w. w ∙ ap₂ (λ (x : ℕ) (y : List ℕ). paged limit offset x y ms) (same-n _ _ _ _ e) (same-out _ _ _ _ e) ∙ paged-more limit offset n out ls ms (g .most);
-      }
-
--- limit 0 at offset 0: all
-abbrev AllOf : ℕ → List ℕ → List ℕ → Trip (List ℕ) → Type 0
-AllOf n out ls t = t ≡ went 0 (out ++ ls)
-
-all-rules : Rules 0 0 (λ n out. n ≡ 0) AllOf
-all-rules =
-    record {
-      whole = λ n out ls t e. (0, out ++ ls, e);
-      none = λ n out g. ap₂ went g (sym (append-nil out));
-      skip = λ n out ls g s h. absurd (omega arith);
-      list = λ n out id g h. ap (λ (x : ℕ). went x (out ++ (id ∷ []))) g;
-      stop = λ n out ls ms m p g s e f. absurd (let w = ap length (same-out _ _ _ _ e) in let v = length-append out ls in omega arith);
-      go = λ n out ls m p g s e f. (same-n _ _ _ _ e, (let w = ap length (same-out _ _ _ _ e) in let v = length-append out ls in omega arith));
-      more = λ n out ls ms m p t g s e f w. w ∙ ap (λ (x : List ℕ). went 0 (x ++ ms)) (same-out _ _ _ _ e) ∙ ap (went 0) (append-assoc out ls ms);
-    }
-
--- limit 0 at a larger offset: none
-module _ (offset : ℕ) where
-  abbrev Early : ℕ → List ℕ → Type 0
-  Early n out = (n < offset) × (out ≡ [])
-
-  abbrev NoneOf : ℕ → List ℕ → List ℕ → Trip (List ℕ) → Type 0
-  NoneOf n out ls t = (m : ℕ) × (t ≡ went m [])
-
-  none-rules : Rules 0 offset Early NoneOf
-  none-rules =
-      record {
-        whole = λ n out ls t e. (e .0, [], e .1);
-        none = λ n out g. (n, ap (went n) (g .1));
-        skip = λ n out ls g s h. (n + length ls, ap (went (n + length ls)) (g .1));
-        list = λ n out id g h. absurd (let w = g .0 in omega arith);
-        stop = λ n out ls ms m p g s e f. e;
-        go = λ n out ls m p g s e f. absurd (f (ap length (same-out _ _ _ _ (e .1))));
-        more = λ n out ls ms m p t g s e f w. absurd (f (ap length (same-out _ _ _ _ (e .1))));
       }
 
 -- ---- the leaves of a cluster
@@ -152,25 +116,29 @@ module _ (o : Options) (xs ys : List Float) (a : Accepted o xs ys) (l : Lent) (r
     abbrev walked : Trip (List ℕ)
     walked = walk lamps (stateBy o xs ys) (columnsBy o xs ys l) limit offset 32 Id (tableOf (length xs) Id) (originOf (length xs) Id) 0 []
 
-    leaves-by : leavesOf (stateBy o xs ys) (columnsBy o xs ys l) (entry (built o xs ys z) j .id) limit offset ≡ listed walked
+    leaves-by : (limit ≡ 0 → ⊥) → leavesOf (stateBy o xs ys) (columnsBy o xs ys l) (entry (built o xs ys z) j .id) limit offset ≡ listed walked
     unfolding leavesOf leavesAt
-    leaves-by = ap (λ (t : Target). atTarget t (λ u i. leavesAt S C Id limit offset u i)) (target-is o xs ys a l r z j h k q b) ∙ rw (not-childless o xs ys a l r z j h k q b)
+    leaves-by m =
+        ap (λ (t : Target). atTarget t (λ u i. leavesAt S C Id limit offset u i)) (target-is o xs ys a l r z j h k q b)
+        ∙ rw (not-childless o xs ys a l r z j h k q b, ne-eqb limit 0 m)
 
-  -- with a limit of 1 or more: after the first `offset`, up to the limit
-  pub leaves-page : (limit offset : ℕ) → 1 ≤ limit
+  -- limit 0: nothing
+  leaves-none : (offset : ℕ) → leavesOf (stateBy o xs ys) (columnsBy o xs ys l) (entry (built o xs ys z) j .id) 0 offset ≡ told true []
+  unfolding leavesOf leavesAt
+  leaves-none offset =
+      ap (λ (t : Target). atTarget t (λ u i. leavesAt S C Id 0 offset u i)) (target-is o xs ys a l r z j h k q b)
+      ∙ rw (not-childless o xs ys a l r z j h k q b) (ap (λ (c : Bool). told c []) (no-spoiled-slot o xs ys a l r z j h k q b))
+
+  leaves-some : (limit offset : ℕ) → 1 ≤ limit
       → leavesOf (stateBy o xs ys) (columnsBy o xs ys l) (entry (built o xs ys z) j .id) limit offset ≡ told true (take limit (drop offset (lampsOf o xs ys z j)))
-  leaves-page limit offset m =
+  leaves-some limit offset m =
       let w = walks o xs ys a l r limit offset (Going limit offset) (Pages limit offset) (page-rules limit offset) 32 z j h k q b deep 0 []
       (record { few = m; most = omega arith; begun = λ v. absurd (omega arith) }) few in
       let e : limit - 0 ≡ limit = omega arith in
       let d : offset - 0 ≡ offset = omega arith in
-      leaves-by limit offset ∙ ap listed w ∙ ap (told true) (ap₂ (λ (x y : ℕ). take x (drop y Ls)) e d)
+      leaves-by limit offset (λ n. omega arith) ∙ ap listed w ∙ ap (told true) (ap₂ (λ (x y : ℕ). take x (drop y Ls)) e d)
 
-  -- with limit 0: all at offset 0, none at a larger one
-  pub leaves-all : leavesOf (stateBy o xs ys) (columnsBy o xs ys l) (entry (built o xs ys z) j .id) 0 0 ≡ told true (lampsOf o xs ys z j)
-  leaves-all = leaves-by 0 0 ∙ ap listed (walks o xs ys a l r 0 0 (λ n out. n ≡ 0) AllOf all-rules 32 z j h k q b deep 0 [] refl few)
-
-  pub leaves-none : (offset : ℕ) → 1 ≤ offset → leavesOf (stateBy o xs ys) (columnsBy o xs ys l) (entry (built o xs ys z) j .id) 0 offset ≡ told true []
-  leaves-none offset m =
-      let w = walks o xs ys a l r 0 offset (Early offset) (NoneOf offset) (none-rules offset) 32 z j h k q b deep 0 [] (m, refl) few in
-      leaves-by 0 offset ∙ ap listed (w .1)
+  -- every limit: after the first `offset`, up to the limit
+  pub leaves-page : (limit offset : ℕ) → leavesOf (stateBy o xs ys) (columnsBy o xs ys l) (entry (built o xs ys z) j .id) limit offset ≡ told true (take limit (drop offset (lampsOf o xs ys z j)))
+  leaves-page zero offset = leaves-none offset
+  leaves-page (suc m) offset = leaves-some (suc m) offset (omega arith)

@@ -43,7 +43,7 @@ use Rattle.answers.specs.Boxed.{fits-somehow}
 use Rattle.answers.specs.Children.{around-below, clean, kids-at}
 use Rattle.answers.specs.Clusters.{expansion-is}
 use Rattle.answers.specs.Walks.{all-keep, keep-passes}
-use Rattle.answers.specs.Leaves.{leaves-page, leaves-all, leaves-none}
+use Rattle.answers.specs.Leaves.{leaves-page}
 
 -- a question that is not refused 11, whatever the room
 abbrev Fine : Asked → Type 0
@@ -180,7 +180,9 @@ module _ (o : Options) (xs ys : List Float) (a : Accepted o xs ys) (l : Lent) (r
         by false = subst (λ (c : Bool). Fine (told c (kidsAt S C id T I))) (sym no-spoiled) (fine-told (kidsAt S C id T I))
 
     made-fine : (limit offset : ℕ) → Made (T - 1) id → Fine (leavesOf (stateBy o xs ys) (columnsBy o xs ys l) id limit offset)
-    made-fine limit offset (j, q, e) = subst (λ (v : ℕ). Fine (leavesOf S C v limit offset)) e (by limit offset)
+    made-fine limit offset (j, q, e) =
+        subst (λ (v : ℕ). Fine (leavesOf S C v limit offset)) e
+        (subst Fine (sym (leaves-page o xs ys a l r (T - 1) j low top q above limit offset)) (fine-told (take limit (drop offset (lampsOf o xs ys (T - 1) j)))))
       where
         low : o .«min_zoom» ≤ T - 1
         low = omega arith
@@ -190,11 +192,6 @@ module _ (o : Options) (xs ys : List Float) (a : Accepted o xs ys) (l : Lent) (r
 
         above : length xs ≤ entry (built o xs ys (T - 1)) j .id
         above = omega arith
-
-        by : (limit offset : ℕ) → Fine (leavesOf S C (entry (built o xs ys (T - 1)) j .id) limit offset)
-        by zero zero = subst Fine (sym (leaves-all o xs ys a l r (T - 1) j low top q above)) (fine-told (lampsOf o xs ys (T - 1) j))
-        by zero (suc d) = subst Fine (sym (leaves-none o xs ys a l r (T - 1) j low top q above (suc d) (omega arith))) (fine-told [])
-        by (suc m) d = subst Fine (sym (leaves-page o xs ys a l r (T - 1) j low top q above (suc m) d (omega arith))) (fine-told (take (suc m) (drop d (lampsOf o xs ys (T - 1) j))))
 
     leaves-fine : (limit offset : ℕ) → Fine (leavesOf (stateBy o xs ys) (columnsBy o xs ys l) id limit offset) ⊎ Fine (leavesAt (stateBy o xs ys) (columnsBy o xs ys l) id limit offset T I)
     unfolding leavesAt

@@ -52,6 +52,6 @@ pub record Owners (s : State) (c : Columns) (own : ℕ → ℕ → ℕ) : Type 0
   -- a cluster's leaves with offset 0 and a limit of at least its num are the lamps that it owns, each once
   pub leaves : (z j limit : ℕ) → IsCluster s c z j → entry (tableAt s c z) j .num ≤ limit
       → (ls : List ℕ) × (leavesOf s c (entry (tableAt s c z) j .id) limit 0 ≡ told true ls) × (length ls ≡ entry (tableAt s c z) j .num) × Owned (s .count) (own z) j ls
-  -- a larger limit never changes what a smaller one of 1 or more listed at the same offset
-  pub prefix : (z j m n offset : ℕ) → IsCluster s c z j → 1 ≤ m → m ≤ n
+  -- a larger limit never changes what a smaller one listed at the same offset; limit 0 lists the shortest list
+  pub prefix : (z j m n offset : ℕ) → IsCluster s c z j → m ≤ n
       → (ls : List ℕ) × (leavesOf s c (entry (tableAt s c z) j .id) n offset ≡ told true ls) × (leavesOf s c (entry (tableAt s c z) j .id) m offset ≡ told true (take m ls))

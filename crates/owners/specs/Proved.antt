@@ -71,10 +71,10 @@ module _ (o : Options) (xs ys : List Float) (a : Accepted o xs ys) (l : Lent) (r
         by (inl v) = absurd (let e = v .num in let m = many in omega arith)
         by (inr v) = v .above
 
-    page : (limit offset : ℕ) → 1 ≤ limit → leavesOf (stateBy o xs ys) (columnsBy o xs ys l) (entry (tableAt (stateBy o xs ys) (columnsBy o xs ys l) z) j .id) limit offset ≡ told true (take limit (drop offset (lampsOf o xs ys z j)))
-    page limit offset m =
+    page : (limit offset : ℕ) → leavesOf (stateBy o xs ys) (columnsBy o xs ys l) (entry (tableAt (stateBy o xs ys) (columnsBy o xs ys l) z) j .id) limit offset ≡ told true (take limit (drop offset (lampsOf o xs ys z j)))
+    page limit offset =
         subst (λ (t : Table). leavesOf S C (entry t j .id) limit offset ≡ told true (take limit (drop offset (lampsOf o xs ys z j)))) (is z (w .between))
-        (leaves-page o xs ys a l r z j (w .between .low) (w .between .high) place above limit offset m)
+        (leaves-page o xs ys a l r z j (w .between .low) (w .between .high) place above limit offset)
 
     long : entry (tableAt (stateBy o xs ys) (columnsBy o xs ys l) z) j .num ≡ length (lampsOf o xs ys z j)
     long = subst (λ (t : Table). entry t j .num ≡ length (lampsOf o xs ys z j)) (is z (w .between)) (lamps-long o xs ys a z (w .between .low) (w .between .high) j place)
@@ -92,16 +92,15 @@ module _ (o : Options) (xs ys : List Float) (a : Accepted o xs ys) (l : Lent) (r
       × (length ls ≡ entry (tableAt (stateBy o xs ys) (columnsBy o xs ys l) z) j .num) × Owned (length xs) (λ k. owner o xs ys z k) j ls
   all-leaves z j limit w h =
       let e = long z j w in
-      let m = w .many in
       let L = lampsOf o xs ys z j in
-      (L, page z j w limit 0 (omega arith) ∙ ap (told true) (take-all limit L (omega arith)), sym e, owned z j w)
+      (L, page z j w limit 0 ∙ ap (told true) (take-all limit L (omega arith)), sym e, owned z j w)
 
-  fewer : (z j m n offset : ℕ) → IsCluster (stateBy o xs ys) (columnsBy o xs ys l) z j → 1 ≤ m → m ≤ n
+  fewer : (z j m n offset : ℕ) → IsCluster (stateBy o xs ys) (columnsBy o xs ys l) z j → m ≤ n
       → (ls : List ℕ) × (leavesOf (stateBy o xs ys) (columnsBy o xs ys l) (entry (tableAt (stateBy o xs ys) (columnsBy o xs ys l) z) j .id) n offset ≡ told true ls)
       × (leavesOf (stateBy o xs ys) (columnsBy o xs ys l) (entry (tableAt (stateBy o xs ys) (columnsBy o xs ys l) z) j .id) m offset ≡ told true (take m ls))
-  fewer z j m n offset w h k =
+  fewer z j m n offset w k =
       let L = drop offset (lampsOf o xs ys z j) in
-      (take n L, page z j w n offset (omega arith), page z j w m offset h ∙ ap (told true) (sym (take-take m n L k)))
+      (take n L, page z j w n offset, page z j w m offset ∙ ap (told true) (sym (take-take m n L k)))
 
   all-together : (z : ℕ) → Between (stateBy o xs ys) z → sum (λ j. entry (tableAt (stateBy o xs ys) (columnsBy o xs ys l) z) j .num) (range 0 (length (tableAt (stateBy o xs ys) (columnsBy o xs ys l) z))) ≡ length xs
   all-together z b =

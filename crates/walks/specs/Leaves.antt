@@ -7,7 +7,8 @@ use lib.ListN.{length}
 use Rattle.tables.specs.declared.Entry.{Entry}
 use Rattle.tables.specs.declared.State.{State}
 use Rattle.tables.specs.Entries.{entry}
-use Rattle.asking.specs.declared.Answer.the-variants.{NoCluster}
+use Rattle.asking.specs.declared.Answer.{Answer}
+use Rattle.asking.specs.declared.Answer.the-variants.{Listed as Answer·Listed, NoCluster, Spoiled}
 use Rattle.asking.specs.declared.Target.{Target}
 use Rattle.asking.specs.declared.Target.the-variants.{At, Spoiled as Target·Spoiled, NoTree as Target·NoTree, NoCluster as Target·NoCluster}
 use Rattle.asking.specs.Asked.{Asked, refused, told}
@@ -16,6 +17,8 @@ use Rattle.asking.specs.Ids.{targetOf, onward}
 use Rattle.kids.specs.Kids.{kidsAt, cleanAt, childless}
 use Rattle.walks.specs.declared.Fate.{Fate}
 use Rattle.walks.specs.declared.Fate.the-variants.{Skipped, Entered, Listed}
+use Rattle.walks.specs.declared.Fetched.{Fetched}
+use Rattle.walks.specs.declared.Fetched.the-variants.{Cluster, Nobody, Others, Spoiled as Fetched·Spoiled}
 use Rattle.walks.specs.Children.{atTarget}
 
 -- a cluster with skipped + num <= offset is skipped whole, otherwise entered; a lamp is skipped while skipped < offset, otherwise listed
@@ -84,9 +87,19 @@ abbrev pub listed : Trip (List ℕ) → Asked
 listed (broke l) = told false l
 listed (went n l) = told true l
 
--- the lamps of the cluster id: at most limit of them, after the first offset; the cluster that is asked for with no children is 01's 6
+-- what is answered of a fetch of the cluster's children where no lamp is asked for (proofs/GivesLeaves, `none-fetched`: whatever room there is)
+abbrev pub noneBy : Fetched → Answer
+noneBy Fetched·Spoiled = Spoiled
+noneBy Nobody = NoCluster
+noneBy Others = Answer·Listed 0
+noneBy (Cluster v) = Answer·Listed 0
+
+-- the lamps of the cluster id: at most limit of them, after the first offset; the cluster that is asked for with no children is 01's 6. Limit 0 lists nothing: the
+-- whole search for the children is all that is looked at, and a slot that names a place past the table is still met.
 unfoldable pub leavesAt : State → Columns → ℕ → ℕ → ℕ → ℕ → ℕ → Asked
-leavesAt s c id limit offset t o = cond (childless s c id t o) (refused NoCluster) (listed (walk lamps s c limit offset 32 id t o 0 []))
+leavesAt s c id limit offset t o =
+    cond (childless s c id t o) (refused NoCluster)
+    (cond (eqb limit 0) (told (cleanAt s c t o) []) (listed (walk lamps s c limit offset 32 id t o 0 [])))
 
 unfoldable pub leavesOf : State → Columns → ℕ → ℕ → ℕ → Asked
 leavesOf s c id limit offset = atTarget (targetOf s (roomOf c) id) (λ t o. leavesAt s c id limit offset t o)

@@ -18,7 +18,7 @@ ghost use Rattle.kids.specs.Next.{Lent};
 ghost use Rattle.walks.specs.Children.{childrenOf};
 ghost use Rattle.walks.specs.Expansion.{expansionNumber, expansionCarried, fetchedAt, expand, zoomOf};
 ghost use Rattle.walks.specs.declared.Walk.the-variants.{Went as Walk·Went};
-ghost use Rattle.walks.specs.Leaves.{fateOf, listOne, leavesOf};
+ghost use Rattle.walks.specs.Leaves.{fateOf, listOne, noneBy, leavesOf};
 ghost use Rattle.walks.specs.Column.{col, column, tripOf, Opened, Walked};
 
 // The children of the cluster cid: their places in its table.
@@ -448,7 +448,49 @@ fn walk_into(
     }
 }
 
-// The lamps of the cluster cid: the ids of at most limit of them, after the first offset. Limit 0 lists all at offset 0 and nothing at a larger one.
+// No lamps of the cluster cid, whose origin is an entry of the table: the whole search for its children has its refusals, and otherwise nothing is listed.
+fn list_none(
+    s: State,
+    cap: usize,
+    x: &[f64],
+    y: &[f64],
+    seen: &[u8],
+    id: &[u32],
+    parent: &[u32],
+    num: &[u32],
+    ids: &[u32],
+    coords: &[f64],
+    cid: u32,
+    table: usize,
+    origin: usize,
+) -> Answer
+    requires { ⌜ Reached s cap table origin ⌝ }
+    requires { ⌜ Lent cap (columns (now x) (now y) (now seen) (now id) (now parent) (now num) (now ids) (now coords)) ⌝ }
+    ensures { λ r. ⌜ r ≡ noneBy (fetchedAt s (columns (now (x .entry)) (now (y .entry)) (now (seen .entry)) (now (id .entry)) (now (parent .entry)) (now (num .entry)) (now (ids .entry)) (now (coords .entry))) cid table origin) ⌝ }
+{
+    match fetch(
+        s,
+        cap,
+        x,
+        y,
+        seen,
+        id,
+        parent,
+        num,
+        ids,
+        coords,
+        cid,
+        table,
+        origin,
+    ) {
+        Fetched::Spoiled => Answer::Spoiled,
+        Fetched::Nobody => Answer::NoCluster,
+        Fetched::Others => Answer::Listed(0),
+        Fetched::Cluster(_) => Answer::Listed(0),
+    }
+}
+
+// The lamps of the cluster cid: the ids of at most limit of them, after the first offset. Limit 0 lists nothing at every offset, and enters no child.
 pub fn leaves(
     s: State,
     x: &[f64],
@@ -473,6 +515,23 @@ pub fn leaves(
         Target::NoTree => Answer::NoTree,
         Target::NoCluster => Answer::NoCluster,
         Target::At { table, origin } => {
+            if limit == 0 {
+                return list_none(
+                    s,
+                    cap,
+                    x,
+                    y,
+                    seen,
+                    id,
+                    parent,
+                    num,
+                    ids,
+                    coords,
+                    cid,
+                    table,
+                    origin,
+                );
+            }
             let leg = Leg {
                 cap,
                 table,

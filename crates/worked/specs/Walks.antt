@@ -85,7 +85,7 @@ module _ (l : Lent) where
   unfolding leavesAt walk steps visit onward kidsAt cleanAt kidsOf slotsOf radiusAt rows places sound·places whole slots scanned shape split add sub mul div ofInt ofBits le lt eq state options after b
   leaves-3-1 = leaves-at 3 1
 
-  pub leaves-0-0 : leavesOf state (held l) 5 0 0 ≡ told true (0 ∷ 1 ∷ 2 ∷ 3 ∷ [])
+  pub leaves-0-0 : leavesOf state (held l) 5 0 0 ≡ told true []
   unfolding leavesAt walk steps visit onward kidsAt cleanAt kidsOf slotsOf radiusAt rows places sound·places whole slots scanned shape split add sub mul div ofInt ofBits le lt eq state options after b
   leaves-0-0 = leaves-at 0 0
 

@@ -40,9 +40,9 @@ pub record Worked (s : State) (c : Columns) : Type 0 where
   -- leaves of 5: limit 10 offset 0 gives 0,1,2,3; limit 3 offset 1 gives 1,2,3
   pub leaves-limit-10 : leavesOf s c 5 10 0 ≡ told true (0 ∷ 1 ∷ 2 ∷ 3 ∷ [])
   pub leaves-limit-3 : leavesOf s c 5 3 1 ≡ told true (1 ∷ 2 ∷ 3 ∷ [])
-  -- limit 0: offset 0 gives all four, offset 1 none
-  pub leaves-all : leavesOf s c 5 0 0 ≡ told true (0 ∷ 1 ∷ 2 ∷ 3 ∷ [])
-  pub leaves-none : leavesOf s c 5 0 1 ≡ told true []
+  -- limit 0: nothing at offset 0, nothing at offset 1
+  pub leaves-limit-0 : leavesOf s c 5 0 0 ≡ told true []
+  pub leaves-limit-0-later : leavesOf s c 5 0 1 ≡ told true []
   -- expansion zoom of 5 is 1, of 6 is 2
   pub expansion-of-5 : zoomOf s c 5 ≡ At 1
   pub expansion-of-6 : zoomOf s c 6 ≡ At 2
@@ -69,8 +69,8 @@ table l =
       children-of-5 = children-5 l;
       leaves-limit-10 = leaves-10-0 l;
       leaves-limit-3 = leaves-3-1 l;
-      leaves-all = leaves-0-0 l;
-      leaves-none = leaves-0-1 l;
+      leaves-limit-0 = leaves-0-0 l;
+      leaves-limit-0-later = leaves-0-1 l;
       expansion-of-5 = zoom-5 l;
       expansion-of-6 = zoom-6 l;
       id-3 = refused-3 l;

@@ -1,6 +1,10 @@
 //! One question: an answer to it beside what the Rust says.
 
-use crate::{judge::Judge, listed::Refused, Item, Rust, Said};
+use crate::{
+    judge::Judge,
+    listed::{is_limit_0, of_limit_0, Refused},
+    Item, Rust, Said,
+};
 use asked::Build;
 use questions::{decoded, Answer, Lent, Outcome, Question, Refusal, State};
 use std::{collections::BTreeMap, fmt::Debug};
@@ -33,6 +37,8 @@ impl Case<'_> {
     /// Holds an answer to what the Rust says.
     pub fn judged<J: Judge>(&self, outcome: &Outcome, rust: &Rust<J>, said: &Said) -> Verdict {
         let code = match outcome.refusal() {
+            // Here the Rust's answer is the wrong one.
+            None if is_limit_0(&self.question) => of_limit_0(&self.question, outcome, rust, said),
             None if self.agrees(outcome, said) => return Verdict::Same,
             None => None,
             Some(refusal) if error_of(said) == Some(refusal) => return Verdict::Same,

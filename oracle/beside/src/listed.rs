@@ -3,7 +3,7 @@
 
 use crate::{judge::Judge, Rust, Said};
 use options::Plane;
-use questions::{decoded, Question, Refusal, State};
+use questions::{decoded, Outcome, Question, Refusal, State};
 
 /// A question that is refused.
 pub struct Refused<'a> {
@@ -83,6 +83,26 @@ impl Refused<'_> {
         let built = self.state.coarsest()..=self.state.finest();
         built.contains(&self.wrapped_table(id))
     }
+}
+
+/// Whether a question is for leaves with limit 0 at offset 0, of which the Rust lists all.
+pub fn is_limit_0(question: &Question) -> bool {
+    matches!(question, Question::Leaves { limit: 0, offset: 0, .. })
+}
+
+/// The row for such a question that is not refused: nothing is listed, and the Rust lists what it lists where the
+/// limit is as large as can be.
+pub fn of_limit_0<J: Judge>(
+    question: &Question,
+    outcome: &Outcome,
+    rust: &Rust<J>,
+    said: &Said,
+) -> Option<&'static str> {
+    let Question::Leaves { id, .. } = *question else {
+        return None;
+    };
+    let all = *said == rust.leaves(id, u32::MAX, 0) && *said != Said::Items(Vec::new());
+    (outcome.length() == 0 && all).then_some("N1")
 }
 
 fn of_box(plane: &Plane, corners: &[f64; 4]) -> Option<&'static str> {

@@ -51,6 +51,11 @@ impl<J: Judge> Rust<J> {
         said(self.0.children(id as usize))
     }
 
+    /// The lamps of a cluster: as many as the limit, after as many as the offset.
+    pub fn leaves(&self, id: u32, limit: u32, offset: u32) -> Said {
+        Said::Items(self.0.leaves(id as usize, limit as usize, offset as usize))
+    }
+
     /// The places that a ring answers in the table of a zoom.
     pub fn within(&self, zoom: u8, [x, y, radius]: [f64; 3]) -> Vec<usize> {
         self.0.within(zoom, x, y, radius)
@@ -65,9 +70,7 @@ impl<J: Judge> Rust<J> {
             }
             Question::Ring { zoom, circle } => Said::Places(self.within(zoom, circle)),
             Question::Children { id } => self.children(id),
-            Question::Leaves { id, limit, offset } => {
-                Said::Items(rust.leaves(id as usize, limit as usize, offset as usize))
-            }
+            Question::Leaves { id, limit, offset } => self.leaves(id, limit, offset),
             Question::ExpansionZoom { id } => Said::Number(rust.expansion_zoom(id as usize)),
             Question::Tile { z, x, y } | Question::Tally { z, x, y } => {
                 said(rust.tile(z, f64::from(x), f64::from(y)))

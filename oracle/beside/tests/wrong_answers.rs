@@ -3,7 +3,7 @@
 use asked::Build;
 use beside::{Case, Rusts, Verdict};
 use options::corners;
-use questions::{Answer, Outcome, Refusal};
+use questions::{leaves, Answer, Outcome, Question, Refusal};
 use splitmix::Splitmix;
 
 /// Every question to some builds, by the reference, and by answers that are made wrong.
@@ -29,6 +29,34 @@ fn every_wrong_answer_is_a_difference() {
         }
     }
     assert!(right.iter().chain(&wrong).all(|times| *times > 100), "{right:?}, {wrong:?}");
+}
+
+/// At limit 0 the Rust lists all the lamps, as the page says: whoever lists them, or one of them, differs.
+#[test]
+fn lamps_at_limit_0_are_a_difference() {
+    let mut source = Splitmix(4);
+    let mut clusters = 0;
+    for count in [9, 30, 80, 300] {
+        let build = Build::made(corners::ordinary(&mut source), count, &mut source);
+        let (scene, rusts) = (build.scene(), Rusts::loaded(&build));
+        let entries = scene.lent.id.iter().zip(scene.lent.num);
+        for (id, num) in entries.filter(|(_, num)| **num > 1) {
+            let judged = |limit, items: &[u32]| {
+                let question = Question::Leaves { id: *id, limit, offset: 0 };
+                let case = Case { state: scene.state, lent: scene.lent, question };
+                let answer = Answer { items: items.to_vec(), refusal: None };
+                rusts.judged(&case, &Outcome::List(answer))
+            };
+            let all = leaves(scene.state, &scene.lent, *id, *num, 0).items;
+            assert_eq!(judged(*num, &all), Verdict::Same);
+            assert_eq!(judged(0, &[]), Verdict::Listed("N1"));
+            for some in [&all[..], &all[..1]] {
+                assert!(matches!(judged(0, some), Verdict::Different(_)));
+            }
+            clusters += 1;
+        }
+    }
+    assert!(clusters > 100, "{clusters}");
 }
 
 /// Refused by no right number; a number beside the right one; a list of too little, too much, or something else.

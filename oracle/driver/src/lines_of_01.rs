@@ -12,9 +12,14 @@ use std::{hint::black_box, process::ExitCode};
 /// What is compared, what 01 says, and the question to the Rust.
 type Line = (&'static str, &'static str, fn() -> String);
 
-/// Lines of 'Worked on that build' that the Rust has no answer to: it refuses no option and no id.
-const NOT_THE_RUSTS: [&str; 3] =
-    ["id 3 refused 6", "max_zoom 31 refused 1", "node_size 0 refused 1"];
+/// Lines of 'Worked on that build' that the Rust does not have: it refuses no option and no id, and lists all at
+/// limit 0 where 02 lists nothing.
+const NOT_THE_RUSTS: [&str; 4] = [
+    "id 3 refused 6",
+    "max_zoom 31 refused 1",
+    "node_size 0 refused 1",
+    "leaves of 5: limit 0 offset 0 lists nothing",
+];
 
 /// The seven lines of 'The table lister'.
 const LISTER: &str = "\
@@ -71,7 +76,7 @@ fn ids_and_walks<J: Judge>() -> Vec<Line> {
         ("children of 5 are entries 0,1 of table 1", "0,1", children_of_5::<J>),
         ("leaves of 5: limit 10 offset 0", "0,1,2,3", || leaves::<J>(10, 0)),
         ("leaves of 5: limit 3 offset 1", "1,2,3", || leaves::<J>(3, 1)),
-        ("leaves of 5: limit 0 offset 0", "0,1,2,3", || leaves::<J>(0, 0)),
+        ("leaves of 5: limit 4, its count, offset 0", "0,1,2,3", || leaves::<J>(4, 0)),
         ("leaves of 5: limit 0 offset 1", "nothing", || leaves::<J>(0, 1)),
         ("expansion zoom of 5 is 1", "1", || expansion::<J>(5)),
         ("expansion zoom of 6 is 2", "2", || expansion::<J>(6)),

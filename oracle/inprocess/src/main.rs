@@ -2,6 +2,7 @@
 //! ../README.md.
 
 mod index;
+mod leaves;
 mod questions;
 mod tables;
 
@@ -9,7 +10,7 @@ use groups as report;
 use std::{env, process::ExitCode};
 
 const USAGE: &str =
-    "usage: inprocess index|tables|questions|overlap [--full], or questions --spoiled";
+    "usage: inprocess index|tables|questions|overlap|leaves [--full], or questions --spoiled";
 
 /// How much is compared.
 #[derive(Clone, Copy, PartialEq, Eq)]
@@ -31,6 +32,8 @@ fn main() -> ExitCode {
         ["questions", "--full"] => questions::run(Form::Full, Form::Full),
         ["overlap"] => questions::overlap::run(Form::Short),
         ["overlap", "--full"] => questions::overlap::run(Form::Full),
+        ["leaves"] => leaves::run(Form::Short),
+        ["leaves", "--full"] => leaves::run(Form::Full),
         _ => {
             eprintln!("{USAGE}");
             ExitCode::from(2)

@@ -1,11 +1,19 @@
 //! The lamps of a cluster.
 
 use crate::{
-    children::walk_children, ids::Cluster, search::End, state::Table, Answer, Lent, Refusal, State,
+    children::{children, walk_children},
+    ids::Cluster,
+    search::End,
+    state::Table,
+    Answer, Lent, Refusal, State,
 };
 
-/// The ids of a cluster's lamps: as many as the limit, after as many as the offset.
+/// The ids of a cluster's lamps: as many as the limit, after as many as the offset. Limit 0 lists nothing: it is
+/// refused where the whole search for the children is, and enters none of them.
 pub fn leaves(state: &State, lent: &Lent, id: u32, limit: u32, offset: u32) -> Answer<u32> {
+    if limit == 0 {
+        return Answer { items: Vec::new(), refusal: children(state, lent, id).refusal };
+    }
     Answer::of(|lamps| {
         state.check_all(lent)?;
         let cluster = state.asked(id)?;

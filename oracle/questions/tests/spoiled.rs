@@ -121,6 +121,36 @@ fn a_slot_past_the_table() {
 }
 
 #[test]
+fn limit_0_searches_for_all_children_and_enters_none() {
+    let limit_0 = |build: &Build, id, offset| {
+        let mut out = [9; 4];
+        let reply = leaves(&build.state, &build.lent(), id, 0, offset).told(&mut out);
+        assert_eq!(out, [9; 4]);
+        reply
+    };
+    // A slot past the table, after a child was found: in the cluster's own table, and further down.
+    let mut build = worked();
+    build.ids[5] = 2;
+    assert_eq!(leaves(&build.state, &build.lent(), 5, 1, 0).items, [0]);
+    let mut further = worked();
+    further.ids[2] = 4;
+    for offset in [0, 1, u32::MAX] {
+        assert_eq!(limit_0(&build, 5, offset), SPOILED);
+        assert_eq!(limit_0(&further, 5, offset), Reply::done(0));
+    }
+    // A child that cannot be entered.
+    let mut build = worked();
+    build.id[4] = 3;
+    assert_eq!(limit_0(&build, 5, 0), Reply::done(0));
+    assert_eq!(leaves(&build.state, &build.lent(), 5, 1, 0).reply(4), SPOILED);
+    // No children, and a slot past the table where there are none.
+    assert_eq!(limit_0(&worked(), 38, 0), Reply { number: 6, carried: 0 });
+    let mut build = worked();
+    build.ids[1] = 4;
+    assert_eq!(limit_0(&build, 38, 0), SPOILED);
+}
+
+#[test]
 fn a_child_that_is_no_cluster() {
     // Below N; a table that is not larger; one that is not built; an origin past its table; no children.
     for id in [3, 5, 7, 134, 38] {

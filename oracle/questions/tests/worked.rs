@@ -42,8 +42,11 @@ fn leaves_of_5() {
     let of_5 = |limit, offset| listed(leaves(&build.state, &build.lent(), 5, limit, offset));
     assert_eq!(of_5(10, 0), [0, 1, 2, 3]);
     assert_eq!(of_5(3, 1), [1, 2, 3]);
-    assert_eq!(of_5(0, 0), [0, 1, 2, 3]);
-    assert!(of_5(0, 1).is_empty());
+    assert_eq!(of_5(4, 0), [0, 1, 2, 3]);
+    // 02, #101: limit 0 lists nothing, at every offset.
+    for offset in [0, 1, 4, u32::MAX] {
+        assert!(of_5(0, offset).is_empty());
+    }
     assert_eq!(of_5(1, 2), [2]);
     assert!(of_5(10, 4).is_empty());
     assert_eq!(of_5(u32::MAX, 3), [3]);
@@ -67,8 +70,10 @@ fn refused_ids() {
             refused(number),
             "{id}"
         );
-        let of_id = leaves(&build.state, &build.lent(), id, 10, 0);
-        assert_eq!(of_id.told(&mut out), refused(number), "{id}");
+        for limit in [10, 0] {
+            let of_id = leaves(&build.state, &build.lent(), id, limit, 0);
+            assert_eq!(of_id.told(&mut out), refused(number), "{id} at limit {limit}");
+        }
         let expanded = expansion_zoom(&build.state, &build.lent(), id);
         assert_eq!(expanded.map_err(|refusal| refusal as u32), Err(number), "{id}");
         assert_eq!(out, [9; 4]);

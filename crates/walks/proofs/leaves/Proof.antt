@@ -4,7 +4,7 @@ use borrow.Author.Needs.{needs}
 use denote.Ref.{now}
 use Rattle.asking.specs.Columns.{Columns, columns}
 use Rattle.walks.proofs.Led.{lent-all, reached}
-use Rattle.walks.proofs.GivesLeaves.{leaves-refused, gives-broke, gives-childless, gives-went}
+use Rattle.walks.proofs.GivesLeaves.{leaves-refused, gives-none, gives-broke, gives-childless, gives-went}
 use Rattle.walks.proofs.leaves.Statement.{statement}
 use Rattle.walks.proofs.leaves.Tie as tie
 
@@ -32,9 +32,29 @@ enum-told-3 c = search needs
 enum-known-table : tie.Need-enum-known-table
 enum-known-table c = search needs
 
+list-none-requires : tie.Need-list-none-requires
+list-none-requires c κs =
+    let d = c .before .before in
+    let f = d .before .before in
+    let a = start-of f .args in
+    let r = f .before .room in (
+      reached (a .s) (cols f) (a .cid) (r .result) (r .ensures) (f .find-target .result) (f .find-target .ensures) _ _ (d .table .given .1),
+      lent-all (a .s) (cols f) (a .cid) (r .result) (r .ensures),
+    )
+
+returns : tie.Need-returns
+returns c =
+    let m = c .before in
+    let d = m .before .before in
+    let f = d .before .before in
+    let a = start-of f .args in
+    let r = f .before .room in
+    gives-none (a .s) (cols f) (a .cid) (a .limit) (a .offset) (r .result) (r .ensures) (f .find-target .result) (f .find-target .ensures) _ _ (d .table .given .1)
+    (m .if1 .taken) (now (a .out)) (c .list-none .result) (c .list-none .ensures)
+
 walk-into-requires : tie.Need-walk-into-requires
 walk-into-requires c κs =
-    let d = c .before .before in
+    let d = c .before .before .before in
     let f = d .before .before in
     let a = start-of f .args in
     let r = f .before .room in (
@@ -54,22 +74,22 @@ enum-known-w c = search needs
 fit-requires : tie.Need-fit-requires
 fit-requires c κs = tt
 
-returns : tie.Need-returns
-returns c =
-    let f = c .before .before in
-    let a = start-of f .args in
-    let r = f .before .room in
-    leaves-refused (a .s) (cols f) (a .cid) (a .limit) (a .offset) (r .result) (r .ensures) (f .find-target .result) (f .find-target .ensures) _ _ (c .enum-told .given .1) refl (now (a .out))
-
 returns-2 : tie.Need-returns-2
 returns-2 c =
     let f = c .before .before in
     let a = start-of f .args in
     let r = f .before .room in
-    leaves-refused (a .s) (cols f) (a .cid) (a .limit) (a .offset) (r .result) (r .ensures) (f .find-target .result) (f .find-target .ensures) _ _ (c .enum-told2 .given .1) refl (now (a .out))
+    leaves-refused (a .s) (cols f) (a .cid) (a .limit) (a .offset) (r .result) (r .ensures) (f .find-target .result) (f .find-target .ensures) _ _ (c .enum-told .given .1) refl (now (a .out))
 
 returns-3 : tie.Need-returns-3
 returns-3 c =
+    let f = c .before .before in
+    let a = start-of f .args in
+    let r = f .before .room in
+    leaves-refused (a .s) (cols f) (a .cid) (a .limit) (a .offset) (r .result) (r .ensures) (f .find-target .result) (f .find-target .ensures) _ _ (c .enum-told2 .given .1) refl (now (a .out))
+
+returns-4 : tie.Need-returns-4
+returns-4 c =
     let f = c .before .before in
     let a = start-of f .args in
     let r = f .before .room in
@@ -78,42 +98,45 @@ returns-3 c =
 same-length : tie.Need-same-length
 same-length c = c .before .before .before .before .walk-into .kept .1 .1 .1 .1 .1 .1 .1 .1 .1 .1 .1 .1 .1 .0
 
-returns-4 : tie.Need-returns-4
-returns-4 c =
+returns-5 : tie.Need-returns-5
+returns-5 c =
     let w = c .before .before .before .before in
-    let d = w .before .before .before in
+    let e = w .before .before in
+    let d = e .before .before in
     let f = d .before .before in
     let a = start-of f .args in
     let r = f .before .room in
     gives-broke (a .s) (cols f) (a .cid) (a .limit) (a .offset) (r .result) (r .ensures) (f .find-target .result) (f .find-target .ensures) _ _ (d .table .given .1)
-    (w .walk-into .result) (now (a .out)) _ (w .walk-into .ensures) _ (c .enum-told4 .given .1)
+    (e .if1 .left) (w .walk-into .result) (now (a .out)) _ (w .walk-into .ensures) _ (c .enum-told4 .given .1)
 
 same-length-2 : tie.Need-same-length-2
 same-length-2 c = c .before .before .before .before .walk-into .kept .1 .1 .1 .1 .1 .1 .1 .1 .1 .1 .1 .1 .1 .0
 
-returns-5 : tie.Need-returns-5
-returns-5 c =
+returns-6 : tie.Need-returns-6
+returns-6 c =
     let w = c .before .before .before .before in
-    let d = w .before .before .before in
+    let e = w .before .before in
+    let d = e .before .before in
     let f = d .before .before in
     let a = start-of f .args in
     let r = f .before .room in
     gives-childless (a .s) (cols f) (a .cid) (a .limit) (a .offset) (r .result) (r .ensures) (f .find-target .result) (f .find-target .ensures) _ _ (d .table .given .1)
-    (w .walk-into .result) (now (a .out)) _ (w .walk-into .ensures) _ (c .enum-told5 .given .1)
+    (e .if1 .left) (w .walk-into .result) (now (a .out)) _ (w .walk-into .ensures) _ (c .enum-told5 .given .1)
 
 same-length-3 : tie.Need-same-length-3
 same-length-3 c = c .before .before .before .before .before .before .walk-into .kept .1 .1 .1 .1 .1 .1 .1 .1 .1 .1 .1 .1 .1 .0
 
-returns-6 : tie.Need-returns-6
-returns-6 c =
+returns-7 : tie.Need-returns-7
+returns-7 c =
     let m = c .before .before in
     let w = m .before .before .before .before in
-    let d = w .before .before .before in
+    let e = w .before .before in
+    let d = e .before .before in
     let f = d .before .before in
     let a = start-of f .args in
     let r = f .before .room in
     gives-went (a .s) (cols f) (a .cid) (a .limit) (a .offset) (r .result) (r .ensures) (f .find-target .result) (f .find-target .ensures) _ _ (d .table .given .1)
-    (w .walk-into .result) (now (a .out)) _ (w .walk-into .ensures) _ (m .w .given .1) (c .fit .result) (c .fit .ensures)
+    (e .if1 .left) (w .walk-into .result) (now (a .out)) _ (w .walk-into .ensures) _ (m .w .given .1) (c .fit .result) (c .fit .ensures)
 
 pub leaves-spec : {M : Type 1} → statement M
 leaves-spec =
@@ -125,17 +148,19 @@ leaves-spec =
     enum-told-2
     enum-told-3
     enum-known-table
+    list-none-requires
+    returns
     walk-into-requires
     enum-told-4
     enum-told-5
     enum-known-w
     fit-requires
-    returns
     returns-2
     returns-3
-    same-length
     returns-4
-    same-length-2
+    same-length
     returns-5
+    same-length-2
+    returns-6
     same-length-3
-    returns-6)
+    returns-7)

@@ -6,6 +6,7 @@ mod boxes;
 mod child;
 mod ids;
 mod lent;
+mod limits;
 mod options;
 mod page;
 mod points;
@@ -47,6 +48,7 @@ fn cases<J: Judge>() -> Vec<Case> {
     let mut all = options::cases::<J>();
     all.extend(points::cases::<J>());
     all.extend(ids::cases::<J>());
+    all.extend(limits::cases::<J>());
     all.extend(tiles::cases::<J>());
     all.extend(boxes::cases::<J>());
     all.extend(lent::cases::<J>());

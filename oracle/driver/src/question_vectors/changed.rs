@@ -10,7 +10,7 @@ use splitmix::Splitmix;
 const NONE: u32 = u32::MAX;
 
 /// The changes to the build of four lamps.
-const CHANGES: [fn(&mut Build); 14] = [
+const CHANGES: [fn(&mut Build); 16] = [
     // A child cluster with an id below N; a table that is not larger; one that is not built; an origin past
     // its table; no children.
     |build| build.columns.id[4] = 3,
@@ -29,6 +29,9 @@ const CHANGES: [fn(&mut Build); 14] = [
     |build| build.columns.num[4] = u32::MAX,
     |build| build.columns.x[6] = 1.5,
     |build| build.columns.y[6] = f64::NAN,
+    // A slot past the table after a child of the cluster; no child of the cluster.
+    |build| build.columns.ids[5] = 2,
+    |build| (build.columns.parent[4], build.columns.parent[5]) = (NONE, NONE),
 ];
 
 /// A case for each, and the build of three lamps of which one cluster is found twice.
@@ -50,7 +53,7 @@ pub fn all(source: &mut Splitmix) -> Vec<Case> {
 /// Questions by the id of the cluster of all lamps, and the tile of the whole map.
 fn questions(id: u32) -> Vec<Question> {
     let mut all = vec![Question::Children { id }, Question::ExpansionZoom { id }];
-    for (limit, offset) in [(10, 0), (2, 0), (10, 1), (10, 2), (0, u32::MAX - 1)] {
+    for (limit, offset) in [(10, 0), (2, 0), (10, 1), (10, 2), (0, 0), (0, u32::MAX - 1)] {
         all.push(Question::Leaves { id, limit, offset });
     }
     all.push(Question::Box { zoom: 2, corners: [0.0, 0.0, 1.0, 1.0] });

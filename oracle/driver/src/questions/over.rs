@@ -28,6 +28,7 @@ impl Over<'_> {
         let smallest = is_of_the_smallest_table(&build.state, &question);
         match question {
             _ if outcome.refusal() == Some(Refusal::Spoiled) => return None,
+            _ if is_refused_without_a_limit(build, &question) => return None,
             Question::Tally { .. } => return None,
             Question::Leaves { .. } | Question::ExpansionZoom { .. } if smallest => return None,
             _ => {}
@@ -51,6 +52,15 @@ impl Over<'_> {
             },
         })
     }
+}
+
+/// Whether a question has limit 0, where the Rust walks on into the children, and a walk so far is refused by 11.
+fn is_refused_without_a_limit(build: &Build, question: &Question) -> bool {
+    let Question::Leaves { id, limit: 0, offset } = *question else {
+        return false;
+    };
+    let walk = Question::Leaves { id, limit: u32::MAX, offset };
+    walk.answered(&build.state, &build.columns.lent()).refusal() == Some(Refusal::Spoiled)
 }
 
 /// Whether a question is by an id whose table is that of min_zoom, which 01 refuses.

@@ -2,10 +2,10 @@
 //! and the reference written from 01's text; over the others the reference, which `driver questions` holds to the
 //! Rust there too.
 
-mod both;
-mod columns;
+pub mod both;
+pub mod columns;
 pub mod overlap;
-mod port;
+pub mod port;
 mod rust;
 
 use crate::{

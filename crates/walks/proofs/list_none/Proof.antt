@@ -1,0 +1,47 @@
+-- `walks::list_none` meets its contract: each case of the fetch has its answer. Assumes nothing.
+use mathlib.Core.Path.{sym, ap, _∙_}
+use borrow.Author.Needs.{needs}
+use Rattle.walks.specs.Leaves.{noneBy}
+use Rattle.walks.proofs.list_none.Statement.{statement}
+use Rattle.walks.proofs.list_none.Tie as tie
+
+fetch-requires : tie.Need-fetch-requires
+fetch-requires c κs = search needs
+
+enum-told : tie.Need-enum-told
+enum-told c = search needs
+
+enum-told-2 : tie.Need-enum-told-2
+enum-told-2 c = search needs
+
+enum-told-3 : tie.Need-enum-told-3
+enum-told-3 c = search needs
+
+enum-told-4 : tie.Need-enum-told-4
+enum-told-4 c = search needs
+
+returns : tie.Need-returns
+returns c = ap noneBy (sym (c .enum-told .given .1) ∙ c .before .before .fetch .ensures)
+
+returns-2 : tie.Need-returns-2
+returns-2 c = ap noneBy (sym (c .enum-told2 .given .1) ∙ c .before .before .fetch .ensures)
+
+returns-3 : tie.Need-returns-3
+returns-3 c = ap noneBy (sym (c .enum-told3 .given .1) ∙ c .before .before .fetch .ensures)
+
+returns-4 : tie.Need-returns-4
+returns-4 c = ap noneBy (sym (c .enum-told4 .given .1) ∙ c .before .before .fetch .ensures)
+
+pub list-none-spec : {M : Type 1} → statement M
+list-none-spec =
+    tie.close
+    (tie.spec
+    fetch-requires
+    enum-told
+    enum-told-2
+    enum-told-3
+    enum-told-4
+    returns
+    returns-2
+    returns-3
+    returns-4)
