@@ -79,7 +79,7 @@ module _ (limit offset : ℕ) where
 
 -- ---- the leaves of a cluster
 
-ones-few : (p : ℕ → Bool) (lo n : ℕ) → sum (λ k. one (p k)) (range lo n) ≤ n
+pub ones-few : (p : ℕ → Bool) (lo n : ℕ) → sum (λ k. one (p k)) (range lo n) ≤ n
 ones-few p lo zero = omega arith
 ones-few p lo (suc n) = let a = ones-few p (suc lo) n in let b = few (p lo) in omega arith
   where

@@ -15,6 +15,7 @@ use Rattle.asking.specs.Asked.{told}
 use Rattle.asking.specs.Columns.{Columns, tableAt}
 use Rattle.walks.specs.Leaves.{leavesOf}
 use Rattle.lamps.specs.Owner.{up}
+use Rattle.owners.specs.LeafPages.{LeafPages}
 
 -- the tables that the state names
 pub record Between (s : State) (z : ℕ) : Type 0 where
@@ -55,3 +56,5 @@ pub record Owners (s : State) (c : Columns) (own : ℕ → ℕ → ℕ) : Type 0
   -- a larger limit never changes what a smaller one listed at the same offset; limit 0 lists the shortest list
   pub prefix : (z j m n offset : ℕ) → IsCluster s c z j → m ≤ n
       → (ls : List ℕ) × (leavesOf s c (entry (tableAt s c z) j .id) n offset ≡ told true ls) × (leavesOf s c (entry (tableAt s c z) j .id) m offset ≡ told true (take m ls))
+  -- pages of a size of 1 or more join up, and each lamp is on exactly one (02, #112)
+  pub pages : (z j size : ℕ) → IsCluster s c z j → 1 ≤ size → LeafPages s c (own z) z j size

@@ -1,21 +1,21 @@
 -- Every build that `load` accepts has one owner for every lamp: `one-owner`. Nothing is asked besides. Assumes nothing.
 use mathlib.Core.Path.{_≡_, refl, ap, sym, _∙_, subst}
-use mathlib.Core.Logic.{_↔_, inl, inr}
+use mathlib.Core.Logic.{_↔_, inl, inr, ⊎-elim}
 use mathlib.Core.Bool.{true}
 use mathlib.Core.List.{List, [], _∷_, _++_}
-use Prim.Native.Nat.{ℕ, zero, suc, _<_, _≤_}
+use Prim.Native.Nat.{ℕ, zero, suc, _+_, _-_, _*_, _<_, _≤_, min}
 use native.Mathlib.Omega.{arith}
-use borrow.Author.Tests.{le-leb}
+use borrow.Author.Tests.{le-leb, eq-eqb, ne-eqb}
 use lib.Dec.{eqb}
-use lib.ListN.{length, take, drop}
-use lib.Seq.{take-all, take-take}
+use lib.ListN.{length, take, drop, length-take, length-drop, drop-of-length-le}
+use lib.Seq.{take-all, take-take, take-nil}
 use lib.Ieee.{Float}
 use Rattle.kdbush.specs.declared.BuildReply.the-variants.{Done}
 use Rattle.tables.specs.declared.Options.{Options}
 use Rattle.tables.specs.declared.State.{State}
 use Rattle.tables.specs.Entries.{Table, entry}
 use Rattle.zoom.specs.Lamps.{total}
-use Rattle.groups.specs.Sums.{one, sum, range}
+use Rattle.groups.specs.Sums.{one, sum, count, range, below}
 use Rattle.asking.specs.declared.Answer.the-variants.{Listed}
 use Rattle.asking.specs.Asked.{Asked, told, answerOf, columnOf}
 use Rattle.asking.specs.Columns.{Columns, tableAt}
@@ -29,8 +29,11 @@ use Rattle.builds.specs.RightAt.{right-at}
 use Rattle.lamps.specs.Owner.{up, owner, lampsOf}
 use Rattle.lamps.specs.Owners.{owner-first, owner-in, owns, owns-none, lamps-long, num-owned, owners-share}
 use Rattle.lamps.specs.Climb.{owner-climbs}
+use Rattle.lamps.specs.Gather.{gather-ext}
 use Rattle.answers.specs.Stored.{columnsOf, stateBy, columnsBy, table-is}
-use Rattle.answers.specs.Leaves.{leaves-page}
+use Rattle.answers.specs.Leaves.{leaves-page, ones-few}
+use Rattle.owners.specs.LeafPages.{items, numAt, asked, lampsAt, allLeaves, page as leafPage, OnPage, LeafPages}
+use Rattle.owners.specs.Paging.{pageOf, page-length, pages-joined, none-on, one-page}
 use Rattle.owners.specs.Owners.{Between, IsCluster, Owned, Owners}
 
 -- the nums of a table, by its places
@@ -42,6 +45,14 @@ total-sum : (t : Table) → sum (λ j. entry t j .num) (range 0 (length t)) ≡ 
 unfolding total
 total-sum [] = refl
 total-sum (e ∷ t) = let a = sum-shift (λ j. entry (e ∷ t) j .num) 0 (length t) in let b = total-sum t in omega arith
+
+-- given room: an answer that goes to its end is the number of its items, and they stand at the front of the column, before what it held
+pub given-room : (q : Asked) (ls out : List ℕ) → q ≡ told true ls → length ls ≤ length out
+    → (answerOf q (length out) ≡ Listed (length ls)) × (columnOf q out ≡ ls ++ drop (length ls) out)
+given-room q ls out e h = (
+  ap (λ (x : Asked). answerOf x (length out)) e ∙ rw (le-leb (length ls) (length out) h),
+  ap (λ (x : Asked). columnOf x out) e ∙ ap (λ (x : List ℕ). x ++ drop (length ls) out) (take-all (length out) ls h),
+)
 
 module _ (o : Options) (xs ys : List Float) (a : Accepted o xs ys) (l : Lent) (r : Holds (need o (length xs)) l) where
   abbrev S : State
@@ -102,6 +113,84 @@ module _ (o : Options) (xs ys : List Float) (a : Accepted o xs ys) (l : Lent) (r
       let L = drop offset (lampsOf o xs ys z j) in
       (take n L, page z j w n offset, page z j w m offset ∙ ap (told true) (sym (take-take m n L k)))
 
+  -- the pages of a size, of a cluster
+  module _ (z j size : ℕ) (w : IsCluster (stateBy o xs ys) (columnsBy o xs ys l) z j) where
+    abbrev L : List ℕ
+    L = lampsOf o xs ys z j
+
+    at : (offset : ℕ) → lampsAt (stateBy o xs ys) (columnsBy o xs ys l) z j size offset ≡ take size (drop offset (lampsOf o xs ys z j))
+    at offset = ap items (page z j w size offset)
+
+    whole : allLeaves (stateBy o xs ys) (columnsBy o xs ys l) z j ≡ lampsOf o xs ys z j
+    whole = ap items (page z j w (numAt S C z j) 0) ∙ take-all (numAt S C z j) L (let e = long z j w in omega arith)
+
+    page-long : (k : ℕ) → length (leafPage (stateBy o xs ys) (columnsBy o xs ys l) z j size k) ≡ min size (numAt (stateBy o xs ys) (columnsBy o xs ys l) z j - k * size)
+    page-long k = ap length (at (k * size)) ∙ page-length size k L ∙ ap (λ (x : ℕ). min size (x - k * size)) (sym (long z j w))
+
+    rest-long : (k rest : ℕ) → numAt (stateBy o xs ys) (columnsBy o xs ys l) z j ≡ k * size + rest → rest < size → length (leafPage (stateBy o xs ys) (columnsBy o xs ys l) z j size k) ≡ rest
+    rest-long k rest e h = page-long k ∙ ap (λ (x : ℕ). min size (x - k * size)) e ∙ short size (k * size) rest h
+      where
+        short : (n m r : ℕ) → r < n → min n (m + r - m) ≡ r
+        short n m r h = omega arith
+
+    past-end : (offset : ℕ) → numAt (stateBy o xs ys) (columnsBy o xs ys l) z j ≤ offset → asked (stateBy o xs ys) (columnsBy o xs ys l) z j size offset ≡ told true []
+    past-end offset h =
+        let d : drop offset L ≡ [] = drop-of-length-le L {i = offset} (let e = long z j w in omega arith) in
+        page z j w size offset ∙ ap (λ (q : List ℕ). told true (take size q)) d ∙ ap (told true) (take-nil size)
+
+    -- a page fits a column of the size, or of the count
+    room : (offset : ℕ) (out : List ℕ) → min size (numAt (stateBy o xs ys) (columnsBy o xs ys l) z j) ≤ length out
+        → length (lampsAt (stateBy o xs ys) (columnsBy o xs ys l) z j size offset) ≤ length out
+    room offset out h =
+        let e = ap length (at offset) in
+        let d = length-take size (drop offset L) in
+        let c = length-drop offset L in
+        let n = long z j w in
+        fewer-than size (numAt S C z j) offset (length out) (length L) (length (drop offset L)) _ n c (e ∙ d) h
+      where
+        fewer-than : (size num offset room all left got : ℕ) → num ≡ all → left ≡ all - offset → got ≡ min size left → min size num ≤ room → got ≤ room
+        fewer-than size num offset room all left got n c d h = omega arith
+
+    few : numAt (stateBy o xs ys) (columnsBy o xs ys l) z j ≤ 1048576
+    few =
+        let e = long z j w in
+        let d = lamps-long o xs ys a z (w .between .low) (w .between .high) j (place z j w) in
+        let n = num-owned o xs ys a z (w .between .low) (w .between .high) j (place z j w) in
+        let v = ones-few (λ k. eqb (owner o xs ys z k) j) 0 (length xs) in
+        let u = a .few in
+        omega arith
+
+    on-one : (n k : ℕ) → numAt (stateBy o xs ys) (columnsBy o xs ys l) z j ≤ n * size → k < length xs → owner o xs ys z k ≡ j
+        → (i : ℕ) × (i < n) × OnPage k (λ m. leafPage (stateBy o xs ys) (columnsBy o xs ys l) z j size m) i
+    on-one n k h b u =
+        lift (one-page k size n L (let e = long z j w in omega arith) (owned z j w .each k b ∙ ap one (eq-eqb (owner o xs ys z k) j u)))
+      where
+        lift : ((i : ℕ) × (i < n) × OnPage k (λ m. pageOf size m L) i) → (i : ℕ) × (i < n) × OnPage k (λ m. leafPage S C z j size m) i
+        lift (i, v, p) = (i, v, record { here = ap (count k) (at (i * size)) ∙ p .here; nowhere-else = λ m q. ap (count k) (at (m * size)) ∙ p .nowhere-else m q })
+
+    strangers : (k m : ℕ) → (m < length xs → owner o xs ys z m ≡ j → ⊥) → count m (leafPage (stateBy o xs ys) (columnsBy o xs ys l) z j size k) ≡ 0
+    strangers k m h = ap (count m) (at (k * size)) ∙ none-on m size k L (⊎-elim within past (below m (length xs)))
+      where
+        within : m < length xs → count m L ≡ 0
+        within b = owned z j w .each m b ∙ ap one (ne-eqb (owner o xs ys z m) j (h b))
+
+        past : length xs ≤ m → count m L ≡ 0
+        past b = owned z j w .only m b
+
+    turned : 1 ≤ size → LeafPages (stateBy o xs ys) (columnsBy o xs ys l) (λ k. owner o xs ys z k) z j size
+    turned m =
+        record {
+          given = λ offset. page z j w size offset ∙ ap (told true) (sym (at offset));
+          joined = λ n h. gather-ext _ _ (range 0 n) (λ k v. at (k * size)) ∙ pages-joined size n L (let e = long z j w in omega arith) ∙ sym whole;
+          long = page-long;
+          last = rest-long;
+          past = past-end;
+          fits = λ k h. (let e = few in omega arith);
+          stands = λ offset out h. given-room _ _ out (page z j w size offset ∙ ap (told true) (sym (at offset))) (room offset out h);
+          once = on-one;
+          no-other = strangers;
+        }
+
   all-together : (z : ℕ) → Between (stateBy o xs ys) z → sum (λ j. entry (tableAt (stateBy o xs ys) (columnsBy o xs ys l) z) j .num) (range 0 (length (tableAt (stateBy o xs ys) (columnsBy o xs ys l) z))) ≡ length xs
   all-together z b =
       subst (λ (t : Table). sum (λ j. entry t j .num) (range 0 (length t)) ≡ length xs) (is z b) (total-sum (built o xs ys z) ∙ right-at o xs ys a z (b .low) (b .high) .lamps)
@@ -118,6 +207,7 @@ module _ (o : Options) (xs ys : List Float) (a : Accepted o xs ys) (l : Lent) (r
         shares = λ z w k m b h e. owners-share o xs ys z w (b .high) h k m e;
         leaves = all-leaves;
         prefix = fewer;
+        pages = λ z j size w h. turned z j size w h;
       }
     where
       climbing : (z k q : ℕ) → o .«min_zoom» ≤ z → z ≤ o .«max_zoom» → k < length xs → q < length (tableAt S C z)
@@ -147,11 +237,3 @@ pub outcome-owners : (o : Options) (xs ys : List Float) (l : Lent) (x : Outcome)
 outcome-owners o xs ys l x e d =
     subst (λ (v : Outcome). Owners (v .reply .state) (columnsOf (v .columns)) (owner o xs ys)) (sym e)
     (one-owner o xs ys l (ap (λ (v : Outcome). v .reply .reply) (sym e) ∙ d))
-
--- given room: an answer that goes to its end is the number of its items, and they stand at the front of the column, before what it held
-pub given-room : (q : Asked) (ls out : List ℕ) → q ≡ told true ls → length ls ≤ length out
-    → (answerOf q (length out) ≡ Listed (length ls)) × (columnOf q out ≡ ls ++ drop (length ls) out)
-given-room q ls out e h = (
-  ap (λ (x : Asked). answerOf x (length out)) e ∙ rw (le-leb (length ls) (length out) h),
-  ap (λ (x : Asked). columnOf x out) e ∙ ap (λ (x : List ℕ). x ++ drop (length ls) out) (take-all (length out) ls h),
-)
