@@ -1,44 +1,32 @@
--- The powers 2 ^ 0 to 2 ^ 31 as one table, each entry twice the one before: the doubling rule is the table's definition, and each entry is the power's
--- float by one test that antt computes. Assumes nothing.
+-- The powers 2 ^ 0 to 2 ^ 31 by their bits: (n + 1023) * 2 ^ 52 are the bits of 2 ^ n, and of no NaN, by one test that antt computes. Assumes nothing.
 use mathlib.Core.Path.{_≡_}
-use mathlib.Core.List.{List, [], _∷_}
-use mathlib.Core.Bool.{Bool}
-use Prim.Native.Nat.{ℕ, zero, suc, _^_, _<_}
-use lib.ListN.{getD}
+use mathlib.Core.Bool.{Bool, not}
+use Prim.Native.Nat.{ℕ, _+_, _*_, _^_, _<_}
 use lib.Dec.{T}
-use lib.Ieee.{Float, nan, binary64, mul, round, ofInt}
-use Rattle.floats.specs.Numbers.{one, two, float}
+use lib.Ieee.{binary64, round, ofInt, ofBits, nanBits}
+use Rattle.floats.specs.Numbers.{float}
 use Rattle.floats.specs.Table.{at, same, same-is}
 
--- k floats from x on, each twice the one before
-abbrev pub doubling : Float → ℕ → List Float
-doubling x zero = []
-doubling x (suc k) = x ∷ doubling (mul binary64 two x) k
-
--- the table
-unfoldable pub powers : List Float
-powers = doubling one 32
+-- the bits of 2 ^ n
+abbrev pub powerBits : ℕ → ℕ
+powerBits n = (n + 1023) * 4503599627370496
 
 right : ℕ → Bool
-right n = same (getD powers n nan) (float (2 ^ n))
+right n = same (ofBits binary64 (powerBits n)) (float (2 ^ n))
 
 all-right : (n : ℕ) → n < 32 → T (right n)
-unfolding right powers mul round ofInt
+unfolding right ofBits round ofInt
 all-right n h = at right 32 tt n h
 
--- each entry is the power
-pub power-is : (n : ℕ) → n < 32 → getD powers n nan ≡ float (2 ^ n)
+-- they are: each of the 32 values
+pub power-is : (n : ℕ) → n < 32 → ofBits binary64 (powerBits n) ≡ float (2 ^ n)
 unfolding right
-power-is n h = same-is (getD powers n nan) (float (2 ^ n)) (all-right n h)
+power-is n h = same-is (ofBits binary64 (powerBits n)) (float (2 ^ n)) (all-right n h)
 
-doubled : ℕ → Bool
-doubled n = same (getD powers (suc n) nan) (mul binary64 two (getD powers n nan))
+-- and they are the bits of a number
+abbrev pub isNumber : ℕ → Bool
+isNumber n = not (nanBits binary64 (powerBits n))
 
-all-doubled : (n : ℕ) → n < 31 → T (doubled n)
-unfolding doubled powers mul round
-all-doubled n h = at doubled 31 tt n h
-
--- the doubling rule, over the whole table
-pub power-doubles : (n : ℕ) → n < 31 → getD powers (suc n) nan ≡ mul binary64 two (getD powers n nan)
-unfolding doubled
-power-doubles n h = same-is (getD powers (suc n) nan) (mul binary64 two (getD powers n nan)) (all-doubled n h)
+pub power-number : (n : ℕ) → n < 32 → T (isNumber n)
+unfolding nanBits
+power-number n h = at isNumber 32 tt n h
