@@ -106,5 +106,6 @@ pub fn read_options(min_zoom: u8, max_zoom: u8) -> Chosen {
         extent: vectors::float_of(extent),
         node_size: node_size as usize,
         coordinate_system: tables::system(cartesian == 1, range),
+        longitude_strips_only: false,
     })
 }
