@@ -75,6 +75,7 @@ fn options(number: usize, [min_zoom, max_zoom]: [u8; 2], source: &mut Splitmix) 
         extent,
         node_size: NODE_SIZES[number / 2 % NODE_SIZES.len()],
         plane: corners::plane(number, source),
+        longitude_strips_only: false,
     }
 }
 

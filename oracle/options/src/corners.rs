@@ -46,6 +46,7 @@ pub fn any(source: &mut Splitmix) -> Options {
         extent: source.pick(&EXTENTS),
         node_size: source.pick(&NODE_SIZES),
         plane: plane(kind, source),
+        longitude_strips_only: false,
     }
 }
 
