@@ -1,7 +1,8 @@
--- Of a build that is accepted, in columns that hold it, what a tile answers: the items of exactly the entries between the edges of its own range, each once; then,
--- where strips run, for x = 0, of exactly those of the strip in the east, each once; then, for x = z2 - 1, of exactly those of the strip in the west, each once. So each entry whose
--- place lies in the tile is listed, and each item is that of an entry in one of the three. The tally is the sum of num over the distinct places listed. Neither is
--- ever refused 11. Assumes nothing.
+-- Of a build that is accepted, in columns that hold it, what a tile answers: the items of exactly the entries between the edges of its own
+-- range, each once; then, where strips run, for x = 0, of exactly those of the strip in the east, each once; then, for x = z2 - 1, of exactly
+-- those of the strip in the west, each once. So each entry whose place lies in the tile is listed, and each item is that of an entry in one of
+-- the three; where strips do not run, as on a plan with the option on, no entry is listed twice. The tally is the sum of num over the distinct
+-- places listed. Neither is ever refused 11. Assumes nothing.
 use mathlib.Core.Path.{_≡_, refl, ap, ap₂, sym, _∙_, subst}
 use mathlib.Core.Bool.{Bool, true, false, cond, _&&_}
 use mathlib.Core.List.{List, [], _∷_, _++_, map, append-nil}
@@ -95,8 +96,10 @@ pub record From (t : Table) (g : Search) (w s e n : Float) (i : Item) : Type 0 w
 -- why an item is listed: by the tile's own range, by the strip in the east, or by that in the west
 pub data Why (o : Options) (z x y : ℕ) (t : Table) (i : Item) : Type 0 where
   own : From t (here o z x y) (least o z x) (least o z y) (greatest o z x) (greatest o z y) i → Why o z x y t i
-  eastern : wraps o ≡ true → x ≡ 0 → From t (east o z x y) (sub binary64 one (edge o z)) (least o z y) one (greatest o z y) i → Why o z x y t i
-  western : wraps o ≡ true → x + 1 ≡ 2 ^ z → From t (west o z x y) zero (least o z y) (edge o z) (greatest o z y) i → Why o z x y t i
+  eastern : wraps o ≡ true → x ≡ 0
+      → From t (east o z x y) (sub binary64 one (edge o z)) (least o z y) one (greatest o z y) i → Why o z x y t i
+  western : wraps o ≡ true → x + 1 ≡ 2 ^ z
+      → From t (west o z x y) zero (least o z y) (edge o z) (greatest o z y) i → Why o z x y t i
 
 -- ---- when strips run: always where the option is off, and for longitude either way; on a plan with the option on never
 
@@ -106,13 +109,15 @@ off-wraps o e = ap (λ (b : Bool). cond b (goesRound (o .«coordinate_system»))
 
 pub longitude-wraps : (o : Options) → o .«coordinate_system» ≡ LatLng → wraps o ≡ true
 unfolding wraps
-longitude-wraps o e = ap (λ (c : CoordinateSystem). cond (o .«longitude_strips_only») (goesRound c) true) e ∙ of (o .«longitude_strips_only»)
+longitude-wraps o e =
+    ap (λ (c : CoordinateSystem). cond (o .«longitude_strips_only») (goesRound c) true) e ∙ of (o .«longitude_strips_only»)
   where
     of : (b : Bool) → cond b true true ≡ true
     of true = refl
     of false = refl
 
-pub plan-wraps : (o : Options) (d : DataRange) → o .«longitude_strips_only» ≡ true → o .«coordinate_system» ≡ Cartesian d → wraps o ≡ false
+pub plan-wraps : (o : Options) (d : DataRange) → o .«longitude_strips_only» ≡ true
+    → o .«coordinate_system» ≡ Cartesian d → wraps o ≡ false
 unfolding wraps
 plan-wraps o d e c = ap₂ (λ (b : Bool) (x : CoordinateSystem). cond b (goesRound x) true) e c
 
@@ -191,8 +196,10 @@ module _ (o : Options) (z x y : ℕ) (t : Table) where
       let P = Why o z x y t in
       subst (All P) (sym (q .is))
       (all-append P _ _ (strip-all (here o z x y) _ _ _ _ P true (q .a) (q .own) (λ e i f. own f))
-      (all-append P _ _ (strip-all (east o z x y) _ _ _ _ P (wraps o && eqb x 0) (q .b) (q .eastern) (λ e i f. let d = and-both (wraps o) (eqb x 0) e in eastern (d .0) (eqb-true x 0 (d .1)) f))
-      (strip-all (west o z x y) _ _ _ _ P (wraps o && eqb (x + 1) (2 ^ z)) (q .c) (q .western) (λ e i f. let d = and-both (wraps o) (eqb (x + 1) (2 ^ z)) e in western (d .0) (eqb-true (x + 1) (2 ^ z) (d .1)) f))))
+      (all-append P _ _ (strip-all (east o z x y) _ _ _ _ P (wraps o && eqb x 0) (q .b) (q .eastern)
+      (λ e i f. let d = and-both (wraps o) (eqb x 0) e in eastern (d .0) (eqb-true x 0 (d .1)) f))
+      (strip-all (west o z x y) _ _ _ _ P (wraps o && eqb (x + 1) (2 ^ z)) (q .c) (q .western)
+      (λ e i f. let d = and-both (wraps o) (eqb (x + 1) (2 ^ z)) e in western (d .0) (eqb-true (x + 1) (2 ^ z) (d .1)) f))))
 
 told-same : {a b : List Item} → told true a ≡ told true b → a ≡ b
 told-same e = cc
@@ -282,12 +289,15 @@ module _ (o : Options) (xs ys : List Float) (a : Accepted o xs ys) (l : Lent) (r
     tile-listed = (items t finds, told-items, three)
 
     -- where strips do not run, the tile is the first range alone: the items of exactly the entries between its edges, none listed twice
-    pub tile-alone : wraps o ≡ false → (ps : List ℕ) × (tileBy o xs ys l z x y ≡ told true (itemsBy (usedBy o xs ys z) (here o z x y) ps))
+    pub tile-alone : wraps o ≡ false
+        → (ps : List ℕ) × (tileBy o xs ys l z x y ≡ told true (itemsBy (usedBy o xs ys z) (here o z x y) ps))
         × Boxes (least o z x) (least o z y) (greatest o z x) (greatest o z y) (usedBy o xs ys z) ps
     tile-alone e =
         let q = three in
-        let f : q .b ≡ [] = subst (λ (w : Bool). Strip (w && eqb x 0) (sub binary64 one (edge o z)) (least o z y) one (greatest o z y) t (q .b)) e (q .eastern) in
-        let g : q .c ≡ [] = subst (λ (w : Bool). Strip (w && eqb (x + 1) (2 ^ z)) zero (least o z y) (edge o z) (greatest o z y) t (q .c)) e (q .western) in (
+        let f : q .b ≡ [] =
+        subst (λ (w : Bool). Strip (w && eqb x 0) (sub binary64 one (edge o z)) (least o z y) one (greatest o z y) t (q .b)) e (q .eastern) in
+        let g : q .c ≡ [] =
+        subst (λ (w : Bool). Strip (w && eqb (x + 1) (2 ^ z)) zero (least o z y) (edge o z) (greatest o z y) t (q .c)) e (q .western) in (
           q .a,
           told-items ∙ ap (told true) (q .is
               ∙ ap₂ (λ (v w : List ℕ). itemsBy t (here o z x y) (q .a) ++ (itemsBy t (east o z x y) v ++ itemsBy t (west o z x y) w)) f g

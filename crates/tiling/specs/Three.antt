@@ -55,21 +55,24 @@ module _ (o : Options) (z x y : ℕ) (b : InBounds o) (w : IsTile z x y) (g : Se
 
 -- ---- a tile that has no strip finds what its own range finds
 
-pub own-range : (o : Options) (z x y : ℕ) (t : Table) (ids : List ℕ) (co : List Float) → atEnd o z x ≡ false → visited o z x y t ids co ≡ visits (here o z x y) t ids co
+pub own-range : (o : Options) (z x y : ℕ) (t : Table) (ids : List ℕ) (co : List Float)
+    → atEnd o z x ≡ false → visited o z x y t ids co ≡ visits (here o z x y) t ids co
 unfolding visited east west
 own-range o z x y t ids co = go (wraps o) (eqb x 0) (eqb (x + 1) (2 ^ z)) refl refl refl
   where
     none : true ≡ false → ⊥
     none e = let i : _≡_ {A = ℕ} 0 1 = cc in omega arith
 
-    go : (w a b : Bool) → wraps o ≡ w → eqb x 0 ≡ a → eqb (x + 1) (2 ^ z) ≡ b → (w && (a || b)) ≡ false → visited o z x y t ids co ≡ visits (here o z x y) t ids co
+    go : (w a b : Bool) → wraps o ≡ w → eqb x 0 ≡ a → eqb (x + 1) (2 ^ z) ≡ b → (w && (a || b)) ≡ false
+        → visited o z x y t ids co ≡ visits (here o z x y) t ids co
     go false a b r p q e = rw r (append-nil (visits (here o z x y) t ids co))
     go true false false r p q e = rw (r, p, q) (append-nil (visits (here o z x y) t ids co))
     go true false true r p q e = absurd (none e)
     go true true b r p q e = absurd (none e)
 
--- strips that do not run leave the tile its own range
-pub no-strips : (o : Options) (z x y : ℕ) (t : Table) (ids : List ℕ) (co : List Float) → wraps o ≡ false → visited o z x y t ids co ≡ visits (here o z x y) t ids co
+-- strips that do not run leave the tile its own range, whatever the table and its index hold
+pub no-strips : (o : Options) (z x y : ℕ) (t : Table) (ids : List ℕ) (co : List Float)
+    → wraps o ≡ false → visited o z x y t ids co ≡ visits (here o z x y) t ids co
 no-strips o z x y t ids co e = own-range o z x y t ids co (ap (λ (w : Bool). w && (eqb x 0 || eqb (x + 1) (2 ^ z))) e)
 
 -- ---- three runs, one after the other; each ends the listing, or the next goes on

@@ -1,5 +1,6 @@
--- 01's lines that are not marked P, computed from the definitions too: the largest max_zoom, options that are refused, a lone lamp at (1, 0.5), which tile (0,0,0)
--- lists twice and counts once, and once with the strips for longitude only; and of 'Easy to get wrong' the four lamps with min_points 3, and both edge strips at z = 0. Assumes nothing.
+-- 01's lines that are not marked P, computed from the definitions too: the largest max_zoom, options that are refused, a lone lamp at
+-- (1, 0.5), which tile (0,0,0) lists twice and counts once, and lists once with the strips for longitude only (02, #114); and of 'Easy to get
+-- wrong' the four lamps with min_points 3, and both edge strips at z = 0. Assumes nothing.
 use mathlib.Core.Path.{_≡_, refl, ap}
 use mathlib.Core.Bool.{Bool, true, cond}
 use mathlib.Core.List.{[], _∷_, map}
@@ -112,7 +113,8 @@ onPlan o =
 abbrev pub planned : Outcome
 planned = loaded (onPlan (options 64)) (one ∷ []) (half ∷ []) (zeros 3)
 
-pub tile-of-planned : asked (planned .reply .state) (columnsOf (planned .columns)) 0 0 0 ≡ told true (record { place = 0; x = pos 512; y = pos 256 } ∷ [])
+pub tile-of-planned : asked (planned .reply .state) (columnsOf (planned .columns)) 0 0 0
+    ≡ told true (record { place = 0; x = pos 512; y = pos 256 } ∷ [])
 unfolding onPlan loaded checked zeros written joined joinedIds joinedCo starts lens tablesOf run convertedAll finest slotsOf indexOf radiusAt cluster scanFrom scanOne visit copyAll copyOne absorb absorbOne more converted normalized offsetOf scaleOf filled sorted indexed selected sel parted passes up down swapCo swapIds firstOutside asked stateOk packed optionsOk systemInBounds inBounds visited here wraps east west listed whole rounded away neg add sub mul div ofInt ofBits le lt eq shape split scanned slots places rows options b
 tile-of-planned = refl
 
