@@ -1,10 +1,11 @@
--- Of a build that is accepted, in columns that hold it, what a tile answers: the items of exactly the entries between the edges of its own range, each once; then,
--- for x = 0, of exactly those of the strip in the east, each once; then, for x = z2 - 1, of exactly those of the strip in the west, each once. So each entry whose
--- place lies in the tile is listed, and each item is that of an entry in one of the three. The tally is the sum of num over the distinct places listed. Neither is
--- ever refused 11. Assumes nothing.
+-- Of a build that is accepted, in columns that hold it, what a tile answers: the items of exactly the entries between the edges of its own
+-- range, each once; then, where strips run, for x = 0, of exactly those of the strip in the east, each once; then, for x = z2 - 1, of exactly
+-- those of the strip in the west, each once. So each entry whose place lies in the tile is listed, and each item is that of an entry in one of
+-- the three; where strips do not run, as on a plan with the option on, no entry is listed twice. The tally is the sum of num over the distinct
+-- places listed. Neither is ever refused 11. Assumes nothing.
 use mathlib.Core.Path.{_≡_, refl, ap, ap₂, sym, _∙_, subst}
-use mathlib.Core.Bool.{Bool, true, false}
-use mathlib.Core.List.{List, [], _∷_, _++_, map}
+use mathlib.Core.Bool.{Bool, true, false, cond, _&&_}
+use mathlib.Core.List.{List, [], _∷_, _++_, map, append-nil}
 use Prim.Native.Nat.{ℕ, zero as nought, suc, _+_, _^_, _<_}
 use native.Mathlib.Omega.{arith}
 use borrow.Author.Tests.{eqb-true}
@@ -13,12 +14,16 @@ use lib.ListN.{length, length-map}
 use lib.Ieee.{Float, binary64, sub}
 use Rattle.floats.specs.Numbers.{zero, one}
 use Rattle.floats.specs.Unit.{In01}
+use Rattle.range.specs.declared.DataRange.{DataRange}
+use Rattle.range.specs.declared.CoordinateSystem.{CoordinateSystem}
+use Rattle.range.specs.declared.CoordinateSystem.the-variants.{LatLng, Cartesian}
 use Rattle.kdsort.specs.Cols.{Cols}
 use Rattle.kdsort.specs.Indexes.{blank}
 use Rattle.kdsort.specs.Tree.{Index}
 use Rattle.kdslots.specs.declared.Query.the-variants.{Range}
 use Rattle.kdslots.specs.All.{All, all-append}
-use Rattle.kdslots.specs.Members.{In, in-right}
+use Rattle.kdslots.specs.Bounds.{and-both}
+use Rattle.kdslots.specs.Members.{In, Distinct, in-right}
 use Rattle.kdbush.specs.Promise.{answered-once, answered-sound, answered-complete}
 use Rattle.kdslots.specs.Query.{passesQ}
 use Rattle.kdbush.specs.Reply.{found}
@@ -41,7 +46,7 @@ use Rattle.tiling.specs.Framed.{tile-is}
 use Rattle.tiling.specs.Inside.{InTile, inside-passes}
 use Rattle.tiling.specs.Lists.{Lists, tile-whole, listed-whole}
 use Rattle.tiling.specs.Tally.{tallyNumber, distinct, total, tallyOf}
-use Rattle.tiling.specs.Tile.{Visit, isTile, edge, least, greatest, here, east, west, visitsOf, visited, listed, whole, itemOf, itemAt, items}
+use Rattle.tiling.specs.Tile.{Visit, isTile, edge, least, greatest, here, goesRound, wraps, east, west, visitsOf, visited, listed, whole, itemOf, itemAt, items}
 use Rattle.tiles.specs.Asked.{Asked, refused, told, asked, answerOf, someOf}
 use Rattle.tiles.specs.Ends.{asked-is}
 use Rattle.tiles.specs.Tallied.{sumOf, tallied}
@@ -79,8 +84,8 @@ pub record Tiles (o : Options) (z x y : ℕ) (t : Table) (l : List Item) : Type 
   pub c : List ℕ
   pub is : l ≡ itemsBy t (here o z x y) a ++ (itemsBy t (east o z x y) b ++ itemsBy t (west o z x y) c)
   pub own : Boxes (least o z x) (least o z y) (greatest o z x) (greatest o z y) t a
-  pub eastern : Strip (eqb x 0) (sub binary64 one (edge o z)) (least o z y) one (greatest o z y) t b
-  pub western : Strip (eqb (x + 1) (2 ^ z)) zero (least o z y) (edge o z) (greatest o z y) t c
+  pub eastern : Strip (wraps o && eqb x 0) (sub binary64 one (edge o z)) (least o z y) one (greatest o z y) t b
+  pub western : Strip (wraps o && eqb (x + 1) (2 ^ z)) zero (least o z y) (edge o z) (greatest o z y) t c
 
 -- the item is that of an entry of the table which lies between the edges, by the search g
 pub record From (t : Table) (g : Search) (w s e n : Float) (i : Item) : Type 0 where
@@ -91,8 +96,30 @@ pub record From (t : Table) (g : Search) (w s e n : Float) (i : Item) : Type 0 w
 -- why an item is listed: by the tile's own range, by the strip in the east, or by that in the west
 pub data Why (o : Options) (z x y : ℕ) (t : Table) (i : Item) : Type 0 where
   own : From t (here o z x y) (least o z x) (least o z y) (greatest o z x) (greatest o z y) i → Why o z x y t i
-  eastern : x ≡ 0 → From t (east o z x y) (sub binary64 one (edge o z)) (least o z y) one (greatest o z y) i → Why o z x y t i
-  western : x + 1 ≡ 2 ^ z → From t (west o z x y) zero (least o z y) (edge o z) (greatest o z y) i → Why o z x y t i
+  eastern : wraps o ≡ true → x ≡ 0
+      → From t (east o z x y) (sub binary64 one (edge o z)) (least o z y) one (greatest o z y) i → Why o z x y t i
+  western : wraps o ≡ true → x + 1 ≡ 2 ^ z
+      → From t (west o z x y) zero (least o z y) (edge o z) (greatest o z y) i → Why o z x y t i
+
+-- ---- when strips run: always where the option is off, and for longitude either way; on a plan with the option on never
+
+pub off-wraps : (o : Options) → o .«longitude_strips_only» ≡ false → wraps o ≡ true
+unfolding wraps
+off-wraps o e = ap (λ (b : Bool). cond b (goesRound (o .«coordinate_system»)) true) e
+
+pub longitude-wraps : (o : Options) → o .«coordinate_system» ≡ LatLng → wraps o ≡ true
+unfolding wraps
+longitude-wraps o e =
+    ap (λ (c : CoordinateSystem). cond (o .«longitude_strips_only») (goesRound c) true) e ∙ of (o .«longitude_strips_only»)
+  where
+    of : (b : Bool) → cond b true true ≡ true
+    of true = refl
+    of false = refl
+
+pub plan-wraps : (o : Options) (d : DataRange) → o .«longitude_strips_only» ≡ true
+    → o .«coordinate_system» ≡ Cartesian d → wraps o ≡ false
+unfolding wraps
+plan-wraps o d e c = ap₂ (λ (b : Bool) (x : CoordinateSystem). cond b (goesRound x) true) e c
 
 -- ---- lists of items
 
@@ -107,6 +134,10 @@ items-by t g (p ∷ ps) = ap (λ (l : List Item). itemOf g p (entry t p) ∷ l) 
 item-places : (t : Table) (v : List Visit) → map (λ j. j .place) (items t v) ≡ map (λ w. w .place) v
 item-places t [] = refl
 item-places t (w ∷ v) = ap (λ (l : List ℕ). w .place ∷ l) (item-places t v)
+
+places-by : (t : Table) (g : Search) (ps : List ℕ) → map (λ j. j .place) (itemsBy t g ps) ≡ ps
+places-by t g [] = refl
+places-by t g (p ∷ ps) = ap (λ (l : List ℕ). p ∷ l) (places-by t g ps)
 
 -- an item stands among those of its search
 by-at : (t : Table) (g : Search) (pre : List ℕ) (p : ℕ) (post : List ℕ) (rest : List Item) → Lists (itemOf g p (entry t p)) (itemsBy t g (pre ++ p ∷ post) ++ rest)
@@ -165,8 +196,10 @@ module _ (o : Options) (z x y : ℕ) (t : Table) where
       let P = Why o z x y t in
       subst (All P) (sym (q .is))
       (all-append P _ _ (strip-all (here o z x y) _ _ _ _ P true (q .a) (q .own) (λ e i f. own f))
-      (all-append P _ _ (strip-all (east o z x y) _ _ _ _ P (eqb x 0) (q .b) (q .eastern) (λ e i f. eastern (eqb-true x 0 e) f))
-      (strip-all (west o z x y) _ _ _ _ P (eqb (x + 1) (2 ^ z)) (q .c) (q .western) (λ e i f. western (eqb-true (x + 1) (2 ^ z) e) f))))
+      (all-append P _ _ (strip-all (east o z x y) _ _ _ _ P (wraps o && eqb x 0) (q .b) (q .eastern)
+      (λ e i f. let d = and-both (wraps o) (eqb x 0) e in eastern (d .0) (eqb-true x 0 (d .1)) f))
+      (strip-all (west o z x y) _ _ _ _ P (wraps o && eqb (x + 1) (2 ^ z)) (q .c) (q .western)
+      (λ e i f. let d = and-both (wraps o) (eqb (x + 1) (2 ^ z)) e in western (d .0) (eqb-true (x + 1) (2 ^ z) (d .1)) f))))
 
 told-same : {a b : List Item} → told true a ≡ told true b → a ≡ b
 told-same e = cc
@@ -223,8 +256,8 @@ module _ (o : Options) (xs ys : List Float) (a : Accepted o xs ys) (l : Lent) (r
   three =
       let f : Float → Float → Float → Float → List ℕ = λ w s e n. found (Range w s e n) (o .«node_size») (length t) (S .ids) (S .co) in
       let A = f (least o z x) (least o z y) (greatest o z x) (greatest o z y) in
-      let B = when (eqb x 0) (f (sub binary64 one (edge o z)) (least o z y) one (greatest o z y)) in
-      let C = when (eqb (x + 1) (2 ^ z)) (f zero (least o z y) (edge o z) (greatest o z y)) in
+      let B = when (wraps o && eqb x 0) (f (sub binary64 one (edge o z)) (least o z y) one (greatest o z y)) in
+      let C = when (wraps o && eqb (x + 1) (2 ^ z)) (f zero (least o z y) (edge o z) (greatest o z y)) in
       let g = here o z x y in
       let h = east o z x y in
       let k = west o z x y in
@@ -235,8 +268,8 @@ module _ (o : Options) (xs ys : List Float) (a : Accepted o xs ys) (l : Lent) (r
         is = items-append t (visitsOf g A) (visitsOf h B ++ visitsOf k C)
             ∙ ap₂ (λ (p q : List Item). p ++ q) (items-by t g A) (items-append t (visitsOf h B) (visitsOf k C) ∙ ap₂ (λ (p q : List Item). p ++ q) (items-by t h B) (items-by t k C));
         own = range-boxes (o .«node_size») t old S index body _ _ _ _;
-        eastern = strip-of (o .«node_size») t old S index body _ _ _ _ (eqb x 0);
-        western = strip-of (o .«node_size») t old S index body _ _ _ _ (eqb (x + 1) (2 ^ z));
+        eastern = strip-of (o .«node_size») t old S index body _ _ _ _ (wraps o && eqb x 0);
+        western = strip-of (o .«node_size») t old S index body _ _ _ _ (wraps o && eqb (x + 1) (2 ^ z));
       }
 
   -- no such tile is 7
@@ -254,6 +287,30 @@ module _ (o : Options) (xs ys : List Float) (a : Accepted o xs ys) (l : Lent) (r
     -- the items of the entries in the tile's own range, then those of its strips
     pub tile-listed : (i : List Item) × (tileBy o xs ys l z x y ≡ told true i) × Tiles o z x y (usedBy o xs ys z) i
     tile-listed = (items t finds, told-items, three)
+
+    -- where strips do not run, the tile is the first range alone: the items of exactly the entries between its edges, none listed twice
+    pub tile-alone : wraps o ≡ false
+        → (ps : List ℕ) × (tileBy o xs ys l z x y ≡ told true (itemsBy (usedBy o xs ys z) (here o z x y) ps))
+        × Boxes (least o z x) (least o z y) (greatest o z x) (greatest o z y) (usedBy o xs ys z) ps
+    tile-alone e =
+        let q = three in
+        let f : q .b ≡ [] =
+        subst (λ (w : Bool). Strip (w && eqb x 0) (sub binary64 one (edge o z)) (least o z y) one (greatest o z y) t (q .b)) e (q .eastern) in
+        let g : q .c ≡ [] =
+        subst (λ (w : Bool). Strip (w && eqb (x + 1) (2 ^ z)) zero (least o z y) (edge o z) (greatest o z y) t (q .c)) e (q .western) in (
+          q .a,
+          told-items ∙ ap (told true) (q .is
+              ∙ ap₂ (λ (v w : List ℕ). itemsBy t (here o z x y) (q .a) ++ (itemsBy t (east o z x y) v ++ itemsBy t (west o z x y) w)) f g
+              ∙ append-nil (itemsBy t (here o z x y) (q .a))),
+          q .own,
+        )
+
+    -- so on a plan with the option on; no entry is listed twice
+    pub tile-on-plan : (d : DataRange) → o .«longitude_strips_only» ≡ true → o .«coordinate_system» ≡ Cartesian d
+        → (i : List Item) × (tileBy o xs ys l z x y ≡ told true i) × Distinct (map (λ j. j .place) i)
+    tile-on-plan d e c =
+        let w = tile-alone (plan-wraps o d e c) in
+        (itemsBy t (here o z x y) (w .0), w .1, subst Distinct (sym (places-by t (here o z x y) (w .0))) (w .2 .single))
 
     -- each entry whose place lies in the tile is listed, at its place in the tile
     pub tile-every : (p : ℕ) → p < length (usedBy o xs ys z) → InTile z x y (entry (usedBy o xs ys z) p .x) (entry (usedBy o xs ys z) p .y)

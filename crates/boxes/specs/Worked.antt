@@ -69,7 +69,7 @@ worked-wrap-again = refl
 abbrev state : State
 state =
     record {
-      options = record { «min_zoom» = 0; «max_zoom» = 0; «min_points» = 2; radius = zero; extent = one; «node_size» = 64; «coordinate_system» = LatLng };
+      options = record { «min_zoom» = 0; «max_zoom» = 0; «min_points» = 2; radius = zero; extent = one; «node_size» = 64; «coordinate_system» = LatLng; «longitude_strips_only» = false };
       count = 5;
       starts = set (replicate 32 0) 0 5;
       lens = set (set (replicate 32 0) 0 1) 1 5;

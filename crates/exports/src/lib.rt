@@ -241,8 +241,9 @@ fn options(
     offset: f64,
     scale_given: bool,
     scale: f64,
+    longitude_strips_only: bool,
 ) -> Options
-    ensures { λ r. ⌜ r ≡ given «min_zoom» «max_zoom» «min_points» radius extent «node_size» cartesian «min_x» «min_y» «max_x» «max_y» «offset_given» offset «scale_given» scale ⌝ }
+    ensures { λ r. ⌜ r ≡ given «min_zoom» «max_zoom» «min_points» radius extent «node_size» cartesian «min_x» «min_y» «max_x» «max_y» «offset_given» offset «scale_given» scale «longitude_strips_only» ⌝ }
 {
     let range = DataRange {
         min_x,
@@ -261,6 +262,7 @@ fn options(
         extent,
         node_size,
         coordinate_system,
+        longitude_strips_only,
     }
 }
 
@@ -321,6 +323,7 @@ pub extern "C" fn supercluster_load(
     offset: f64,
     scale_given: bool,
     scale: f64,
+    longitude_strips_only: bool,
     xs: &[f64],
     ys: &[f64],
     x: &mut [f64],
@@ -337,7 +340,7 @@ pub extern "C" fn supercluster_load(
     carried: &mut usize,
 ) -> u32
     ensures { λ r. ⌜ laid (replied r (now (carried .exit)) (now (starts .exit)) (now (lens .exit))) (lent (now (x .exit)) (now (y .exit)) (now (seen .exit)) (now (id .exit)) (now (parent .exit)) (now (num .exit)) (now (ids .exit)) (now (coords .exit)) (now (near .exit)))
-        ≡ laidOf (loaded (given «min_zoom» «max_zoom» «min_points» radius extent «node_size» cartesian «min_x» «min_y» «max_x» «max_y» «offset_given» offset «scale_given» scale) (now (xs .entry)) (now (ys .entry)) (lent (now (x .entry)) (now (y .entry)) (now (seen .entry)) (now (id .entry)) (now (parent .entry)) (now (num .entry)) (now (ids .entry)) (now (coords .entry)) (now (near .entry)))) (now (starts .entry)) (now (lens .entry)) ⌝ }
+        ≡ laidOf (loaded (given «min_zoom» «max_zoom» «min_points» radius extent «node_size» cartesian «min_x» «min_y» «max_x» «max_y» «offset_given» offset «scale_given» scale «longitude_strips_only») (now (xs .entry)) (now (ys .entry)) (lent (now (x .entry)) (now (y .entry)) (now (seen .entry)) (now (id .entry)) (now (parent .entry)) (now (num .entry)) (now (ids .entry)) (now (coords .entry)) (now (near .entry)))) (now (starts .entry)) (now (lens .entry)) ⌝ }
 {
     let o = options(
         min_zoom,
@@ -355,6 +358,7 @@ pub extern "C" fn supercluster_load(
         offset,
         scale_given,
         scale,
+        longitude_strips_only,
     );
     let loaded = supercluster::load(o, xs, ys, x, y, seen, id, parent, num, ids, coords, near);
     tell(loaded, starts, lens, carried)
@@ -378,6 +382,7 @@ pub extern "C" fn supercluster_box(
     offset: f64,
     scale_given: bool,
     scale: f64,
+    longitude_strips_only: bool,
     count: u32,
     starts: &[u32; 32],
     lens: &[u32; 32],
@@ -392,7 +397,7 @@ pub extern "C" fn supercluster_box(
     carried: &mut usize,
 ) -> u32
     ensures { λ r. ⌜ told r (now (carried .exit)) (now (out .exit))
-        ≡ toldOf (boxAsked (stateOf (given «min_zoom» «max_zoom» «min_points» radius extent «node_size» cartesian «min_x» «min_y» «max_x» «max_y» «offset_given» offset «scale_given» scale)
+        ≡ toldOf (boxAsked (stateOf (given «min_zoom» «max_zoom» «min_points» radius extent «node_size» cartesian «min_x» «min_y» «max_x» «max_y» «offset_given» offset «scale_given» scale «longitude_strips_only»)
         count (now (starts .entry)) (now (lens .entry)))
         (now (ids .entry)) (now (coords .entry)) zoom w south e n) (now (out .entry)) ⌝ }
 {
@@ -412,6 +417,7 @@ pub extern "C" fn supercluster_box(
         offset,
         scale_given,
         scale,
+        longitude_strips_only,
     );
     let s = state(o, count, starts, lens);
     let r = boxes::list_box(s, ids, coords, zoom, w, south, e, n, out);
@@ -437,6 +443,7 @@ pub extern "C" fn supercluster_ring(
     offset: f64,
     scale_given: bool,
     scale: f64,
+    longitude_strips_only: bool,
     count: u32,
     starts: &[u32; 32],
     lens: &[u32; 32],
@@ -450,7 +457,7 @@ pub extern "C" fn supercluster_ring(
     carried: &mut usize,
 ) -> u32
     ensures { λ r. ⌜ told r (now (carried .exit)) (now (out .exit))
-        ≡ toldOf (ringAsked (stateOf (given «min_zoom» «max_zoom» «min_points» radius extent «node_size» cartesian «min_x» «min_y» «max_x» «max_y» «offset_given» offset «scale_given» scale)
+        ≡ toldOf (ringAsked (stateOf (given «min_zoom» «max_zoom» «min_points» radius extent «node_size» cartesian «min_x» «min_y» «max_x» «max_y» «offset_given» offset «scale_given» scale «longitude_strips_only»)
         count (now (starts .entry)) (now (lens .entry)))
         (now (ids .entry)) (now (coords .entry)) zoom «ring_x» «ring_y» «ring_radius») (now (out .entry)) ⌝ }
 {
@@ -470,6 +477,7 @@ pub extern "C" fn supercluster_ring(
         offset,
         scale_given,
         scale,
+        longitude_strips_only,
     );
     let s = state(o, count, starts, lens);
     let r = boxes::list_ring(s, ids, coords, zoom, ring_x, ring_y, ring_radius, out);
@@ -495,6 +503,7 @@ pub extern "C" fn supercluster_children(
     offset: f64,
     scale_given: bool,
     scale: f64,
+    longitude_strips_only: bool,
     count: u32,
     starts: &[u32; 32],
     lens: &[u32; 32],
@@ -511,7 +520,7 @@ pub extern "C" fn supercluster_children(
     carried: &mut usize,
 ) -> u32
     ensures { λ r. ⌜ told r (now (carried .exit)) (now (out .exit))
-        ≡ toldOf (childrenOf (stateOf (given «min_zoom» «max_zoom» «min_points» radius extent «node_size» cartesian «min_x» «min_y» «max_x» «max_y» «offset_given» offset «scale_given» scale)
+        ≡ toldOf (childrenOf (stateOf (given «min_zoom» «max_zoom» «min_points» radius extent «node_size» cartesian «min_x» «min_y» «max_x» «max_y» «offset_given» offset «scale_given» scale «longitude_strips_only»)
         count (now (starts .entry)) (now (lens .entry)))
         (columns (now (x .entry)) (now (y .entry)) (now (seen .entry)) (now (id .entry)) (now (parent .entry)) (now (num .entry)) (now (ids .entry)) (now (coords .entry)))
         cid) (now (out .entry)) ⌝ }
@@ -532,6 +541,7 @@ pub extern "C" fn supercluster_children(
         offset,
         scale_given,
         scale,
+        longitude_strips_only,
     );
     let s = state(o, count, starts, lens);
     let r = walks::children(s, x, y, seen, id, parent, num, ids, coords, cid, out);
@@ -557,6 +567,7 @@ pub extern "C" fn supercluster_leaves(
     offset: f64,
     scale_given: bool,
     scale: f64,
+    longitude_strips_only: bool,
     count: u32,
     starts: &[u32; 32],
     lens: &[u32; 32],
@@ -575,7 +586,7 @@ pub extern "C" fn supercluster_leaves(
     carried: &mut usize,
 ) -> u32
     ensures { λ r. ⌜ told r (now (carried .exit)) (now (out .exit))
-        ≡ toldOf (leavesOf (stateOf (given «min_zoom» «max_zoom» «min_points» radius extent «node_size» cartesian «min_x» «min_y» «max_x» «max_y» «offset_given» offset «scale_given» scale)
+        ≡ toldOf (leavesOf (stateOf (given «min_zoom» «max_zoom» «min_points» radius extent «node_size» cartesian «min_x» «min_y» «max_x» «max_y» «offset_given» offset «scale_given» scale «longitude_strips_only»)
         count (now (starts .entry)) (now (lens .entry)))
         (columns (now (x .entry)) (now (y .entry)) (now (seen .entry)) (now (id .entry)) (now (parent .entry)) (now (num .entry)) (now (ids .entry)) (now (coords .entry)))
         cid limit skip) (now (out .entry)) ⌝ }
@@ -596,6 +607,7 @@ pub extern "C" fn supercluster_leaves(
         offset,
         scale_given,
         scale,
+        longitude_strips_only,
     );
     let s = state(o, count, starts, lens);
     let r = walks::leaves(
@@ -635,6 +647,7 @@ pub extern "C" fn supercluster_expansion_zoom(
     offset: f64,
     scale_given: bool,
     scale: f64,
+    longitude_strips_only: bool,
     count: u32,
     starts: &[u32; 32],
     lens: &[u32; 32],
@@ -650,7 +663,7 @@ pub extern "C" fn supercluster_expansion_zoom(
     carried: &mut usize,
 ) -> u32
     ensures { λ r. ⌜ said r (now (carried .exit))
-        ≡ zoomSaid (zoomOf (stateOf (given «min_zoom» «max_zoom» «min_points» radius extent «node_size» cartesian «min_x» «min_y» «max_x» «max_y» «offset_given» offset «scale_given» scale)
+        ≡ zoomSaid (zoomOf (stateOf (given «min_zoom» «max_zoom» «min_points» radius extent «node_size» cartesian «min_x» «min_y» «max_x» «max_y» «offset_given» offset «scale_given» scale «longitude_strips_only»)
         count (now (starts .entry)) (now (lens .entry)))
         (columns (now (x .entry)) (now (y .entry)) (now (seen .entry)) (now (id .entry)) (now (parent .entry)) (now (num .entry)) (now (ids .entry)) (now (coords .entry)))
         cid) ⌝ }
@@ -671,6 +684,7 @@ pub extern "C" fn supercluster_expansion_zoom(
         offset,
         scale_given,
         scale,
+        longitude_strips_only,
     );
     let s = state(o, count, starts, lens);
     let r = walks::expansion_zoom(s, x, y, seen, id, parent, num, ids, coords, cid);
@@ -696,6 +710,7 @@ pub extern "C" fn supercluster_tile(
     offset: f64,
     scale_given: bool,
     scale: f64,
+    longitude_strips_only: bool,
     count: u32,
     starts: &[u32; 32],
     lens: &[u32; 32],
@@ -716,7 +731,7 @@ pub extern "C" fn supercluster_tile(
     carried: &mut usize,
 ) -> u32
     ensures { λ r. ⌜ tileTold r (now (carried .exit)) (now (places .exit)) (now (px .exit)) (now (py .exit))
-        ≡ tileOf (tiled (stateOf (given «min_zoom» «max_zoom» «min_points» radius extent «node_size» cartesian «min_x» «min_y» «max_x» «max_y» «offset_given» offset «scale_given» scale)
+        ≡ tileOf (tiled (stateOf (given «min_zoom» «max_zoom» «min_points» radius extent «node_size» cartesian «min_x» «min_y» «max_x» «max_y» «offset_given» offset «scale_given» scale «longitude_strips_only»)
         count (now (starts .entry)) (now (lens .entry)))
         (columns (now (x .entry)) (now (y .entry)) (now (seen .entry)) (now (id .entry)) (now (parent .entry)) (now (num .entry)) (now (ids .entry)) (now (coords .entry)))
         z «tile_x» «tile_y» (now (places .entry)) (now (px .entry)) (now (py .entry))) ⌝ }
@@ -737,6 +752,7 @@ pub extern "C" fn supercluster_tile(
         offset,
         scale_given,
         scale,
+        longitude_strips_only,
     );
     let r = tiles::tile_lent(
         o,
@@ -780,6 +796,7 @@ pub extern "C" fn supercluster_tally(
     offset: f64,
     scale_given: bool,
     scale: f64,
+    longitude_strips_only: bool,
     count: u32,
     starts: &[u32; 32],
     lens: &[u32; 32],
@@ -797,7 +814,7 @@ pub extern "C" fn supercluster_tally(
     carried: &mut usize,
 ) -> u32
     ensures { λ r. ⌜ said r (now (carried .exit))
-        ≡ tallySaid (tallied (stateOf (given «min_zoom» «max_zoom» «min_points» radius extent «node_size» cartesian «min_x» «min_y» «max_x» «max_y» «offset_given» offset «scale_given» scale)
+        ≡ tallySaid (tallied (stateOf (given «min_zoom» «max_zoom» «min_points» radius extent «node_size» cartesian «min_x» «min_y» «max_x» «max_y» «offset_given» offset «scale_given» scale «longitude_strips_only»)
         count (now (starts .entry)) (now (lens .entry)))
         (columns (now (x .entry)) (now (y .entry)) (now (seen .entry)) (now (id .entry)) (now (parent .entry)) (now (num .entry)) (now (ids .entry)) (now (coords .entry)))
         z «tile_x» «tile_y») ⌝ }
@@ -818,6 +835,7 @@ pub extern "C" fn supercluster_tally(
         offset,
         scale_given,
         scale,
+        longitude_strips_only,
     );
     let r = tiles::tally_lent(
         o,

@@ -1,4 +1,5 @@
 -- What the numbers of a text stand for: a coordinate, and the options of a build. Definitions only.
+use mathlib.Core.Bool.{false}
 use Prim.Native.Nat.{ℕ}
 use lib.IntN.{pos}
 use lib.Ieee.{Float, binary64, ofInt, div}
@@ -31,4 +32,5 @@ optionsOf h =
       extent = wholeOf (h .extent);
       «node_size» = h .«node_size»;
       «coordinate_system» = unitSystem;
+      «longitude_strips_only» = false;
     }

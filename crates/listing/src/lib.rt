@@ -279,5 +279,6 @@ pub fn options(h: Head) -> Options
                 scale: Setting::Given(1.0),
             },
         },
+        longitude_strips_only: false,
     }
 }

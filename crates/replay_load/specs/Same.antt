@@ -1,6 +1,6 @@
 -- What the comparisons are: of a build's reply, state and columns with what is expected. Definitions only.
 use Prim.Native.Nat.{ℕ}
-use mathlib.Core.Bool.{Bool, true, false, _&&_}
+use mathlib.Core.Bool.{Bool, true, false, _&&_, Bool·beq}
 use mathlib.Core.List.{List, _++_}
 use lib.Dec.{eqb}
 use lib.ListN.{length, drop, replicate}
@@ -44,7 +44,8 @@ sameSystem (Cartesian r) (Cartesian s) = sameRange r s
 unfoldable pub sameOptions : Options → Options → Bool
 sameOptions a b =
     eqb (a .«min_zoom») (b .«min_zoom») && (eqb (a .«max_zoom») (b .«max_zoom») && (eqb (a .«min_points») (b .«min_points») && (eqb (a .«node_size») (b .«node_size») &&
-    (agreeing (a .radius) (b .radius) && (agreeing (a .extent) (b .extent) && sameSystem (a .«coordinate_system») (b .«coordinate_system»))))))
+    (agreeing (a .radius) (b .radius) && (agreeing (a .extent) (b .extent) && (Bool·beq (a .«longitude_strips_only») (b .«longitude_strips_only») &&
+    sameSystem (a .«coordinate_system») (b .«coordinate_system»)))))))
 
 -- the tables start where they are expected to, and are as long, and the state has the number of points and the options as given
 unfoldable pub sameState : Options → ℕ → List ℕ → List ℕ → State → Bool

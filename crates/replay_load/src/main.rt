@@ -1,6 +1,7 @@
 // Replays test vectors on the crate `supercluster`, and says whether its builds are those that the vectors expect.
 // A vector is a line of standard input: words of 16 lowercase hexadecimal digits, a space after each, and a line end after the last.
 //     min_zoom max_zoom min_points radius extent node_size cartesian min_x min_y max_x max_y offset_given offset scale_given scale
+//     longitude_strips_only, as `stored` reads these,
 //     n, n times `x y`, m, m times `x y seen id parent num slot_id slot_x slot_y`, `start len` for each zoom from min_zoom to max_zoom + 1
 // The n points are built in columns that are filled with old contents. Expected are the m entries of all tables, the slots of their indexes
 // at the same positions, zeros in the first n of `near`, the old contents past all of these, and in the state the options, n, and zeros as start and
@@ -212,6 +213,9 @@ fn same_options(a: Options, b: Options) -> bool
         return false;
     }
     if !vectors::agree(a.extent, b.extent) {
+        return false;
+    }
+    if a.longitude_strips_only != b.longitude_strips_only {
         return false;
     }
     let system = a.coordinate_system;

@@ -1,6 +1,8 @@
 // What the programs share that replay builds and questions: how a case gives the options of a build, in words as `vectors` reads them.
 //     min_points radius extent node_size cartesian min_x min_y max_x max_y offset_given offset scale_given scale
-// 0 stands for what is derived, and for longitude, and 1 for what is given, and for Cartesian. Proved: nothing here fails.
+//     longitude_strips_only
+// 0 stands for what is derived, and for longitude, and 1 for what is given, and for Cartesian; the last word is 1 where
+// a tile's strips run for longitude only, otherwise 0. Proved: nothing here fails.
 // Assumed: what standard input gives is not modelled, so that the functions that read are only proved to be safe.
 use range::DataRange;
 use range::Setting;
@@ -98,6 +100,9 @@ pub fn read_options(min_zoom: u8, max_zoom: u8) -> Chosen {
     let Ranged::Range(range) = read_range() else {
         return Chosen::Bad;
     };
+    let Count::Is(strips) = vectors::next_count(1, false) else {
+        return Chosen::Bad;
+    };
     Chosen::Options(Options {
         min_zoom,
         max_zoom,
@@ -106,5 +111,6 @@ pub fn read_options(min_zoom: u8, max_zoom: u8) -> Chosen {
         extent: vectors::float_of(extent),
         node_size: node_size as usize,
         coordinate_system: tables::system(cartesian == 1, range),
+        longitude_strips_only: strips == 1,
     })
 }

@@ -26,6 +26,8 @@ pub struct Options {
     pub extent: f64,
     pub node_size: usize,
     pub coordinate_system: CoordinateSystem,
+    // Whether a tile's strips run for longitude only: a Cartesian plan has no far side.
+    pub longitude_strips_only: bool,
 }
 
 // A build, as a value: its options, its number of points, and where the table of each zoom starts and how long it is.

@@ -1,7 +1,7 @@
 -- A tile's three searches, one after the other, are what the tile finds: each walk goes over its whole answer, and what one leaves the next goes on
 -- from. Assumes nothing.
 use mathlib.Core.Path.{_≡_, refl, sym, ap, _∙_, subst}
-use mathlib.Core.Bool.{Bool, true, false, _||_}
+use mathlib.Core.Bool.{Bool, true, false, _&&_, _||_}
 use mathlib.Core.List.{List, _++_, append-nil}
 use Prim.Native.Nat.{ℕ, _+_, _^_, _≤_}
 use native.Mathlib.Omega.{arith}
@@ -16,7 +16,7 @@ use Rattle.tables.specs.Entries.{Table}
 use Rattle.tiling.specs.declared.Search.{Search}
 use Rattle.tiling.specs.declared.Ran.{Ran}
 use Rattle.tiling.specs.declared.Ran.the-variants.{All, Spoiled}
-use Rattle.tiling.specs.Tile.{Visit, here, east, west, visits, visited, atEnd}
+use Rattle.tiling.specs.Tile.{Visit, here, east, west, visits, visited, wraps, atEnd}
 use Rattle.tiling.specs.Framed.{Framed, IsTile, here-framed, east-framed, west-framed}
 use Rattle.tiling.specs.Finite.{here-fine, east-fine, west-fine}
 use Rattle.tiling.specs.Runs.{Left, left, run, run-more, run-ends, run-count}
@@ -55,17 +55,25 @@ module _ (o : Options) (z x y : ℕ) (b : InBounds o) (w : IsTile z x y) (g : Se
 
 -- ---- a tile that has no strip finds what its own range finds
 
-pub own-range : (o : Options) (z x y : ℕ) (t : Table) (ids : List ℕ) (co : List Float) → atEnd z x ≡ false → visited o z x y t ids co ≡ visits (here o z x y) t ids co
+pub own-range : (o : Options) (z x y : ℕ) (t : Table) (ids : List ℕ) (co : List Float)
+    → atEnd o z x ≡ false → visited o z x y t ids co ≡ visits (here o z x y) t ids co
 unfolding visited east west
-own-range o z x y t ids co = go (eqb x 0) (eqb (x + 1) (2 ^ z)) refl refl
+own-range o z x y t ids co = go (wraps o) (eqb x 0) (eqb (x + 1) (2 ^ z)) refl refl refl
   where
     none : true ≡ false → ⊥
     none e = let i : _≡_ {A = ℕ} 0 1 = cc in omega arith
 
-    go : (a b : Bool) → eqb x 0 ≡ a → eqb (x + 1) (2 ^ z) ≡ b → (a || b) ≡ false → visited o z x y t ids co ≡ visits (here o z x y) t ids co
-    go false false p q e = rw (p, q) (append-nil (visits (here o z x y) t ids co))
-    go false true p q e = absurd (none e)
-    go true b p q e = absurd (none e)
+    go : (w a b : Bool) → wraps o ≡ w → eqb x 0 ≡ a → eqb (x + 1) (2 ^ z) ≡ b → (w && (a || b)) ≡ false
+        → visited o z x y t ids co ≡ visits (here o z x y) t ids co
+    go false a b r p q e = rw r (append-nil (visits (here o z x y) t ids co))
+    go true false false r p q e = rw (r, p, q) (append-nil (visits (here o z x y) t ids co))
+    go true false true r p q e = absurd (none e)
+    go true true b r p q e = absurd (none e)
+
+-- strips that do not run leave the tile its own range, whatever the table and its index hold
+pub no-strips : (o : Options) (z x y : ℕ) (t : Table) (ids : List ℕ) (co : List Float)
+    → wraps o ≡ false → visited o z x y t ids co ≡ visits (here o z x y) t ids co
+no-strips o z x y t ids co e = own-range o z x y t ids co (ap (λ (w : Bool). w && (eqb x 0 || eqb (x + 1) (2 ^ z))) e)
 
 -- ---- three runs, one after the other; each ends the listing, or the next goes on
 

@@ -9,6 +9,8 @@ use lib.Ieee.{Float, binary64, neg, add, sub, mul, div}
 use Rattle.floats.specs.Numbers.{zero, one, float}
 use Rattle.floats.specs.Unit.{in01}
 use Rattle.floats.specs.Away.{away}
+use Rattle.range.specs.declared.CoordinateSystem.{CoordinateSystem}
+use Rattle.range.specs.declared.CoordinateSystem.the-variants.{LatLng, Cartesian}
 use Rattle.kdslots.specs.declared.Query.the-variants.{Range}
 use Rattle.kdslots.specs.Slots.{when}
 use Rattle.kdbush.specs.Reply.{found}
@@ -59,17 +61,26 @@ strip o z y made a b v = record {
 unfoldable pub here : Options → ℕ → ℕ → ℕ → Search
 here o z x y = strip o z y true (least o z x) (greatest o z x) (float x)
 
+-- whether x goes round: longitude does, a plan has no far side
+abbrev pub goesRound : CoordinateSystem → Bool
+goesRound LatLng = true
+goesRound (Cartesian d) = false
+
+-- whether the strips run (02, #114): always, or for longitude only
+unfoldable pub wraps : Options → Bool
+wraps o = cond (o .«longitude_strips_only») (goesRound (o .«coordinate_system»)) true
+
 -- for x = 0 the strip 1 - p / z2 to 1, x replaced by z2
 unfoldable pub east : Options → ℕ → ℕ → ℕ → Search
-east o z x y = strip o z y (eqb x 0) (sub binary64 one (edge o z)) one (side z)
+east o z x y = strip o z y (wraps o && eqb x 0) (sub binary64 one (edge o z)) one (side z)
 
 -- for x = z2 - 1 the strip 0 to p / z2, x replaced by -1
 unfoldable pub west : Options → ℕ → ℕ → ℕ → Search
-west o z x y = strip o z y (eqb (x + 1) (2 ^ z)) zero (edge o z) (neg one)
+west o z x y = strip o z y (wraps o && eqb (x + 1) (2 ^ z)) zero (edge o z) (neg one)
 
--- the tile is the first or the last of its row: no other has a strip
-abbrev pub atEnd : ℕ → ℕ → Bool
-atEnd z x = eqb x 0 || eqb (x + 1) (2 ^ z)
+-- strips run, and the tile is the first or the last of its row: no other has a strip
+abbrev pub atEnd : Options → ℕ → ℕ → Bool
+atEnd o z x = wraps o && (eqb x 0 || eqb (x + 1) (2 ^ z))
 
 -- ---- what they find
 

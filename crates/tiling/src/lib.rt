@@ -1,12 +1,13 @@
 // What a tile lists of one table, and its tally. The table and its index stand alone in the lent columns.
 use kdslots::Query;
 use kdwalk::Step;
+use range::CoordinateSystem;
 use tables::Entry;
 use tables::Options;
 ghost use mathlib.Core.Path.{_≡_};
-ghost use mathlib.Core.Bool.{true, cond};
+ghost use mathlib.Core.Bool.{true, cond, _&&_};
 ghost use Prim.Native.Nat.{_+_, _*_, _^_, _<_, _≤_};
-ghost use lib.Dec.{T};
+ghost use lib.Dec.{T, eqb};
 ghost use lib.ListN.{length, set};
 ghost use lib.Ieee.{le, neg};
 ghost use Rattle.floats.specs.Numbers.{one, pow31};
@@ -14,7 +15,7 @@ ghost use Rattle.floats.specs.Unit.{In01};
 ghost use Rattle.kdslots.specs.Bounds.{coordsOk};
 ghost use Rattle.tables.specs.Bounds.{InBounds};
 ghost use Rattle.tables.specs.Rows.{rows, Even};
-ghost use Rattle.tiling.specs.Tile.{isTile, atEnd, side, strip, here, east, west, visited, namedAt, rounded, itemOf};
+ghost use Rattle.tiling.specs.Tile.{isTile, wraps, atEnd, side, strip, here, east, west, visited, namedAt, rounded, itemOf};
 ghost use Rattle.tiling.specs.Framed.{Framed, IsTile};
 ghost use Rattle.tiling.specs.Runs.{left, run};
 ghost use Rattle.tiling.specs.Turns.{walked};
@@ -149,6 +150,42 @@ fn search_here(o: Options, z: u32, x: u32, y: u32) -> Search
     strip_of(o, z, z2, y, true, (fx - p) / z2, (fx + 1.0 + p) / z2, fx)
 }
 
+// Whether tiles have strips: they run for longitude, and on a plan too unless the options say otherwise.
+fn runs_strips(o: Options) -> bool
+    ensures { λ r. ⌜ r ≡ wraps o ⌝ }
+{
+    if !o.longitude_strips_only {
+        return true;
+    }
+    let c = o.coordinate_system;
+    match c {
+        CoordinateSystem::LatLng => true,
+        CoordinateSystem::Cartesian { .. } => false,
+    }
+}
+
+// Whether the tile has the strip at the east end: it is the first of its row.
+fn has_east(o: Options, x: u32) -> bool
+    ensures { λ r. ⌜ r ≡ (wraps o && eqb x 0) ⌝ }
+{
+    if !runs_strips(o) {
+        return false;
+    }
+    x == 0
+}
+
+// Whether it has the strip at the west end: it is the last.
+fn has_west(o: Options, z: u32, x: u32) -> bool
+    requires { ⌜ z < 32 ⌝ }
+    ensures { λ r. ⌜ r ≡ (wraps o && eqb (x + 1) (2 ^ z)) ⌝ }
+{
+    if !runs_strips(o) {
+        return false;
+    }
+    let last = wide(x) + 1 == across(z);
+    last
+}
+
 // The strip at the east end, for the first tile of a row.
 fn search_east(o: Options, z: u32, x: u32, y: u32) -> Search
     requires { ⌜ z < 32 ⌝ }
@@ -156,7 +193,8 @@ fn search_east(o: Options, z: u32, x: u32, y: u32) -> Search
 {
     let z2 = floats::power(z);
     let e = o.radius / o.extent / z2;
-    strip_of(o, z, z2, y, x == 0, 1.0 - e, 1.0, z2)
+    let made = has_east(o, x);
+    strip_of(o, z, z2, y, made, 1.0 - e, 1.0, z2)
 }
 
 // The strip at the west end, for the last tile of a row.
@@ -166,15 +204,18 @@ fn search_west(o: Options, z: u32, x: u32, y: u32) -> Search
 {
     let z2 = floats::power(z);
     let e = o.radius / o.extent / z2;
-    let last = wide(x) + 1 == across(z);
-    strip_of(o, z, z2, y, last, 0.0, e, -1.0)
+    let made = has_west(o, z, x);
+    strip_of(o, z, z2, y, made, 0.0, e, -1.0)
 }
 
-// Whether a tile has a strip: it is the first or the last of its row.
-fn is_at_end(z: u32, x: u32) -> bool
+// Whether a tile has a strip: it is the first or the last of its row, and strips run.
+fn is_at_end(o: Options, z: u32, x: u32) -> bool
     requires { ⌜ z < 32 ⌝ }
-    ensures { λ r. ⌜ r ≡ atEnd z x ⌝ }
+    ensures { λ r. ⌜ r ≡ atEnd o z x ⌝ }
 {
+    if !runs_strips(o) {
+        return false;
+    }
     if x == 0 {
         return true;
     }
@@ -331,7 +372,7 @@ pub fn list(
     let Ran::All(a) = list_by(g, x, y, seen, id, parent, num, ids, coords, 0, out, px, py) else {
         return Ran::Spoiled;
     };
-    if !is_at_end(z, tx) {
+    if !is_at_end(o, z, tx) {
         return Ran::All(a);
     }
     let h = search_east(o, z, tx, ty);
@@ -465,7 +506,7 @@ fn add_with(
     if !a.whole {
         return a;
     }
-    if !is_at_end(z, tx) {
+    if !is_at_end(o, z, tx) {
         return a;
     }
     let h = search_east(o, z, tx, ty);

@@ -1,5 +1,6 @@
--- 01's lines that are not marked P, computed from the definitions too: the largest max_zoom, options that are refused, a lone lamp at (1, 0.5), which tile (0,0,0)
--- lists twice and counts once; and of 'Easy to get wrong' the four lamps with min_points 3, and both edge strips at z = 0. Assumes nothing.
+-- 01's lines that are not marked P, computed from the definitions too: the largest max_zoom, options that are refused, a lone lamp at
+-- (1, 0.5), which tile (0,0,0) lists twice and counts once, and lists once with the strips for longitude only (02, #114); and of 'Easy to get
+-- wrong' the four lamps with min_points 3, and both edge strips at z = 0. Assumes nothing.
 use mathlib.Core.Path.{_≡_, refl, ap}
 use mathlib.Core.Bool.{Bool, true, cond}
 use mathlib.Core.List.{[], _∷_, map}
@@ -29,7 +30,7 @@ use Rattle.zooms.specs.Zooms.{indexOf, slotsOf, run, joined, joinedIds, joinedC
 use Rattle.supercluster.specs.Build.{convertedAll, finest, tablesOf, Lent, written, roomy, checked, Outcome, loaded}
 use Rattle.asking.specs.declared.Answer.the-variants.{NoRoom}
 use Rattle.tiling.specs.declared.Tally.the-variants.{Sum}
-use Rattle.tiling.specs.Tile.{here, east, west, visited, listed, whole, rounded}
+use Rattle.tiling.specs.Tile.{here, wraps, east, west, visited, listed, whole, rounded}
 use Rattle.tiling.specs.Tally.{member, distinct, total, tallyOf}
 use Rattle.tiles.specs.Tallied.{tallied}
 use Rattle.tiles.specs.Asked.{Asked, told, asked, outcome, outcomeOf, tiled}
@@ -51,6 +52,7 @@ with z k =
       extent = o .extent;
       «node_size» = o .«node_size»;
       «coordinate_system» = o .«coordinate_system»;
+      «longitude_strips_only» = o .«longitude_strips_only»;
     }
 
 -- 32 tables of four lamps
@@ -80,7 +82,7 @@ lone = loaded (options 64) (one ∷ []) (half ∷ []) (zeros 3)
 -- at (512,256), and again at (0,256)
 pub tile-of-lone : asked (lone .reply .state) (columnsOf (lone .columns)) 0 0 0
     ≡ told true (record { place = 0; x = pos 512; y = pos 256 } ∷ record { place = 0; x = pos 0; y = pos 256 } ∷ [])
-unfolding loaded checked zeros written joined joinedIds joinedCo starts lens tablesOf run convertedAll finest slotsOf indexOf radiusAt cluster scanFrom scanOne visit copyAll copyOne absorb absorbOne more converted normalized offsetOf scaleOf filled sorted indexed selected sel parted passes up down swapCo swapIds firstOutside asked stateOk packed optionsOk systemInBounds inBounds visited here east west listed whole rounded away neg add sub mul div ofInt ofBits le lt eq shape split scanned slots places rows options b
+unfolding loaded checked zeros written joined joinedIds joinedCo starts lens tablesOf run convertedAll finest slotsOf indexOf radiusAt cluster scanFrom scanOne visit copyAll copyOne absorb absorbOne more converted normalized offsetOf scaleOf filled sorted indexed selected sel parted passes up down swapCo swapIds firstOutside asked stateOk packed optionsOk systemInBounds inBounds visited here wraps east west listed whole rounded away neg add sub mul div ofInt ofBits le lt eq shape split scanned slots places rows options b
 tile-of-lone = refl
 
 -- the shortest column has room for one of the two
@@ -90,8 +92,31 @@ lone-no-room = ap (λ (a : Asked). outcomeOf a (9 ∷ 9 ∷ []) (pos 9 ∷ []) (
 
 -- listed twice, and counted once
 pub tally-of-lone : tallied (lone .reply .state) (columnsOf (lone .columns)) 0 0 0 ≡ Sum 1
-unfolding loaded checked zeros written joined joinedIds joinedCo starts lens tablesOf run convertedAll finest slotsOf indexOf radiusAt cluster scanFrom scanOne visit copyAll copyOne absorb absorbOne more converted normalized offsetOf scaleOf filled sorted indexed selected sel parted passes up down swapCo swapIds firstOutside tallied tallyOf total distinct member stateOk packed optionsOk systemInBounds inBounds visited here east west listed whole rounded away neg add sub mul div ofInt ofBits le lt eq shape split scanned slots places rows options b
+unfolding loaded checked zeros written joined joinedIds joinedCo starts lens tablesOf run convertedAll finest slotsOf indexOf radiusAt cluster scanFrom scanOne visit copyAll copyOne absorb absorbOne more converted normalized offsetOf scaleOf filled sorted indexed selected sel parted passes up down swapCo swapIds firstOutside tallied tallyOf total distinct member stateOk packed optionsOk systemInBounds inBounds visited here wraps east west listed whole rounded away neg add sub mul div ofInt ofBits le lt eq shape split scanned slots places rows options b
 tally-of-lone = refl
+
+-- ---- the same lamp on a site plan, with the strips for longitude only: at (512,256) alone (02, #114)
+
+unfoldable pub onPlan : Options → Options
+onPlan o =
+    record {
+      «min_zoom» = o .«min_zoom»;
+      «max_zoom» = o .«max_zoom»;
+      «min_points» = o .«min_points»;
+      radius = o .radius;
+      extent = o .extent;
+      «node_size» = o .«node_size»;
+      «coordinate_system» = o .«coordinate_system»;
+      «longitude_strips_only» = true;
+    }
+
+abbrev pub planned : Outcome
+planned = loaded (onPlan (options 64)) (one ∷ []) (half ∷ []) (zeros 3)
+
+pub tile-of-planned : asked (planned .reply .state) (columnsOf (planned .columns)) 0 0 0
+    ≡ told true (record { place = 0; x = pos 512; y = pos 256 } ∷ [])
+unfolding onPlan loaded checked zeros written joined joinedIds joinedCo starts lens tablesOf run convertedAll finest slotsOf indexOf radiusAt cluster scanFrom scanOne visit copyAll copyOne absorb absorbOne more converted normalized offsetOf scaleOf filled sorted indexed selected sel parted passes up down swapCo swapIds firstOutside asked stateOk packed optionsOk systemInBounds inBounds visited here wraps east west listed whole rounded away neg add sub mul div ofInt ofBits le lt eq shape split scanned slots places rows options b
+tile-of-planned = refl
 
 -- ---- lamps at (0, 0.5) and (1, 0.5): each is listed in the tile, and once more by the other strip
 
@@ -105,5 +130,5 @@ pub tile-of-two : asked (two .reply .state) (columnsOf (two .columns)) 0 0 0
     ∷ record { place = 1; x = pos 0; y = pos 256 }
     ∷ record { place = 0; x = pos 512; y = pos 256 }
     ∷ [])
-unfolding loaded checked zeros written joined joinedIds joinedCo starts lens tablesOf run convertedAll finest slotsOf indexOf radiusAt cluster scanFrom scanOne visit copyAll copyOne absorb absorbOne more converted normalized offsetOf scaleOf filled sorted indexed selected sel parted passes up down swapCo swapIds firstOutside asked stateOk packed optionsOk systemInBounds inBounds visited here east west listed whole rounded away neg add sub mul div ofInt ofBits le lt eq shape split scanned slots places rows options b
+unfolding loaded checked zeros written joined joinedIds joinedCo starts lens tablesOf run convertedAll finest slotsOf indexOf radiusAt cluster scanFrom scanOne visit copyAll copyOne absorb absorbOne more converted normalized offsetOf scaleOf filled sorted indexed selected sel parted passes up down swapCo swapIds firstOutside asked stateOk packed optionsOk systemInBounds inBounds visited here wraps east west listed whole rounded away neg add sub mul div ofInt ofBits le lt eq shape split scanned slots places rows options b
 tile-of-two = refl

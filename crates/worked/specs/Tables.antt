@@ -1,6 +1,7 @@
 -- 01's worked build, computed from the definitions: the real index, the real search and the real distance test give the tables that 01 prints, at its node
 -- size and at node size 1, where the index is split; and columns one entry too short are refused 4. Assumes nothing.
 use mathlib.Core.Path.{_≡_, refl}
+use mathlib.Core.Bool.{false}
 use mathlib.Core.List.{List, [], _∷_}
 use Prim.Native.Nat.{ℕ, _+_}
 use lib.ListN.{set, replicate}
@@ -46,6 +47,7 @@ options size =
       extent = b 0x4080000000000000;
       «node_size» = size;
       «coordinate_system» = Cartesian (record { «min_x» = zero; «min_y» = zero; «max_x» = one; «max_y» = one; offset = Given zero; scale = Given one });
+      «longitude_strips_only» = false;
     }
 
 -- the four lamps

@@ -12,7 +12,7 @@ use Rattle.kdbush.specs.Run.{places}
 use Rattle.tables.specs.Rows.{rows}
 use Rattle.asking.specs.declared.Answer.the-variants.{Listed, Tile, Spoiled}
 use Rattle.tiling.specs.declared.Tally.the-variants.{Sum, Spoiled as Tally·Spoiled}
-use Rattle.tiling.specs.Tile.{here, east, west, visited, listed, whole, rounded}
+use Rattle.tiling.specs.Tile.{here, wraps, east, west, visited, listed, whole, rounded}
 use Rattle.tiling.specs.Tally.{member, distinct, total, tallyOf}
 use Rattle.tiles.specs.Tallied.{tallied}
 use Rattle.tiles.specs.Asked.{Asked, refused, told, asked, outcome, outcomeOf, tiled}
@@ -27,7 +27,7 @@ module _ (l : Lent) where
 
   -- entry 0 at (176,256)
   pub tile-000 : asked state (held l) 0 0 0 ≡ told true (record { place = 0; x = pos 176; y = pos 256 } ∷ [])
-  unfolding asked visited here east west listed whole rounded away neg add sub mul div ofInt ofBits le lt eq shape split scanned slots places rows options state after b asks
+  unfolding asked visited here wraps east west listed whole rounded away neg add sub mul div ofInt ofBits le lt eq shape split scanned slots places rows options state after b asks
   tile-000 = ap (asks (told true (record { place = 0; x = pos 176; y = pos 256 } ∷ []))) (sound l)
 
   -- in columns of two: the first item, and then what stood there
@@ -42,5 +42,5 @@ module _ (l : Lent) where
 
   -- its four lamps
   pub tally-000 : tallied state (held l) 0 0 0 ≡ Sum 4
-  unfolding tallied tallyOf total distinct member visited here east west listed whole rounded away neg add sub mul div ofInt ofBits le lt eq shape split scanned slots places rows options state after b
+  unfolding tallied tallyOf total distinct member visited here wraps east west listed whole rounded away neg add sub mul div ofInt ofBits le lt eq shape split scanned slots places rows options state after b
   tally-000 = ap (λ (s : Bool). cond (not s) Tally·Spoiled (Sum 4)) (sound l)

@@ -3,7 +3,7 @@
 use crate::{
     judge::Judge,
     listed::{is_limit_0, of_limit_0, Refused},
-    Item, Rust, Said,
+    plans, Item, Rust, Said,
 };
 use asked::Build;
 use questions::{decoded, Answer, Lent, Outcome, Question, Refusal, State};
@@ -28,9 +28,12 @@ pub struct Case<'a> {
 impl Case<'_> {
     /// Asks the Rust, which has loaded the points of a build, and holds an answer to what it says.
     pub fn beside<J: Judge>(&self, outcome: &Outcome, rust: &Rust<J>, build: &Build) -> Verdict {
-        match rust.ask(build, &self.question) {
-            Some(said) => self.judged(outcome, rust, &said),
-            None => Verdict::Different("no latitude for a y".to_string()),
+        let Some(said) = rust.ask(build, &self.question) else {
+            return Verdict::Different("no latitude for a y".to_string());
+        };
+        match self.judged(outcome, rust, &said) {
+            Verdict::Same => plans::beside_strips(self, rust, &said),
+            verdict => verdict,
         }
     }
 

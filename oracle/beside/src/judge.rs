@@ -1,7 +1,7 @@
 //! One face for the builds of the Rust: every question, put to the Rust's own functions.
 
 use crate::{Entry, Item};
-use geojson::{feature::Id, Feature, Value};
+use geojson::{feature::Id, Feature, FeatureCollection, Value};
 use options::{Options, Range};
 
 /// A build of the Rust. An error is the Rust's own, by its name.
@@ -20,6 +20,11 @@ pub trait Judge: Sized {
     fn leaves(&self, id: usize, limit: usize, offset: usize) -> Vec<Item>;
     fn expansion_zoom(&self, id: usize) -> usize;
     fn tile(&self, z: u8, x: f64, y: f64) -> Result<Vec<Item>, String>;
+
+    /// What a tile is without its strips, z at most 31: the items that the Rust makes of what its `range` finds between
+    /// the tile's edges, which are ours.
+    fn own_range(&self, z: u8, x: f64, y: f64) -> Result<Vec<Item>, String>;
+
     fn in_box(&self, corners: [f64; 4], zoom: u8) -> Result<Vec<Item>, String>;
     fn within(&self, zoom: u8, x: f64, y: f64, radius: f64) -> Vec<usize>;
 
@@ -154,6 +159,23 @@ macro_rules! judge {
 
                 fn tile(&self, z: u8, x: f64, y: f64) -> Result<Vec<Item>, String> {
                     items(self.0.get_tile(z, x, y).map(|tile| tile.features))
+                }
+
+                fn own_range(&self, z: u8, x: f64, y: f64) -> Result<Vec<Item>, String> {
+                    let Build(rust) = self;
+                    let tree = &rust.trees[&rust.limit_zoom(z)];
+                    let z2 = f64::from(1_u32 << z);
+                    let p = rust.options.radius / rust.options.extent;
+                    let [w, e] = [x - p, x + 1.0 + p].map(|v| v / z2);
+                    let [top, bottom] = [y - p, y + 1.0 + p].map(|v| v / z2);
+                    let mut own =
+                        FeatureCollection { bbox: None, features: vec![], foreign_members: None };
+                    let found = tree.range(w, top, e, bottom);
+                    rust.add_tile_features(&found, &tree.data, x, y, z2, &mut own);
+                    match own.features.is_empty() {
+                        true => Err("TileNotFound".to_string()),
+                        false => Ok(own.features.iter().map(item).collect()),
+                    }
                 }
 
                 fn in_box(&self, corners: [f64; 4], zoom: u8) -> Result<Vec<Item>, String> {

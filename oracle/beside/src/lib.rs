@@ -6,6 +6,7 @@ mod counted;
 pub mod judge;
 mod listed;
 mod plain;
+mod plans;
 mod rust;
 mod rusts;
 mod skipped;

@@ -2,7 +2,7 @@
 
 use crate::{
     judge::{Judge, Table},
-    Item,
+    plans, Item,
 };
 use asked::{Build, Columns};
 use questions::Question;
@@ -61,9 +61,18 @@ impl<J: Judge> Rust<J> {
         self.0.within(zoom, x, y, radius)
     }
 
-    /// Asks, where a box has corners that the Rust can be given. The tally is the tile's.
+    /// The items of a tile, with its strips.
+    pub fn tile(&self, z: u8, x: u32, y: u32) -> Said {
+        said(self.0.tile(z, f64::from(x), f64::from(y)))
+    }
+
+    /// Asks, where a box has corners that the Rust can be given. The tally is the tile's. Where the strips are left
+    /// out, a tile is its own range: the Rust's `get_tile` has no such option.
     pub fn ask(&self, build: &Build, question: &Question) -> Option<Said> {
         let Rust(rust) = self;
+        if let Some((z, x, y)) = plans::without_strips(&build.state.options, question) {
+            return Some(said(rust.own_range(z, f64::from(x), f64::from(y))));
+        }
         Some(match *question {
             Question::Box { zoom, corners } => {
                 said(rust.in_box(build.rust_corners(corners)?, zoom))
@@ -72,9 +81,7 @@ impl<J: Judge> Rust<J> {
             Question::Children { id } => self.children(id),
             Question::Leaves { id, limit, offset } => self.leaves(id, limit, offset),
             Question::ExpansionZoom { id } => Said::Number(rust.expansion_zoom(id as usize)),
-            Question::Tile { z, x, y } | Question::Tally { z, x, y } => {
-                said(rust.tile(z, f64::from(x), f64::from(y)))
-            }
+            Question::Tile { z, x, y } | Question::Tally { z, x, y } => self.tile(z, x, y),
         })
     }
 }

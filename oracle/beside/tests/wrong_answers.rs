@@ -2,7 +2,7 @@
 
 use asked::Build;
 use beside::{Case, Rusts, Verdict};
-use options::corners;
+use options::{corners, Options, Plane, UNIT};
 use questions::{leaves, Answer, Outcome, Question, Refusal};
 use splitmix::Splitmix;
 
@@ -57,6 +57,37 @@ fn lamps_at_limit_0_are_a_difference() {
         }
     }
     assert!(clusters > 100, "{clusters}");
+}
+
+/// On a plan without strips the Rust's own tile is the wrong answer where its strips list something, and so is its tally.
+#[test]
+fn ghosts_on_a_plan_are_a_difference() {
+    let mut source = Splitmix(5);
+    let mut ghosts = [0; 2];
+    for count in [2, 3, 5, 7, 8, 9, 12, 20, 30, 50, 80, 120] {
+        let plane = Plane::Cartesian(UNIT);
+        let options = Options { plane, ..corners::ordinary(&mut source) };
+        let on =
+            Build::made(Options { longitude_strips_only: true, ..options }, count, &mut source);
+        let mut off = on.state.clone();
+        off.options.longitude_strips_only = false;
+        let (scene, rusts) = (on.scene(), Rusts::loaded(&on));
+        for question in asked::many(&scene, &mut source) {
+            let case = Case { state: scene.state, lent: scene.lent, question };
+            let [with, without] = [&off, scene.state].map(|s| question.answered(s, &scene.lent));
+            match rusts.judged(&case, &without) {
+                Verdict::Listed("P1 to P3") => {
+                    ghosts[question.kind() - 5] += usize::from(with != without)
+                }
+                _ => assert_eq!(with, without, "{question:?}"),
+            }
+            if with != without {
+                let verdict = rusts.judged(&case, &with);
+                assert!(matches!(verdict, Verdict::Different(_)), "{question:?}: {verdict:?}");
+            }
+        }
+    }
+    assert!(ghosts.iter().all(|times| *times > 30), "{ghosts:?}");
 }
 
 /// Refused by no right number; a number beside the right one; a list of too little, too much, or something else.

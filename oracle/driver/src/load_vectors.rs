@@ -75,6 +75,7 @@ fn options(number: usize, [min_zoom, max_zoom]: [u8; 2], source: &mut Splitmix) 
         extent,
         node_size: NODE_SIZES[number / 2 % NODE_SIZES.len()],
         plane: corners::plane(number, source),
+        longitude_strips_only: number / corners::PLANES % 2 == 1,
     }
 }
 
@@ -141,6 +142,7 @@ pub fn option_words(options: &Options) -> Vec<u64> {
     for number in [range.offset, range.scale] {
         words.extend([u64::from(number.is_some()), number.unwrap_or(0.0).to_bits()]);
     }
+    words.push(u64::from(options.longitude_strips_only));
     words
 }
 

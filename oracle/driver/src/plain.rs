@@ -12,6 +12,7 @@ pub const WORKED: Options = Options {
     extent: 512.0,
     node_size: 64,
     plane: Plane::Cartesian(UNIT),
+    longitude_strips_only: false,
 };
 
 /// The four lamps of 01's worked build, in 65,536ths.

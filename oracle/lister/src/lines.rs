@@ -48,6 +48,7 @@ fn options_of(input: &Input) -> Options {
         extent: f64::from(input.extent),
         node_size: input.node_size as usize,
         plane: Plane::Cartesian(UNIT),
+        longitude_strips_only: false,
     }
 }
 

@@ -37,7 +37,9 @@ pub const PLANES: usize = 8;
 /// Options with each part picked by chance.
 pub fn any(source: &mut Splitmix) -> Options {
     let [min_zoom, max_zoom] = source.pick(&ZOOMS);
-    let kind = source.below(PLANES as u64) as usize;
+    // Two things of one number: its lowest bits and another one.
+    let bits = source.bits();
+    let kind = (bits % PLANES as u64) as usize;
     Options {
         min_zoom,
         max_zoom,
@@ -46,6 +48,7 @@ pub fn any(source: &mut Splitmix) -> Options {
         extent: source.pick(&EXTENTS),
         node_size: source.pick(&NODE_SIZES),
         plane: plane(kind, source),
+        longitude_strips_only: bits >> 32 & 1 == 1,
     }
 }
 

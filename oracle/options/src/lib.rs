@@ -54,6 +54,8 @@ pub struct Options {
     pub extent: f64,
     pub node_size: usize,
     pub plane: Plane,
+    /// Whether a tile's edge strips run for longitude only.
+    pub longitude_strips_only: bool,
 }
 
 impl Options {
@@ -63,7 +65,7 @@ impl Options {
     }
 }
 
-/// What the Rust takes where nothing is said, but for the coordinate system.
+/// What the Rust takes where nothing is said, but for the coordinate system; its strips run everywhere.
 pub const USUAL: Options = Options {
     min_zoom: 0,
     max_zoom: 16,
@@ -72,4 +74,5 @@ pub const USUAL: Options = Options {
     extent: 512.0,
     node_size: 64,
     plane: Plane::Cartesian(UNIT),
+    longitude_strips_only: false,
 };

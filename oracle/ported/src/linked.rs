@@ -109,6 +109,7 @@ extern "C" {
         offset: f64,
         scale_given: bool,
         scale: f64,
+        longitude_strips_only: bool,
         xs: *const f64,
         xs_length: usize,
         ys: *const f64,

@@ -140,6 +140,7 @@ pub fn load(options: &Options, xs: &[f64], ys: &[f64], columns: Lent, state: Sta
             range.offset.unwrap_or(NOT_GIVEN),
             range.scale.is_some(),
             range.scale.unwrap_or(NOT_GIVEN),
+            options.longitude_strips_only,
             xs.as_ptr(),
             xs.len(),
             ys.as_ptr(),

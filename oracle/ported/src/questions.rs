@@ -27,6 +27,7 @@ macro_rules! linked {
                 offset: f64,
                 scale_given: bool,
                 scale: f64,
+                longitude_strips_only: bool,
                 count: u32,
                 starts: *const [u32; ZOOMS],
                 lens: *const [u32; ZOOMS],
@@ -95,8 +96,16 @@ pub struct Asked<'a> {
 /// array lent for the call.
 macro_rules! call {
     ($asked:ident, $name:ident, [$($column:ident),*], $($word:expr),*) => {{
-        let Options { min_zoom, max_zoom, min_points, radius, extent, node_size, plane } =
-            *$asked.options;
+        let Options {
+            min_zoom,
+            max_zoom,
+            min_points,
+            radius,
+            extent,
+            node_size,
+            plane,
+            longitude_strips_only,
+        } = *$asked.options;
         let (cartesian, range) = match plane {
             Plane::Globe => (false, NO_RANGE),
             Plane::Cartesian(range) => (true, range),
@@ -118,6 +127,7 @@ macro_rules! call {
                 range.offset.unwrap_or(NOT_GIVEN),
                 range.scale.is_some(),
                 range.scale.unwrap_or(NOT_GIVEN),
+                longitude_strips_only,
                 $asked.count,
                 $asked.starts,
                 $asked.lens,

@@ -5,6 +5,7 @@ use crate::{
     state::Table,
     Answer, Lent, Refusal, State,
 };
+use options::{Options, Plane};
 use std::collections::BTreeSet;
 
 /// An item of a tile: an entry's place in its table, and where it lies in the tile.
@@ -23,8 +24,10 @@ pub fn tile(state: &State, lent: &Lent, z: u8, x: u32, y: u32) -> Answer<Item> {
             return Err(Refusal::Tile);
         }
         let table = state.table(lent, state.zoom_used(z));
-        let sheet = Sheet { table, extent: state.options.extent, z2: (1_u64 << z) as f64 };
-        sheet.items(state.options.radius / state.options.extent, [x, y].map(f64::from), items)?;
+        let Options { radius, extent, .. } = state.options;
+        let strips = has_strips(&state.options);
+        let sheet = Sheet { table, extent, z2: (1_u64 << z) as f64, strips };
+        sheet.items(radius / extent, [x, y].map(f64::from), items)?;
         match items.is_empty() {
             true => Err(Refusal::EmptyTile),
             false => Ok(()),
@@ -43,23 +46,32 @@ pub fn tally(state: &State, lent: &Lent, z: u8, x: u32, y: u32) -> Result<u64, R
     Ok(places.iter().map(|place| u64::from(table.num[*place as usize])).sum())
 }
 
-/// A table at the scale of a tile.
+/// Whether the strips run: everywhere, or by the option of #114 for longitude only.
+fn has_strips(options: &Options) -> bool {
+    match options.plane {
+        Plane::Globe => true,
+        Plane::Cartesian(_) => !options.longitude_strips_only,
+    }
+}
+
+/// A table at the scale of a tile, with strips beyond the edges of the map or without.
 struct Sheet<'a> {
     table: Table<'a>,
     extent: f64,
     z2: f64,
+    strips: bool,
 }
 
 impl Sheet<'_> {
-    /// The tile with a margin of p, then the strips beyond the edges of the map.
+    /// The tile with a margin of p, then the strips, if there are any.
     fn items(&self, p: f64, [x, y]: [f64; 2], items: &mut Vec<Item>) -> Result<(), Refusal> {
         let z2 = self.z2;
         let (top, bottom) = ((y - p) / z2, (y + 1.0 + p) / z2);
         self.found([(x - p) / z2, top, (x + 1.0 + p) / z2, bottom], [x, y], items)?;
-        if x == 0.0 {
+        if self.strips && x == 0.0 {
             self.found([1.0 - p / z2, top, 1.0, bottom], [z2, y], items)?;
         }
-        if x == z2 - 1.0 {
+        if self.strips && x == z2 - 1.0 {
             self.found([0.0, top, p / z2, bottom], [-1.0, y], items)?;
         }
         Ok(())

@@ -5,7 +5,7 @@ mod common;
 use common::{single, worked, Build, NONE, WORKED};
 use options::{Options, Plane, UNIT};
 use questions::{
-    children, expansion_zoom, leaves, Item, Lent, Out, Outcome, Question, Refusal, Reply,
+    children, expansion_zoom, leaves, tile, Item, Lent, Out, Outcome, Question, Refusal, Reply,
 };
 
 const SPOILED: Reply = Reply { number: 11, carried: 0 };
@@ -215,6 +215,20 @@ fn a_tile_stops_at_an_entry_outside() {
         assert_eq!(answer.items, [Item { place: 0, x: 0, y: 0 }]);
         assert_eq!(reply(&build, &build.lent(), &EACH[6]), SPOILED);
     }
+}
+
+#[test]
+fn what_lies_in_a_strip_alone_is_not_come_to_without_strips() {
+    let mut build = single(Plane::Cartesian(UNIT), &[[0.25, 0.5], [1.0, 0.5]]);
+    // The table of zoom 1 comes first: its second slot names no place.
+    build.ids[1] = 2;
+    assert_eq!(tile(&build.state, &build.lent(), 1, 0, 0).reply(9), SPOILED);
+    build.state.options.longitude_strips_only = true;
+    let answer = tile(&build.state, &build.lent(), 1, 0, 0);
+    assert_eq!(answer.items, [Item { place: 0, x: 256, y: 512 }]);
+    assert_eq!(answer.reply(9), Reply::done(1));
+    // In the tile's own range it is.
+    assert_eq!(tile(&build.state, &build.lent(), 1, 1, 0).reply(9), SPOILED);
 }
 
 #[test]

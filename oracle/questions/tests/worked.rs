@@ -97,6 +97,31 @@ fn a_lamp_at_the_edge() {
 }
 
 #[test]
+fn a_lamp_at_the_fence_of_a_plan() {
+    let mut build = single(Plane::Cartesian(UNIT), &[[1.0, 0.5]]);
+    build.state.options.longitude_strips_only = true;
+    assert_eq!(listed(tile(&build.state, &build.lent(), 0, 0, 0)), items(&[(0, 512, 256)]));
+    assert_eq!(tally(&build.state, &build.lent(), 0, 0, 0), Ok(1));
+    // Its ghost is all that the first tile of zoom 1 would list.
+    assert_eq!(tile(&build.state, &build.lent(), 1, 0, 0).told(&mut []), refused(8));
+    assert_eq!(
+        tally(&build.state, &build.lent(), 1, 0, 0).map_err(|refusal| refusal as u32),
+        Err(8)
+    );
+}
+
+#[test]
+fn longitude_has_strips_either_way() {
+    let mut build = single(Plane::Globe, &[[1.0, 0.5]]);
+    for longitude_strips_only in [false, true] {
+        build.state.options.longitude_strips_only = longitude_strips_only;
+        let both = items(&[(0, 512, 256), (0, 0, 256)]);
+        assert_eq!(listed(tile(&build.state, &build.lent(), 0, 0, 0)), both);
+        assert_eq!(listed(tile(&build.state, &build.lent(), 1, 0, 0)), items(&[(0, 0, 512)]));
+    }
+}
+
+#[test]
 fn both_strips_at_zoom_0() {
     let build = single(Plane::Cartesian(UNIT), &[[0.0, 0.5], [1.0, 0.5]]);
     let all = items(&[(0, 0, 256), (1, 512, 256), (1, 0, 256), (0, 512, 256)]);

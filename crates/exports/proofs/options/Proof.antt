@@ -21,6 +21,7 @@ made s y =
       extent = a .extent;
       «node_size» = a .node-size;
       «coordinate_system» = y;
+      «longitude_strips_only» = a .longitude-strips-only;
     }
 
 -- the range, with this offset and this scale

@@ -8,12 +8,15 @@ use Rattle.tiling.proofs.search_east.Tie as tie
 power-requires : tie.Need-power-requires
 power-requires c κs = search needs
 
+has-east-requires : tie.Need-has-east-requires
+has-east-requires c κs = search needs
+
 strip-of-requires : tie.Need-strip-of-requires
 strip-of-requires c κs = search needs
 
 returns : tie.Need-returns
 unfolding east ofBits
-returns c = simp (c .strip-of .ensures, c .before .before .power .ensures)
+returns c = simp (c .strip-of .ensures, c .before .before .before .power .ensures, c .before .has-east .ensures)
 
 pub search-east-spec : {M : Type 1} → statement M
-search-east-spec = tie.close (tie.spec power-requires strip-of-requires returns)
+search-east-spec = tie.close (tie.spec power-requires has-east-requires strip-of-requires returns)

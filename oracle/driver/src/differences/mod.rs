@@ -1,6 +1,7 @@
 //! The inputs on which 01 and the Rust differ: each is run against the untouched Rust and the patched one, and must
 //! give what its row in docs/DIFFERENCES.md says. Where a patch of ours has the Rust follow 01, the untouched Rust must
-//! give what the row says of the Rust, and the others what it says of 01.
+//! give what the row says of the Rust, and the others what it says of 01. Of the tiles of a site plan, the Rust's search
+//! of a tile's own range must give what the row says of 02.
 
 mod boxes;
 mod child;
@@ -9,6 +10,7 @@ mod lent;
 mod limits;
 mod options;
 mod page;
+mod plans;
 mod points;
 mod ranges;
 mod rings;
@@ -50,6 +52,7 @@ fn cases<J: Judge>() -> Vec<Case> {
     all.extend(ids::cases::<J>());
     all.extend(limits::cases::<J>());
     all.extend(tiles::cases::<J>());
+    all.extend(plans::cases::<J>());
     all.extend(boxes::cases::<J>());
     all.extend(lent::cases::<J>());
     all.extend(ranges::cases::<J>());
@@ -66,6 +69,8 @@ pub fn run(page: &str) -> ExitCode {
     let builds = [
         (Untouched::NAME, cases::<Untouched>(), Held::ToTheRust),
         (Patched::NAME, cases::<Patched>(), Held::ToTheRust),
+        (Untouched::NAME, plans::without_strips::<Untouched>(), Held::ToTheScope),
+        (Patched::NAME, plans::without_strips::<Patched>(), Held::ToTheScope),
         ("one beside the other", window::cases(), Held::ToTheRust),
         (Untouched::NAME, rings::refused::<Untouched>(), Held::ToTheRust),
         (Untouched::NAME, rings::cases::<Untouched>(), Held::ToTheRust),

@@ -1,7 +1,7 @@
 //! What is asked in the vectors: 01's worked build, the same with changes, builds of a few points, and states
 //! that no build made, as many as it takes to come to every reply.
 
-use super::changed;
+use super::{changed, fences};
 use crate::{
     load_vectors::tables,
     plain::{columns, points as in_parts, ABOVE_QUARTER, LAMPS, REACHED, REACHING, WORKED},
@@ -23,18 +23,22 @@ pub struct Case {
 /// Every case.
 pub fn all() -> Vec<Case> {
     let mut source = Splitmix(1);
-    let mut all = vec![worked(&mut source), lamp_at_the_edge(&mut source), row(&mut source)];
+    let mut all =
+        vec![worked(&mut source), lamp_at_the_edge(WORKED, &mut source), row(&mut source)];
     all.extend(changed::all(&mut source));
     all.extend((0..BUILDS.len()).map(|number| of_points(number, &mut source)));
     all.extend(spoiled_ones());
     all.push(lamps_at_both_edges(&mut source));
     all.extend([1, 64].map(|node_size| beside_a_quarter(node_size, &mut source)));
     all.push(above_a_quarter(&mut source));
+    let on_a_plan = Options { longitude_strips_only: true, ..WORKED };
+    all.push(lamp_at_the_edge(on_a_plan, &mut source));
+    all.extend(fences::all(&mut source));
     all
 }
 
 /// A build of points as the port takes them.
-fn built(what: &str, options: Options, points: [Vec<f64>; 2]) -> Build {
+pub fn built(what: &str, options: Options, points: [Vec<f64>; 2]) -> Build {
     let tables = tables(&options, &points);
     let (starts, lens) = (tables.starts, tables.lens);
     let state = State { options, count: points[0].len() as u32, starts, lens };
@@ -81,11 +85,11 @@ fn worked(source: &mut Splitmix) -> Case {
 }
 
 /// 01's lamp at (1, 0.5).
-fn lamp_at_the_edge(source: &mut Splitmix) -> Case {
+fn lamp_at_the_edge(options: Options, source: &mut Splitmix) -> Case {
     let tiles = [(0, 0, 0), (1, 0, 0), (1, 1, 0), (1, 0, 1), (31, 0, 1 << 30)];
     let both = |(z, x, y)| [Question::Tile { z, x, y }, Question::Tally { z, x, y }];
     let questions = tiles.into_iter().flat_map(both).collect();
-    with_rooms(built("edge", WORKED, [vec![1.0], vec![0.5]]), questions, source)
+    with_rooms(built("edge", options, [vec![1.0], vec![0.5]]), questions, source)
 }
 
 /// Lamps at both edges: at zoom 0 one tile has both strips.
@@ -220,9 +224,9 @@ fn asked_of(build: &Build, source: &mut Splitmix) -> Vec<Question> {
     questions.into_iter().map(one).collect()
 }
 
-/// What a question of the spoiled states shows: its kind, the number of its reply, and whether something is
-/// listed.
-type Shown = (u64, u32, bool);
+/// What a question of the spoiled states shows: its kind, the number of its reply, whether something is listed, and
+/// whether the strips run for longitude only.
+type Shown = (u64, u32, bool, bool);
 
 /// So often every such thing is shown, as far as it is found.
 const TIMES: usize = 3;
@@ -261,11 +265,17 @@ fn of_use(case: Case, shown: &mut BTreeMap<Shown, usize>) -> Option<Case> {
         let (mut places, mut x, mut y) = (vec![0; rooms[0]], vec![0; rooms[1]], vec![0; rooms[2]]);
         let reply = outcome.told(&mut Out { places: &mut places, x: &mut x, y: &mut y });
         let kind = super::question_words(&question)[0];
-        let times = shown.entry((kind, reply.number, outcome.length() > 0)).or_default();
+        let strips = build.state.options.longitude_strips_only && is_tile(&question);
+        let times = shown.entry((kind, reply.number, outcome.length() > 0, strips)).or_default();
         if *times < TIMES {
             *times += 1;
             kept.push((question, rooms));
         }
     }
     (!kept.is_empty()).then_some(Case { build, questions: kept })
+}
+
+/// Whether a question is for a tile or its tally.
+fn is_tile(question: &Question) -> bool {
+    matches!(question, Question::Tile { .. } | Question::Tally { .. })
 }

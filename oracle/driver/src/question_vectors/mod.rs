@@ -4,6 +4,7 @@
 
 mod cases;
 mod changed;
+mod fences;
 
 use crate::{load_vectors::option_words, questions::Over};
 use asked::{Build, Columns, Rooms};

@@ -62,6 +62,7 @@ pub fn corners(form: Form, source: &mut Splitmix, mut compare: impl FnMut(&Case,
                                 extent,
                                 node_size,
                                 plane,
+                                longitude_strips_only: number / corners::PLANES % 2 == 1,
                             };
                             let drawn = DRAWN[number % DRAWN.len()];
                             let count = 1 + source.below(most) as usize;

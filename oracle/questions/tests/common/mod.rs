@@ -18,6 +18,7 @@ pub const WORKED: Options = Options {
     extent: 512.0,
     node_size: 64,
     plane: Plane::Cartesian(UNIT),
+    longitude_strips_only: false,
 };
 
 /// A state and columns of its own.
