@@ -41,7 +41,7 @@ use Rattle.asking.specs.Asked.{Asked, refused, told, answerOf}
 use Rattle.asking.specs.Columns.{indexRoom, roomOf, room-index, idsAt, coordsAt}
 use Rattle.boxes.specs.Inside.{Indexed, Passes, Exactly, cartesian-box, longitude-box, split-box, ring-exactly}
 use Rattle.boxes.specs.Lists.{boxAsked, ringAsked}
-use Rattle.boxes.specs.Rule.{halfCircle, ruled, boxOk}
+use Rattle.boxplan.specs.Rule.{halfCircle, ruled, boxOk}
 use Rattle.zooms.specs.Zooms.{slotsOf}
 use Rattle.zooms.specs.Running.{table-inside}
 use Rattle.supercluster.specs.Build.{Lent, need}

@@ -17,7 +17,7 @@ use Rattle.asking.specs.declared.Answer.the-variants.{Spoiled}
 use Rattle.asking.specs.Answers.{fitted}
 use Rattle.asking.specs.Asked.{answerOf, columnOf}
 use Rattle.asking.specs.Filled.{filled-length}
-use Rattle.boxes.specs.declared.Plan.{Plan}
+use Rattle.boxplan.specs.declared.Plan.{Plan}
 use Rattle.boxes.specs.declared.Part.the-variants.{All, Past}
 use Rattle.boxes.specs.Lists.{walked, planned}
 use Rattle.boxes.specs.Joined.{partOf, part-all, part-past, found-length, first-past, only-first, second-past, both-whole}

@@ -28,7 +28,7 @@ use Rattle.tables.specs.State.{lenOf}
 use Rattle.tables.specs.Sound.{stateOk}
 use Rattle.asking.specs.Asked.{told}
 use Rattle.asking.specs.Columns.{indexRoom, idsAt, coordsAt}
-use Rattle.boxes.specs.Rule.{ruled, edged, once, halves, planOf, boxOk}
+use Rattle.boxplan.specs.Rule.{ruled, edged, once, halves, planOf, boxOk}
 use Rattle.boxes.specs.Lists.{walked, listedAt, ringAsked, boxAsked}
 
 -- ---- what is said

@@ -1,8 +1,7 @@
--- Definitions that contracts cite: Rule, Lists, Joined (its first). All else is laws and theorems.
-pub mod Rule
+-- Definitions that contracts cite: Lists, Joined (its first). All else is laws and theorems.
 pub mod Lists
+pub mod Standing
 pub mod Joined
-pub mod Again
 pub mod Inside
 pub mod Replies
 pub mod Worked

@@ -16,8 +16,8 @@ use Rattle.tables.specs.Sound.{stateOk}
 use Rattle.asking.specs.declared.Answer.the-variants.{Box, Spoiled}
 use Rattle.asking.specs.Asked.{Asked, refused, told}
 use Rattle.asking.specs.Columns.{indexRoom, idsAt, coordsAt}
-use Rattle.boxes.specs.declared.Plan.{Plan}
-use Rattle.boxes.specs.Rule.{once, planOf, boxOk}
+use Rattle.boxplan.specs.declared.Plan.{Plan}
+use Rattle.boxplan.specs.Rule.{once, planOf, boxOk}
 
 -- places of a table of n entries, one after the other: the walk ends before the first that is past the table
 abbrev pub walked : ℕ → List ℕ → Asked

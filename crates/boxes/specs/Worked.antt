@@ -1,12 +1,11 @@
--- Boxes worked from the definitions: the rule is not done with a longitude at once, so that a half that is put through it again grows to the whole row; 180 stays
--- as an eastern edge alone; an entry is listed twice; and 11 in the walk comes before 10. Assumes nothing.
+-- Boxes worked from the definitions: one whose first half grows to the whole row, so that an entry is listed twice; and 11 in the walk comes before 10. Assumes
+-- nothing.
 use mathlib.Core.Path.{_≡_, refl}
 use mathlib.Core.Bool.{true, false}
 use mathlib.Core.List.{List, [], _∷_}
 use Prim.Native.Nat.{ℕ}
 use lib.ListN.{set, replicate}
-use lib.IntN.{negsuc}
-use lib.Ieee.{Float, fin, le, lt, eq, neg, round, sum, add, sub, div, rem, ofInt}
+use lib.Ieee.{Float, le, lt, eq, neg, round, sum, add, sub, div, rem, ofInt}
 use Rattle.floats.specs.Numbers.{zero, half, one, float}
 use Rattle.range.specs.declared.CoordinateSystem.the-variants.{LatLng}
 use Rattle.range.specs.Range.{mercatorX, converted, systemInBounds}
@@ -20,48 +19,9 @@ use Rattle.tables.specs.Options.{optionsOk}
 use Rattle.tables.specs.Sound.{packed, stateOk}
 use Rattle.asking.specs.declared.Answer.the-variants.{NoRoom, Box, Spoiled}
 use Rattle.asking.specs.Asked.{refused, told, answerOf, columnOf}
-use Rattle.boxes.specs.Rule.{halfCircle, wrapped, ruled, planOf}
+use Rattle.boxplan.specs.Rule.{halfCircle, wrapped, ruled, planOf}
+use Rattle.boxplan.specs.Worked.{west, east}
 use Rattle.boxes.specs.Lists.{boxAsked}
-
--- ---- the rule
-
--- -180.00000000000006, 179.99999999999994, -170
-abbrev west : Float
-west = fin true 3166593487994881 (negsuc 43)
-
-abbrev west' : Float
-west' = fin false 3166593487994879 (negsuc 43)
-
-abbrev east : Float
-east = neg (float 170)
-
--- the new w exceeds the new e
-pub worked-split : ruled west east ≡ record { w = west'; e = east; split = true }
-unfolding ruled wrapped ofInt neg add sub sum rem round le lt eq
-worked-split = refl
-
--- the first half, put through the rule again, is the whole row
-pub worked-first : ruled west' halfCircle ≡ record { w = neg halfCircle; e = halfCircle; split = false }
-unfolding ruled wrapped ofInt neg add sub sum rem round le lt eq
-worked-first = refl
-
-pub worked-second : ruled (neg halfCircle) east ≡ record { w = neg halfCircle; e = east; split = false }
-unfolding ruled wrapped ofInt neg add sub sum rem round le lt eq
-worked-second = refl
-
--- w = e = 180 is the whole row
-pub worked-180 : ruled halfCircle halfCircle ≡ record { w = neg halfCircle; e = halfCircle; split = false }
-unfolding ruled wrapped ofInt neg add sub sum rem round le lt eq
-worked-180 = refl
-
--- -200.7 becomes 159.3, and that 159.29999999999995
-pub worked-wrap : wrapped (fin true 3530751739114291 (negsuc 43)) ≡ fin false 2802435236875469 (negsuc 43)
-unfolding wrapped ofInt neg add sub sum rem round
-worked-wrap = refl
-
-pub worked-wrap-again : wrapped (fin false 2802435236875469 (negsuc 43)) ≡ fin false 700608809218867 (negsuc 41)
-unfolding wrapped ofInt neg add sub sum rem round
-worked-wrap-again = refl
 
 -- ---- the box, over lamps at -180, -170, 0, 170 and 180
 

@@ -22,7 +22,7 @@ use Rattle.tables.specs.Options.{zoomUsed}
 use Rattle.tables.specs.Sound.{stateOk}
 use Rattle.asking.specs.Asked.{told}
 use Rattle.asking.specs.Columns.{indexRoom, idsAt, coordsAt}
-use Rattle.boxes.specs.Rule.{once, planOf, boxOk}
+use Rattle.boxplan.specs.Rule.{once, planOf, boxOk}
 use Rattle.boxes.specs.Lists.{listedAt, boxAsked}
 use Rattle.boxes.specs.Inside.{Indexed, one-told}
 use Rattle.supercluster.specs.Build.{Lent, Outcome, need, checked, byReply, loaded}

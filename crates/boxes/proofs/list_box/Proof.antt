@@ -8,8 +8,8 @@ use Rattle.tables.specs.Options.{zoomUsed}
 use Rattle.tables.specs.Sound.{stateOk}
 use Rattle.asking.specs.Asked.{Asked, answerOf, columnOf}
 use Rattle.asking.specs.Columns.{indexRoom}
-use Rattle.boxes.specs.declared.Plan.{Plan}
-use Rattle.boxes.specs.Rule.{planOf, boxOk}
+use Rattle.boxplan.specs.declared.Plan.{Plan}
+use Rattle.boxplan.specs.Rule.{planOf, boxOk}
 use Rattle.boxes.specs.Lists.{boxAsked, listedAt}
 use Rattle.boxes.proofs.Used.{asked-spoiled, asked-box, asked-listed}
 use borrow.Author.Needs.{needs}

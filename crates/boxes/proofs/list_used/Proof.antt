@@ -3,7 +3,8 @@ use mathlib.Core.Path.{ap, _∙_}
 use denote.Ref.{now}
 use lib.ListN.{length}
 use Rattle.asking.specs.Asked.{Asked, answerOf, columnOf}
-use Rattle.boxes.proofs.Used.{used-small, at-used, listed-used}
+use Rattle.boxes.specs.Standing.{used-small, at-used}
+use Rattle.boxes.proofs.Used.{listed-used}
 use borrow.Author.Needs.{needs}
 use Rattle.boxes.proofs.list_used.Statement.{statement}
 use Rattle.boxes.proofs.list_used.Tie as tie

@@ -1,8 +1,8 @@
 -- `wrap_east` meets its contract. Assumes nothing.
 use lib.Ieee.{ofBits, ofInt, round}
 use borrow.Author.Needs.{needs}
-use Rattle.boxes.proofs.wrap_east.Statement.{statement}
-use Rattle.boxes.proofs.wrap_east.Tie as tie
+use Rattle.boxplan.proofs.wrap_east.Statement.{statement}
+use Rattle.boxplan.proofs.wrap_east.Tie as tie
 
 returns : tie.Need-returns
 unfolding ofBits ofInt round

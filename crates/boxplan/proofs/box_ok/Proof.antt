@@ -4,8 +4,8 @@ use mathlib.Core.Bool.{true, _&&_}
 use lib.Ieee.Scale.{finite}
 use borrow.Author.Tests.{not-true, not-false}
 use borrow.Author.Needs.{needs}
-use Rattle.boxes.proofs.box_ok.Statement.{statement}
-use Rattle.boxes.proofs.box_ok.Tie as tie
+use Rattle.boxplan.proofs.box_ok.Statement.{statement}
+use Rattle.boxplan.proofs.box_ok.Tie as tie
 
 -- where the numbers are finite
 abbrev start-of : tie.Else2 → tie.Start

@@ -9,8 +9,8 @@ use Rattle.range.specs.Range.{fullCircle, converted}
 use Rattle.kdslots.specs.declared.Query.{Query}
 use Rattle.kdslots.specs.declared.Query.the-variants.{Range}
 use Rattle.kdslots.specs.Query.{queryOk}
-use Rattle.boxes.specs.declared.Edges.{Edges}
-use Rattle.boxes.specs.declared.Plan.{Plan}
+use Rattle.boxplan.specs.declared.Edges.{Edges}
+use Rattle.boxplan.specs.declared.Plan.{Plan}
 
 -- 180 degrees
 abbrev pub halfCircle : Float

@@ -1,7 +1,7 @@
 -- `box_of` meets its contract. Assumes nothing.
 use borrow.Author.Needs.{needs}
-use Rattle.boxes.proofs.box_of.Statement.{statement}
-use Rattle.boxes.proofs.box_of.Tie as tie
+use Rattle.boxplan.proofs.box_of.Statement.{statement}
+use Rattle.boxplan.proofs.box_of.Tie as tie
 
 convert-requires : tie.Need-convert-requires
 convert-requires c κs = search needs

@@ -1,9 +1,9 @@
 -- `wrap` meets its contract. Assumes nothing.
 use mathlib.Core.Path.{refl}
 use lib.Ieee.{ofBits, ofInt, round}
-use Rattle.boxes.specs.Rule.{wrapped}
-use Rattle.boxes.proofs.wrap.Statement.{statement}
-use Rattle.boxes.proofs.wrap.Tie as tie
+use Rattle.boxplan.specs.Rule.{wrapped}
+use Rattle.boxplan.proofs.wrap.Statement.{statement}
+use Rattle.boxplan.proofs.wrap.Tie as tie
 
 returns : tie.Need-returns
 unfolding wrapped ofBits ofInt round

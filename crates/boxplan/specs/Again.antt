@@ -18,8 +18,8 @@ use Rattle.floats.specs.Signs.{nonneg-mins}
 use Rattle.floats.specs.Monotone.{neg-finite, add-mono, sub-mono}
 use Rattle.range.specs.declared.CoordinateSystem.the-variants.{LatLng}
 use Rattle.range.specs.Range.{fullCircle}
-use Rattle.boxes.specs.declared.Edges.{Edges}
-use Rattle.boxes.specs.Rule.{halfCircle, wrapped, wrappedEast, ruled, once, halves, planOf}
+use Rattle.boxplan.specs.declared.Edges.{Edges}
+use Rattle.boxplan.specs.Rule.{halfCircle, wrapped, wrappedEast, ruled, once, halves, planOf}
 
 -- ---- 180 and 360, as they stand in a float
 

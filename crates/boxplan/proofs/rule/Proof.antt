@@ -1,10 +1,10 @@
 -- `rule` meets its contract. Assumes nothing.
 use mathlib.Core.Path.{sym}
 use lib.Ieee.{ofBits, ofInt, round, neg}
-use Rattle.boxes.specs.Rule.{ruled}
+use Rattle.boxplan.specs.Rule.{ruled}
 use borrow.Author.Needs.{needs}
-use Rattle.boxes.proofs.rule.Statement.{statement}
-use Rattle.boxes.proofs.rule.Tie as tie
+use Rattle.boxplan.proofs.rule.Statement.{statement}
+use Rattle.boxplan.proofs.rule.Tie as tie
 
 returns : tie.Need-returns
 unfolding ruled ofBits ofInt round neg

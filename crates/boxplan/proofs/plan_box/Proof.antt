@@ -1,10 +1,10 @@
 -- `plan_box` meets its contract, by the cases of the coordinate system and of the rule. Assumes nothing.
 use mathlib.Core.Path.{sym}
 use lib.Ieee.{ofBits, ofInt, round, neg}
-use Rattle.boxes.specs.Rule.{planOf}
+use Rattle.boxplan.specs.Rule.{planOf}
 use borrow.Author.Needs.{needs}
-use Rattle.boxes.proofs.plan_box.Statement.{statement}
-use Rattle.boxes.proofs.plan_box.Tie as tie
+use Rattle.boxplan.proofs.plan_box.Statement.{statement}
+use Rattle.boxplan.proofs.plan_box.Tie as tie
 
 enum-known-c : tie.Need-enum-known-c
 enum-known-c c = search needs
