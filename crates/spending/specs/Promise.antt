@@ -2,7 +2,7 @@
 -- allowed; one that is not used up, or just used up, gives the full answer; and the tests of a plan find what its searches answer. Assumes nothing.
 use mathlib.Core.Bool.{Bool, true, false}
 use mathlib.Core.Path.{_≡_, refl, sym, ap, ap₂, _∙_}
-use mathlib.Core.List.{List, [], _++_}
+use mathlib.Core.List.{List, [], _∷_, _++_}
 use Prim.Native.Nat.{ℕ, _+_, _-_, _*_, _≤_, min}
 use native.Mathlib.Nat.{min-eq-right}
 use native.Mathlib.Omega.{arith}
@@ -14,12 +14,12 @@ use lib.Ieee.{Float}
 use Rattle.kdslots.specs.declared.Query.{Query}
 use Rattle.kdslots.specs.Slots.{when, over}
 use Rattle.kdslots.specs.Intervals.{when-length}
-use Rattle.kdbush.specs.Run.{places}
+use Rattle.kdbush.specs.Run.{places, sound}
 use Rattle.kdbush.specs.Reply.{found}
 use Rattle.boxplan.specs.declared.Plan.{Plan}
 use Rattle.spending.specs.Tested.{tests, answers-tested, tests-length}
 use Rattle.spending.specs.Trials.{Mark, marks, hits, trials, items, marks-length, hits-append, hits-marks}
-use Rattle.spending.specs.Reply.{effortOf, noEffort}
+use Rattle.spending.specs.Reply.{effortOf}
 
 -- ---- any tests
 
@@ -32,6 +32,30 @@ items-begin a b ms h =
 -- and so of the full list
 pub items-of-all : (a : ℕ) (ms : List Mark) → (more : List ℕ) × (hits ms ≡ items a ms ++ more)
 items-of-all a ms = (hits (drop a ms), ap hits (sym (take-append-drop a ms)) ∙ hits-append (take a ms) (drop a ms))
+
+-- the places before the first that is past the table, of a beginning and of the whole
+sound-begin : (n : ℕ) (l r : List ℕ) → (more : List ℕ) × (sound n (l ++ r) ≡ sound n l ++ more)
+unfolding sound
+sound-begin n [] r = (sound n r, refl)
+sound-begin n (p ∷ l) r = go (ltb p n) refl (sound-begin n l r)
+  where
+    go : (b : Bool) → ltb p n ≡ b → ((more : List ℕ) × (sound n (l ++ r) ≡ sound n l ++ more)) → (more : List ℕ) × (sound n (p ∷ (l ++ r)) ≡ sound n (p ∷ l) ++ more)
+    go true e h = (h .0, rw (e, sound) (ap (λ (z : List ℕ). p ∷ z) (h .1)))
+    go false e h = ([], rw (e, sound))
+
+-- so what is written for a smaller allowance begins what is written for a larger one, over any index of n
+pub given-begin : (n a b : ℕ) (ms : List Mark) → a ≤ b → (more : List ℕ) × (sound n (items b ms) ≡ sound n (items a ms) ++ more)
+given-begin n a b ms h =
+    let w = items-begin a b ms h in
+    let v = sound-begin n (items a ms) (w .0) in
+    (v .0, ap (sound n) (w .1) ∙ v .1)
+
+-- and of the full list
+pub given-of-all : (n a : ℕ) (ms : List Mark) → (more : List ℕ) × (sound n (hits ms) ≡ sound n (items a ms) ++ more)
+given-of-all n a ms =
+    let w = items-of-all a ms in
+    let v = sound-begin n (items a ms) (w .0) in
+    (v .0, ap (sound n) (w .1) ∙ v .1)
 
 -- a search that does not stop made every test and gives the full list
 pub not-stopped : (a : ℕ) (ms : List Mark) → effortOf a ms .stopped ≡ false → (items a ms ≡ hits ms) × (effortOf a ms .tested ≡ length ms)
