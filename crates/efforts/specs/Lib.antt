@@ -2,3 +2,5 @@
 pub mod Effort
 pub mod StatedEffort
 pub mod Proved
+pub mod Replies
+pub mod Worked

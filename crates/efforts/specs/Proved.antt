@@ -57,6 +57,7 @@ module _ (n : ℕ) (ms : List Mark) where
         by-room : (f : Bool) → plain (cond f (Found (effortOf a ms)) (NoRoom (effortOf a ms))) ≡ cond f (Answer·Listed (length (items a ms))) (Answer·NoRoom (length (items a ms)))
         by-room true = refl
         by-room false = refl
+
         go : (b : Bool) → whole n (hits ms) ≡ b → plain (answer n ms a room) ≡ answerOf (walked n (hits ms)) room
         go true e =
             ap (λ (b : Bool). plain (cond b (fitted (effortOf a ms) room) Spoiled)) (ap (whole n) all-items ∙ e) ∙ by-room (leb (length (items a ms)) room)
@@ -105,7 +106,7 @@ module _ (st : State) (ids : List ℕ) (co : List Float) (zoom : ℕ) where
   abbrev used : ℕ
   used = zoomUsed (st .options) zoom
 
-  abbrev testsAt : Plan → List Mark
+  abbrev pub testsAt : Plan → List Mark
   testsAt p = trials p (st .options .«node_size») (lenOf st used) (idsAt st ids used) (coordsAt st co used)
 
   -- the tests of a plan find what the box without an effort walks over
@@ -124,6 +125,7 @@ stated-effort st ids co zoom w s e n = go (stateOk st (indexRoom ids co)) refl (
   where
     p : Plan
     p = planOf (st .options .«coordinate_system») w s e n
+
     go : (a : Bool) → stateOk st (indexRoom ids co) ≡ a → (b : Bool)
         → Stated (cond (not a) (refused Spoiled) (cond (not b) (refused Box) (soughtAt st ids co (used st ids co zoom) p)))
         (cond (not a) (Asked·refused Answer·Spoiled) (cond (not b) (Asked·refused Answer·Box) (listedAt st ids co (used st ids co zoom) p))) (st .count)
