@@ -1,6 +1,7 @@
 //! The benchmark: both sides in one run on the machine at hand, a table of times and ratios.
 
 mod clock;
+mod effort;
 mod index;
 mod load;
 mod memory;
@@ -37,13 +38,15 @@ fn main() -> ExitCode {
         [] => WHOLE,
         ["--quick"] => QUICK,
         ["--questions"] => return ended(questions::run(&WHOLE)),
+        ["--effort"] => return ended(effort::run(&WHOLE)),
         // What the benchmark runs of itself, in a process of its own.
         ["peak", side, shape, count] => return peak(side, shape, count),
         _ => {
             return usage();
         }
     };
-    ended(index::run(&size).and_then(|()| load::run(&size)).and_then(|()| questions::run(&size)))
+    let parts = [index::run, load::run, questions::run, effort::run];
+    ended(parts.iter().try_for_each(|part| part(&size)))
 }
 
 /// The exit status of what was measured: a difference between the two sides is an error.
@@ -69,6 +72,6 @@ fn peak(side: &str, shape: &str, count: &str) -> ExitCode {
 }
 
 fn usage() -> ExitCode {
-    eprintln!("usage: bench [--quick | --questions]");
+    eprintln!("usage: bench [--quick | --questions | --effort]");
     ExitCode::from(2)
 }

@@ -17,7 +17,7 @@ use splitmix::Splitmix;
 use std::f64::consts::PI;
 
 /// About how many answers a box or a ring has, and how many of them are in one measurement.
-const AREAS: [[usize; 2]; 4] = [[1, 20_000], [12, 10_000], [200, 2_000], [3_000, 200]];
+pub const AREAS: [[usize; 2]; 4] = [[1, 20_000], [12, 10_000], [200, 2_000], [3_000, 200]];
 
 /// The zooms of tiles, and how many tiles are in one measurement.
 const TILES: [(u8, usize); 3] = [(3, 200), (8, 2_000), (14, 10_000)];
@@ -36,10 +36,10 @@ const LEAVES: [(u32, u32, u32, usize); 5] = [
 const CLUSTERS: usize = 10_000;
 
 /// The table of the points themselves.
-const FINEST: u8 = USUAL.max_zoom + 1;
+pub const FINEST: u8 = USUAL.max_zoom + 1;
 
 /// The same build on both sides.
-struct Both {
+pub struct Both {
     columns: Columns,
     starts: [u32; ZOOMS],
     lens: [u32; ZOOMS],
@@ -64,7 +64,7 @@ pub fn run(size: &Size) -> Result<(), String> {
 
 impl Both {
     /// These points, built by the port.
-    fn of(points: &Points) -> Both {
+    pub fn of(points: &Points) -> Both {
         let mut columns = Columns::zeros(&USUAL, points.xs.len());
         let [mut starts, mut lens] = [[0; ZOOMS]; 2];
         let state = State { starts: &mut starts, lens: &mut lens };
@@ -79,7 +79,7 @@ impl Both {
     }
 
     /// The build as the port is lent it.
-    fn asked(&self) -> Asked<'_> {
+    pub fn asked(&self) -> Asked<'_> {
         let Columns { x, y, seen, id, parent, num, ids, coords, .. } = &self.columns;
         let (starts, lens) = (&self.starts, &self.lens);
         let count = self.lens[usize::from(FINEST)];
@@ -261,7 +261,7 @@ impl Bench {
 }
 
 /// The box around a spot, with half its side.
-fn corners([x, y]: [f64; 2], half: f64) -> [f64; 4] {
+pub fn corners([x, y]: [f64; 2], half: f64) -> [f64; 4] {
     [x - half, y - half, x + half, y + half]
 }
 
@@ -271,7 +271,7 @@ fn searched(index: &KDBush, [min_x, min_y, max_x, max_y]: [f64; 4]) -> usize {
 }
 
 /// Asks every question; the sum of what each counts, and how long that took.
-fn counted<Q: Copy>(questions: &[Q], ask: &mut impl FnMut(Q) -> usize) -> (Found, u64) {
+pub fn counted<Q: Copy>(questions: &[Q], ask: &mut impl FnMut(Q) -> usize) -> (Found, u64) {
     let (count, nanoseconds) = timed(|| questions.iter().map(|question| ask(*question)).sum());
     (Found { count, members: 0, order: None }, nanoseconds)
 }

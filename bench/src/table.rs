@@ -26,6 +26,38 @@ pub fn line(what: &str, counted: &str, pieces: usize, times: &[Vec<u64>]) {
     );
 }
 
+/// The head of a table of times of a box within an effort, and of the box without one.
+pub fn effort_head() {
+    println!("| | answers | within an effort | the box | effort / box |");
+    println!("|---|---|---|---|---|");
+}
+
+/// One line of it: the nanoseconds of both, round by round.
+pub fn effort_line(what: &str, counted: &str, pieces: usize, times: &[Vec<u64>]) {
+    let time = |side: &[u64]| shown(median(side) as f64 / pieces as f64);
+    let (effort, plain) = (&times[0], &times[1]);
+    println!(
+        "| {what} | {counted} | {} | {} | {} |",
+        time(effort),
+        time(plain),
+        ratio(effort, plain)
+    );
+}
+
+/// The head of a table of single calls.
+pub fn calls_head() {
+    println!("| | calls | median | slowest | the box, median |");
+    println!("|---|---|---|---|---|");
+}
+
+/// One line of it: the nanoseconds of each call, and of calls of the box without an effort.
+pub fn calls_line(what: &str, calls: &[u64], plain: &[u64]) {
+    let slowest = *calls.iter().max().expect("a call");
+    let [median, slowest, plain] =
+        [median(calls), slowest, median(plain)].map(|time| shown(time as f64));
+    println!("| {what} | {} | {median} | {slowest} | {plain} |", calls.len());
+}
+
 /// The median of the rounds' own ratios, and from where to where the middle half of them lies.
 fn ratio(port: &[u64], other: &[u64]) -> String {
     let one = |(port, other): (&u64, &u64)| *port as f64 / *other as f64;

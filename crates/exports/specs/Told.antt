@@ -1,10 +1,14 @@
 -- Replies to the questions as a C caller sees them: 01's number, what is carried, and the output columns afterwards. Definitions only.
+use mathlib.Core.Bool.{Bool}
 use mathlib.Core.List.{List}
 use Prim.Native.Nat.{ℕ}
 use lib.ListN.{length}
 use lib.IntN.{ℤ}
 use Rattle.asking.specs.Answers.{answerNumber, answerCarried}
 use Rattle.asking.specs.Asked.{Asked, answerOf, columnOf}
+use Rattle.spending.specs.declared.EffortReply.{EffortReply}
+use Rattle.spending.specs.Reply.{effortNumber, effortCarried}
+use Rattle.efforts.specs.Effort.{Sought, replyOf, columnOf as effortColumn}
 use Rattle.walks.specs.declared.Expansion.{Expansion}
 use Rattle.walks.specs.Expansion.{expansionNumber, expansionCarried}
 use Rattle.tiling.specs.declared.Tally.{Tally}
@@ -37,6 +41,24 @@ told n k out = record { number = n; carried = k; column = out }
 -- what it comes to, with an output column of these old contents
 abbrev pub toldOf : Asked → List ℕ → Told
 toldOf a out = told (answerNumber (answerOf a (length out))) (answerCarried (answerOf a (length out))) (columnOf a out)
+
+-- of a box within an effort: carried is how many were found
+pub record EffortTold : Type 0 where
+  pub number : ℕ
+  pub carried : ℕ
+  pub tested : ℕ
+  pub stopped : Bool
+  pub column : List ℕ
+
+abbrev pub effortTold : ℕ → ℕ → ℕ → Bool → List ℕ → EffortTold
+effortTold n k t b out = record { number = n; carried = k; tested = t; stopped = b; column = out }
+
+-- its reply as these numbers, beside the column
+abbrev pub repliedWith : EffortReply → List ℕ → EffortTold
+repliedWith r out = effortTold (effortNumber r) (effortCarried r .items) (effortCarried r .tested) (effortCarried r .stopped) out
+
+abbrev pub effortToldOf : Sought → ℕ → List ℕ → EffortTold
+effortToldOf x a out = repliedWith (replyOf x a (length out)) (effortColumn x a out)
 
 -- of a tile
 pub record TileTold : Type 0 where

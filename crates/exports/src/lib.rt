@@ -13,7 +13,7 @@ ghost use Rattle.kdbush.specs.Reply.{buildNumber, buildCarried, built, checked,
 ghost use Rattle.kdwalk.specs.Reply.{stepNumber, firstStep, afterStep};
 ghost use Rattle.exports.specs.Numbers.{slotOf};
 ghost use Rattle.exports.specs.Given.{given};
-ghost use Rattle.exports.specs.Told.{said, zoomSaid, tallySaid, told, toldOf, tileTold, tileOf};
+ghost use Rattle.exports.specs.Told.{said, zoomSaid, tallySaid, told, toldOf, effortTold, effortToldOf, tileTold, tileOf};
 ghost use Rattle.exports.specs.Laid.{replied, repliedOf, laid, laidOf};
 ghost use Rattle.kdbush.specs.Run.{filled};
 ghost use Rattle.supercluster.specs.Build.{lent, loaded};
@@ -21,6 +21,7 @@ ghost use Rattle.kdsort.specs.Cols.{cols};
 ghost use Rattle.tables.specs.State.{stateOf};
 ghost use Rattle.asking.specs.Columns.{columns};
 ghost use Rattle.boxes.specs.Lists.{boxAsked, ringAsked};
+ghost use Rattle.efforts.specs.Effort.{effortAsked};
 ghost use Rattle.walks.specs.Children.{childrenOf};
 ghost use Rattle.walks.specs.Leaves.{leavesOf};
 ghost use Rattle.walks.specs.Expansion.{zoomOf};
@@ -422,6 +423,74 @@ pub extern "C" fn supercluster_box(
     let s = state(o, count, starts, lens);
     let r = boxes::list_box(s, ids, coords, zoom, w, south, e, n, out);
     *carried = r.carried();
+    r.number()
+}
+
+// The same within so many tests, which run over both halves of a box across the date line; beside what was found, how many slots were tested, and whether it
+// stopped with a test still due.
+#[no_mangle]
+pub extern "C" fn supercluster_box_effort(
+    min_zoom: u8,
+    max_zoom: u8,
+    min_points: u8,
+    radius: f64,
+    extent: f64,
+    node_size: usize,
+    cartesian: bool,
+    min_x: f64,
+    min_y: f64,
+    max_x: f64,
+    max_y: f64,
+    offset_given: bool,
+    offset: f64,
+    scale_given: bool,
+    scale: f64,
+    longitude_strips_only: bool,
+    count: u32,
+    starts: &[u32; 32],
+    lens: &[u32; 32],
+    ids: &[u32],
+    coords: &[f64],
+    zoom: u8,
+    w: f64,
+    south: f64,
+    e: f64,
+    n: f64,
+    allowance: usize,
+    out: &mut [u32],
+    tested: &mut usize,
+    stopped: &mut bool,
+    carried: &mut usize,
+) -> u32
+    ensures { λ r. ⌜ effortTold r (now (carried .exit)) (now (tested .exit)) (now (stopped .exit)) (now (out .exit))
+        ≡ effortToldOf (effortAsked (stateOf (given «min_zoom» «max_zoom» «min_points» radius extent «node_size» cartesian «min_x» «min_y» «max_x» «max_y» «offset_given» offset «scale_given» scale «longitude_strips_only»)
+        count (now (starts .entry)) (now (lens .entry)))
+        (now (ids .entry)) (now (coords .entry)) zoom w south e n) allowance (now (out .entry)) ⌝ }
+{
+    let o = options(
+        min_zoom,
+        max_zoom,
+        min_points,
+        radius,
+        extent,
+        node_size,
+        cartesian,
+        min_x,
+        min_y,
+        max_x,
+        max_y,
+        offset_given,
+        offset,
+        scale_given,
+        scale,
+        longitude_strips_only,
+    );
+    let s = state(o, count, starts, lens);
+    let r = efforts::effort_box(s, ids, coords, zoom, w, south, e, n, allowance, out);
+    let k = r.carried();
+    *tested = k.tested;
+    *stopped = k.stopped;
+    *carried = k.items;
     r.number()
 }
 

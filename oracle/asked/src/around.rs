@@ -27,6 +27,11 @@ pub fn many(scene: &Scene, source: &mut Splitmix) -> Vec<Question> {
     all
 }
 
+/// Boxes of every kind, so many times.
+pub fn all_boxes(scene: &Scene, times: usize, source: &mut Splitmix) -> Vec<Question> {
+    (0..8 * times).map(|kind| boxes::question(scene, kind, source)).collect()
+}
+
 /// A few questions: what a state that is perhaps spoiled is asked.
 pub fn few(scene: &Scene, source: &mut Splitmix) -> Vec<Question> {
     let mut all = Vec::new();

@@ -14,7 +14,7 @@ mod rooms;
 pub mod spoiled;
 mod tiles;
 
-pub use around::{few, many};
+pub use around::{all_boxes, few, many};
 pub use boxes::ODD_LONGITUDES;
 pub use build::{each, Build};
 pub use columns::Columns;

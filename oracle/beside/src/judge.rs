@@ -228,7 +228,10 @@ macro_rules! judge {
 judge!(untouched, oracle_untouched, "untouched");
 judge!(ringed, oracle_ringed, "ringed");
 judge!(patched, oracle_patched, "patched");
+judge!(counted, oracle_counted, "counted");
 
+pub use counted::Build as Counted;
+pub use oracle_counted::{tests, Test};
 pub use patched::Build as Patched;
 pub use ringed::Build as Ringed;
 pub use untouched::Build as Untouched;

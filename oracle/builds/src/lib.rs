@@ -102,3 +102,4 @@ macro_rules! build {
 build!(untouched, oracle_untouched);
 build!(ringed, oracle_ringed);
 build!(patched, oracle_patched);
+build!(counted, oracle_counted);

@@ -1,6 +1,7 @@
 //! The comparison in one process: the proved library, linked in, beside the builds of the Rust. See
 //! ../README.md.
 
+mod effort;
 mod index;
 mod leaves;
 mod questions;
@@ -10,7 +11,7 @@ use groups as report;
 use std::{env, process::ExitCode};
 
 const USAGE: &str =
-    "usage: inprocess index|tables|questions|overlap|leaves [--full], or questions --spoiled";
+    "usage: inprocess index|tables|questions|overlap|leaves|effort [--full], or questions --spoiled";
 
 /// How much is compared.
 #[derive(Clone, Copy, PartialEq, Eq)]
@@ -34,6 +35,8 @@ fn main() -> ExitCode {
         ["overlap", "--full"] => questions::overlap::run(Form::Full),
         ["leaves"] => leaves::run(Form::Short),
         ["leaves", "--full"] => leaves::run(Form::Full),
+        ["effort"] => effort::run(Form::Short),
+        ["effort", "--full"] => effort::run(Form::Full),
         _ => {
             eprintln!("{USAGE}");
             ExitCode::from(2)

@@ -7,7 +7,7 @@ mod load;
 mod questions;
 
 pub use load::{load, Columns, Lengths, Lent as LentColumns, State, COLUMNS, ZOOMS};
-pub use questions::Asked;
+pub use questions::{Asked, EffortReply};
 
 /// A reply: 01's number of it, and the number that it carries.
 #[derive(Clone, Copy, Debug, PartialEq, Eq)]

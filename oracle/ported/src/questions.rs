@@ -2,7 +2,7 @@
 
 use crate::{
     load::{NOT_GIVEN, NO_RANGE},
-    reply, Reply, ZOOMS,
+    reply, Reply, UNSET, ZOOMS,
 };
 use options::{Options, Plane};
 
@@ -56,6 +56,11 @@ linked! {
         [ids: u32, coords: f64],
         zoom: u8, w: f64, s: f64, e: f64, n: f64, out: *mut u32, out_length: usize
     );
+    supercluster_box_effort(
+        [ids: u32, coords: f64],
+        zoom: u8, w: f64, s: f64, e: f64, n: f64, allowance: usize,
+        out: *mut u32, out_length: usize, tested: *mut usize, stopped: *mut bool
+    );
     supercluster_ring(
         [ids: u32, coords: f64],
         zoom: u8, x: f64, y: f64, ring_radius: f64, out: *mut u32, out_length: usize
@@ -73,6 +78,14 @@ linked_to_all! {
         py: *mut i64, py_length: usize
     );
     supercluster_tally(z: u8, tile_x: u32, tile_y: u32);
+}
+
+/// The reply of a box within an effort: how many slots were tested, and whether it stopped with a test still due.
+#[derive(Clone, Copy, Debug, PartialEq, Eq)]
+pub struct EffortReply {
+    pub reply: Reply,
+    pub tested: usize,
+    pub stopped: bool,
 }
 
 /// A build as a question is lent it: its state, and its columns.
@@ -151,6 +164,35 @@ impl Asked<'_> {
     pub fn in_box(&self, zoom: u8, [w, s, e, n]: [f64; 4], out: &mut [u32]) -> Reply {
         let (start, length) = (out.as_mut_ptr(), out.len());
         call!(self, supercluster_box, [ids, coords], zoom, w, s, e, n, start, length)
+    }
+
+    /// The same within so many tests: what they find, how many were made, and whether one was still due.
+    pub fn box_effort(
+        &self,
+        zoom: u8,
+        [w, s, e, n]: [f64; 4],
+        allowance: usize,
+        out: &mut [u32],
+    ) -> EffortReply {
+        let (start, length) = (out.as_mut_ptr(), out.len());
+        // Before the call `stopped` says either, by the allowance, so that it shows where it is not told.
+        let (mut tested, mut stopped) = (UNSET, allowance % 2 == 0);
+        let reply = call!(
+            self,
+            supercluster_box_effort,
+            [ids, coords],
+            zoom,
+            w,
+            s,
+            e,
+            n,
+            allowance,
+            start,
+            length,
+            &mut tested,
+            &mut stopped
+        );
+        EffortReply { reply, tested, stopped }
     }
 
     /// The places in the ring of this centre and radius.

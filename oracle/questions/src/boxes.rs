@@ -2,7 +2,6 @@
 
 use crate::{
     search::{walk, Query},
-    state::Index,
     Answer, Lent, Refusal, State,
 };
 use options::Plane;
@@ -17,15 +16,17 @@ pub fn in_box(state: &State, lent: &Lent, zoom: u8, corners: Corners) -> Answer<
         state.check_index(lent)?;
         check(&state.options.plane, &corners)?;
         let index = state.index(lent, state.zoom_used(zoom));
-        match &state.options.plane {
-            Plane::Cartesian(range) => found(&index, corners.map(|v| range.normalize(v)), places),
-            Plane::Globe => around_the_globe(&index, corners, places),
-        }
+        parts(&state.options.plane, corners).into_iter().try_for_each(|part| {
+            walk(&index, &Query::Range(part), &mut |place| {
+                places.push(place as u32);
+                Ok(())
+            })
+        })
     })
 }
 
 /// Refuses a number that is not finite as given, and a mercator y outside [0,1].
-fn check(plane: &Plane, corners: &Corners) -> Result<(), Refusal> {
+pub(crate) fn check(plane: &Plane, corners: &Corners) -> Result<(), Refusal> {
     let finite = corners.iter().all(|v| v.is_finite());
     let on_the_map = match plane {
         Plane::Cartesian(_) => true,
@@ -37,20 +38,30 @@ fn check(plane: &Plane, corners: &Corners) -> Result<(), Refusal> {
     }
 }
 
+/// The boxes in table units that are searched for a box, one after the other.
+pub(crate) fn parts(plane: &Plane, corners: Corners) -> Vec<Corners> {
+    match plane {
+        Plane::Cartesian(range) => vec![corners.map(|v| range.normalize(v))],
+        Plane::Globe => around_the_globe(corners),
+    }
+}
+
+/// How many searches a box comes to: two, where it goes across the date line.
+pub fn searches(plane: &Plane, corners: Corners) -> usize {
+    parts(plane, corners).len()
+}
+
 /// 01's rule of the longitudes: the whole row, or two halves that go through the rule again, or one box.
-fn around_the_globe(
-    index: &Index,
-    [w, south, e, north]: Corners,
-    places: &mut Vec<u32>,
-) -> Result<(), Refusal> {
+fn around_the_globe([w, south, e, north]: Corners) -> Vec<Corners> {
     let (mut new_w, mut new_e) = (turned(w), if e == 180.0 { 180.0 } else { turned(e) });
     if e - w >= 360.0 {
         (new_w, new_e) = (-180.0, 180.0);
     } else if new_w > new_e {
-        around_the_globe(index, [new_w, south, 180.0, north], places)?;
-        return around_the_globe(index, [-180.0, south, new_e, north], places);
+        let mut halves = around_the_globe([new_w, south, 180.0, north]);
+        halves.extend(around_the_globe([-180.0, south, new_e, north]));
+        return halves;
     }
-    found(index, [converted(new_w), south, converted(new_e), north], places)
+    vec![[converted(new_w), south, converted(new_e), north]]
 }
 
 /// A longitude, turned to one from -180 on.
@@ -61,12 +72,4 @@ fn turned(v: f64) -> f64 {
 /// A longitude in table units.
 fn converted(longitude: f64) -> f64 {
     longitude / 360.0 + 0.5
-}
-
-/// Lists the places in a box in table units.
-fn found(index: &Index, corners: Corners, places: &mut Vec<u32>) -> Result<(), Refusal> {
-    walk(index, &Query::Range(corners), &mut |place| {
-        places.push(place as u32);
-        Ok(())
-    })
 }

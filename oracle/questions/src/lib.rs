@@ -7,6 +7,7 @@
 mod answer;
 mod boxes;
 mod children;
+mod effort;
 mod ids;
 mod leaves;
 mod question;
@@ -16,8 +17,9 @@ mod state;
 mod tiles;
 
 pub use answer::{Answer, Refusal, Reply};
-pub use boxes::in_box;
+pub use boxes::{in_box, searches};
 pub use children::{children, expansion_zoom};
+pub use effort::{effort_box, Effort, EffortReply};
 pub use ids::{decoded, encoded};
 pub use leaves::leaves;
 pub use question::{Out, Outcome, Question};

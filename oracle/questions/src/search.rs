@@ -12,6 +12,34 @@ pub(crate) enum Query {
     Within([f64; 3]),
 }
 
+/// How many slots a search may still test, how many it has tested, and whether it stopped with a test still due.
+pub(crate) struct Allowance {
+    pub left: usize,
+    pub tested: usize,
+    pub stopped: bool,
+}
+
+impl Allowance {
+    pub fn of(left: usize) -> Allowance {
+        Allowance { left, tested: 0, stopped: false }
+    }
+
+    /// A test that is due: it is made, or the search stops.
+    fn spend(&mut self) -> Result<(), End> {
+        match self.left.checked_sub(1) {
+            Some(left) => {
+                self.left = left;
+                self.tested += 1;
+                Ok(())
+            }
+            None => {
+                self.stopped = true;
+                Err(End::Stopped)
+            }
+        }
+    }
+}
+
 /// How a search ends before its end: the walk over its answers stops, or is refused.
 pub(crate) enum End {
     Stopped,
@@ -34,8 +62,18 @@ pub(crate) fn walk(
     query: &Query,
     visit: &mut impl FnMut(usize) -> Result<(), End>,
 ) -> Result<(), Refusal> {
+    walk_within(index, query, &mut Allowance::of(usize::MAX), visit)
+}
+
+/// The same over what it answers within an allowance of tests.
+pub(crate) fn walk_within(
+    index: &Index,
+    query: &Query,
+    allowance: &mut Allowance,
+    visit: &mut impl FnMut(usize) -> Result<(), End>,
+) -> Result<(), Refusal> {
     let last = index.ids.len() - 1;
-    match (Search { index, query, visit }).interval(0, last, 0) {
+    match (Search { index, query, allowance, visit }).interval(0, last, 0) {
         Ok(()) | Err(End::Stopped) => Ok(()),
         Err(End::Refused(refusal)) => Err(refusal),
     }
@@ -45,6 +83,7 @@ pub(crate) fn walk(
 struct Search<'a, 'v> {
     index: &'a Index<'a>,
     query: &'a Query,
+    allowance: &'a mut Allowance,
     visit: &'a mut Visit<'v>,
 }
 
@@ -65,8 +104,9 @@ impl Search<'_, '_> {
         Ok(())
     }
 
-    /// Answers a slot that passes.
+    /// Tests a slot, and answers it if it passes.
     fn slot(&mut self, slot: usize) -> Result<(), End> {
+        self.allowance.spend()?;
         if !self.passes(self.index.coords[2 * slot], self.index.coords[2 * slot + 1]) {
             return Ok(());
         }

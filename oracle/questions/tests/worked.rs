@@ -5,7 +5,8 @@ mod common;
 use common::{single, worked, Build};
 use options::{Options, Plane, UNIT};
 use questions::{
-    children, decoded, expansion_zoom, in_box, leaves, ring, tally, tile, Item, Reply,
+    children, decoded, effort_box, expansion_zoom, in_box, leaves, ring, tally, tile, Effort,
+    EffortReply, Item, Reply,
 };
 
 fn refused(number: u32) -> Reply {
@@ -218,4 +219,51 @@ fn rings() {
     for circle in [[0.5, 0.5, -1.0], [0.5, 0.5, f64::INFINITY], [f64::NAN, 0.5, 1.0]] {
         assert_eq!(of(2, circle).told(&mut []), refused(9));
     }
+}
+
+/// The row in an index with at most two slots in an interval that is not split.
+fn split_row() -> Build {
+    let mut build = row();
+    build.state.options.node_size = 1;
+    build
+}
+
+/// What the box below lists, whose first half is the whole row: its median, its right part, its left; then of the second half,
+/// whose median does not pass, the left part alone.
+const ROW: [u32; 7] = [2, 3, 4, 0, 1, 0, 1];
+
+fn within(build: &Build, tests: usize) -> Effort {
+    let corners = [-180.00000000000006, 0.0, -170.0, 1.0];
+    effort_box(&build.state, &build.lent(), 9, corners, tests)
+}
+
+fn replied(number: u32, carried: u64, tested: usize, stopped: bool) -> EffortReply {
+    EffortReply { reply: Reply { number, carried }, tested, stopped }
+}
+
+#[test]
+fn an_effort_over_both_halves() {
+    let (build, stops) = (split_row(), [0, 1, 2, 3, 4, 5, 5, 6, 7, 7]);
+    for (tests, items) in stops.into_iter().enumerate() {
+        let effort = within(&build, tests);
+        assert_eq!(effort.answer.items, ROW[..items]);
+        assert_eq!((effort.tested, effort.stopped), (tests.min(8), tests < 8));
+    }
+}
+
+#[test]
+fn the_room_for_what_was_found_before_the_stop() {
+    let mut out = [9; 6];
+    assert_eq!(within(&split_row(), 7).told(&mut out), replied(0, 6, 7, true));
+    assert_eq!(within(&split_row(), 8).told(&mut out), replied(10, 7, 8, false));
+    assert_eq!(out, ROW[..6]);
+}
+
+#[test]
+fn an_effort_that_comes_to_a_spoiled_slot() {
+    let (mut build, mut out) = (split_row(), [9; 6]);
+    build.ids[1] = 5;
+    assert_eq!(within(&build, 4).told(&mut out), replied(0, 4, 4, true));
+    assert_eq!(within(&build, 5).told(&mut out), replied(11, 0, 0, false));
+    assert_eq!(out, [2, 3, 4, 0, 9, 9]);
 }

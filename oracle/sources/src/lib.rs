@@ -1,4 +1,4 @@
-//! The work of the three build scripts: find the Rust's five files, write the lines that make them
+//! The work of the four build scripts: find the Rust's five files, write the lines that make them
 //! modules of a crate, and apply our patches to a text kept in the build's folder.
 
 mod patch;

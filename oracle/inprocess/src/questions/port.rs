@@ -68,7 +68,7 @@ pub fn ask(state: &State, lent: &Lent, question: &Question, out: &mut Out) -> Re
 }
 
 /// The state and the columns as the port is lent them.
-fn as_asked<'a>(state: &'a State, lent: &Lent<'a>) -> Asked<'a> {
+pub fn as_asked<'a>(state: &'a State, lent: &Lent<'a>) -> Asked<'a> {
     Asked {
         options: &state.options,
         count: state.count,

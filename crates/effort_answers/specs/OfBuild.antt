@@ -1,0 +1,35 @@
+-- #102, of a build that `load` accepts: a box that 01 takes is answered within every allowance, with the effort of its tests and by the room alone; any other is
+-- 9; and none is ever refused 11. The whole statement is `EffortOfBuild`, the last of this file. Proved shows that it holds. Definitions only.
+use mathlib.Core.Path.{_≡_}
+use mathlib.Core.Bool.{true, false}
+use mathlib.Core.List.{List}
+use Prim.Native.Nat.{ℕ}
+use lib.Ieee.{Float}
+use Rattle.range.specs.declared.CoordinateSystem.{CoordinateSystem}
+use Rattle.kdbush.specs.declared.BuildReply.the-variants.{Done}
+use Rattle.tables.specs.declared.Options.{Options}
+use Rattle.tables.specs.declared.State.{State}
+use Rattle.asking.specs.Columns.{Columns}
+use Rattle.boxplan.specs.Rule.{boxOk}
+use Rattle.supercluster.specs.Build.{Lent, loaded}
+use Rattle.answers.specs.Stored.{columnsOf}
+use Rattle.spending.specs.declared.EffortReply.the-variants.{Box, Spoiled}
+use Rattle.spending.specs.Reply.{effortOf, fitted}
+use Rattle.efforts.specs.Effort.{Sought, refused, replyOf, effortAsked}
+use Rattle.efforts.specs.StatedEffort.{testsOf}
+
+-- of one box, in a coordinate system
+pub record Answered (c : CoordinateSystem) (w s e n : Float) (x : Sought) : Type 0 where
+  pub taken : boxOk c w s e n ≡ true → (a room : ℕ) → replyOf x a room ≡ fitted (effortOf a (testsOf x)) room
+  pub refused-box : boxOk c w s e n ≡ false → x ≡ refused Box
+  pub never-spoiled : (a room : ℕ) → replyOf x a room ≡ Spoiled → ⊥
+
+-- the box at a zoom, asked of a state and its columns: the reply of `effort_box` is `replyOf` of this
+abbrev pub effortAt : State → Columns → ℕ → Float → Float → Float → Float → Sought
+effortAt st c zoom w s e n = effortAsked st (c .ids) (c .coords) zoom w s e n
+
+-- of the state that `load` replies and the columns that it leaves, where it refuses nothing; at every zoom, built or not, for every box
+abbrev pub EffortOfBuild : Type 0
+EffortOfBuild =
+    (o : Options) (xs ys : List Float) (l : Lent) → loaded o xs ys l .reply .reply ≡ Done → (zoom : ℕ) (w s e n : Float)
+    → Answered (o .«coordinate_system») w s e n (effortAt (loaded o xs ys l .reply .state) (columnsOf (loaded o xs ys l .columns)) zoom w s e n)

@@ -1,0 +1,102 @@
+-- #102 holds of every build that `load` accepts: `effort-of-build`. The box without an effort is answered whole there, and what an allowance finds begins what it
+-- lists. Assumes nothing.
+use mathlib.Core.Path.{_≡_, refl, sym, ap, _∙_, subst}
+use mathlib.Core.Bool.{Bool, true, false, cond}
+use mathlib.Core.List.{List, [], _++_}
+use Prim.Native.Nat.{ℕ}
+use native.Mathlib.Omega.{arith}
+use lib.Dec.{leb}
+use lib.ListN.{length}
+use lib.Ieee.{Float}
+use Rattle.kdslots.specs.Bounds.{yes}
+use Rattle.kdbush.specs.Run.{whole}
+use Rattle.tables.specs.declared.Options.{Options}
+use Rattle.tables.specs.declared.State.{State}
+use Rattle.tables.specs.Options.{zoomUsed}
+use Rattle.tables.specs.State.{lenOf}
+use Rattle.tables.specs.Sound.{stateOk}
+use Rattle.asking.specs.Asked.{Asked, told, answerOf}
+use Rattle.asking.specs.Columns.{indexRoom}
+use Rattle.boxplan.specs.Rule.{planOf, boxOk}
+use Rattle.boxes.specs.Lists.{walked, boxAsked}
+use Rattle.boxes.specs.Joined.{first-past}
+use Rattle.supercluster.specs.Build.{Lent, Outcome, need, checked, byReply, loaded}
+use Rattle.supercluster.specs.Load.{Holds, accepted, holds, replies}
+use Rattle.supercluster.specs.Ready.{Accepted}
+use Rattle.answers.specs.Stored.{columnsOf, stateBy, columnsBy}
+use Rattle.answers.specs.Boxed.{fits-somehow, index-sound, box-told}
+use Rattle.spending.specs.declared.Effort.{Effort}
+use Rattle.spending.specs.declared.EffortReply.the-variants.{Found, Box, NoRoom, Spoiled}
+use Rattle.spending.specs.Trials.{Mark, hits, items}
+use Rattle.spending.specs.Reply.{effortNumber, effortOf, fitted, answer}
+use Rattle.spending.specs.Promise.{items-of-all}
+use Rattle.efforts.specs.Effort.{Sought, refused, sought, replyOf, effortAsked}
+use Rattle.efforts.specs.StatedEffort.{testsOf}
+use Rattle.efforts.specs.Proved.{testsAt, unlimited-box}
+use Rattle.effort_answers.specs.OfBuild.{Answered, effortAt, EffortOfBuild}
+
+-- ---- of any tests, where all that they find is walked to its end
+
+module _ (n : ℕ) (ms : List Mark) (l : List ℕ) (e : walked n (hits ms) ≡ told true l) where
+  items-whole : (a : ℕ) → whole n (items a ms) ≡ true
+  items-whole a = go (whole n (items a ms)) refl
+    where
+      go : (b : Bool) → whole n (items a ms) ≡ b → whole n (items a ms) ≡ true
+      go true f = f
+      go false f =
+          let w = items-of-all a ms in
+          absurd (fits-somehow (length l) 0 (sym (first-past n (items a ms) (w .0) [] f .0 ∙ ap (λ (x : List ℕ). answerOf (walked n x) 0) (sym (w .1)) ∙ ap (λ (x : Asked). answerOf x 0) e)))
+
+  told-whole : (a room : ℕ) → answer n ms a room ≡ fitted (effortOf a ms) room
+  told-whole a room = yes (whole n (items a ms)) (fitted (effortOf a ms) room) Spoiled (items-whole a)
+
+-- what fits or not is not 11
+not-spoiled : (e : Effort) (room : ℕ) → fitted e room ≡ Spoiled → ⊥
+not-spoiled e room = go (leb (e .items) room)
+  where
+    go : (b : Bool) → cond b (Found e) (NoRoom e) ≡ Spoiled → ⊥
+    go true f = omega (arith, ap effortNumber f)
+    go false f = omega (arith, ap effortNumber f)
+
+-- ---- of a question whose state is sound, and whose box is answered whole
+
+module _ (st : State) (ids : List ℕ) (co : List Float) (zoom : ℕ) (w s e n : Float) (good : stateOk st (indexRoom ids co) ≡ true) where
+  refused-box : boxOk (st .options .«coordinate_system») w s e n ≡ false → effortAsked st ids co zoom w s e n ≡ refused Box
+  unfolding effortAsked
+  refused-box f = rw (good, f)
+
+  taken : boxOk (st .options .«coordinate_system») w s e n ≡ true → (l : List ℕ) → boxAsked st ids co zoom w s e n ≡ told true l
+      → (a room : ℕ) → replyOf (effortAsked st ids co zoom w s e n) a room ≡ fitted (effortOf a (testsOf (effortAsked st ids co zoom w s e n))) room
+  unfolding effortAsked boxAsked
+  taken f l g a room =
+      let p = planOf (st .options .«coordinate_system») w s e n in
+      let h = unlimited-box st ids co zoom p ∙ (rw (good, f) at g) in
+      rw (good, f) (told-whole (lenOf st (zoomUsed (st .options) zoom)) (testsAt st ids co zoom p) l h a room)
+
+  answered : (boxOk (st .options .«coordinate_system») w s e n ≡ true → (l : List ℕ) × (boxAsked st ids co zoom w s e n ≡ told true l))
+      → Answered (st .options .«coordinate_system») w s e n (effortAsked st ids co zoom w s e n)
+  answered t =
+      record {
+        taken = λ f a room. let x = t f in taken f (x .0) (x .1) a room;
+        refused-box = refused-box;
+        never-spoiled = λ a room. by a room (boxOk (st .options .«coordinate_system») w s e n) refl;
+      }
+    where
+      by : (a room : ℕ) (b : Bool) → boxOk (st .options .«coordinate_system») w s e n ≡ b → replyOf (effortAsked st ids co zoom w s e n) a room ≡ Spoiled → ⊥
+      by a room true f h = let x = t f in not-spoiled (effortOf a (testsOf (effortAsked st ids co zoom w s e n))) room (sym (taken f (x .0) (x .1) a room) ∙ h)
+      by a room false f h = let z = sym (ap (λ (q : Sought). replyOf q a room) (refused-box f)) ∙ h in omega (arith, ap effortNumber z)
+
+-- ---- of every build that `load` accepts
+
+module _ (o : Options) (xs ys : List Float) (acc : Accepted o xs ys) (l : Lent) (h : Holds (need o (length xs)) l) (zoom : ℕ) (w s e n : Float) where
+  build-answered : Answered (o .«coordinate_system») w s e n (effortAt (stateBy o xs ys) (columnsBy o xs ys l) zoom w s e n)
+  build-answered =
+      answered (stateBy o xs ys) (columnsBy o xs ys l .ids) (columnsBy o xs ys l .coords) zoom w s e n (index-sound o xs ys acc l h) (box-told o xs ys acc l h zoom w s e n)
+
+pub effort-of-build : EffortOfBuild
+unfolding loaded
+effort-of-build o xs ys l e zoom w s ea n =
+    let f = sym (replies o xs ys l (checked o xs ys l)) ∙ e in
+    let a = accepted o xs ys l f in
+    subst (λ (x : Outcome). Answered (o .«coordinate_system») w s ea n (effortAt (x .reply .state) (columnsOf (x .columns)) zoom w s ea n)) (sym (ap (byReply o xs ys l) f))
+    (build-answered o xs ys (a .0) l (holds (need o (length xs)) l (a .1)) zoom w s ea n)

@@ -1,0 +1,43 @@
+-- What a box question with a stated effort comes to, over whatever the lent columns hold: a refusal before any test, or the tests of the definition of its
+-- search in the table of the zoom used, of which the allowance takes the first. Definitions only.
+use mathlib.Core.Bool.{cond, not}
+use mathlib.Core.List.{List}
+use Prim.Native.Nat.{ℕ}
+use lib.Ieee.{Float}
+use Rattle.tables.specs.declared.State.{State}
+use Rattle.tables.specs.Options.{zoomUsed}
+use Rattle.tables.specs.State.{lenOf}
+use Rattle.tables.specs.Sound.{stateOk}
+use Rattle.asking.specs.Columns.{indexRoom, idsAt, coordsAt}
+use Rattle.boxplan.specs.declared.Plan.{Plan}
+use Rattle.boxplan.specs.Rule.{planOf, boxOk}
+use Rattle.spending.specs.declared.EffortReply.{EffortReply}
+use Rattle.spending.specs.declared.EffortReply.the-variants.{Box, Spoiled}
+use Rattle.spending.specs.Trials.{Mark, trials}
+use Rattle.spending.specs.Reply.{answer, column}
+
+-- refused, with nothing tested; or the tests, over a table of so many entries
+pub data Sought : Type 0 where
+  refused : EffortReply → Sought
+  sought : ℕ → List Mark → Sought
+
+-- the reply, for an allowance and a column of so many
+abbrev pub replyOf : Sought → ℕ → ℕ → EffortReply
+replyOf (refused r) a room = r
+replyOf (sought n ms) a room = answer n ms a room
+
+-- the column afterwards
+abbrev pub columnOf : Sought → ℕ → List ℕ → List ℕ
+columnOf (refused r) a out = out
+columnOf (sought n ms) a out = column n ms a out
+
+-- the tests of a plan in the table of zoom z
+abbrev pub soughtAt : State → List ℕ → List Float → ℕ → Plan → Sought
+soughtAt s ids co z p = sought (lenOf s z) (trials p (s .options .«node_size») (lenOf s z) (idsAt s ids z) (coordsAt s co z))
+
+-- the box (w, s, e, n) at a zoom: refusals as for a box, the state (11), then the numbers (9)
+unfoldable pub effortAsked : State → List ℕ → List Float → ℕ → Float → Float → Float → Float → Sought
+effortAsked st ids co zoom w s e n =
+    cond (not (stateOk st (indexRoom ids co))) (refused Spoiled)
+    (cond (not (boxOk (st .options .«coordinate_system») w s e n)) (refused Box)
+    (soughtAt st ids co (zoomUsed (st .options) zoom) (planOf (st .options .«coordinate_system») w s e n)))

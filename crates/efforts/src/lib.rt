@@ -1,0 +1,104 @@
+// A box question with a stated effort: it tests at most as many slots as the caller allows, and replies what it found, how many it tested, and whether it stopped
+// with a test still due. Nothing is asked of the caller: what 01 does not take is refused with its number, as for a box.
+use boxplan::Plan;
+use spending::EffortReply;
+use tables::State;
+ghost use mathlib.Core.Path.{_≡_};
+ghost use mathlib.Core.Bool.{true};
+ghost use Prim.Native.Nat.{_+_, _*_, _≤_};
+ghost use lib.ListN.{length};
+ghost use Rattle.kdbush.specs.Reply.{indexOk};
+ghost use Rattle.tables.specs.Options.{zoomUsed};
+ghost use Rattle.tables.specs.Columns.{part};
+ghost use Rattle.tables.specs.Sound.{stateOk};
+ghost use Rattle.asking.specs.Columns.{indexRoom};
+ghost use Rattle.spending.specs.Trials.{trials};
+ghost use Rattle.spending.specs.Reply.{answer, column};
+ghost use Rattle.efforts.specs.Effort.{replyOf, columnOf, soughtAt, effortAsked};
+
+// Lists what a plan finds within so many tests in a table of n entries that starts at a place of the columns.
+fn effort_at(
+    p: Plan,
+    node_size: usize,
+    start: usize,
+    n: usize,
+    ids: &[u32],
+    coords: &[f64],
+    allowance: usize,
+    out: &mut [u32],
+) -> EffortReply
+    requires { ⌜ (start + n ≤ length (now ids)) × (2 * (start + n) ≤ length (now coords)) ⌝ }
+    requires { ⌜ indexOk «node_size» n (part start n (now ids)) (part (2 * start) (2 * n) (now coords)) ≡ true ⌝ }
+    ensures { λ r. ⌜ r ≡ answer n (trials p «node_size» n (part start n (now (ids .entry))) (part (2 * start) (2 * n) (now (coords .entry)))) allowance (length (now (out .entry))) ⌝ }
+    ensures { λ _. ⌜ now (out .exit) ≡ column n (trials p «node_size» n (part start n (now (ids .entry))) (part (2 * start) (2 * n) (now (coords .entry)))) allowance (now (out .entry)) ⌝ }
+{
+    let end = start + n;
+    let from = 2 * start;
+    let to = from + 2 * n;
+    spending::search(
+        p,
+        node_size,
+        n,
+        &ids[start..end],
+        &coords[from..to],
+        allowance,
+        out,
+    )
+}
+
+// The same in the table of the zoom used.
+fn effort_used(
+    p: Plan,
+    s: State,
+    ids: &[u32],
+    coords: &[f64],
+    zoom: u8,
+    allowance: usize,
+    out: &mut [u32],
+) -> EffortReply
+    requires { ⌜ stateOk s (indexRoom (now ids) (now coords)) ≡ true ⌝ }
+    ensures { λ r. ⌜ r ≡ replyOf (soughtAt s (now (ids .entry)) (now (coords .entry)) (zoomUsed (s .options) zoom) p) allowance (length (now (out .entry))) ⌝ }
+    ensures { λ _. ⌜ now (out .exit) ≡ columnOf (soughtAt s (now (ids .entry)) (now (coords .entry)) (zoomUsed (s .options) zoom) p) allowance (now (out .entry)) ⌝ }
+{
+    let o = s.options;
+    let z = o.zoom_used(zoom) as usize;
+    effort_at(
+        p,
+        o.node_size,
+        s.start_of(z),
+        s.len_of(z),
+        ids,
+        coords,
+        allowance,
+        out,
+    )
+}
+
+// The places of the table of the zoom used in the box from (w, south) to (e, n), within so many tests, which run over both halves of a box across the date
+// line.
+pub fn effort_box(
+    s: State,
+    ids: &[u32],
+    coords: &[f64],
+    zoom: u8,
+    w: f64,
+    south: f64,
+    e: f64,
+    n: f64,
+    allowance: usize,
+    out: &mut [u32],
+) -> EffortReply
+    ensures { λ r. ⌜ r ≡ replyOf (effortAsked s (now (ids .entry)) (now (coords .entry)) zoom w south e n) allowance (length (now (out .entry))) ⌝ }
+    ensures { λ _. ⌜ now (out .exit) ≡ columnOf (effortAsked s (now (ids .entry)) (now (coords .entry)) zoom w south e n) allowance (now (out .entry)) ⌝ }
+{
+    if !s.is_sound(asking::index_room(ids, coords)) {
+        return EffortReply::Spoiled;
+    }
+    let o = s.options;
+    let c = o.coordinate_system;
+    if !boxplan::box_ok(c, w, south, e, n) {
+        return EffortReply::Box;
+    }
+    let p = boxplan::plan_box(c, w, south, e, n);
+    effort_used(p, s, ids, coords, zoom, allowance, out)
+}

@@ -1,0 +1,93 @@
+-- A search with an allowance, test by test: what it has found, may still test, and leaves in the column. The first are definitions, and then the laws by which
+-- the code goes from test to test. Assumes nothing.
+use mathlib.Core.Bool.{Bool, true, false}
+use mathlib.Core.Path.{_≡_, refl, sym, ap, _∙_}
+use mathlib.Core.List.{List, [], _∷_, _++_}
+use Prim.Native.Nat.{ℕ, suc, _+_, _-_, _≤_, _<_}
+use native.Mathlib.Omega.{arith}
+use borrow.Author.Tests.{eqb-false}
+use lib.Dec.{ltb, eqb}
+use lib.ListN.{set}
+use Rattle.spending.specs.declared.Spent.{Spent}
+use Rattle.spending.specs.Trials.{Mark, mark}
+
+-- how far a search came, beside what the column holds
+pub data Went : Type 0 where
+  went : Spent → List ℕ → Went
+
+-- a search that is spoiled
+abbrev pub spoilt : Spent
+spoilt = record { found = 0; left = 0; over = true; spoiled = true }
+
+-- a test that is made: it passes or not, and its place p is below the number of slots or not. A place goes to the next position, if that is within the column.
+abbrev pub made : Bool → Bool → ℕ → Spent → List ℕ → Went
+made false low p s out = went (record { found = s .found; left = s .left - 1; over = false; spoiled = false }) out
+made true true p s out = went (record { found = s .found + 1; left = s .left - 1; over = false; spoiled = false }) (set out (s .found) p)
+made true false p s out = went spoilt out
+
+-- a test that is due: nothing changes where the search is over; where nothing is left of the allowance it stops
+abbrev pub due : Bool → Bool → Bool → Bool → ℕ → Spent → List ℕ → Went
+due true none passes low p s out = went s out
+due false true passes low p s out = went (record { found = s .found; left = 0; over = true; spoiled = false }) out
+due false false passes low p s out = made passes low p s out
+
+abbrev pub step : ℕ → Mark → Spent → List ℕ → Went
+step n (mark b p) s out = due (s .over) (eqb (s .left) 0) b (ltb p n) p s out
+
+abbrev pub andThen : Went → (Spent → List ℕ → Went) → Went
+andThen (went s out) f = f s out
+
+-- the tests of a list, one after the other, over an index of n
+unfoldable pub spend : ℕ → List Mark → Spent → List ℕ → Went
+spend n [] s out = went s out
+spend n (m ∷ ms) s out = andThen (step n m s out) (λ t o. spend n ms t o)
+
+-- ---- one list after the other
+
+pub spend-append : (n : ℕ) (ms ps : List Mark) (s : Spent) (out : List ℕ) → spend n (ms ++ ps) s out ≡ andThen (spend n ms s out) (λ t o. spend n ps t o)
+unfolding spend
+spend-append n [] ps s out = refl
+spend-append n (m ∷ ms) ps s out = go (step n m s out) (λ t o. spend-append n ms ps t o)
+  where
+    go : (w : Went) → ((t : Spent) (o : List ℕ) → spend n (ms ++ ps) t o ≡ andThen (spend n ms t o) (λ t o. spend n ps t o))
+        → andThen w (λ t o. spend n (ms ++ ps) t o) ≡ andThen (andThen w (λ t o. spend n ms t o)) (λ t o. spend n ps t o)
+    go (went t o) h = h t o
+
+pub spend-then : (n : ℕ) (ms ps : List Mark) (s k r : Spent) (out o p : List ℕ) → went k o ≡ spend n ms s out → went r p ≡ spend n ps k o
+    → went r p ≡ spend n (ms ++ ps) s out
+spend-then n ms ps s k r out o p e f = f ∙ rw (spend-append n ms ps s out, ← e)
+
+-- a search that is over stays as it is
+pub spend-over : (n : ℕ) (ms : List Mark) (s : Spent) (out : List ℕ) → s .over ≡ true → spend n ms s out ≡ went s out
+unfolding spend
+spend-over n [] s out e = refl
+spend-over n (mark b p ∷ ms) s out e =
+    ap (λ (x : Bool). andThen (due x (eqb (s .left) 0) b (ltb p n) p s out) (λ t o. spend n ms t o)) e ∙ spend-over n ms s out e
+
+-- ---- what is found and what is left never exceed what they were
+
+sum : Went → ℕ
+sum (went s out) = s .found + s .left
+
+sum-step : (n : ℕ) (m : Mark) (s : Spent) (out : List ℕ) → sum (step n m s out) ≤ s .found + s .left
+unfolding sum
+sum-step n (mark b p) s out = go (s .over) (eqb (s .left) 0) refl b (ltb p n)
+  where
+    go : (o z : Bool) → eqb (s .left) 0 ≡ z → (b l : Bool) → sum (due o z b l p s out) ≤ s .found + s .left
+    go true z e b l = omega arith
+    go false true e b l = omega arith
+    go false false e false l = omega arith
+    go false false e true true = omega (arith, eqb-false (s .left) 0 e)
+    go false false e true false = omega arith
+
+sum-spend : (n : ℕ) (ms : List Mark) (s : Spent) (out : List ℕ) → sum (spend n ms s out) ≤ s .found + s .left
+unfolding spend sum
+sum-spend n [] s out = omega arith
+sum-spend n (m ∷ ms) s out = go (step n m s out) (sum-step n m s out) (λ t o. sum-spend n ms t o)
+  where
+    go : (w : Went) → sum w ≤ s .found + s .left → ((t : Spent) (o : List ℕ) → sum (spend n ms t o) ≤ t .found + t .left) → sum (andThen w (λ t o. spend n ms t o)) ≤ s .found + s .left
+    go (went t o) h f = omega (arith, f t o)
+
+pub spend-sum : (n : ℕ) (ms : List Mark) (s r : Spent) (out o : List ℕ) → went r o ≡ spend n ms s out → r .found + r .left ≤ s .found + s .left
+unfolding sum
+spend-sum n ms s r out o e = omega (arith, ap sum e, sum-spend n ms s out)

@@ -1,0 +1,7 @@
+//! Points the modules of this crate at the Rust's files, and kdbush at a patched text of it, the later lines first.
+
+fn main() {
+    let patches =
+        ["../patched/without-window.patch", "../ringed/exact-rings.patch", "counting.patch"];
+    sources::patched("kdbush", &patches);
+}
