@@ -1,5 +1,6 @@
--- #102, of a build that `load` accepts: a box that 01 takes is answered within every allowance, with the effort of its tests and by the room alone; any other is
--- 9; and none is ever refused 11. The whole statement is `EffortOfBuild`, the last of this file. Proved shows that it holds. Definitions only.
+-- #102, of a build that `load` accepts: a box that 01 takes is answered within every allowance, with the effort of its tests and by the
+-- room alone; any other is 9; and none is ever refused 11. The whole statement is `EffortOfBuild`, the last of this file. Proved shows
+-- that it holds. Definitions only.
 use mathlib.Core.Path.{_≡_}
 use mathlib.Core.Bool.{true, false}
 use mathlib.Core.List.{List}
@@ -32,4 +33,5 @@ effortAt st c zoom w s e n = effortAsked st (c .ids) (c .coords) zoom w s e n
 abbrev pub EffortOfBuild : Type 0
 EffortOfBuild =
     (o : Options) (xs ys : List Float) (l : Lent) → loaded o xs ys l .reply .reply ≡ Done → (zoom : ℕ) (w s e n : Float)
-    → Answered (o .«coordinate_system») w s e n (effortAt (loaded o xs ys l .reply .state) (columnsOf (loaded o xs ys l .columns)) zoom w s e n)
+    → Answered (o .«coordinate_system») w s e n
+    (effortAt (loaded o xs ys l .reply .state) (columnsOf (loaded o xs ys l .columns)) zoom w s e n)

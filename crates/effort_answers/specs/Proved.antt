@@ -1,5 +1,5 @@
--- #102 holds of every build that `load` accepts: `effort-of-build`. The box without an effort is answered whole there, and what an allowance finds begins what it
--- lists. Assumes nothing.
+-- #102 holds of every build that `load` accepts: `effort-of-build`. The box without an effort is answered whole there, and what an
+-- allowance finds begins what it lists. Assumes nothing.
 use mathlib.Core.Path.{_≡_, refl, sym, ap, _∙_, subst}
 use mathlib.Core.Bool.{Bool, true, false, cond}
 use mathlib.Core.List.{List, [], _++_}
@@ -45,7 +45,9 @@ module _ (n : ℕ) (ms : List Mark) (l : List ℕ) (e : walked n (hits ms) ≡ t
       go true f = f
       go false f =
           let w = items-of-all a ms in
-          absurd (fits-somehow (length l) 0 (sym (first-past n (items a ms) (w .0) [] f .0 ∙ ap (λ (x : List ℕ). answerOf (walked n x) 0) (sym (w .1)) ∙ ap (λ (x : Asked). answerOf x 0) e)))
+          absurd (fits-somehow (length l) 0
+          (sym (first-past n (items a ms) (w .0) [] f .0 ∙ ap (λ (x : List ℕ). answerOf (walked n x) 0) (sym (w .1))
+          ∙ ap (λ (x : Asked). answerOf x 0) e)))
 
   told-whole : (a room : ℕ) → answer n ms a room ≡ fitted (effortOf a ms) room
   told-whole a room = yes (whole n (items a ms)) (fitted (effortOf a ms) room) Spoiled (items-whole a)
@@ -66,7 +68,8 @@ module _ (st : State) (ids : List ℕ) (co : List Float) (zoom : ℕ) (w s e n :
   refused-box f = rw (good, f)
 
   taken : boxOk (st .options .«coordinate_system») w s e n ≡ true → (l : List ℕ) → boxAsked st ids co zoom w s e n ≡ told true l
-      → (a room : ℕ) → replyOf (effortAsked st ids co zoom w s e n) a room ≡ fitted (effortOf a (testsOf (effortAsked st ids co zoom w s e n))) room
+      → (a room : ℕ) → replyOf (effortAsked st ids co zoom w s e n) a room
+      ≡ fitted (effortOf a (testsOf (effortAsked st ids co zoom w s e n))) room
   unfolding effortAsked boxAsked
   taken f l g a room =
       let p = planOf (st .options .«coordinate_system») w s e n in
@@ -82,21 +85,27 @@ module _ (st : State) (ids : List ℕ) (co : List Float) (zoom : ℕ) (w s e n :
         never-spoiled = λ a room. by a room (boxOk (st .options .«coordinate_system») w s e n) refl;
       }
     where
-      by : (a room : ℕ) (b : Bool) → boxOk (st .options .«coordinate_system») w s e n ≡ b → replyOf (effortAsked st ids co zoom w s e n) a room ≡ Spoiled → ⊥
-      by a room true f h = let x = t f in not-spoiled (effortOf a (testsOf (effortAsked st ids co zoom w s e n))) room (sym (taken f (x .0) (x .1) a room) ∙ h)
+      by : (a room : ℕ) (b : Bool) → boxOk (st .options .«coordinate_system») w s e n ≡ b
+          → replyOf (effortAsked st ids co zoom w s e n) a room ≡ Spoiled → ⊥
+      by a room true f h =
+          let x = t f in
+          not-spoiled (effortOf a (testsOf (effortAsked st ids co zoom w s e n))) room (sym (taken f (x .0) (x .1) a room) ∙ h)
       by a room false f h = let z = sym (ap (λ (q : Sought). replyOf q a room) (refused-box f)) ∙ h in omega (arith, ap effortNumber z)
 
 -- ---- of every build that `load` accepts
 
-module _ (o : Options) (xs ys : List Float) (acc : Accepted o xs ys) (l : Lent) (h : Holds (need o (length xs)) l) (zoom : ℕ) (w s e n : Float) where
+module _ (o : Options) (xs ys : List Float) (acc : Accepted o xs ys) (l : Lent) (h : Holds (need o (length xs)) l) (zoom : ℕ)
+    (w s e n : Float) where
   build-answered : Answered (o .«coordinate_system») w s e n (effortAt (stateBy o xs ys) (columnsBy o xs ys l) zoom w s e n)
   build-answered =
-      answered (stateBy o xs ys) (columnsBy o xs ys l .ids) (columnsBy o xs ys l .coords) zoom w s e n (index-sound o xs ys acc l h) (box-told o xs ys acc l h zoom w s e n)
+      answered (stateBy o xs ys) (columnsBy o xs ys l .ids) (columnsBy o xs ys l .coords) zoom w s e n (index-sound o xs ys acc l h)
+      (box-told o xs ys acc l h zoom w s e n)
 
 pub effort-of-build : EffortOfBuild
 unfolding loaded
 effort-of-build o xs ys l e zoom w s ea n =
     let f = sym (replies o xs ys l (checked o xs ys l)) ∙ e in
     let a = accepted o xs ys l f in
-    subst (λ (x : Outcome). Answered (o .«coordinate_system») w s ea n (effortAt (x .reply .state) (columnsOf (x .columns)) zoom w s ea n)) (sym (ap (byReply o xs ys l) f))
+    subst (λ (x : Outcome). Answered (o .«coordinate_system») w s ea n
+    (effortAt (x .reply .state) (columnsOf (x .columns)) zoom w s ea n)) (sym (ap (byReply o xs ys l) f))
     (build-answered o xs ys (a .0) l (holds (need o (length xs)) l (a .1)) zoom w s ea n)

@@ -18,7 +18,8 @@ use Rattle.efforts.specs.Effort.{refused, sought, soughtAt, effortAsked}
 
 module _ (s : State) (ids : List ℕ) (co : List Float) (zoom : ℕ) where
   pub sought-used : (z start n : ℕ) (p : Plan) → z ≡ zoomUsed (s .options) zoom → start ≡ startOf s z → n ≡ lenOf s z
-      → sought n (trials p (s .options .«node_size») n (part start n ids) (part (2 * start) (2 * n) co)) ≡ soughtAt s ids co (zoomUsed (s .options) zoom) p
+      → sought n (trials p (s .options .«node_size») n (part start n ids) (part (2 * start) (2 * n) co))
+      ≡ soughtAt s ids co (zoomUsed (s .options) zoom) p
   sought-used z start n p f g h = rw (g, h, f)
 
   -- ---- the ways out
@@ -33,7 +34,8 @@ module _ (s : State) (ids : List ℕ) (co : List Float) (zoom : ℕ) where
       unfolding effortAsked
       asked-box g = rw (f, g)
 
-      pub asked-sought : boxOk (s .options .«coordinate_system») w south e n ≡ true → (p : Plan) → p ≡ planOf (s .options .«coordinate_system») w south e n
+      pub asked-sought : boxOk (s .options .«coordinate_system») w south e n ≡ true → (p : Plan)
+          → p ≡ planOf (s .options .«coordinate_system») w south e n
           → soughtAt s ids co (zoomUsed (s .options) zoom) p ≡ effortAsked s ids co zoom w south e n
       unfolding effortAsked
       asked-sought g p h = rw (f, g, h)

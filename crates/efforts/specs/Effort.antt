@@ -1,5 +1,5 @@
--- What a box question with a stated effort comes to, over whatever the lent columns hold: a refusal before any test, or the tests of the definition of its
--- search in the table of the zoom used, of which the allowance takes the first. Definitions only.
+-- What a box question with a stated effort comes to, over whatever the lent columns hold: a refusal before any test, or the tests of the
+-- definition of its search in the table of the zoom used, of which the allowance takes the first. Definitions only.
 use mathlib.Core.Bool.{cond, not}
 use mathlib.Core.List.{List}
 use Prim.Native.Nat.{ℕ}

@@ -1,5 +1,5 @@
--- #102 holds of every state and all columns: `stated-effort`. The tests of the question find what the box without an effort lists (`unlimited-box`); the rest is
--- said of any tests. Assumes nothing.
+-- #102 holds of every state and all columns: `stated-effort`. The tests of the question find what the box without an effort lists
+-- (`unlimited-box`); the rest is said of any tests. Assumes nothing.
 use mathlib.Core.Path.{_≡_, refl, sym, ap, _∙_, subst}
 use mathlib.Core.Bool.{Bool, true, false, cond, not}
 use mathlib.Core.Logic.{_⊎_, ⊎-elim}
@@ -16,7 +16,8 @@ use Rattle.tables.specs.Options.{zoomUsed}
 use Rattle.tables.specs.State.{lenOf}
 use Rattle.tables.specs.Sound.{stateOk, used-stands}
 use Rattle.asking.specs.declared.Answer.{Answer}
-use Rattle.asking.specs.declared.Answer.the-variants.{Listed as Answer·Listed, NoRoom as Answer·NoRoom, Box as Answer·Box, Spoiled as Answer·Spoiled}
+use Rattle.asking.specs.declared.Answer.the-variants.{Listed as Answer·Listed, NoRoom as Answer·NoRoom}
+use Rattle.asking.specs.declared.Answer.the-variants.{Box as Answer·Box, Spoiled as Answer·Spoiled}
 use Rattle.asking.specs.Answers.{fitted as plainly}
 use Rattle.asking.specs.Asked.{Asked, refused as Asked·refused, told, answerOf}
 use Rattle.asking.specs.Columns.{indexRoom, idsAt, coordsAt}
@@ -37,11 +38,14 @@ use Rattle.efforts.specs.StatedEffort.{plain, Carries, Stated, StatedEff
 
 module _ (n : ℕ) (ms : List Mark) where
   -- a reply that carries an effort carries that of the tests, and no place that they found is past the table
-  carries : (a room : ℕ) → Carries (answer n ms a room) → (whole n (items a ms) ≡ true) × (effortCarried (answer n ms a room) ≡ effortOf a ms)
+  carries : (a room : ℕ) → Carries (answer n ms a room)
+      → (whole n (items a ms) ≡ true) × (effortCarried (answer n ms a room) ≡ effortOf a ms)
   carries a room c = go (whole n (items a ms)) refl (leb (length (items a ms)) room) c
     where
-      go : (b : Bool) → whole n (items a ms) ≡ b → (f : Bool) → Carries (cond b (cond f (Found (effortOf a ms)) (NoRoom (effortOf a ms))) Spoiled)
-          → (whole n (items a ms) ≡ true) × (effortCarried (cond b (cond f (Found (effortOf a ms)) (NoRoom (effortOf a ms))) Spoiled) ≡ effortOf a ms)
+      go : (b : Bool) → whole n (items a ms) ≡ b → (f : Bool)
+          → Carries (cond b (cond f (Found (effortOf a ms)) (NoRoom (effortOf a ms))) Spoiled)
+          → (whole n (items a ms) ≡ true)
+          × (effortCarried (cond b (cond f (Found (effortOf a ms)) (NoRoom (effortOf a ms))) Spoiled) ≡ effortOf a ms)
       go true e true c = (e, refl)
       go true e false c = (e, refl)
       go false e f c = absurd (⊎-elim (λ h. omega (arith, h)) (λ h. omega (arith, h)) c)
@@ -54,14 +58,18 @@ module _ (n : ℕ) (ms : List Mark) where
     full-reply : (room : ℕ) → plain (answer n ms a room) ≡ answerOf (walked n (hits ms)) room
     full-reply room = go (whole n (hits ms)) refl
       where
-        by-room : (f : Bool) → plain (cond f (Found (effortOf a ms)) (NoRoom (effortOf a ms))) ≡ cond f (Answer·Listed (length (items a ms))) (Answer·NoRoom (length (items a ms)))
+        by-room : (f : Bool)
+            → plain (cond f (Found (effortOf a ms)) (NoRoom (effortOf a ms)))
+            ≡ cond f (Answer·Listed (length (items a ms))) (Answer·NoRoom (length (items a ms)))
         by-room true = refl
         by-room false = refl
 
         go : (b : Bool) → whole n (hits ms) ≡ b → plain (answer n ms a room) ≡ answerOf (walked n (hits ms)) room
         go true e =
-            ap (λ (b : Bool). plain (cond b (fitted (effortOf a ms) room) Spoiled)) (ap (whole n) all-items ∙ e) ∙ by-room (leb (length (items a ms)) room)
-            ∙ ap (λ (l : List ℕ). plainly (length l) room) (all-items ∙ sym (whole-sound n (hits ms) e)) ∙ sym (ap (λ (b : Bool). answerOf (told b (sound n (hits ms))) room) e)
+            ap (λ (b : Bool). plain (cond b (fitted (effortOf a ms) room) Spoiled)) (ap (whole n) all-items ∙ e)
+            ∙ by-room (leb (length (items a ms)) room)
+            ∙ ap (λ (l : List ℕ). plainly (length l) room) (all-items ∙ sym (whole-sound n (hits ms) e))
+            ∙ sym (ap (λ (b : Bool). answerOf (told b (sound n (hits ms))) room) e)
         go false e =
             ap (λ (b : Bool). plain (cond b (fitted (effortOf a ms) room) Spoiled)) (ap (whole n) all-items ∙ e)
             ∙ sym (ap (λ (b : Bool). answerOf (told b (sound n (hits ms))) room) e)
@@ -69,7 +77,8 @@ module _ (n : ℕ) (ms : List Mark) where
   stated-sought : (count : ℕ) → length ms ≤ 2 * count → Stated (sought n ms) (walked n (hits ms)) count
   stated-sought count m =
       record {
-        items = λ a room c. let w = carries a room c in ap (λ (e : Effort). e .items) (w .1) ∙ ap length (sym (whole-sound n (items a ms) (w .0)));
+        items = λ a room c. let w = carries a room c in ap (λ (e : Effort). e .items) (w .1)
+            ∙ ap length (sym (whole-sound n (items a ms) (w .0)));
         tested = λ a room c. ap (λ (e : Effort). e .tested) (carries a room c .1);
         stopped = λ a room c s. ltb-true a (length ms) (sym (ap (λ (e : Effort). e .stopped) (carries a room c .1)) ∙ s);
         not-stopped = λ a room c s. ltb-false a (length ms) (sym (ap (λ (e : Effort). e .stopped) (carries a room c .1)) ∙ s);
@@ -111,13 +120,20 @@ module _ (st : State) (ids : List ℕ) (co : List Float) (zoom : ℕ) where
 
   -- the tests of a plan find what the box without an effort walks over
   pub unlimited-box : (p : Plan) → walked (lenOf st used) (hits (testsAt p)) ≡ listedAt st ids co used p
-  unlimited-box p = ap (walked (lenOf st used)) (trials-found (st .options .«node_size») (lenOf st used) (idsAt st ids used) (coordsAt st co used) p)
+  unlimited-box p =
+      ap (walked (lenOf st used)) (trials-found (st .options .«node_size») (lenOf st used) (idsAt st ids used) (coordsAt st co used) p)
 
-  stated-plan : stateOk st (indexRoom ids co) ≡ true → (p : Plan) → Stated (soughtAt st ids co used p) (listedAt st ids co used p) (st .count)
+  stated-plan : stateOk st (indexRoom ids co) ≡ true → (p : Plan)
+      → Stated (soughtAt st ids co used p) (listedAt st ids co used p) (st .count)
   stated-plan g p =
       let m : length (testsAt p) ≤ 2 * st .count =
-      omega (arith, trials-most (st .options .«node_size») (lenOf st used) (idsAt st ids used) (coordsAt st co used) p, used-stands st (indexRoom ids co) g zoom .0 .most) in
-      subst (λ (x : Asked). Stated (soughtAt st ids co used p) x (st .count)) (unlimited-box p) (stated-sought (lenOf st used) (testsAt p) (st .count) m)
+      omega (
+        arith,
+        trials-most (st .options .«node_size») (lenOf st used) (idsAt st ids used) (coordsAt st co used) p,
+        used-stands st (indexRoom ids co) g zoom .0 .most,
+      ) in
+      subst (λ (x : Asked). Stated (soughtAt st ids co used p) x (st .count)) (unlimited-box p)
+      (stated-sought (lenOf st used) (testsAt p) (st .count) m)
 
 pub stated-effort : StatedEffort
 unfolding effortAsked boxAsked
@@ -128,7 +144,8 @@ stated-effort st ids co zoom w s e n = go (stateOk st (indexRoom ids co)) refl (
 
     go : (a : Bool) → stateOk st (indexRoom ids co) ≡ a → (b : Bool)
         → Stated (cond (not a) (refused Spoiled) (cond (not b) (refused Box) (soughtAt st ids co (used st ids co zoom) p)))
-        (cond (not a) (Asked·refused Answer·Spoiled) (cond (not b) (Asked·refused Answer·Box) (listedAt st ids co (used st ids co zoom) p))) (st .count)
+        (cond (not a) (Asked·refused Answer·Spoiled)
+        (cond (not b) (Asked·refused Answer·Box) (listedAt st ids co (used st ids co zoom) p))) (st .count)
     go false g b = stated-refused Spoiled Answer·Spoiled (st .count) refl (λ c. nothing-carried 11 (omega arith) (λ h. omega arith) c)
     go true g false = stated-refused Box Answer·Box (st .count) refl (λ c. nothing-carried 9 (omega arith) (λ h. omega arith) c)
     go true g true = stated-plan st ids co zoom g p

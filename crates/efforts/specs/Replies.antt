@@ -1,5 +1,5 @@
--- Any two replies that meet the contract of `effort_box` are equal, and so are any two columns that they leave; the same of the methods of `EffortReply`.
--- Assumes nothing.
+-- Any two replies that meet the contract of `effort_box` are equal, and so are any two columns that they leave; the same of the methods
+-- of `EffortReply`. Assumes nothing.
 use mathlib.Core.Path.{_≡_}
 use mathlib.Core.List.{List}
 use Prim.Native.Nat.{ℕ}
@@ -17,7 +17,8 @@ module _ (s : State) (ids : List ℕ) (co : List Float) (zoom : ℕ) (w south e 
       → t ≡ replyOf (effortAsked s ids co zoom w south e n) a (length out) → r ≡ t
   effort-replies r t = same-reply
 
-  pub effort-columns : (u v : List ℕ) → u ≡ columnOf (effortAsked s ids co zoom w south e n) a out → v ≡ columnOf (effortAsked s ids co zoom w south e n) a out → u ≡ v
+  pub effort-columns : (u v : List ℕ) → u ≡ columnOf (effortAsked s ids co zoom w south e n) a out
+      → v ≡ columnOf (effortAsked s ids co zoom w south e n) a out → u ≡ v
   effort-columns u v = same-reply
 
 pub number-replies : (x : EffortReply) (r t : ℕ) → r ≡ effortNumber x → t ≡ effortNumber x → r ≡ t

@@ -1,5 +1,6 @@
--- #102, a box search with a stated effort: what is said of the reply of `effort_box` and of what it leaves in the column, beside `list_box` for the same box.
--- The whole statement is `StatedEffort`, the last of this file: over any state and any columns. Proved shows that it holds. Definitions only.
+-- #102, a box search with a stated effort: what is said of the reply of `effort_box` and of what it leaves in the column, beside
+-- `list_box` for the same box. The whole statement is `StatedEffort`, the last of this file: over any state and any columns. Proved shows
+-- that it holds. Definitions only.
 use mathlib.Core.Path.{_≡_}
 use mathlib.Core.Bool.{Bool, true, false}
 use mathlib.Core.Logic.{_⊎_}
@@ -42,7 +43,8 @@ Carries r = (effortNumber r ≡ 0) ⊎ (effortNumber r ≡ 10)
 
 -- of a box question with an effort, beside the box without one, for a build of so many lamps
 pub record Stated (x : Sought) (box : Asked) (count : ℕ) : Type 0 where
-  -- it carries how many places are listed and how many slots were tested, as many as the allowance or all that the definition of the search tests
+  -- it carries how many places are listed and how many slots were tested, as many as the allowance or all that the definition of the
+  -- search tests
   pub items : (a room : ℕ) → Carries (replyOf x a room) → effortCarried (replyOf x a room) .items ≡ length (listOf x a)
   pub tested : (a room : ℕ) → Carries (replyOf x a room) → effortCarried (replyOf x a room) .tested ≡ min a (length (testsOf x))
   -- and whether it stopped with a test still due, which an allowance of just so many does not

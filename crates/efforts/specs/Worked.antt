@@ -1,5 +1,6 @@
--- A box within an effort worked from the definitions: the tests of both halves of a box across the date line in one count, in the order of the search; where it
--- stops, where it has just enough, what is judged for 10, and a slot past the table that spoils it only where it is come to. Assumes nothing.
+-- A box within an effort worked from the definitions: the tests of both halves of a box across the date line in one count, in the order
+-- of the search; where it stops, where it has just enough, what is judged for 10, and a slot past the table that spoils it only where it
+-- is come to. Assumes nothing.
 use mathlib.Core.Path.{_≡_, refl}
 use mathlib.Core.Bool.{true, false}
 use mathlib.Core.List.{List, [], _∷_}
@@ -36,7 +37,8 @@ ids = 0 ∷ 1 ∷ 2 ∷ 3 ∷ 4 ∷ 0 ∷ []
 
 abbrev coords : List Float
 coords =
-    mercatorX (neg halfCircle) ∷ half ∷ mercatorX east ∷ half ∷ mercatorX zero ∷ half ∷ mercatorX (float 170) ∷ half ∷ mercatorX halfCircle ∷ half
+    mercatorX (neg halfCircle) ∷ half ∷ mercatorX east ∷ half ∷ mercatorX zero ∷ half ∷ mercatorX (float 170) ∷ half
+    ∷ mercatorX halfCircle ∷ half
     ∷ half ∷ half ∷ []
 
 -- the box from -180.00000000000006 to -170: its first half is the whole row

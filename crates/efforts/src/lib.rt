@@ -1,5 +1,6 @@
-// A box question with a stated effort: it tests at most as many slots as the caller allows, and replies what it found, how many it tested, and whether it stopped
-// with a test still due. Nothing is asked of the caller: what 01 does not take is refused with its number, as for a box.
+// A box question with a stated effort: it tests at most as many slots as the caller allows, and replies what it found, how many it
+// tested, and whether it stopped with a test still due. Nothing is asked of the caller: what 01 does not take is refused with its number,
+// as for a box.
 use boxplan::Plan;
 use spending::EffortReply;
 use tables::State;
@@ -29,8 +30,12 @@ fn effort_at(
 ) -> EffortReply
     requires { ⌜ (start + n ≤ length (now ids)) × (2 * (start + n) ≤ length (now coords)) ⌝ }
     requires { ⌜ indexOk «node_size» n (part start n (now ids)) (part (2 * start) (2 * n) (now coords)) ≡ true ⌝ }
-    ensures { λ r. ⌜ r ≡ answer n (trials p «node_size» n (part start n (now (ids .entry))) (part (2 * start) (2 * n) (now (coords .entry)))) allowance (length (now (out .entry))) ⌝ }
-    ensures { λ _. ⌜ now (out .exit) ≡ column n (trials p «node_size» n (part start n (now (ids .entry))) (part (2 * start) (2 * n) (now (coords .entry)))) allowance (now (out .entry)) ⌝ }
+    ensures { λ r. ⌜ r
+        ≡ answer n (trials p «node_size» n (part start n (now (ids .entry))) (part (2 * start) (2 * n) (now (coords .entry)))) allowance
+        (length (now (out .entry))) ⌝ }
+    ensures { λ _. ⌜ now (out .exit)
+        ≡ column n (trials p «node_size» n (part start n (now (ids .entry))) (part (2 * start) (2 * n) (now (coords .entry)))) allowance
+        (now (out .entry)) ⌝ }
 {
     let end = start + n;
     let from = 2 * start;
@@ -57,8 +62,11 @@ fn effort_used(
     out: &mut [u32],
 ) -> EffortReply
     requires { ⌜ stateOk s (indexRoom (now ids) (now coords)) ≡ true ⌝ }
-    ensures { λ r. ⌜ r ≡ replyOf (soughtAt s (now (ids .entry)) (now (coords .entry)) (zoomUsed (s .options) zoom) p) allowance (length (now (out .entry))) ⌝ }
-    ensures { λ _. ⌜ now (out .exit) ≡ columnOf (soughtAt s (now (ids .entry)) (now (coords .entry)) (zoomUsed (s .options) zoom) p) allowance (now (out .entry)) ⌝ }
+    ensures { λ r. ⌜ r
+        ≡ replyOf (soughtAt s (now (ids .entry)) (now (coords .entry)) (zoomUsed (s .options) zoom) p) allowance
+        (length (now (out .entry))) ⌝ }
+    ensures { λ _. ⌜ now (out .exit)
+        ≡ columnOf (soughtAt s (now (ids .entry)) (now (coords .entry)) (zoomUsed (s .options) zoom) p) allowance (now (out .entry)) ⌝ }
 {
     let o = s.options;
     let z = o.zoom_used(zoom) as usize;
@@ -74,8 +82,8 @@ fn effort_used(
     )
 }
 
-// The places of the table of the zoom used in the box from (w, south) to (e, n), within so many tests, which run over both halves of a box across the date
-// line.
+// The places of the table of the zoom used in the box from (w, south) to (e, n), within so many tests, which run over both halves of a
+// box across the date line.
 pub fn effort_box(
     s: State,
     ids: &[u32],
@@ -88,8 +96,10 @@ pub fn effort_box(
     allowance: usize,
     out: &mut [u32],
 ) -> EffortReply
-    ensures { λ r. ⌜ r ≡ replyOf (effortAsked s (now (ids .entry)) (now (coords .entry)) zoom w south e n) allowance (length (now (out .entry))) ⌝ }
-    ensures { λ _. ⌜ now (out .exit) ≡ columnOf (effortAsked s (now (ids .entry)) (now (coords .entry)) zoom w south e n) allowance (now (out .entry)) ⌝ }
+    ensures { λ r. ⌜ r
+        ≡ replyOf (effortAsked s (now (ids .entry)) (now (coords .entry)) zoom w south e n) allowance (length (now (out .entry))) ⌝ }
+    ensures { λ _. ⌜ now (out .exit)
+        ≡ columnOf (effortAsked s (now (ids .entry)) (now (coords .entry)) zoom w south e n) allowance (now (out .entry)) ⌝ }
 {
     if !s.is_sound(asking::index_room(ids, coords)) {
         return EffortReply::Spoiled;

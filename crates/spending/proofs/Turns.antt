@@ -17,7 +17,8 @@ use Rattle.spending.specs.Spend.{went, due, andThen, spend, spend-append
 
 module _ (S : Search) (ids : List ℕ) (n : ℕ) where
   -- one test, by what it comes to
-  pub put-is : (i : ℕ) (s : Spent) (out : List ℕ) {o z v l : Bool} → s .over ≡ o → eqb (s .left) 0 ≡ z → S .test i ≡ v → ltb (getD ids i 0) n ≡ l
+  pub put-is : (i : ℕ) (s : Spent) (out : List ℕ) {o z v l : Bool} → s .over ≡ o → eqb (s .left) 0 ≡ z → S .test i ≡ v
+      → ltb (getD ids i 0) n ≡ l
       → andThen (due o z v l (getD ids i 0) s out) (λ t p. went t p) ≡ spend n (marks S ids (i ∷ [])) s out
   unfolding spend marks
   put-is i s out {o} {z} {v} {l} e f g h =
@@ -27,10 +28,12 @@ module _ (S : Search) (ids : List ℕ) (n : ℕ) where
       ∙ ap (λ (x : Bool). andThen (due o z v x (getD ids i 0) s out) (λ t p. went t p)) h)
 
   -- a test that passes, where the column does not reach so far
-  pub put-past : (i : ℕ) (s : Spent) (out : List ℕ) → s .over ≡ false → eqb (s .left) 0 ≡ false → S .test i ≡ true → ltb (getD ids i 0) n ≡ true → length out ≤ s .found
+  pub put-past : (i : ℕ) (s : Spent) (out : List ℕ) → s .over ≡ false → eqb (s .left) 0 ≡ false → S .test i ≡ true
+      → ltb (getD ids i 0) n ≡ true → length out ≤ s .found
       → went (record { found = s .found + 1; left = s .left - 1; over = false; spoiled = false }) out ≡ spend n (marks S ids (i ∷ [])) s out
   put-past i s out e f g h l =
-      ap (went (record { found = s .found + 1; left = s .left - 1; over = false; spoiled = false })) (sym (set-out out (s .found) (getD ids i 0) l)) ∙ put-is i s out e f g h
+      ap (went (record { found = s .found + 1; left = s .left - 1; over = false; spoiled = false }))
+      (sym (set-out out (s .found) (getD ids i 0) l)) ∙ put-is i s out e f g h
 
   -- where it is over already
   pub over-is : (l : List ℕ) (s : Spent) (out : List ℕ) → s .over ≡ true → went s out ≡ spend n (marks S ids l) s out
@@ -42,10 +45,12 @@ module _ (S : Search) (ids : List ℕ) (n : ℕ) where
   -- ---- slot by slot
 
   pub scan-more : (i hi : ℕ) (k j : Spent) (out o : List ℕ) → i < hi → went j o ≡ spend n (marks S ids (i ∷ [])) k out
-      → spend n (marks S ids (scanned (testing S) i (hi - i))) k out ≡ spend n (marks S ids (scanned (testing S) (i + 1) (hi - (i + 1)))) j o
+      → spend n (marks S ids (scanned (testing S) i (hi - i))) k out
+      ≡ spend n (marks S ids (scanned (testing S) (i + 1) (hi - (i + 1)))) j o
   unfolding marks
   scan-more i hi k j out o h e =
-      ap (λ (l : List ℕ). spend n (marks S ids l) k out) (scanned-suc (testing S) i hi h) ∙ more (marks S ids (i ∷ [])) (marks S ids (scanned (testing S) (i + 1) (hi - (i + 1)))) k j out o e
+      ap (λ (l : List ℕ). spend n (marks S ids l) k out) (scanned-suc (testing S) i hi h)
+      ∙ more (marks S ids (i ∷ [])) (marks S ids (scanned (testing S) (i + 1) (hi - (i + 1)))) k j out o e
 
   scanned-none : (i hi : ℕ) → hi ≤ i → scanned (testing S) i (hi - i) ≡ []
   unfolding scanned
@@ -64,10 +69,12 @@ module _ (S : Search) (ids : List ℕ) (n : ℕ) where
   unfolding spend marks
   part-skipped go l s out e = rw e
 
-  pub part-leaf : (go : Bool) (ax most lo hi : ℕ) (s r : Spent) (out o : List ℕ) → go ≡ true → hi - lo ≤ most → went r o ≡ spend n (marks S ids (scanned (testing S) lo (hi - lo))) s out
+  pub part-leaf : (go : Bool) (ax most lo hi : ℕ) (s r : Spent) (out o : List ℕ) → go ≡ true → hi - lo ≤ most
+      → went r o ≡ spend n (marks S ids (scanned (testing S) lo (hi - lo))) s out
       → went r o ≡ spend n (marks S ids (when go (slots (testing S) ax (shape most lo hi)))) s out
   part-leaf go ax most lo hi s r out o g h e =
-      e ∙ sym (ap (λ (b : Bool). spend n (marks S ids (when b (slots (testing S) ax (shape most lo hi)))) s out) g ∙ ap (λ (l : List ℕ). spend n (marks S ids l) s out) (slots-leaf (testing S) ax most lo hi h))
+      e ∙ sym (ap (λ (b : Bool). spend n (marks S ids (when b (slots (testing S) ax (shape most lo hi)))) s out) g
+      ∙ ap (λ (l : List ℕ). spend n (marks S ids l) s out) (slots-leaf (testing S) ax most lo hi h))
 
   pub part-node : (go : Bool) (ax most lo hi : ℕ) (s k j r : Spent) (out o p y : List ℕ) → go ≡ true → most < hi - lo
       → went k o ≡ spend n (marks S ids (mid lo hi ∷ [])) s out
@@ -78,7 +85,8 @@ module _ (S : Search) (ids : List ℕ) (n : ℕ) where
   part-node go ax most lo hi s k j r out o p y g h a b c =
       let R = when (S .right ax (mid lo hi)) (slots (testing S) (1 - ax) (shape most (mid lo hi + 1) hi)) in
       let L = when (S .left ax (mid lo hi)) (slots (testing S) (1 - ax) (shape most lo (mid lo hi))) in
-      spend-then n (marks S ids (mid lo hi ∷ [])) (marks S ids R ++ marks S ids L) s k r out o y a (spend-then n (marks S ids R) (marks S ids L) k j r o p y b c)
+      spend-then n (marks S ids (mid lo hi ∷ [])) (marks S ids R ++ marks S ids L) s k r out o y a
+      (spend-then n (marks S ids R) (marks S ids L) k j r o p y b c)
       ∙ sym (ap (λ (x : Bool). spend n (marks S ids (when x (slots (testing S) ax (shape most lo hi)))) s out) g
       ∙ ap (λ (l : List ℕ). spend n (marks S ids l) s out) (slots-node (testing S) ax most lo hi h)
       ∙ ap (λ (l : List Mark). spend n (mark (S .test (mid lo hi)) (getD ids (mid lo hi) 0) ∷ l) s out) (marks-append S ids R L))

@@ -1,5 +1,6 @@
--- What an allowance promises, over any columns: the items of a smaller one begin those of a larger; as many tests are made as the definition has, or as are
--- allowed; one that is not used up, or just used up, gives the full answer; and the tests of a plan find what its searches answer. Assumes nothing.
+-- What an allowance promises, over any columns: the items of a smaller one begin those of a larger; as many tests are made as the
+-- definition has, or as are allowed; one that is not used up, or just used up, gives the full answer; and the tests of a plan find what
+-- its searches answer. Assumes nothing.
 use mathlib.Core.Bool.{Bool, true, false}
 use mathlib.Core.Path.{_≡_, refl, sym, ap, ap₂, _∙_}
 use mathlib.Core.List.{List, [], _∷_, _++_}
@@ -26,8 +27,10 @@ use Rattle.spending.specs.Reply.{effortOf}
 -- a smaller allowance gives a beginning of what a larger one gives: the items already given never change
 pub items-begin : (a b : ℕ) (ms : List Mark) → a ≤ b → (more : List ℕ) × (items b ms ≡ items a ms ++ more)
 items-begin a b ms h =
-    let e : b ≡ a + (b - a) = omega arith in
-    (hits (take (b - a) (drop a ms)), ap (λ (k : ℕ). hits (take k ms)) e ∙ ap hits (take-add a (b - a) ms) ∙ hits-append (take a ms) (take (b - a) (drop a ms)))
+    let e : b ≡ a + (b - a) = omega arith in (
+      hits (take (b - a) (drop a ms)),
+      ap (λ (k : ℕ). hits (take k ms)) e ∙ ap hits (take-add a (b - a) ms) ∙ hits-append (take a ms) (take (b - a) (drop a ms)),
+    )
 
 -- and so of the full list
 pub items-of-all : (a : ℕ) (ms : List Mark) → (more : List ℕ) × (hits ms ≡ items a ms ++ more)
@@ -39,7 +42,8 @@ unfolding sound
 sound-begin n [] r = (sound n r, refl)
 sound-begin n (p ∷ l) r = go (ltb p n) refl (sound-begin n l r)
   where
-    go : (b : Bool) → ltb p n ≡ b → ((more : List ℕ) × (sound n (l ++ r) ≡ sound n l ++ more)) → (more : List ℕ) × (sound n (p ∷ (l ++ r)) ≡ sound n (p ∷ l) ++ more)
+    go : (b : Bool) → ltb p n ≡ b → ((more : List ℕ) × (sound n (l ++ r) ≡ sound n l ++ more))
+        → (more : List ℕ) × (sound n (p ∷ (l ++ r)) ≡ sound n (p ∷ l) ++ more)
     go true e h = (h .0, rw (e, sound) (ap (λ (z : List ℕ). p ∷ z) (h .1)))
     go false e h = ([], rw (e, sound))
 
@@ -84,15 +88,19 @@ module _ (size n : ℕ) (ids : List ℕ) (co : List Float) where
   second-found false q = refl
 
   -- they find what its searches answer, the first and then the second
-  pub trials-found : (p : Plan) → hits (trials p size n ids co) ≡ found (p .first) size n ids co ++ when (p .two) (found (p .second) size n ids co)
+  pub trials-found : (p : Plan)
+      → hits (trials p size n ids co) ≡ found (p .first) size n ids co ++ when (p .two) (found (p .second) size n ids co)
   trials-found p =
-      hits-append (marks (over (p .first) co) ids (tests (p .first) co size n)) (marks (over (p .second) co) ids (when (p .two) (tests (p .second) co size n)))
+      hits-append (marks (over (p .first) co) ids (tests (p .first) co size n))
+      (marks (over (p .second) co) ids (when (p .two) (tests (p .second) co size n)))
       ∙ ap₂ (λ (u v : List ℕ). u ++ v) (one-found (p .first)) (second-found (p .two) (p .second))
 
   -- there are as many as the definition has, of both searches together at most twice the slots
-  pub trials-length : (p : Plan) → length (trials p size n ids co) ≡ length (tests (p .first) co size n) + length (when (p .two) (tests (p .second) co size n))
+  pub trials-length : (p : Plan)
+      → length (trials p size n ids co) ≡ length (tests (p .first) co size n) + length (when (p .two) (tests (p .second) co size n))
   trials-length p =
-      length-append (marks (over (p .first) co) ids (tests (p .first) co size n)) (marks (over (p .second) co) ids (when (p .two) (tests (p .second) co size n)))
+      length-append (marks (over (p .first) co) ids (tests (p .first) co size n))
+      (marks (over (p .second) co) ids (when (p .two) (tests (p .second) co size n)))
       ∙ ap₂ (λ (j k : ℕ). j + k) (marks-length (over (p .first) co) ids (tests (p .first) co size n))
       (marks-length (over (p .second) co) ids (when (p .two) (tests (p .second) co size n)))
 

@@ -1,4 +1,5 @@
--- What a search with an allowance replies and leaves in the lent column, by the tests of its definition; and 01's numbers of the reply. Definitions only.
+-- What a search with an allowance replies and leaves in the lent column, by the tests of its definition; and 01's numbers of the reply.
+-- Definitions only.
 use mathlib.Core.Bool.{Bool, false, cond}
 use mathlib.Core.List.{List}
 use Prim.Native.Nat.{ℕ, _-_, min}

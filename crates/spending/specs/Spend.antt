@@ -1,5 +1,5 @@
--- A search with an allowance, test by test: what it has found, may still test, and leaves in the column. The first are definitions, and then the laws by which
--- the code goes from test to test. Assumes nothing.
+-- A search with an allowance, test by test: what it has found, may still test, and leaves in the column. The first are definitions, and
+-- then the laws by which the code goes from test to test. Assumes nothing.
 use mathlib.Core.Bool.{Bool, true, false}
 use mathlib.Core.Path.{_≡_, refl, sym, ap, _∙_}
 use mathlib.Core.List.{List, [], _∷_, _++_}
@@ -19,7 +19,8 @@ pub data Went : Type 0 where
 abbrev pub spoilt : Spent
 spoilt = record { found = 0; left = 0; over = true; spoiled = true }
 
--- a test that is made: it passes or not, and its place p is below the number of slots or not. A place goes to the next position, if that is within the column.
+-- a test that is made: it passes or not, and its place p is below the number of slots or not. A place goes to the next position, if that
+-- is within the column.
 abbrev pub made : Bool → Bool → ℕ → Spent → List ℕ → Went
 made false low p s out = went (record { found = s .found; left = s .left - 1; over = false; spoiled = false }) out
 made true true p s out = went (record { found = s .found + 1; left = s .left - 1; over = false; spoiled = false }) (set out (s .found) p)
@@ -44,7 +45,8 @@ spend n (m ∷ ms) s out = andThen (step n m s out) (λ t o. spend n ms t o)
 
 -- ---- one list after the other
 
-pub spend-append : (n : ℕ) (ms ps : List Mark) (s : Spent) (out : List ℕ) → spend n (ms ++ ps) s out ≡ andThen (spend n ms s out) (λ t o. spend n ps t o)
+pub spend-append : (n : ℕ) (ms ps : List Mark) (s : Spent) (out : List ℕ)
+    → spend n (ms ++ ps) s out ≡ andThen (spend n ms s out) (λ t o. spend n ps t o)
 unfolding spend
 spend-append n [] ps s out = refl
 spend-append n (m ∷ ms) ps s out = go (step n m s out) (λ t o. spend-append n ms ps t o)
@@ -85,9 +87,11 @@ unfolding spend sum
 sum-spend n [] s out = omega arith
 sum-spend n (m ∷ ms) s out = go (step n m s out) (sum-step n m s out) (λ t o. sum-spend n ms t o)
   where
-    go : (w : Went) → sum w ≤ s .found + s .left → ((t : Spent) (o : List ℕ) → sum (spend n ms t o) ≤ t .found + t .left) → sum (andThen w (λ t o. spend n ms t o)) ≤ s .found + s .left
+    go : (w : Went) → sum w ≤ s .found + s .left → ((t : Spent) (o : List ℕ) → sum (spend n ms t o) ≤ t .found + t .left)
+        → sum (andThen w (λ t o. spend n ms t o)) ≤ s .found + s .left
     go (went t o) h f = omega (arith, f t o)
 
-pub spend-sum : (n : ℕ) (ms : List Mark) (s r : Spent) (out o : List ℕ) → went r o ≡ spend n ms s out → r .found + r .left ≤ s .found + s .left
+pub spend-sum : (n : ℕ) (ms : List Mark) (s r : Spent) (out o : List ℕ) → went r o ≡ spend n ms s out
+    → r .found + r .left ≤ s .found + s .left
 unfolding sum
 spend-sum n ms s r out o e = omega (arith, ap sum e, sum-spend n ms s out)

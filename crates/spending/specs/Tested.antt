@@ -1,5 +1,5 @@
--- The slots that the definition of a search tests, in the order in which it tests them. The first two are definitions. What is answered is what passes of them
--- (`answers-tested`), over any coordinates. Assumes nothing.
+-- The slots that the definition of a search tests, in the order in which it tests them. The first two are definitions. What is answered
+-- is what passes of them (`answers-tested`), over any coordinates. Assumes nothing.
 use mathlib.Core.Bool.{Bool, true, false}
 use mathlib.Core.Path.{_≡_, refl, sym, ap, ap₂, _∙_}
 use mathlib.Core.List.{List, [], _∷_, _++_}
@@ -17,8 +17,8 @@ use Rattle.kdslots.specs.Keep.{put, keep, keep-append}
 abbrev pub testing : Search → Search
 testing s = record { test = λ i. true; right = s .right; left = s .left }
 
--- the slots of an index of n that a query tests, for a node size: each slot of an unsplit interval; of a split one the median, then those of the right part and
--- then those of the left, where they are gone into
+-- the slots of an index of n that a query tests, for a node size: each slot of an unsplit interval; of a split one the median, then those
+-- of the right part and then those of the left, where they are gone into
 abbrev pub tests : Query → List Float → ℕ → ℕ → List ℕ
 tests q cs size n = slots (testing (over q cs)) 0 (shape (size + 1) 0 n)
 
@@ -35,7 +35,8 @@ when-kept p false mine l e = refl
 scanned-tested : (s : Search) (i k : ℕ) → scanned s i k ≡ keep (s .test) (scanned (testing s) i k)
 unfolding scanned
 scanned-tested s i zero = refl
-scanned-tested s i (suc k) = one-put (s .test i) i (scanned s (i + 1) k) ∙ ap (λ (l : List ℕ). put (s .test i) i l) (scanned-tested s (i + 1) k)
+scanned-tested s i (suc k) =
+    one-put (s .test i) i (scanned s (i + 1) k) ∙ ap (λ (l : List ℕ). put (s .test i) i l) (scanned-tested s (i + 1) k)
 
 slots-tested : (s : Search) (ax : ℕ) (t : Shape) → slots s ax t ≡ keep (s .test) (slots (testing s) ax t)
 unfolding slots

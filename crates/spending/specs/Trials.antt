@@ -1,5 +1,5 @@
--- The tests of a plan over an index, both halves of a box across the date line in one list, and what the first of them find. The first are definitions.
--- Assumes nothing.
+-- The tests of a plan over an index, both halves of a box across the date line in one list, and what the first of them find. The first
+-- are definitions. Assumes nothing.
 use mathlib.Core.Bool.{Bool, true, false}
 use mathlib.Core.Path.{_≡_, refl, ap, _∙_}
 use mathlib.Core.List.{List, [], _∷_, _++_}
@@ -30,7 +30,8 @@ hits (mark b p ∷ ms) = put b p (hits ms)
 -- the tests of a plan over an index of n, in order: those of the first search, and then, if there are two, those of the second
 abbrev pub trials : Plan → ℕ → ℕ → List ℕ → List Float → List Mark
 trials p size n ids co =
-    marks (over (p .first) co) ids (tests (p .first) co size n) ++ marks (over (p .second) co) ids (when (p .two) (tests (p .second) co size n))
+    marks (over (p .first) co) ids (tests (p .first) co size n)
+    ++ marks (over (p .second) co) ids (when (p .two) (tests (p .second) co size n))
 
 -- the places that the first a tests find
 abbrev pub items : ℕ → List Mark → List ℕ

@@ -1,6 +1,7 @@
-// The searches of a box's plan within a stated effort: they make at most as many tests as the caller allows, one after the other in one count, and say how many
-// were made and whether one was still due. The tests are those of the definition of the search, each slot of an interval that is not split and each median
-// of one that is; nothing is narrowed away first, since the definition tests what narrowing leaves out.
+// The searches of a box's plan within a stated effort: they make at most as many tests as the caller allows, one after the other in one
+// count, and say how many were made and whether one was still due. The tests are those of the definition of the search, each slot of an
+// interval that is not split and each median of one that is; nothing is narrowed away first, since the definition tests what narrowing
+// leaves out.
 use boxplan::Plan;
 use kdslots::Query;
 ghost use mathlib.Core.Path.{_≡_};
@@ -23,7 +24,8 @@ pub struct Effort {
     pub stopped: bool,
 }
 
-// The reply, in 01's words: what was found within the allowance, or a refusal. `NoRoom` is judged on what was found before the stop, and carries it.
+// The reply, in 01's words: what was found within the allowance, or a refusal. `NoRoom` is judged on what was found before the stop, and
+// carries it.
 pub enum EffortReply {
     Found(Effort),
     Box,
@@ -57,8 +59,8 @@ impl EffortReply {
     }
 }
 
-// How far a search came: how many places it found and how many tests it may still make. It is over where a test is due and none is allowed, or where a slot
-// that passes names a place past the table, which spoils it.
+// How far a search came: how many places it found and how many tests it may still make. It is over where a test is due and none is
+// allowed, or where a slot that passes names a place past the table, which spoils it.
 struct Spent {
     found: usize,
     left: usize,
@@ -82,7 +84,8 @@ fn wide(x: u32) -> usize
     x as usize
 }
 
-// The test of the slot i, which is due: it is made if it is allowed, and if it passes, its place goes to the next position, if the column reaches so far.
+// The test of the slot i, which is due: it is made if it is allowed, and if it passes, its place goes to the next position, if the column
+// reaches so far.
 fn put(
     q: Query,
     ids: &[u32],
@@ -93,7 +96,8 @@ fn put(
     out: &mut [u32],
 ) -> Spent
     requires { ⌜ (2 * i + 1 < length (now coords)) × (i < length (now ids)) × (s .found + s .left < 2 ^ 64) ⌝ }
-    ensures { λ r. ⌜ went r (now (out .exit)) ≡ spend n (marks (over q (now (coords .entry))) (now (ids .entry)) (i ∷ [])) s (now (out .entry)) ⌝ }
+    ensures { λ r. ⌜ went r (now (out .exit))
+        ≡ spend n (marks (over q (now (coords .entry))) (now (ids .entry)) (i ∷ [])) s (now (out .entry)) ⌝ }
 {
     if s.over {
         return s;
@@ -154,7 +158,9 @@ fn scan(
     out: &mut [u32],
 ) -> Spent
     requires { ⌜ (2 * hi ≤ length (now coords)) × (hi ≤ length (now ids)) × (s .found + s .left < 2 ^ 64) ⌝ }
-    ensures { λ r. ⌜ went r (now (out .exit)) ≡ spend n (marks (over q (now (coords .entry))) (now (ids .entry)) (scanned (testing (over q (now (coords .entry)))) lo (hi - lo))) s (now (out .entry)) ⌝ }
+    ensures { λ r. ⌜ went r (now (out .exit))
+        ≡ spend n (marks (over q (now (coords .entry))) (now (ids .entry))
+        (scanned (testing (over q (now (coords .entry)))) lo (hi - lo))) s (now (out .entry)) ⌝ }
 {
     let mut k = s;
     let mut i = lo;
@@ -168,7 +174,8 @@ fn scan(
     k
 }
 
-// The tests of the slots from lo up to hi, if they are gone into: of an interval of more than `most` slots the median, then the right part, then the left.
+// The tests of the slots from lo up to hi, if they are gone into: of an interval of more than `most` slots the median, then the right
+// part, then the left.
 fn part(
     go: bool,
     q: Query,
@@ -183,7 +190,9 @@ fn part(
     out: &mut [u32],
 ) -> Spent
     requires { ⌜ (2 * hi ≤ length (now coords)) × (hi ≤ length (now ids)) × (lo ≤ hi) × (axis < 2) × (s .found + s .left < 2 ^ 64) ⌝ }
-    ensures { λ r. ⌜ went r (now (out .exit)) ≡ spend n (marks (over q (now (coords .entry))) (now (ids .entry)) (when go (slots (testing (over q (now (coords .entry)))) axis (shape most lo hi)))) s (now (out .entry)) ⌝ }
+    ensures { λ r. ⌜ went r (now (out .exit))
+        ≡ spend n (marks (over q (now (coords .entry))) (now (ids .entry))
+        (when go (slots (testing (over q (now (coords .entry)))) axis (shape most lo hi)))) s (now (out .entry)) ⌝ }
 {
     if !go {
         return s;
@@ -222,7 +231,8 @@ fn settle(s: Spent, allowance: usize, room: usize) -> EffortReply
     EffortReply::Found(e)
 }
 
-// Lists the places that a plan finds within so many tests over an index that may be searched: the second search goes on with what the first has left.
+// Lists the places that a plan finds within so many tests over an index that may be searched: the second search goes on with what the
+// first has left.
 pub fn search(
     p: Plan,
     node_size: usize,
@@ -233,8 +243,10 @@ pub fn search(
     out: &mut [u32],
 ) -> EffortReply
     requires { ⌜ indexOk «node_size» n (now ids) (now coords) ≡ true ⌝ }
-    ensures { λ r. ⌜ r ≡ answer n (trials p «node_size» n (now (ids .entry)) (now (coords .entry))) allowance (length (now (out .entry))) ⌝ }
-    ensures { λ _. ⌜ now (out .exit) ≡ column n (trials p «node_size» n (now (ids .entry)) (now (coords .entry))) allowance (now (out .entry)) ⌝ }
+    ensures { λ r. ⌜ r
+        ≡ answer n (trials p «node_size» n (now (ids .entry)) (now (coords .entry))) allowance (length (now (out .entry))) ⌝ }
+    ensures { λ _. ⌜ now (out .exit)
+        ≡ column n (trials p «node_size» n (now (ids .entry)) (now (coords .entry))) allowance (now (out .entry)) ⌝ }
 {
     let q = p.first;
     let w = p.second;

@@ -32,7 +32,8 @@ effort-at-requires c κs =
     let n = c .before in
     let k = n .before .before .before .before .before .before .before in
     let a = k .args in
-    at-used (a .s) (now (a .ids)) (now (a .coords)) (a .zoom) (k .pre) _ _ _ (n .before .before .zoom-used .ensures) (n .before .start-of .ensures) (n .len-of .ensures)
+    at-used (a .s) (now (a .ids)) (now (a .coords)) (a .zoom) (k .pre) _ _ _ (n .before .before .zoom-used .ensures)
+    (n .before .start-of .ensures) (n .len-of .ensures)
 
 same-length : tie.Need-same-length
 same-length c = search needs
@@ -42,8 +43,11 @@ returns c =
     let v = c .before .before in
     let n = v .before .before in
     let a = n .before .before .before .before .before .before .before .args in
-    let e = sought-used (a .s) (now (a .ids)) (now (a .coords)) (a .zoom) _ _ _ (a .p) (n .before .before .zoom-used .ensures) (n .before .start-of .ensures) (n .len-of .ensures) in
-    (v .effort-at .ensures .0 ∙ ap (λ (x : Sought). replyOf x (a .allowance) (length (now (a .out)))) e, v .effort-at .ensures .1 ∙ ap (λ (x : Sought). columnOf x (a .allowance) (now (a .out))) e)
+    let e = sought-used (a .s) (now (a .ids)) (now (a .coords)) (a .zoom) _ _ _ (a .p) (n .before .before .zoom-used .ensures)
+    (n .before .start-of .ensures) (n .len-of .ensures) in (
+      v .effort-at .ensures .0 ∙ ap (λ (x : Sought). replyOf x (a .allowance) (length (now (a .out)))) e,
+      v .effort-at .ensures .1 ∙ ap (λ (x : Sought). columnOf x (a .allowance) (now (a .out))) e,
+    )
 
 pub effort-used-spec : {M : Type 1} → statement M
 effort-used-spec =

@@ -1,4 +1,5 @@
--- `exports::supercluster_box_effort` meets its contract: it is the public function, its state made from numbers, its reply as numbers. Assumes nothing.
+-- `exports::supercluster_box_effort` meets its contract: it is the public function, its state made from numbers, its reply as numbers.
+-- Assumes nothing.
 use mathlib.Core.Path.{_≡_, ap}
 use denote.Ref.{now}
 use borrow.Author.Needs.{needs}
@@ -15,8 +16,15 @@ start-of y = y .before .before .before .before .before
 
 -- the state that is passed on
 state-given : (y : tie.After-state)
-    → y .state .result ≡ (let a = start-of y .args in stateOf (given (a .min-zoom) (a .max-zoom) (a .min-points) (a .radius) (a .extent) (a .node-size) (a .cartesian) (a .min-x) (a .min-y) (a .max-x) (a .max-y) (a .offset-given) (a .offset) (a .scale-given) (a .scale) (a .longitude-strips-only)) (a .count) (now (a .starts)) (now (a .lens)))
-state-given y = let a = start-of y .args in state-is (y .state .result) (y .before .options .result) _ (a .count) (now (a .starts)) (now (a .lens)) (y .state .ensures) (y .before .options .ensures)
+    → y .state .result ≡
+    (let a = start-of y .args in stateOf
+    (given (a .min-zoom) (a .max-zoom) (a .min-points) (a .radius) (a .extent) (a .node-size) (a .cartesian) (a .min-x) (a .min-y)
+    (a .max-x) (a .max-y) (a .offset-given) (a .offset) (a .scale-given) (a .scale) (a .longitude-strips-only)) (a .count)
+    (now (a .starts)) (now (a .lens)))
+state-given y =
+    let a = start-of y .args in
+    state-is (y .state .result) (y .before .options .result) _ (a .count) (now (a .starts)) (now (a .lens)) (y .state .ensures)
+    (y .before .options .ensures)
 
 options-requires : tie.Need-options-requires
 options-requires c κs = search needs
@@ -41,7 +49,9 @@ returns c =
     let w = c .before .before .before .before in
     let y = w .before .before in
     let a = start-of y .args in
-    effort-told-is (a .allowance) (now (a .out)) _ _ (c .number .ensures) (c .before .carried .ensures) (w .effort-box .ensures .0) (w .effort-box .ensures .1) (ap (λ (s : State). effortAsked s (now (a .ids)) (now (a .coords)) (a .zoom) (a .w) (a .south) (a .e) (a .n)) (state-given y))
+    effort-told-is (a .allowance) (now (a .out)) _ _ (c .number .ensures) (c .before .carried .ensures) (w .effort-box .ensures .0)
+    (w .effort-box .ensures .1)
+    (ap (λ (s : State). effortAsked s (now (a .ids)) (now (a .coords)) (a .zoom) (a .w) (a .south) (a .e) (a .n)) (state-given y))
 
 pub supercluster-box-effort-spec : {M : Type 1} → statement M
 supercluster-box-effort-spec =

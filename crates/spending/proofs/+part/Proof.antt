@@ -1,5 +1,5 @@
--- `part` meets its contract: what is not gone into, or is over, stays; a leaf is scanned; a node is its median, then its right part, then its left.
--- The measure is the interval's length. Assumes nothing.
+-- `part` meets its contract: what is not gone into, or is over, stays; a leaf is scanned; a node is its median, then its right part, then
+-- its left. The measure is the interval's length. Assumes nothing.
 use mathlib.Core.Path.{_≡_, sym, ap, _∙_}
 use mathlib.Core.Bool.{Bool, true}
 use mathlib.Core.List.{List, [], _∷_}
@@ -37,7 +37,18 @@ abbrev part-below : ℕ → In 3 part-kinds.ps
 part-below t = and 3 part-kinds.ps (falls 3 part-kinds.ps _<_ μ-part t) part.Pre
 
 abbrev part-told : ℕ → part-lts.Claims
-part-told t = (scan-reads.Asked, scan-reads.Learnt, put-reads.Asked, put-reads.Learnt, right-at-reads.Asked, right-at-reads.Learnt, part-below t, part.Post, left-at-reads.Asked, left-at-reads.Learnt)
+part-told t = (
+  scan-reads.Asked,
+  scan-reads.Learnt,
+  put-reads.Asked,
+  put-reads.Learnt,
+  right-at-reads.Asked,
+  right-at-reads.Learnt,
+  part-below t,
+  part.Post,
+  left-at-reads.Asked,
+  left-at-reads.Learnt,
+)
 
 -- ---- the places
 
@@ -76,36 +87,50 @@ rights t c = let a = start-of t c .args in slots (testing (search-of t c)) (1 - 
 abbrev lefts : (t : ℕ) → Split t → List ℕ
 lefts t c = let a = start-of t c .args in slots (testing (search-of t c)) (1 - a .axis) (shape (a .most) (a .lo) (m-of t c))
 
-put-sum : (t : ℕ) (v : After-put t) → let a = start-of t (v .before .before) .args in v .put .result .found + v .put .result .left ≤ a .s .found + a .s .left
+put-sum : (t : ℕ) (v : After-put t)
+    → let a = start-of t (v .before .before) .args in v .put .result .found + v .put .result .left ≤ a .s .found + a .s .left
 put-sum t v =
     let a = start-of t (v .before .before) .args in
-    spend-sum (a .n) (marks (search-of t (v .before .before)) (now (a .ids)) (m-of t (v .before .before) ∷ [])) (a .s) (v .put .result) (now (a .out)) (put-out t v) (v .put .ensures)
+    spend-sum (a .n) (marks (search-of t (v .before .before)) (now (a .ids)) (m-of t (v .before .before) ∷ [])) (a .s) (v .put .result)
+    (now (a .out)) (put-out t v) (v .put .ensures)
 
-right-is : (t : ℕ) (v : After-part t) → let r = v .before .before in let p = r .before .before .before in let c = p .before .before in let a = start-of t c .args in
-    went (v .part .result) (right-out t v) ≡ spend (a .n) (marks (search-of t c) (now (a .ids)) (when (search-of t c .right (a .axis) (m-of t c)) (rights t c))) (p .put .result) (put-out t p)
+right-is : (t : ℕ) (v : After-part t)
+    → let r = v .before .before in let p = r .before .before .before in let c = p .before .before in let a = start-of t c .args in
+    went (v .part .result) (right-out t v)
+    ≡ spend (a .n) (marks (search-of t c) (now (a .ids)) (when (search-of t c .right (a .axis) (m-of t c)) (rights t c))) (p .put .result)
+    (put-out t p)
 right-is t v =
     let r = v .before .before in
     let p = r .before .before .before in
     let c = p .before .before in
     let a = start-of t c .args in
-    v .part .ensures ∙ ap (λ (b : Bool). spend (a .n) (marks (search-of t c) (now (a .ids)) (when b (rights t c))) (p .put .result) (put-out t p)) (r .right-at .ensures)
+    v .part .ensures ∙ ap
+    (λ (b : Bool). spend (a .n) (marks (search-of t c) (now (a .ids)) (when b (rights t c))) (p .put .result) (put-out t p))
+    (r .right-at .ensures)
 
-right-sum : (t : ℕ) (v : After-part t) → let p = v .before .before .before .before .before in v .part .result .found + v .part .result .left ≤ p .put .result .found + p .put .result .left
+right-sum : (t : ℕ) (v : After-part t)
+    → let p = v .before .before .before .before .before in v .part .result .found + v .part .result .left
+    ≤ p .put .result .found + p .put .result .left
 right-sum t v =
     let p = v .before .before .before .before .before in
     let c = p .before .before in
     let a = start-of t c .args in
-    spend-sum (a .n) (marks (search-of t c) (now (a .ids)) (when (search-of t c .right (a .axis) (m-of t c)) (rights t c))) (p .put .result) (v .part .result) (put-out t p) (right-out t v) (right-is t v)
+    spend-sum (a .n) (marks (search-of t c) (now (a .ids)) (when (search-of t c .right (a .axis) (m-of t c)) (rights t c)))
+    (p .put .result) (v .part .result) (put-out t p) (right-out t v) (right-is t v)
 
 part-returns : (t : ℕ) → part-lts.Need-returns (part-told t) (part-at t) part.Post
 part-returns t c =
     let a = c .before .before .before .before .args in
-    part-skipped (over (a .q) (now (a .coords))) (now (a .ids)) (a .n) (a .go) (slots (testing (over (a .q) (now (a .coords)))) (a .axis) (shape (a .most) (a .lo) (a .hi))) (a .s) (now (a .out)) (not-true _ (c .if1 .taken))
+    part-skipped (over (a .q) (now (a .coords))) (now (a .ids)) (a .n) (a .go)
+    (slots (testing (over (a .q) (now (a .coords)))) (a .axis) (shape (a .most) (a .lo) (a .hi))) (a .s) (now (a .out))
+    (not-true _ (c .if1 .taken))
 
 part-returns-2 : (t : ℕ) → part-lts.Need-returns-2 (part-told t) (part-at t) part.Post
 part-returns-2 t c =
     let a = c .before .before .before .before .before .args in
-    over-is (over (a .q) (now (a .coords))) (now (a .ids)) (a .n) (when (a .go) (slots (testing (over (a .q) (now (a .coords)))) (a .axis) (shape (a .most) (a .lo) (a .hi)))) (a .s) (now (a .out)) (c .if2 .taken)
+    over-is (over (a .q) (now (a .coords))) (now (a .ids)) (a .n)
+    (when (a .go) (slots (testing (over (a .q) (now (a .coords)))) (a .axis) (shape (a .most) (a .lo) (a .hi)))) (a .s) (now (a .out))
+    (c .if2 .taken)
 
 part-sub-if3 : (t : ℕ) → part-lts.Need-sub-if3 (part-told t) (part-at t) part.Post
 part-sub-if3 t c = omega arith
@@ -123,7 +148,8 @@ part-returns-3 t c =
     let e = h .before in
     let g = e .before in
     let a = g .before .before .before .before .args in
-    part-leaf (over (a .q) (now (a .coords))) (now (a .ids)) (a .n) (a .go) (a .axis) (a .most) (a .lo) (a .hi) (a .s) (v .scan .result) (now (a .out)) (v .scan .last .1 .1 .1 .1 .1 .1 .1 .0)
+    part-leaf (over (a .q) (now (a .coords))) (now (a .ids)) (a .n) (a .go) (a .axis) (a .most) (a .lo) (a .hi) (a .s) (v .scan .result)
+    (now (a .out)) (v .scan .last .1 .1 .1 .1 .1 .1 .1 .0)
     (not-false _ (g .if1 .left)) (h .if3 .taken) (v .scan .ensures)
 
 part-sub-m : (t : ℕ) → part-lts.Need-sub-m (part-told t) (part-at t) part.Post
@@ -186,9 +212,12 @@ part-returns-4 t c =
     let s = p .before .before in
     let a = start-of t s .args in
     let o = w .part2 .last .1 .1 .1 .1 .1 .1 .1 .1 .1 .1 .0 in
-    part-node (search-of t s) (now (a .ids)) (a .n) (a .go) (a .axis) (a .most) (a .lo) (a .hi) (a .s) (p .put .result) (v .part .result) (w .part2 .result) (now (a .out)) (put-out t p) (right-out t v) o
+    part-node (search-of t s) (now (a .ids)) (a .n) (a .go) (a .axis) (a .most) (a .lo) (a .hi) (a .s) (p .put .result) (v .part .result)
+    (w .part2 .result) (now (a .out)) (put-out t p) (right-out t v) o
     (not-false _ (s .before .before .if1 .left)) (s .if3 .left) (p .put .ensures) (right-is t v)
-    (w .part2 .ensures ∙ ap (λ (b : Bool). spend (a .n) (marks (search-of t s) (now (a .ids)) (when b (lefts t s))) (v .part .result) (right-out t v)) (l .left-at .ensures))
+    (w .part2 .ensures ∙ ap
+    (λ (b : Bool). spend (a .n) (marks (search-of t s) (now (a .ids)) (when b (lefts t s))) (v .part .result) (right-out t v))
+    (l .left-at .ensures))
 
 pub +part-spec : {M : Type 1} → statement M
 +part-spec = close μ-part λ t. part-lts.spec (part-told t) (part-at t) part.Post

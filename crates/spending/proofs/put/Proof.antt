@@ -19,7 +19,8 @@ returns-2 : tie.Need-returns-2
 returns-2 c =
     let e = c .before .before in
     let a = e .before .before .before .before .args in
-    put-is (over (a .q) (now (a .coords))) (now (a .ids)) (a .n) (a .i) (a .s) (now (a .out)) (e .if1 .left) (eq-eqb _ _ (c .if2 .taken)) refl refl
+    put-is (over (a .q) (now (a .coords))) (now (a .ids)) (a .n) (a .i) (a .s) (now (a .out)) (e .if1 .left)
+    (eq-eqb _ _ (c .if2 .taken)) refl refl
 
 sub-left : tie.Need-sub-left
 sub-left c = search needs
@@ -33,7 +34,8 @@ returns-3 c =
     let d = t .before .before in
     let e = d .before .before in
     let a = e .before .before .before .before .args in
-    put-is (over (a .q) (now (a .coords))) (now (a .ids)) (a .n) (a .i) (a .s) (now (a .out)) (e .if1 .left) (ne-eqb _ _ (d .if2 .left)) (sym (t .test-at .ensures) ∙ not-true _ (c .if3 .taken)) refl
+    put-is (over (a .q) (now (a .coords))) (now (a .ids)) (a .n) (a .i) (a .s) (now (a .out)) (e .if1 .left) (ne-eqb _ _ (d .if2 .left))
+    (sym (t .test-at .ensures) ∙ not-true _ (c .if3 .taken)) refl
 
 mul-p : tie.Need-mul-p
 mul-p c = search needs
@@ -51,7 +53,8 @@ returns-4 c =
     let d = t .before .before in
     let e = d .before .before in
     let a = e .before .before .before .before .args in
-    put-is (over (a .q) (now (a .coords))) (now (a .ids)) (a .n) (a .i) (a .s) (now (a .out)) (e .if1 .left) (ne-eqb _ _ (d .if2 .left)) (sym (t .test-at .ensures) ∙ not-false _ (g .if3 .left))
+    put-is (over (a .q) (now (a .coords))) (now (a .ids)) (a .n) (a .i) (a .s) (now (a .out)) (e .if1 .left) (ne-eqb _ _ (d .if2 .left))
+    (sym (t .test-at .ensures) ∙ not-false _ (g .if3 .left))
     (le-ltb (getD (now (a .ids)) (a .i) 0) (a .n) (omega (arith, c .before .wide .ensures)))
 
 mul-out : tie.Need-mul-out
@@ -74,7 +77,8 @@ returns-5 c =
     let d = t .before .before in
     let e = d .before .before in
     let a = e .before .before .before .before .args in
-    put-is (over (a .q) (now (a .coords))) (now (a .ids)) (a .n) (a .i) (a .s) (now (a .out)) (e .if1 .left) (ne-eqb _ _ (d .if2 .left)) (sym (t .test-at .ensures) ∙ not-false _ (g .if3 .left))
+    put-is (over (a .q) (now (a .coords))) (now (a .ids)) (a .n) (a .i) (a .s) (now (a .out)) (e .if1 .left) (ne-eqb _ _ (d .if2 .left))
+    (sym (t .test-at .ensures) ∙ not-false _ (g .if3 .left))
     (lt-ltb (getD (now (a .ids)) (a .i) 0) (a .n) (omega (arith, w .wide .ensures)))
 
 add-t13 : tie.Need-add-t13
@@ -88,7 +92,8 @@ returns-6 c =
     let d = t .before .before in
     let e = d .before .before in
     let a = e .before .before .before .before .args in
-    put-past (over (a .q) (now (a .coords))) (now (a .ids)) (a .n) (a .i) (a .s) (now (a .out)) (e .if1 .left) (ne-eqb _ _ (d .if2 .left)) (sym (t .test-at .ensures) ∙ not-false _ (g .if3 .left))
+    put-past (over (a .q) (now (a .coords))) (now (a .ids)) (a .n) (a .i) (a .s) (now (a .out)) (e .if1 .left) (ne-eqb _ _ (d .if2 .left))
+    (sym (t .test-at .ensures) ∙ not-false _ (g .if3 .left))
     (lt-ltb (getD (now (a .ids)) (a .i) 0) (a .n) (omega (arith, w .wide .ensures))) (c .if5 .left)
 
 pub put-spec : {M : Type 1} → statement M

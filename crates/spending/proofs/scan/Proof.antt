@@ -16,7 +16,8 @@ use Rattle.spending.proofs.scan.Tie as tie
 abbrev Inv-loop : tie.InvT-loop
 Inv-loop q ids coords n lo hi out₀ k₀ i₀ out k i =
     (length out ≡ length out₀) × (k .found + k .left < 2 ^ 64)
-    × (spend n (marks (over q coords) ids (scanned (testing (over q coords)) lo (hi - lo))) k₀ out₀ ≡ spend n (marks (over q coords) ids (scanned (testing (over q coords)) i (hi - i))) k out)
+    × (spend n (marks (over q coords) ids (scanned (testing (over q coords)) lo (hi - lo))) k₀ out₀
+    ≡ spend n (marks (over q coords) ids (scanned (testing (over q coords)) i (hi - i))) k out)
 
 abbrev μ-loop : tie.MeasureT-loop
 μ-loop q ids coords n lo hi out₀ k₀ i₀ out k i = hi - i
@@ -31,7 +32,9 @@ returns : tie.Need-returns Inv-loop μ-loop
 returns c =
     let w = c .before .before in
     let a = w .before .before .before .before .args in
-    over-is (over (a .q) (now (a .coords))) (now (a .ids)) (a .n) (scanned (testing (over (a .q) (now (a .coords)))) (w .loop .i) (a .hi - w .loop .i)) (w .loop .k) (w .loop .out) (c .if1 .taken) ∙ sym (w .loop .inv .2)
+    over-is (over (a .q) (now (a .coords))) (now (a .ids)) (a .n)
+    (scanned (testing (over (a .q) (now (a .coords)))) (w .loop .i) (a .hi - w .loop .i)) (w .loop .k) (w .loop .out) (c .if1 .taken)
+    ∙ sym (w .loop .inv .2)
 
 put-requires : tie.Need-put-requires Inv-loop μ-loop
 put-requires c κs = omega arith
@@ -50,8 +53,13 @@ loop-again c =
     let a = w .before .before .before .before .args in
     let o = p .put .last .1 .1 .1 .1 .1 .1 .0 in (
       p .put .kept .1 .1 .1 .1 .1 .1 .0 ∙ w .loop .inv .0,
-      omega (arith, spend-sum (a .n) (marks (over (a .q) (now (a .coords))) (now (a .ids)) (w .loop .i ∷ [])) (w .loop .k) (p .put .result) (w .loop .out) o (p .put .ensures)),
-      w .loop .inv .2 ∙ scan-more (over (a .q) (now (a .coords))) (now (a .ids)) (a .n) (w .loop .i) (a .hi) (w .loop .k) (p .put .result) (w .loop .out) o (g .loop-test .taken) (p .put .ensures),
+      omega (
+        arith,
+        spend-sum (a .n) (marks (over (a .q) (now (a .coords))) (now (a .ids)) (w .loop .i ∷ [])) (w .loop .k)
+            (p .put .result) (w .loop .out) o (p .put .ensures),
+      ),
+      w .loop .inv .2 ∙ scan-more (over (a .q) (now (a .coords))) (now (a .ids)) (a .n) (w .loop .i) (a .hi) (w .loop .k) (p .put .result)
+          (w .loop .out) o (g .loop-test .taken) (p .put .ensures),
     )
 
 same-length-2 : tie.Need-same-length-2 Inv-loop μ-loop
@@ -61,7 +69,8 @@ returns-2 : tie.Need-returns-2 Inv-loop μ-loop
 returns-2 c =
     let w = c .before in
     let a = w .before .before .before .before .args in
-    scan-done (over (a .q) (now (a .coords))) (now (a .ids)) (a .n) (w .loop .i) (a .hi) (w .loop .k) (w .loop .out) (c .loop-test .left) ∙ sym (w .loop .inv .2)
+    scan-done (over (a .q) (now (a .coords))) (now (a .ids)) (a .n) (w .loop .i) (a .hi) (w .loop .k) (w .loop .out) (c .loop-test .left)
+    ∙ sym (w .loop .inv .2)
 
 pub scan-spec : {M : Type 1} → statement M
 scan-spec =

@@ -23,12 +23,14 @@ use Rattle.spending.proofs.search.Tie as tie
 bounds : (k : tie.Start) → let a = k .args in Searchable (a .node-size) (a .n) (length (now (a .coords)))
 bounds k =
     let a = k .args in
-    coords-is (a .node-size) (a .n) (length (now (a .coords))) (and-both (coordsOk (a .node-size) (a .n) (length (now (a .coords)))) (leb (a .n) (length (now (a .ids)))) (k .pre) .0)
+    coords-is (a .node-size) (a .n) (length (now (a .coords)))
+    (and-both (coordsOk (a .node-size) (a .n) (length (now (a .coords)))) (leb (a .n) (length (now (a .ids)))) (k .pre) .0)
 
 wide-enough : (k : tie.Start) → let a = k .args in a .n ≤ length (now (a .ids))
 wide-enough k =
     let a = k .args in
-    leb-true (a .n) (length (now (a .ids))) (and-both (coordsOk (a .node-size) (a .n) (length (now (a .coords)))) (leb (a .n) (length (now (a .ids)))) (k .pre) .1)
+    leb-true (a .n) (length (now (a .ids)))
+    (and-both (coordsOk (a .node-size) (a .n) (length (now (a .coords)))) (leb (a .n) (length (now (a .ids)))) (k .pre) .1)
 
 -- ---- what the searches leave
 
@@ -45,18 +47,25 @@ abbrev both-left : tie.After-part2 → List ℕ
 both-left v = v .part2 .last .1 .1 .1 .1 .1 .1 .1 .1 .1 .1 .0
 
 abbrev firsts : tie.Start → List Mark
-firsts k = let a = k .args in marks (over (a .p .first) (now (a .coords))) (now (a .ids)) (tests (a .p .first) (now (a .coords)) (a .node-size) (a .n))
+firsts k =
+    let a = k .args in
+    marks (over (a .p .first) (now (a .coords))) (now (a .ids)) (tests (a .p .first) (now (a .coords)) (a .node-size) (a .n))
 
 abbrev seconds : tie.Start → List Mark
-seconds k = let a = k .args in marks (over (a .p .second) (now (a .coords))) (now (a .ids)) (when (a .p .two) (tests (a .p .second) (now (a .coords)) (a .node-size) (a .n)))
+seconds k =
+    let a = k .args in
+    marks (over (a .p .second) (now (a .coords))) (now (a .ids))
+    (when (a .p .two) (tests (a .p .second) (now (a .coords)) (a .node-size) (a .n)))
 
 left : (v : tie.After-part2) → let a = start-of (first-of v) .args in
-    went (v .part2 .result) (both-left v) ≡ spend (a .n) (trials (a .p) (a .node-size) (a .n) (now (a .ids)) (now (a .coords))) (fresh (a .allowance)) (now (a .out))
+    went (v .part2 .result) (both-left v)
+    ≡ spend (a .n) (trials (a .p) (a .node-size) (a .n) (now (a .ids)) (now (a .coords))) (fresh (a .allowance)) (now (a .out))
 left v =
     let u = first-of v in
     let k = start-of u in
     let a = k .args in
-    spend-then (a .n) (firsts k) (seconds k) (fresh (a .allowance)) (u .part .result) (v .part2 .result) (now (a .out)) (first-left u) (both-left v) (u .part .ensures) (v .part2 .ensures)
+    spend-then (a .n) (firsts k) (seconds k) (fresh (a .allowance)) (u .part .result) (v .part2 .result) (now (a .out)) (first-left u)
+    (both-left v) (u .part .ensures) (v .part2 .ensures)
 
 -- ---- the calls, and the way out
 
@@ -72,13 +81,19 @@ part-requires-2 c κs =
     let k = start-of u in
     let a = k .args in
     let w = bounds k in
-    omega (arith, wide-enough k, k .fits, spend-sum (a .n) (firsts k) (fresh (a .allowance)) (u .part .result) (now (a .out)) (first-left u) (u .part .ensures))
+    omega (
+      arith,
+      wide-enough k,
+      k .fits,
+      spend-sum (a .n) (firsts k) (fresh (a .allowance)) (u .part .result) (now (a .out)) (first-left u) (u .part .ensures),
+    )
 
 settle-requires : tie.Need-settle-requires
 settle-requires c κs =
     let v = c .before .before in
     let a = start-of (first-of v) .args in
-    left-small (a .n) (a .allowance) (trials (a .p) (a .node-size) (a .n) (now (a .ids)) (now (a .coords))) (v .part2 .result) (now (a .out)) (both-left v) (left v)
+    left-small (a .n) (a .allowance) (trials (a .p) (a .node-size) (a .n) (now (a .ids)) (now (a .coords))) (v .part2 .result)
+    (now (a .out)) (both-left v) (left v)
 
 same-length : tie.Need-same-length
 same-length c = search needs
@@ -89,7 +104,8 @@ returns c =
     let u = first-of v in
     let a = start-of u .args in
     let room = v .part2 .kept .1 .1 .1 .1 .1 .1 .1 .1 .1 .1 .0 ∙ u .part .kept .1 .1 .1 .1 .1 .1 .1 .1 .1 .1 .0 in
-    let w = ends (a .n) (a .allowance) (trials (a .p) (a .node-size) (a .n) (now (a .ids)) (now (a .coords))) (v .part2 .result) (now (a .out)) (both-left v) (length (now (a .out))) (left v) in
+    let w = ends (a .n) (a .allowance) (trials (a .p) (a .node-size) (a .n) (now (a .ids)) (now (a .coords))) (v .part2 .result)
+    (now (a .out)) (both-left v) (length (now (a .out))) (left v) in
     (c .settle .ensures ∙ ap (settled (v .part2 .result) (a .allowance)) room ∙ w .0, w .1)
 
 pub search-spec : {M : Type 1} → statement M
