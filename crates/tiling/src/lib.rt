@@ -20,7 +20,9 @@ ghost use Rattle.tiling.specs.Framed.{Framed, IsTile};
 ghost use Rattle.tiling.specs.Runs.{left, run};
 ghost use Rattle.tiling.specs.Turns.{walked};
 ghost use Rattle.tiling.specs.Marks.{marked};
-ghost use Rattle.tiling.specs.Tally.{tallyNumber, tallyValue};
+ghost use Rattle.tiling.specs.Floor.{ends};
+ghost use Rattle.tiling.specs.Tally.{weightIn, tallyNumber, tallyValue};
+ghost use Rattle.tiling.specs.Home.{edgesOf, weightBy};
 ghost use Rattle.tiling.specs.Counting.{held, placesIn, marking, counted, Blank, runningOf};
 
 // One search of a tile: whether the tile has it, what it asks of the index, and what stands for the tile's x and y in the items that it finds.
@@ -57,7 +59,6 @@ pub enum Named {
 pub enum Tally {
     Sum(u64),
     Tile,
-    EmptyTile,
     Spoiled,
 }
 
@@ -69,7 +70,6 @@ impl Tally {
         match self {
             Tally::Sum(_) => 0,
             Tally::Tile => 7,
-            Tally::EmptyTile => 8,
             Tally::Spoiled => 11,
         }
     }
@@ -81,7 +81,6 @@ impl Tally {
         match self {
             Tally::Sum(s) => s,
             Tally::Tile => 0,
-            Tally::EmptyTile => 0,
             Tally::Spoiled => 0,
         }
     }
@@ -406,6 +405,60 @@ fn add_once(marks: &mut [u8], p: usize, num: u32, sum: u64) -> u64
     sum + wide(num)
 }
 
+// The edges of a tile, between which it holds an entry's centre: the first of a pair is in, the second is not.
+pub struct Home {
+    pub west: f64,
+    pub east: f64,
+    pub north: f64,
+    pub south: f64,
+}
+
+// Where the tiles from v end: past every coordinate for the last, which holds 1.0 too.
+fn end_of(z: u32, z2: f64, v: u32) -> f64
+    requires { ⌜ (z < 32) × (z2 ≡ side z) ⌝ }
+    ensures { λ r. ⌜ r ≡ ends z v ⌝ }
+{
+    if wide(v) + 1 == across(z) {
+        return 2.0;
+    }
+    (v as f64 + 1.0) / z2
+}
+
+// The edges of the tile (z, x, y).
+fn home_of(z: u32, x: u32, y: u32) -> Home
+    requires { ⌜ z < 32 ⌝ }
+    ensures { λ r. ⌜ r ≡ edgesOf z x y ⌝ }
+{
+    let z2 = floats::power(z);
+    let east = end_of(z, z2, x);
+    let south = end_of(z, z2, y);
+    Home {
+        west: x as f64 / z2,
+        east,
+        north: y as f64 / z2,
+        south,
+    }
+}
+
+// What an entry counts: its num where its centre lies between the edges, otherwise nothing.
+fn weigh(h: Home, e: Entry) -> u32
+    ensures { λ r. ⌜ r ≡ weightBy h e ⌝ }
+{
+    if !(h.west <= e.x) {
+        return 0;
+    }
+    if !(e.x < h.east) {
+        return 0;
+    }
+    if !(h.north <= e.y) {
+        return 0;
+    }
+    if !(e.y < h.south) {
+        return 0;
+    }
+    e.num
+}
+
 // A tally on its way: whether everything found could be listed, how many were, and their sum.
 pub struct Running {
     pub whole: bool,
@@ -413,9 +466,10 @@ pub struct Running {
     pub sum: u64,
 }
 
-// Tallies what a search finds, after what was tallied before.
+// Tallies what a search finds, after what was tallied before: an entry counts where its centre lies between the edges.
 fn tally_by(
     g: Search,
+    h: Home,
     x: &[f64],
     y: &[f64],
     seen: &[u8],
@@ -431,7 +485,7 @@ fn tally_by(
     requires { ⌜ (length (now x) ≤ length (now ids)) × (length (now x) ≤ 8 * length (now marks)) ⌝ }
     requires { ⌜ (r .count + length (now x) ≤ 4194304) × (r .sum ≤ r .count * 4294967295) ⌝ }
     ensures { λ a. ⌜ (held (a .whole) (a .count) (a .sum) (now (marks .exit))
-        ≡ counted (rows (now (x .entry)) (now (y .entry)) (now (seen .entry)) (now (id .entry)) (now (parent .entry)) (now (num .entry))) (r .count) (r .sum)
+        ≡ counted (weightBy h) (rows (now (x .entry)) (now (y .entry)) (now (seen .entry)) (now (id .entry)) (now (parent .entry)) (now (num .entry))) (r .count) (r .sum)
         (placesIn (walked g (length (now (x .entry))) (now (ids .entry)) (now (coords .entry)))) (now (marks .entry)))
         × (a .count ≤ r .count + length (now (x .entry))) × (a .sum ≤ a .count * 4294967295) ⌝ }
 {
@@ -468,7 +522,8 @@ fn tally_by(
                 sum: t,
             };
         };
-        t = add_once(marks, index(p), e.num, t);
+        let w = weigh(h, e);
+        t = add_once(marks, index(p), w, t);
         k += 1;
     }
 }
@@ -493,7 +548,7 @@ fn add_with(
     requires { ⌜ Even (now x) (now y) (now seen) (now id) (now parent) (now num) ⌝ }
     requires { ⌜ (coordsOk (o .«node_size») (length (now x)) (length (now coords)) ≡ true) × (length (now x) ≤ length (now ids)) ⌝ }
     requires { ⌜ Blank (length (now x)) (now marks) ⌝ }
-    ensures { λ r. ⌜ r ≡ runningOf (rows (now (x .entry)) (now (y .entry)) (now (seen .entry)) (now (id .entry)) (now (parent .entry)) (now (num .entry)))
+    ensures { λ r. ⌜ r ≡ runningOf (weightIn z tx ty) (rows (now (x .entry)) (now (y .entry)) (now (seen .entry)) (now (id .entry)) (now (parent .entry)) (now (num .entry)))
         (visited o z tx ty (rows (now (x .entry)) (now (y .entry)) (now (seen .entry)) (now (id .entry)) (now (parent .entry)) (now (num .entry))) (now (ids .entry)) (now (coords .entry))) ⌝ }
 {
     let r = Running {
@@ -501,8 +556,9 @@ fn add_with(
         count: 0,
         sum: 0,
     };
+    let home = home_of(z, tx, ty);
     let g = search_here(o, z, tx, ty);
-    let a = tally_by(g, x, y, seen, id, parent, num, ids, coords, r, marks);
+    let a = tally_by(g, home, x, y, seen, id, parent, num, ids, coords, r, marks);
     if !a.whole {
         return a;
     }
@@ -510,12 +566,12 @@ fn add_with(
         return a;
     }
     let h = search_east(o, z, tx, ty);
-    let b = tally_by(h, x, y, seen, id, parent, num, ids, coords, a, marks);
+    let b = tally_by(h, home, x, y, seen, id, parent, num, ids, coords, a, marks);
     if !b.whole {
         return b;
     }
     let w = search_west(o, z, tx, ty);
-    tally_by(w, x, y, seen, id, parent, num, ids, coords, b, marks)
+    tally_by(w, home, x, y, seen, id, parent, num, ids, coords, b, marks)
 }
 
 // The tally of what a tile finds. A smaller table has fewer marks, so that fewer are cleared.
@@ -536,7 +592,7 @@ pub fn add_up(
     requires { ⌜ InBounds o × IsTile z tx ty ⌝ }
     requires { ⌜ Even (now x) (now y) (now seen) (now id) (now parent) (now num) ⌝ }
     requires { ⌜ (coordsOk (o .«node_size») (length (now x)) (length (now coords)) ≡ true) × (length (now x) ≤ length (now ids)) ⌝ }
-    ensures { λ r. ⌜ r ≡ runningOf (rows (now (x .entry)) (now (y .entry)) (now (seen .entry)) (now (id .entry)) (now (parent .entry)) (now (num .entry)))
+    ensures { λ r. ⌜ r ≡ runningOf (weightIn z tx ty) (rows (now (x .entry)) (now (y .entry)) (now (seen .entry)) (now (id .entry)) (now (parent .entry)) (now (num .entry)))
         (visited o z tx ty (rows (now (x .entry)) (now (y .entry)) (now (seen .entry)) (now (id .entry)) (now (parent .entry)) (now (num .entry))) (now (ids .entry)) (now (coords .entry))) ⌝ }
 {
     if x.len() <= 8192 {

@@ -1,6 +1,6 @@
 -- `tiling::tally_by` meets its contract: at the head of the loop what is ahead of the walk, counted after what is counted, gives the whole tally. The measure is what
 -- is ahead. Assumes nothing.
-use mathlib.Core.Path.{_≡_, refl, sym, ap, _∙_, subst}
+use mathlib.Core.Path.{_≡_, refl, sym, ap, ap₂, _∙_, subst}
 use mathlib.Core.Bool.{true, cond}
 use mathlib.Core.List.{List, _∷_}
 use Prim.Native.Nat.{ℕ, _+_, _*_, _<_, _≤_}
@@ -20,19 +20,20 @@ use Rattle.tables.specs.Rows.{rows, rows-length}
 use Rattle.tiling.specs.Tile.{Visit}
 use Rattle.tiling.specs.Turns.{walked, walked-none, walked-made, Fine, named-fine}
 use Rattle.tiling.specs.Marks.{marked}
+use Rattle.tiling.specs.Home.{weightBy}
 use Rattle.tiling.specs.Counting.{Held, placesIn, places-of, marking, counted, counted-none, count-end, count-bad, count-next}
 use Rattle.tiling.proofs.Ends.{no-more}
 use Rattle.tiling.proofs.tally_by.Statement.{statement}
 use Rattle.tiling.proofs.tally_by.Tie as tie
 
 abbrev Inv-loop : tie.InvT-loop
-Inv-loop x y seen id parent num ids coords marks₀ k₀ t₀ q size n page₀ pages₀ marks k t page pages =
+Inv-loop h x y seen id parent num ids coords marks₀ k₀ t₀ q size n page₀ pages₀ marks k t page pages =
     AllBelow n (aheadOf q size n coords page pages) × (k + length (aheadOf q size n coords page pages) ≤ k₀ + n) × (t ≤ k * 4294967295)
-    × (counted (rows x y seen id parent num) k t (places ids (aheadOf q size n coords page pages)) marks ≡ counted (rows x y seen id parent num) k₀ t₀ (places ids (walk q size n coords)) marks₀)
+    × (counted (weightBy h) (rows x y seen id parent num) k t (places ids (aheadOf q size n coords page pages)) marks ≡ counted (weightBy h) (rows x y seen id parent num) k₀ t₀ (places ids (walk q size n coords)) marks₀)
     × (length page ≡ 16) × (length marks ≡ length marks₀)
 
 abbrev μ-loop : tie.MeasureT-loop
-μ-loop x y seen id parent num ids coords marks₀ k₀ t₀ q size n page₀ pages₀ marks k t page pages = length (aheadOf q size n coords page pages)
+μ-loop h x y seen id parent num ids coords marks₀ k₀ t₀ q size n page₀ pages₀ marks k t page pages = length (aheadOf q size n coords page pages)
 
 -- ---- the start, and the head of the loop
 
@@ -60,18 +61,18 @@ ahead l = slots (begin l) (l .loop .page) (l .loop .pages)
 
 -- the tally that the contract names, of a list of visits
 abbrev of-visits : Start → List Visit → Held
-of-visits s vs = counted (table s) (s .args .r .count) (s .args .r .sum) (placesIn vs) (now (s .args .marks))
+of-visits s vs = counted (weightBy (s .args .h)) (table s) (s .args .r .count) (s .args .r .sum) (placesIn vs) (now (s .args .marks))
 
 abbrev all-visits : Start → List Visit
 all-visits s = let a = s .args in walked (a .g) (length (now (a .x))) (now (a .ids)) (now (a .coords))
 
 -- once the search is made
-whole : (l : Loop) → counted (table (begin l)) (l .loop .k) (l .loop .t) (places (now (begin l .args .ids)) (ahead l)) (l .loop .marks) ≡ of-visits (begin l) (all-visits (begin l))
+whole : (l : Loop) → counted (weightBy (begin l .args .h)) (table (begin l)) (l .loop .k) (l .loop .t) (places (now (begin l .args .ids)) (ahead l)) (l .loop .marks) ≡ of-visits (begin l) (all-visits (begin l))
 whole l =
     let s = begin l in
     let a = s .args in
     l .loop .inv .3
-    ∙ ap (λ (ps : List ℕ). counted (table s) (a .r .count) (a .r .sum) ps (now (a .marks))) (sym (places-of (a .g) _))
+    ∙ ap (λ (ps : List ℕ). counted (weightBy (s .args .h)) (table s) (a .r .count) (a .r .sum) ps (now (a .marks))) (sym (places-of (a .g) _))
     ∙ ap (of-visits s) (sym (walked-made (a .g) (length (now (a .x))) (now (a .ids)) (now (a .coords)) (not-false (a .g .made) (asked-of l .if1 .left))))
 
 -- ---- a step
@@ -118,7 +119,7 @@ found-of r = r .before .before .before
 -- ---- the entry is counted
 
 abbrev known-of : tie.After-index Inv-loop μ-loop → tie.After-known-told2 Inv-loop μ-loop
-known-of c = c .before .before
+known-of c = c .before .before .before
 
 abbrev read-of : tie.After-known-told2 Inv-loop μ-loop → Read
 read-of c = c .before .before .before
@@ -137,7 +138,7 @@ returns : tie.Need-returns Inv-loop μ-loop
 returns c =
     let s = c .before .before .before .before .before .before .before .before .before .before .before in
     let a = s .args in (
-      counted-none (table s) (a .r .count) (a .r .sum) (now (a .marks))
+      counted-none (weightBy (a .h)) (table s) (a .r .count) (a .r .sum) (now (a .marks))
           ∙ ap (of-visits s) (sym (walked-none (a .g) (length (now (a .x))) (now (a .ids)) (now (a .coords)) (not-true (a .g .made) (c .if1 .taken)))),
       omega arith,
       s .pre .1 .1 .1,
@@ -155,7 +156,7 @@ loop-holds c =
       subst (λ (l : List ℕ). AllBelow (length (now (a .x))) l) (sym h) (walk-below (a .g .query) (a .g .«node_size») (length (now (a .x))) (now (a .coords))),
       omega (arith, ap length h, walk-length (a .g .query) (a .g .«node_size») (length (now (a .x))) (now (a .coords))),
       s .pre .1 .1 .1,
-      ap (λ (l : List ℕ). counted (table s) (a .r .count) (a .r .sum) (places (now (a .ids)) l) (now (a .marks))) h,
+      ap (λ (l : List ℕ). counted (weightBy (s .args .h)) (table s) (a .r .count) (a .r .sum) (places (now (a .ids)) l) (now (a .marks))) h,
       refl,
       refl,
     )
@@ -178,7 +179,7 @@ returns-2 c =
     let l = loop-of (c .before) in
     let s = begin l in
     let e = no-more (ahead l) (u .result .step) (c .match .keys2) (u .ensures .0) in
-    (count-end (table s) (now (s .args .ids)) (l .loop .k) (l .loop .t) (ahead l) (l .loop .marks) e ∙ whole l, omega (arith, l .loop .inv .1), l .loop .inv .2)
+    (count-end (weightBy (s .args .h)) (table s) (now (s .args .ids)) (l .loop .k) (l .loop .t) (ahead l) (l .loop .marks) e ∙ whole l, omega (arith, l .loop .inv .1), l .loop .inv .2)
 
 mul-p : tie.Need-mul-p Inv-loop μ-loop
 mul-p c = let f = c .before in let s = begin (head-of f) in omega (arith, below f .0, s .pre .1 .0, s .good)
@@ -204,12 +205,15 @@ returns-3 c =
     let f = found-of r in
     let l = head-of f in
     let s = begin l in (
-      count-bad (table s) (now (s .args .ids)) (l .loop .k) (l .loop .t) (ahead l) (l .loop .marks) (slot f) (onward (turn-of f)) (moves f)
+      count-bad (weightBy (s .args .h)) (table s) (now (s .args .ids)) (l .loop .k) (l .loop .t) (ahead l) (l .loop .marks) (slot f) (onward (turn-of f)) (moves f)
           (sym (r .entry-named .ensures) ∙ c .enum-told .given .1)
           ∙ whole l,
       omega (arith, l .loop .inv .1),
       l .loop .inv .2,
     )
+
+weigh-requires : tie.Need-weigh-requires Inv-loop μ-loop
+weigh-requires c κs = search needs
 
 index-requires : tie.Need-index-requires Inv-loop μ-loop
 index-requires c κs = search needs
@@ -263,9 +267,9 @@ loop-again c =
       below f .1,
       omega (arith, ap length (moves f), l .loop .inv .1),
       omega (arith, w .ensures .2, l .loop .inv .2),
-      count-next (table s) (now (a .ids)) (l .loop .k) (l .loop .t) (ahead l) (l .loop .marks) (slot f) (onward t) (moves f)
+      count-next (weightBy (s .args .h)) (table s) (now (a .ids)) (l .loop .k) (l .loop .t) (ahead l) (l .loop .marks) (slot f) (onward t) (moves f)
           (g .0 .0) (sym (r .entry-named .ensures) ∙ g .1) (w .result) (w .last .0)
-          (w .ensures .0 ∙ ap (λ (v : ℕ). cond (marked (l .loop .marks) v) (l .loop .t) (l .loop .t + g .0 .0 .num)) (i .index .ensures))
+          (w .ensures .0 ∙ ap₂ (λ (v n : ℕ). cond (marked (l .loop .marks) v) (l .loop .t) (l .loop .t + n)) (i .index .ensures) (i .before .before .weigh .ensures))
           (w .ensures .1 ∙ ap (λ (v : ℕ). marking v (l .loop .marks)) (i .index .ensures))
           ∙ l .loop .inv .3,
       t .before .before .next-slot .kept .1 .1 .1 .1 .1 .0 ∙ l .loop .inv .4,
@@ -293,6 +297,7 @@ tally-by-spec =
     enum-told
     same-length-2
     returns-3
+    weigh-requires
     index-requires
     add-once-requires
     add-k
