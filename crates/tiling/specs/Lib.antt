@@ -11,5 +11,6 @@ pub mod Marks
 pub mod Floor
 pub mod Tally
 pub mod Counting
+pub mod Told
 pub mod Home
 pub mod Replies
