@@ -7,8 +7,8 @@ use tables::Options;
 ghost use mathlib.Core.Path.{_≡_};
 ghost use mathlib.Core.Bool.{true, false, not, cond, _&&_};
 ghost use mathlib.Core.List.{[], _∷_};
-ghost use Prim.Native.Nat.{_+_, _*_, _^_, _<_, _≤_};
-ghost use lib.Dec.{T, eqb};
+ghost use Prim.Native.Nat.{_+_, _*_, _/_, _^_, _<_, _≤_};
+ghost use lib.Dec.{T, eqb, ltb};
 ghost use lib.ListN.{length, set};
 ghost use lib.Ieee.{le, neg};
 ghost use Rattle.floats.specs.Numbers.{one, pow31};
@@ -753,7 +753,19 @@ fn add_all(
     )
 }
 
-// The tally of what a tile finds. Most tiles of a large table find few of its entries, so that few marks are tried first.
+// Whether few marks are not worth a try: the table is large, and has more entries than the zoom has tiles.
+fn is_crowded(z: u32, n: usize) -> bool
+    requires { ⌜ z < 32 ⌝ }
+    ensures { λ r. ⌜ r ≡ (ltb 8192 n && ltb (2 ^ z) (n / 2 ^ z)) ⌝ }
+{
+    if n <= 8192 {
+        return false;
+    }
+    let s = across(z);
+    s < n as u64 / s
+}
+
+// The tally of what a tile finds. Where a tile finds few entries of a large table, as most do whose zoom has enough tiles, few marks tell.
 pub fn add_up(
     o: Options,
     z: u32,
@@ -774,6 +786,9 @@ pub fn add_up(
     ensures { λ r. ⌜ r ≡ runningOf (weightIn z tx ty) (rows (now (x .entry)) (now (y .entry)) (now (seen .entry)) (now (id .entry)) (now (parent .entry)) (now (num .entry)))
         (visited o z tx ty (rows (now (x .entry)) (now (y .entry)) (now (seen .entry)) (now (id .entry)) (now (parent .entry)) (now (num .entry))) (now (ids .entry)) (now (coords .entry))) ⌝ }
 {
+    if is_crowded(z, x.len()) {
+        return add_all(o, z, tx, ty, x, y, seen, id, parent, num, ids, coords);
+    }
     let few = 8192 < x.len();
     let mut marks = [0u8; 1024];
     let a = add_with(

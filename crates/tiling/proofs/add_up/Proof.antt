@@ -24,25 +24,52 @@ sure-of : (few sure : Bool) → sure ≡ true → (few && not sure) ≡ false
 sure-of true sure e = rw e
 sure-of false sure e = refl
 
+abbrev lent-start : tie.After-shared-slice-known8 → tie.Start
+lent-start c = c .before .before .before .before .before .before .before .before
+
+-- past the first test
+abbrev begin : tie.After-marks → tie.Start
+begin c = lent-start (c .before .before .before)
+
+is-crowded-requires : tie.Need-is-crowded-requires
+is-crowded-requires c κs = let s = lent-start c in omega (arith, s .pre .0 .1 .z-to)
+
+add-all-requires : tie.Need-add-all-requires
+add-all-requires c κs = lent-start (c .before .before) .pre
+
+returns : tie.Need-returns
+returns c = c .add-all .ensures
+
 slice-aggregate-add-with : tie.Need-slice-aggregate-add-with
 slice-aggregate-add-with c = sym (length-replicate {A = ℕ} 1024 0)
 
 add-with-requires : tie.Need-add-with-requires
 add-with-requires c κs =
-    let s = c .before .before .before .before .before .before .before .before .before in
-    (s .pre .0, (s .pre .1 .0, (s .pre .1 .1, blank (ltb 8192 (length (now (s .args .x)))) (length (now (s .args .x))) 1024 (enough (length (now (s .args .x)))))))
-
-returns : tie.Need-returns
-returns c =
-    let w = c .before .before in
-    let s = w .before .before .before .before .before .before .before .before .before .before in
-    w .add-with .ensures (sure-of (ltb 8192 (length (now (s .args .x)))) (w .add-with .result .sure) (c .if1 .taken))
-
-add-all-requires : tie.Need-add-all-requires
-add-all-requires c κs = let s = c .before .before .before .before .before .before .before .before .before .before .before .before in s .pre
+    let s = begin c in
+    let n = length (now (s .args .x)) in
+    (s .pre .0, (s .pre .1 .0, (s .pre .1 .1, blank (ltb 8192 n) n 1024 (enough n))))
 
 returns-2 : tie.Need-returns-2
-returns-2 c = c .add-all .ensures
+returns-2 c =
+    let w = c .before .before in
+    let s = begin (w .before) in
+    w .add-with .ensures (sure-of (ltb 8192 (length (now (s .args .x)))) (w .add-with .result .sure) (c .if2 .taken))
+
+add-all-requires-2 : tie.Need-add-all-requires-2
+add-all-requires-2 c κs = begin (c .before .before .before) .pre
+
+returns-3 : tie.Need-returns-3
+returns-3 c = c .add-all2 .ensures
 
 pub add-up-spec : {M : Type 1} → statement M
-add-up-spec = tie.close (tie.spec slice-aggregate-add-with add-with-requires returns add-all-requires returns-2)
+add-up-spec =
+    tie.close
+    (tie.spec
+    is-crowded-requires
+    add-all-requires
+    returns
+    slice-aggregate-add-with
+    add-with-requires
+    returns-2
+    add-all-requires-2
+    returns-3)
