@@ -1,12 +1,11 @@
--- Of a build that is accepted, in columns that hold it, what the tallies of one zoom come to. Each entry has exactly one tile that holds its centre, its home. That tile
--- lists it. So a tile's tally is the sum of num over all entries of the table that are at home in it, and over all tiles of a zoom from 0 to 31 the tallies, of which
--- none is refused, sum to N. Assumes nothing.
-use mathlib.Core.Path.{_≡_, refl, sym, ap, ap₂, _∙_, subst}
+-- Of a build that is accepted, in columns that hold it, what the tallies of one zoom come to. Each entry has exactly one tile that holds
+-- its centre, its home. That tile lists it. So a tile's tally is the sum of num over all entries of the table that are at home in it,
+-- and over all tiles of a zoom from 0 to 31 the tallies, of which none is refused, sum to N. Assumes nothing.
+use mathlib.Core.Path.{_≡_, refl, sym, ap, _∙_, subst}
 use mathlib.Core.Bool.{Bool, true, false, cond, _&&_}
 use mathlib.Core.List.{List, [], _∷_, _++_, map}
 use Prim.Native.Nat.{ℕ, _+_, _^_, _≤_, _<_}
-use native.Mathlib.Omega.{arith}
-use lib.Dec.{eqb, leb, ltb}
+use lib.Dec.{eqb}
 use lib.ListN.{length, List·getD-eq-default}
 use lib.Ieee.{Float}
 use borrow.Author.Tests.{eqb-true, eq-eqb, lt-ltb, le-leb}
@@ -18,14 +17,13 @@ use Rattle.tables.specs.Entries.{Table, entry, none}
 use Rattle.tables.specs.Options.{zoomUsed}
 use Rattle.zoom.specs.Keeps.{all-at}
 use Rattle.zoom.specs.Sound.{Body}
-use Rattle.zoom.specs.Lamps.{total as lampsOf}
 use Rattle.tiling.specs.declared.Item.{Item}
 use Rattle.tiling.specs.declared.Tally.the-variants.{Sum}
 use Rattle.tiling.specs.Floor.{homeOf, home-below}
 use Rattle.tiling.specs.Framed.{tile-is}
 use Rattle.tiling.specs.Home.{home-inside}
 use Rattle.tiling.specs.Lists.{Lists}
-use Rattle.tiling.specs.Tally.{tallyNumber, tallyValue, atHome, weightIn, member, distinct, distinct-once, distinct-all, total}
+use Rattle.tiling.specs.Tally.{tallyNumber, tallyValue, atHome, weightIn, member, distinct, distinct-once, distinct-all}
 use Rattle.tiling.specs.Tile.{isTile, here, itemOf}
 use Rattle.tiles.specs.Asked.{told}
 use Rattle.supercluster.specs.Build.{Lent, need}
@@ -55,7 +53,8 @@ one-home z Z e = record {
   y = homeOf z (e .y);
   tile = is-tile z (homeOf z (e .x)) (homeOf z (e .y)) Z (home-below z (e .x)) (home-below z (e .y));
   holds = rw (eq-eqb (homeOf z (e .x)) (homeOf z (e .x)) refl, eq-eqb (homeOf z (e .y)) (homeOf z (e .y)) refl);
-  only = λ v w h. let q = and-both (eqb (homeOf z (e .x)) v) (eqb (homeOf z (e .y)) w) h in (sym (eqb-true _ v (q .0)), sym (eqb-true _ w (q .1)));
+  only = λ v w h. let q = and-both (eqb (homeOf z (e .x)) v) (eqb (homeOf z (e .y)) w) h in
+      (sym (eqb-true _ v (q .0)), sym (eqb-true _ w (q .1)));
 }
 
 -- over all tiles of a zoom an entry counts its num, once
@@ -70,7 +69,8 @@ weighs-once z e =
     let hy = homeOf z (e .y) in
     sum-same n _ (λ y. cond (eqb hy y) (e .num) 0) (λ y l.
     sum-same n _ (λ x. cond (eqb hx x) (cond (eqb hy y) (e .num) 0) 0) (λ x k. apart (eqb hx x) (eqb hy y) (e .num))
-    ∙ sum-pick n hx (λ x. cond (eqb hy y) (e .num) 0) (λ x. eqb hx x) (home-below z (e .x)) (eq-eqb hx hx refl) (λ k q. sym (eqb-true hx k q)))
+    ∙ sum-pick n hx (λ x. cond (eqb hy y) (e .num) 0) (λ x. eqb hx x) (home-below z (e .x)) (eq-eqb hx hx refl)
+    (λ k q. sym (eqb-true hx k q)))
     ∙ sum-pick n hy (λ y. e .num) (λ y. eqb hy y) (home-below z (e .y)) (eq-eqb hy hy refl) (λ k q. sym (eqb-true hy k q))
 
 nothing : (b : Bool) → _≡_ {A = ℕ} (cond b 0 0) 0
@@ -88,7 +88,8 @@ unfolding member
 member-at [] j post = rw (eq-eqb (j .place) (j .place) refl, member)
 member-at (i ∷ pre) j post = go (eqb (j .place) (i .place)) refl (member-at pre j post)
   where
-    go : (b : Bool) → eqb (j .place) (i .place) ≡ b → member (j .place) (map (λ i. i .place) (pre ++ j ∷ post)) ≡ true → member (j .place) (i .place ∷ map (λ i. i .place) (pre ++ j ∷ post)) ≡ true
+    go : (b : Bool) → eqb (j .place) (i .place) ≡ b → member (j .place) (map (λ i. i .place) (pre ++ j ∷ post)) ≡ true
+        → member (j .place) (i .place ∷ map (λ i. i .place) (pre ++ j ∷ post)) ≡ true
     go true e h = rw (e, member)
     go false e h = rw (e, member) h
 
@@ -122,13 +123,16 @@ module _ (o : Options) (xs ys : List Float) (a : Accepted o xs ys) (l : Lent) (r
         ∙ ap Sum (total-members t (weightIn z x y) (no-weight z x y t) (distinct [] ps) (distinct-once [] ps)
         ∙ sum-same (length t) _ (λ p. weightIn z x y (entry t p)) (λ p h. all-of p h (w .0) (w .1) (atHome z x y (entry t p)) refl))
       where
-        all-of : (p : ℕ) → p < length (usedBy o xs ys z) → (i : List Item) → tileBy o xs ys l z x y ≡ told true i → (b : Bool) → atHome z x y (entry (usedBy o xs ys z) p) ≡ b
-            → cond (member p (distinct [] (map (λ j. j .place) i))) (weightIn z x y (entry (usedBy o xs ys z) p)) 0 ≡ weightIn z x y (entry (usedBy o xs ys z) p)
+        all-of : (p : ℕ) → p < length (usedBy o xs ys z) → (i : List Item) → tileBy o xs ys l z x y ≡ told true i → (b : Bool)
+            → atHome z x y (entry (usedBy o xs ys z) p) ≡ b
+            → cond (member p (distinct [] (map (λ j. j .place) i))) (weightIn z x y (entry (usedBy o xs ys z) p)) 0
+            ≡ weightIn z x y (entry (usedBy o xs ys z) p)
         all-of p h i e true q =
             let m = home-listed p h q in
             let f : m .0 ≡ i = told-same (sym (m .1) ∙ e) in
             let g : member p (map (λ j. j .place) i) ≡ true =
-            subst (λ (k : List Item). member p (map (λ j. j .place) k) ≡ true) (sym (m .2 .2) ∙ f) (member-at (m .2 .0) (itemOf (here o z x y) p (entry (usedBy o xs ys z) p)) (m .2 .1)) in
+            subst (λ (k : List Item). member p (map (λ j. j .place) k) ≡ true) (sym (m .2 .2) ∙ f)
+            (member-at (m .2 .0) (itemOf (here o z x y) p (entry (usedBy o xs ys z) p)) (m .2 .1)) in
             let d : member p (distinct [] (map (λ j. j .place) i)) ≡ true = distinct-all p (map (λ j. j .place) i) ∙ g in
             rw d
         all-of p h i e false q = rw q (nothing (member p (distinct [] (map (λ j. j .place) i))))

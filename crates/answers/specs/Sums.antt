@@ -1,5 +1,5 @@
--- Sums over the numbers below n: two sums change places, a sum with one term that counts is that term. And the sum over a list of distinct places of a table, as a sum
--- over all its places. Assumes nothing.
+-- Sums over the numbers below n: two sums change places, a sum with one term that counts is that term. And the sum over a list of
+-- distinct places of a table, as a sum over all its places. Assumes nothing.
 use mathlib.Core.Path.{_≡_, refl, sym, ap, ap₂, _∙_}
 use mathlib.Core.Bool.{Bool, true, false, cond}
 use mathlib.Core.List.{List, [], _∷_}
@@ -25,12 +25,16 @@ sumTo (suc n) f = f 0 + sumTo n (λ k. f (suc k))
 pub sum-same : (n : ℕ) (f g : ℕ → ℕ) → ((k : ℕ) → k < n → f k ≡ g k) → sumTo n f ≡ sumTo n g
 unfolding sumTo
 sum-same zero f g e = refl
-sum-same (suc n) f g e = ap₂ (λ (a b : ℕ). a + b) (e 0 (omega arith)) (sum-same n (λ k. f (suc k)) (λ k. g (suc k)) (λ k h. e (suc k) (omega arith)))
+sum-same (suc n) f g e = ap₂ (λ (a b : ℕ). a + b) (e 0 (omega arith))
+    (sum-same n (λ k. f (suc k)) (λ k. g (suc k)) (λ k h. e (suc k) (omega arith)))
 
 sum-none : (n : ℕ) (f : ℕ → ℕ) → ((k : ℕ) → k < n → f k ≡ 0) → sumTo n f ≡ 0
 unfolding sumTo
 sum-none zero f e = refl
-sum-none (suc n) f e = let a = e 0 (omega arith) in let b = sum-none n (λ k. f (suc k)) (λ k h. e (suc k) (omega arith)) in omega (arith, a, b)
+sum-none (suc n) f e =
+    let a = e 0 (omega arith) in
+    let b = sum-none n (λ k. f (suc k)) (λ k h. e (suc k) (omega arith)) in
+    omega (arith, a, b)
 
 sum-add : (n : ℕ) (f g : ℕ → ℕ) → sumTo n (λ k. f k + g k) ≡ sumTo n f + sumTo n g
 unfolding sumTo
@@ -49,7 +53,8 @@ sum-swap (suc n) m f =
     ∙ sym (sum-add m (λ j. f 0 j) (λ j. sumTo n (λ i. f (suc i) j)))
 
 -- one term counts
-pub sum-pick : (n q : ℕ) (f : ℕ → ℕ) (b : ℕ → Bool) → q < n → b q ≡ true → ((k : ℕ) → b k ≡ true → k ≡ q) → sumTo n (λ k. cond (b k) (f k) 0) ≡ f q
+pub sum-pick : (n q : ℕ) (f : ℕ → ℕ) (b : ℕ → Bool) → q < n → b q ≡ true → ((k : ℕ) → b k ≡ true → k ≡ q)
+    → sumTo n (λ k. cond (b k) (f k) 0) ≡ f q
 unfolding sumTo
 sum-pick zero q f b h e u = absurd (omega arith)
 sum-pick (suc n) zero f b h e u =
@@ -59,9 +64,11 @@ sum-pick (suc n) zero f b h e u =
     off : (k : ℕ) (c : Bool) → b (suc k) ≡ c → cond (b (suc k)) (f (suc k)) 0 ≡ 0
     off k true q = absurd (let z = u (suc k) q in omega arith)
     off k false q = rw q
-sum-pick (suc n) (suc q) f b h e u = first (b 0) refl ∙ sum-pick n q (λ k. f (suc k)) (λ k. b (suc k)) (omega arith) e (λ k p. let z = u (suc k) p in omega arith)
+sum-pick (suc n) (suc q) f b h e u = first (b 0) refl ∙ sum-pick n q (λ k. f (suc k)) (λ k. b (suc k)) (omega arith) e
+    (λ k p. let z = u (suc k) p in omega arith)
   where
-    first : (c : Bool) → b 0 ≡ c → cond (b 0) (f 0) 0 + sumTo n (λ k. cond (b (suc k)) (f (suc k)) 0) ≡ sumTo n (λ k. cond (b (suc k)) (f (suc k)) 0)
+    first : (c : Bool) → b 0 ≡ c → cond (b 0) (f 0) 0 + sumTo n (λ k. cond (b (suc k)) (f (suc k)) 0)
+        ≡ sumTo n (λ k. cond (b (suc k)) (f (suc k)) 0)
     first true p = absurd (let z = u 0 p in omega arith)
     first false p = rw p (zero-add _)
 
@@ -96,7 +103,8 @@ module _ (t : Table) (w : Entry → ℕ) (past : (q : ℕ) → length t ≤ q �
   unfolding member
   one-more q l n p = go (eqb p q) refl
     where
-      go : (b : Bool) → eqb p q ≡ b → cond (eqb p q) (w (entry t p)) 0 + cond (member p l) (w (entry t p)) 0 ≡ cond (member p (q ∷ l)) (w (entry t p)) 0
+      go : (b : Bool) → eqb p q ≡ b → cond (eqb p q) (w (entry t p)) 0 + cond (member p l) (w (entry t p)) 0
+          ≡ cond (member p (q ∷ l)) (w (entry t p)) 0
       go true e =
           let m : member p l ≡ false = ap (λ (k : ℕ). member k l) (eqb-true p q e) ∙ n in
           rw (e, member, m) (add-zero (w (entry t p)))
@@ -110,7 +118,8 @@ module _ (t : Table) (w : Entry → ℕ) (past : (q : ℕ) → length t ≤ q �
         where
           at : (b : Bool) → ltb q n ≡ b → sumTo n (λ p. cond (eqb p q) (w (entry t p)) 0) ≡ w (entry t q)
           at true e = sum-pick n q (λ p. w (entry t p)) (λ p. eqb p q) (ltb-true q n e) (eq-eqb q q refl) (λ k h. eqb-true k q h)
-          at false e = sum-off n (λ p. w (entry t p)) (λ p. eqb p q) (λ k h p. let z = eqb-true k q p in let y = ltb-false q n e in omega arith) ∙ sym (f q (ltb-false q n e))
+          at false e = sum-off n (λ p. w (entry t p)) (λ p. eqb p q)
+              (λ k h p. let z = eqb-true k q p in let y = ltb-false q n e in omega arith) ∙ sym (f q (ltb-false q n e))
 
   -- over distinct places, as a sum over all places
   pub total-members : (l : List ℕ) → Distinct l → total w t l ≡ sumTo (length t) (λ p. cond (member p l) (w (entry t p)) 0)

@@ -1,15 +1,13 @@
--- The tally as the code takes it, with a mark for what is counted. Where each place has a mark of its own, a place is marked just where it was counted before, and the
--- tally is the sum over the distinct places. Where marks are few, a place has that of its remainder: one that is not marked was not counted before; where it is marked,
--- or many are counted, the tally ends unsure. Where it is sure, it is the sum over the distinct places too. Assumes nothing.
+-- The tally as the code takes it, with a mark for what is counted. Where each place has a mark of its own, a place is marked just where
+-- it was counted before, and the tally is the sum over the distinct places. Where marks are few, a place has that of its remainder: one
+-- that is not marked was not counted before; where it is marked, or many are counted, the tally ends unsure. Where it is sure, it is the
+-- sum over the distinct places too. Assumes nothing.
 use mathlib.Core.Path.{_≡_, refl, sym, ap, _∙_}
-use mathlib.Core.Bool.{Bool, true, false, not, cond, _&&_, _||_}
+use mathlib.Core.Bool.{Bool, true, false, cond, _&&_, _||_}
 use mathlib.Core.List.{List, [], _∷_, _++_, map}
-use Prim.Native.Nat.{ℕ, suc, _+_, _*_, _/_, _%_, _^_, _≤_, _<_}
-use native.Mathlib.Omega.{arith}
-use native.Mathlib.Nat.{add-zero, zero-add, add-assoc}
-use lib.Dec.{eqb, leb, ltb}
-use lib.ListN.{length, getD, set, replicate, length-set, length-replicate}
-use borrow.Author.Tests.{eqb-true, eqb-false, ltb-true}
+use Prim.Native.Nat.{ℕ, _+_, _%_}
+use lib.Dec.{leb, ltb}
+use lib.ListN.{length, getD}
 use Rattle.floats.specs.Unit.{in01}
 use Rattle.kdbush.specs.Run.{places}
 use Rattle.kdslots.specs.Bounds.{and-both}
@@ -18,8 +16,8 @@ use Rattle.tables.specs.Entries.{Table, entry}
 use Rattle.tiling.specs.declared.Search.{Search}
 use Rattle.tiling.specs.declared.Running.{Running}
 use Rattle.tiling.specs.Tile.{Visit, visitsOf, listable, listed, whole}
-use Rattle.tiling.specs.Marks.{marked, mark, fresh, mark-same, mark-other}
-use Rattle.tiling.specs.Tally.{member, distinct, total, tallyOf}
+use Rattle.tiling.specs.Marks.{marked, mark}
+use Rattle.tiling.specs.Tally.{tallyOf}
 
 -- whether everything was tallied, whether the marks could tell, how many are listed, their tally, and the marks
 pub data Held : Type 0 where
@@ -60,7 +58,8 @@ added n q s m = cond (marked m q) s (s + n)
 abbrev pub marking : ℕ → List ℕ → List ℕ
 marking q m = cond (marked m q) m (mark m q)
 
--- the places one after the other, k listed before with the tally s. The first that cannot be listed ends it, and so does the first in doubt.
+-- the places one after the other, k listed before with the tally s. The first that cannot be listed ends it, and so does the first in
+-- doubt.
 unfoldable pub counted : Bool → (Entry → ℕ) → Table → ℕ → ℕ → List ℕ → List ℕ → Held
 counted few w t k s [] m = held true true k s m
 counted few w t k s (p ∷ ps) m =
@@ -81,7 +80,8 @@ onward (held true c k s m) f = f k s m
 onward (held false c k s m) f = held false c k s m
 
 module _ (few : Bool) (w : Entry → ℕ) (t : Table) where
-  counted-append : (k s : ℕ) (ps qs m : List ℕ) → counted few w t k s (ps ++ qs) m ≡ onward (counted few w t k s ps m) (λ a u o. counted few w t a u qs o)
+  counted-append : (k s : ℕ) (ps qs m : List ℕ)
+      → counted few w t k s (ps ++ qs) m ≡ onward (counted few w t k s ps m) (λ a u o. counted few w t a u qs o)
   unfolding counted
   counted-append k s [] qs m = refl
   counted-append k s (p ∷ ps) qs m =
@@ -90,7 +90,8 @@ module _ (few : Bool) (w : Entry → ℕ) (t : Table) where
     where
       go : (b : Bool) → listable t p ≡ b → (d : Bool) → doubt few k (marked m (markOf few p)) ≡ d
           → counted few w t (k + 1) (added (w (entry t p)) (markOf few p) s m) (ps ++ qs) (marking (markOf few p) m)
-          ≡ onward (counted few w t (k + 1) (added (w (entry t p)) (markOf few p) s m) ps (marking (markOf few p) m)) (λ a u o. counted few w t a u qs o)
+          ≡ onward (counted few w t (k + 1) (added (w (entry t p)) (markOf few p) s m) ps (marking (markOf few p) m))
+          (λ a u o. counted few w t a u qs o)
           → counted few w t k s (p ∷ (ps ++ qs)) m ≡ onward (counted few w t k s (p ∷ ps) m) (λ a u o. counted few w t a u qs o)
       go true e true d h = rw (e, counted) (rw d)
       go true e false d h = rw (e, counted) (rw d h)
@@ -98,11 +99,15 @@ module _ (few : Bool) (w : Entry → ℕ) (t : Table) where
 
   pub counted-more : (k s : ℕ) (ps qs m : List ℕ) (a : Running) (o : List ℕ) → a .whole ≡ true → heldOf a o ≡ counted few w t k s ps m
       → counted few w t k s (ps ++ qs) m ≡ counted few w t (a .count) (a .sum) qs o
-  counted-more k s ps qs m a o g e = let f : held true (a .sure) (a .count) (a .sum) o ≡ counted few w t k s ps m = rw g at e in rw (counted-append, ← f)
+  counted-more k s ps qs m a o g e =
+      let f : held true (a .sure) (a .count) (a .sum) o ≡ counted few w t k s ps m = rw g at e in
+      rw (counted-append, ← f)
 
   pub counted-ends : (k s : ℕ) (ps qs m : List ℕ) (a : Running) (o : List ℕ) → a .whole ≡ false → heldOf a o ≡ counted few w t k s ps m
       → heldOf a o ≡ counted few w t k s (ps ++ qs) m
-  counted-ends k s ps qs m a o g e = let f : held false (a .sure) (a .count) (a .sum) o ≡ counted few w t k s ps m = rw g at e in rw (counted-append, ← f, g)
+  counted-ends k s ps qs m a o g e =
+      let f : held false (a .sure) (a .count) (a .sum) o ≡ counted few w t k s ps m = rw g at e in
+      rw (counted-append, ← f, g)
 
   -- what goes on is sure
   abbrev settled : Held → Bool
@@ -117,13 +122,17 @@ module _ (few : Bool) (w : Entry → ℕ) (t : Table) where
       (all-settled (k + 1) (added (w (entry t p)) (markOf few p) s m) ps (marking (markOf few p) m))
     where
       go : (b : Bool) → listable t p ≡ b → (d : Bool) → doubt few k (marked m (markOf few p)) ≡ d
-          → settled (counted few w t (k + 1) (added (w (entry t p)) (markOf few p) s m) ps (marking (markOf few p) m)) ≡ true → settled (counted few w t k s (p ∷ ps) m) ≡ true
+          → settled (counted few w t (k + 1) (added (w (entry t p)) (markOf few p) s m) ps (marking (markOf few p) m)) ≡ true
+          → settled (counted few w t k s (p ∷ ps) m) ≡ true
       go true e true d h = rw (e, counted) (rw d)
       go true e false d h = rw (e, counted) (rw d h)
       go false e d f h = rw (e, counted)
 
-  pub counted-sure : (k s : ℕ) (ps m : List ℕ) (a : Running) (o : List ℕ) → a .whole ≡ true → heldOf a o ≡ counted few w t k s ps m → a .sure ≡ true
-  counted-sure k s ps m a o g e = let f : held true (a .sure) (a .count) (a .sum) o ≡ counted few w t k s ps m = rw g at e in ap settled f ∙ all-settled k s ps m
+  pub counted-sure : (k s : ℕ) (ps m : List ℕ) (a : Running) (o : List ℕ) → a .whole ≡ true → heldOf a o ≡ counted few w t k s ps m
+      → a .sure ≡ true
+  counted-sure k s ps m a o g e =
+      let f : held true (a .sure) (a .count) (a .sum) o ≡ counted few w t k s ps m = rw g at e in
+      ap settled f ∙ all-settled k s ps m
 
   -- ---- a place
 
@@ -135,7 +144,8 @@ module _ (few : Bool) (w : Entry → ℕ) (t : Table) where
   unfolding counted
   counted-bad k s p m e = rw (e, counted)
 
-  pub counted-doubt : (k s p : ℕ) (m : List ℕ) → listable t p ≡ true → doubt few k (marked m (markOf few p)) ≡ true → held false false k s m ≡ counted few w t k s (p ∷ []) m
+  pub counted-doubt : (k s p : ℕ) (m : List ℕ) → listable t p ≡ true → doubt few k (marked m (markOf few p)) ≡ true
+      → held false false k s m ≡ counted few w t k s (p ∷ []) m
   unfolding counted
   counted-doubt k s p m e d = rw (e, counted) (rw d)
 
@@ -155,7 +165,8 @@ module _ (few : Bool) (w : Entry → ℕ) (t : Table) where
     unfolding counted places
     count-end a g h i j e = rw (g, h, i, j, e)
 
-    module _ (c : ℕ) (r : List ℕ) (q : l ≡ c ∷ r) (a : Running) (o : List ℕ) (f : heldOf a o ≡ counted few w t k s (getD ids c 0 ∷ []) m) where
+    module _ (c : ℕ) (r : List ℕ) (q : l ≡ c ∷ r) (a : Running) (o : List ℕ)
+        (f : heldOf a o ≡ counted few w t k s (getD ids c 0 ∷ []) m) where
       pub count-stop : a .whole ≡ false → heldOf a o ≡ remains
       unfolding places
       count-stop g = rw q (counted-ends k s (getD ids c 0 ∷ []) (places ids r) m a o g f)
@@ -165,7 +176,8 @@ module _ (few : Bool) (w : Entry → ℕ) (t : Table) where
       count-next g = rw q (sym (counted-more k s (getD ids c 0 ∷ []) (places ids r) m a o g f))
 
 -- only what can be listed is weighed
-pub counted-same : (few : Bool) (w v : Entry → ℕ) → ((e : Entry) → in01 (e .x) ≡ true → in01 (e .y) ≡ true → w e ≡ v e) → (t : Table) (k s : ℕ) (ps m : List ℕ)
+pub counted-same : (few : Bool) (w v : Entry → ℕ) → ((e : Entry) → in01 (e .x) ≡ true → in01 (e .y) ≡ true → w e ≡ v e)
+    → (t : Table) (k s : ℕ) (ps m : List ℕ)
     → counted few w t k s ps m ≡ counted few v t k s ps m
 unfolding counted
 counted-same few w v f t k s [] m = refl

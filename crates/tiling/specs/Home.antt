@@ -1,21 +1,17 @@
--- Where a tile holds an entry's centre, as the code tests it: by the four edges of the tile. The test is the floor of the definition, and what it passes lies in the
--- tile, so that the tile's own range finds it. Definitions first. Assumes nothing.
-use mathlib.Core.Path.{_≡_, refl, sym, ap, ap₂, _∙_, subst}
+-- Where a tile holds an entry's centre, as the code tests it: by the four edges of the tile. The test is the floor of the definition,
+-- and what it passes lies in the tile, so that the tile's own range finds it. Definitions first. Assumes nothing.
+use mathlib.Core.Path.{_≡_, refl, ap, ap₂, _∙_}
 use mathlib.Core.Bool.{Bool, true, false, cond, _&&_}
-use Prim.Native.Nat.{ℕ, _+_, _^_, _<_}
-use native.Mathlib.Omega.{arith}
-use lib.Dec.{T, eqb}
-use lib.Ieee.{Float, binary64, le, lt, add, div}
-use borrow.Author.Tests.{eqb-true, eqb-false}
-use Rattle.floats.specs.Numbers.{one, two, float}
+use Prim.Native.Nat.{ℕ}
+use lib.Dec.{eqb}
+use lib.Ieee.{le, lt}
+use borrow.Author.Tests.{eqb-true}
 use Rattle.floats.specs.Fraction.{yes-of}
-use Rattle.floats.specs.Order.{lt→le}
 use Rattle.floats.specs.Unit.{In01, in01, in01→In01}
 use Rattle.kdslots.specs.Bounds.{and-both}
 use Rattle.tables.specs.declared.Entry.{Entry}
 use Rattle.tiling.specs.declared.Home.{Home}
 use Rattle.tiling.specs.Floor.{begins, ends, holds, homeOf, holds-is, within}
-use Rattle.tiling.specs.Tile.{side}
 use Rattle.tiling.specs.Framed.{IsTile}
 use Rattle.tiling.specs.Inside.{InTile}
 use Rattle.tiling.specs.Tally.{atHome, weightIn}

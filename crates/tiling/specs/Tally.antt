@@ -1,6 +1,5 @@
--- The tally of a tile: its answers, and the sum over the distinct entries listed of what each weighs there: its num where the tile holds its centre, otherwise nothing.
--- A place of the list is in the sum, and none twice. Definitions first.
--- Assumes nothing.
+-- The tally of a tile: its answers, and the sum over the distinct entries listed of what each weighs there: its num where the tile holds
+-- its centre, otherwise nothing. A place of the list is in the sum, and none twice. Definitions first. Assumes nothing.
 use mathlib.Core.Path.{_≡_, refl, sym, ap, _∙_}
 use mathlib.Core.Bool.{Bool, true, false, not, cond, _&&_}
 use mathlib.Core.List.{List, [], _∷_, map}
@@ -38,7 +37,7 @@ unfoldable pub distinct : List ℕ → List ℕ → List ℕ
 distinct seen [] = []
 distinct seen (p ∷ ps) = elim (member p seen) [ true ↦ distinct seen ps | false ↦ p ∷ distinct (p ∷ seen) ps ]
 
--- the tile (z, x, y) holds the entry's centre: floor of cx * 2^z is x, and floor of cy * 2^z is y, with 1.0 belonging to the last tile
+-- the tile (z, x, y) holds the entry's centre: floor of cx * 2^z is x and floor of cy * 2^z is y, 1.0 belonging to the last tile
 abbrev pub atHome : ℕ → ℕ → ℕ → Entry → Bool
 atHome z x y e = eqb (homeOf z (e .x)) x && eqb (homeOf z (e .y)) y
 

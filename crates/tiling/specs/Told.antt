@@ -1,4 +1,5 @@
--- What is counted with marks is the tally: where each place has a mark of its own always, and where marks are few unless it ended unsure. Assumes nothing.
+-- What is counted with marks is the tally: where each place has a mark of its own always, and where marks are few unless it ended
+-- unsure. Assumes nothing.
 use mathlib.Core.Path.{_≡_, refl, sym, ap, _∙_}
 use mathlib.Core.Bool.{Bool, true, false, not, cond, _&&_, _||_}
 use mathlib.Core.List.{List, [], _∷_, _++_}
@@ -7,7 +8,7 @@ use native.Mathlib.Omega.{arith}
 use native.Mathlib.Nat.{add-zero, zero-add, add-assoc}
 use lib.Dec.{eqb, leb, ltb}
 use lib.ListN.{length, getD, replicate, length-set, length-replicate}
-use borrow.Author.Tests.{eqb-true, eqb-false, ltb-true, ltb-false}
+use borrow.Author.Tests.{eqb-true, eqb-false, ltb-true}
 use Rattle.kdslots.specs.Bounds.{and-both}
 use Rattle.tables.specs.declared.Entry.{Entry}
 use Rattle.tables.specs.Entries.{Table, entry}
@@ -43,7 +44,11 @@ no e = let y : _≡_ {A = ℕ} 0 1 = cc in omega arith
 agree-blank : (few : Bool) (n : ℕ) (m : List ℕ) → Blank few n m → Agree few n m []
 unfolding member
 agree-blank true n m b = record { long = b .reach; keeps = λ p e. absurd (no (sym e)); only = λ e p h f. absurd (no e) }
-agree-blank false n m b = record { long = b .reach; keeps = λ p e. absurd (no (sym e)); only = λ e p h f. absurd (no (sym f ∙ b .clear p h)) }
+agree-blank false n m b = record {
+  long = b .reach;
+  keeps = λ p e. absurd (no (sym e));
+  only = λ e p h f. absurd (no (sym f ∙ b .clear p h));
+}
 
 module _ (few : Bool) (n : ℕ) (m seen : List ℕ) (p : ℕ) (h : p < n) (e : marked m (markOf few p) ≡ false) (a : Agree few n m seen) where
   reached : markOf few p / 8 < length m
@@ -91,14 +96,16 @@ data Good : Bool → Held → Bool → ℕ → ℕ → Type 0 where
   good : {few b : Bool} {k s : ℕ} {m : List ℕ} → Good few (held b true k s m) b k s
   unsure : {b c : Bool} {k s i u : ℕ} {m : List ℕ} → Good true (held c false k s m) b i u
 
-good-is : (few : Bool) (r : Running) (m : List ℕ) (h : Held) (b : Bool) (i u : ℕ) → heldOf r m ≡ h → Good few h b i u → (few && not (r .sure)) ≡ false
+good-is : (few : Bool) (r : Running) (m : List ℕ) (h : Held) (b : Bool) (i u : ℕ) → heldOf r m ≡ h → Good few h b i u
+    → (few && not (r .sure)) ≡ false
     → (r .whole ≡ b) × (r .sure ≡ true) × (r .count ≡ i) × (r .sum ≡ u)
 good-is few r m _ b i u e good f = (cc, cc, cc, cc)
 good-is few r m _ b i u e unsure f = absurd (let g : r .sure ≡ false = cc in no (rw g at f))
 
 -- what is counted of vs after k listed with the tally s
 abbrev Counts : Bool → (Entry → ℕ) → Table → ℕ → ℕ → List Visit → List ℕ → List ℕ → Type 0
-Counts few w t k s vs m seen = Good few (counted few w t k s (placesIn vs) m) (whole t vs) (k + length (listed t vs)) (s + total w t (distinct seen (placesIn (listed t vs))))
+Counts few w t k s vs m seen = Good few (counted few w t k s (placesIn vs) m) (whole t vs) (k + length (listed t vs))
+    (s + total w t (distinct seen (placesIn (listed t vs))))
 
 -- no doubt: the place has no mark, or it has its own
 certain : (few : Bool) (k : ℕ) (there : Bool) → doubt few k there ≡ false → there ≡ true → few ≡ false
@@ -109,12 +116,14 @@ certain true k there d e = absurd (no (sym (or-true (leb 16 k) there e) ∙ d))
     or-true false b e = e
 certain false k there d e = refl
 
-counts : (few : Bool) (w : Entry → ℕ) (t : Table) (k s : ℕ) (vs : List Visit) (m seen : List ℕ) → Agree few (length t) m seen → Counts few w t k s vs m seen
+counts : (few : Bool) (w : Entry → ℕ) (t : Table) (k s : ℕ) (vs : List Visit) (m seen : List ℕ) → Agree few (length t) m seen
+    → Counts few w t k s vs m seen
 unfolding counted whole listed total distinct
 counts few w t k s [] m seen a = rw (add-zero, add-zero) good
 counts few w t k s (v ∷ vs) m seen a =
     at (listable t (v .place)) refl (counts few w t (k + 1) s vs m seen a)
-    (λ h e. counts few w t (k + 1) (s + w (entry t (v .place))) vs (mark m (markOf few (v .place))) (v .place ∷ seen) (agree-mark few (length t) m seen (v .place) h e a))
+    (λ h e. counts few w t (k + 1) (s + w (entry t (v .place))) vs (mark m (markOf few (v .place))) (v .place ∷ seen)
+    (agree-mark few (length t) m seen (v .place) h e a))
   where
     more : (i : ℕ) → k + 1 + i ≡ k + suc i
     more i = omega arith
@@ -126,38 +135,50 @@ counts few w t k s (v ∷ vs) m seen a =
     new e true f = absurd (no (sym (a .keeps (v .place) f) ∙ e))
     new e false f = f
 
-    old : doubt few k (marked m (markOf few (v .place))) ≡ false → marked m (markOf few (v .place)) ≡ true → v .place < length t → member (v .place) seen ≡ true
+    old : doubt few k (marked m (markOf few (v .place))) ≡ false → marked m (markOf few (v .place)) ≡ true → v .place < length t
+        → member (v .place) seen ≡ true
     old d e l = let z = certain few k _ d e in a .only z (v .place) l (rw z at e)
 
-    go : (b : Bool) → marked m (markOf few (v .place)) ≡ b → doubt few k (marked m (markOf few (v .place))) ≡ false → v .place < length t → Counts few w t (k + 1) s vs m seen
-        → (marked m (markOf few (v .place)) ≡ false → Counts few w t (k + 1) (s + w (entry t (v .place))) vs (mark m (markOf few (v .place))) (v .place ∷ seen))
-        → Good few (counted few w t (k + 1) (cond b s (s + w (entry t (v .place)))) (placesIn vs) (cond b m (mark m (markOf few (v .place))))) (whole t vs) (k + suc (length (listed t vs)))
+    go : (b : Bool) → marked m (markOf few (v .place)) ≡ b → doubt few k (marked m (markOf few (v .place))) ≡ false → v .place < length t
+        → Counts few w t (k + 1) s vs m seen
+        → (marked m (markOf few (v .place)) ≡ false → Counts few w t (k + 1) (s + w (entry t (v .place))) vs
+        (mark m (markOf few (v .place))) (v .place ∷ seen))
+        → Good few (counted few w t (k + 1) (cond b s (s + w (entry t (v .place)))) (placesIn vs)
+        (cond b m (mark m (markOf few (v .place))))) (whole t vs) (k + suc (length (listed t vs)))
         (s + total w t (distinct seen (v .place ∷ placesIn (listed t vs))))
     go true e d l c f = let g = old d e l in rw (g, distinct) (rw (more (length (listed t vs))) at c)
-    go false e d l c f = let g = new e (member (v .place) seen) refl in rw (g, distinct) (rw (more (length (listed t vs)), add-assoc) at (f e))
+    go false e d l c f =
+        let g = new e (member (v .place) seen) refl in
+        rw (g, distinct) (rw (more (length (listed t vs)), add-assoc) at (f e))
 
     sifted : (d : Bool) → doubt few k (marked m (markOf few (v .place))) ≡ d → v .place < length t → Counts few w t (k + 1) s vs m seen
-        → (marked m (markOf few (v .place)) ≡ false → Counts few w t (k + 1) (s + w (entry t (v .place))) vs (mark m (markOf few (v .place))) (v .place ∷ seen))
+        → (marked m (markOf few (v .place)) ≡ false → Counts few w t (k + 1) (s + w (entry t (v .place))) vs
+        (mark m (markOf few (v .place))) (v .place ∷ seen))
         → Good few (elim d [
           | true ↦ held false false k s m
-          | false ↦ counted few w t (k + 1) (added (w (entry t (v .place))) (markOf few (v .place)) s m) (placesIn vs) (marking (markOf few (v .place)) m)
+          | false ↦ counted few w t (k + 1) (added (w (entry t (v .place))) (markOf few (v .place)) s m) (placesIn vs)
+              (marking (markOf few (v .place)) m)
         ])
         (whole t vs) (k + suc (length (listed t vs))) (s + total w t (distinct seen (v .place ∷ placesIn (listed t vs))))
     sifted true d l c f = doubted few d
       where
-        doubted : (few : Bool) → doubt few k (marked m (markOf few (v .place))) ≡ true → {b : Bool} {i u : ℕ} → Good few (held false false k s m) b i u
+        doubted : (few : Bool) → doubt few k (marked m (markOf few (v .place))) ≡ true → {b : Bool} {i u : ℕ}
+            → Good few (held false false k s m) b i u
         doubted true d = unsure
         doubted false d = absurd (no (sym d))
     sifted false d l c f = go (marked m (markOf few (v .place))) refl d l c f
 
     at : (b : Bool) → listable t (v .place) ≡ b → Counts few w t (k + 1) s vs m seen
         → (v .place < length t → marked m (markOf few (v .place)) ≡ false
-        → Counts few w t (k + 1) (s + w (entry t (v .place))) vs (mark m (markOf few (v .place))) (v .place ∷ seen)) → Counts few w t k s (v ∷ vs) m seen
-    at true e c f = rw (e, counted, whole, listed) (sifted (doubt few k (marked m (markOf few (v .place)))) refl (inside e) c (f (inside e)))
+        → Counts few w t (k + 1) (s + w (entry t (v .place))) vs (mark m (markOf few (v .place))) (v .place ∷ seen))
+        → Counts few w t k s (v ∷ vs) m seen
+    at true e c f = rw (e, counted, whole, listed)
+        (sifted (doubt few k (marked m (markOf few (v .place)))) refl (inside e) c (f (inside e)))
     at false e c f = rw (e, counted, whole, listed) (rw (add-zero, add-zero) good)
 
 -- from no marks; few may leave it unsure
-pub counted-is : (few : Bool) (w : Entry → ℕ) (t : Table) (z : List ℕ) → Blank few (length t) z → (vs : List Visit) (r : Running) (m : List ℕ)
+pub counted-is : (few : Bool) (w : Entry → ℕ) (t : Table) (z : List ℕ) → Blank few (length t) z
+    → (vs : List Visit) (r : Running) (m : List ℕ)
     → heldOf r m ≡ counted few w t 0 0 (placesIn vs) z → (few && not (r .sure)) ≡ false → r ≡ runningOf w t vs
 unfolding tallyOf
 counted-is few w t z n vs r m e f =
@@ -194,7 +215,8 @@ module _ (few : Bool) (w : Entry → ℕ) (t : Table) (M : List ℕ) (n : Blank 
     tally-first g = done a m (counted-ends few w t 0 0 (placesIn A) (placesIn B ++ placesIn C) M a m g one)
 
     module _ (g : a .whole ≡ true) (b : Running) (o : List ℕ) (f : After few w t a B m b o) where
-      rest : counted few w t 0 0 (placesIn A ++ (placesIn B ++ placesIn C)) M ≡ counted few w t (a .count) (a .sum) (placesIn B ++ placesIn C) m
+      rest : counted few w t 0 0 (placesIn A ++ (placesIn B ++ placesIn C)) M
+          ≡ counted few w t (a .count) (a .sum) (placesIn B ++ placesIn C) m
       rest = counted-more few w t 0 0 (placesIn A) (placesIn B ++ placesIn C) M a m g one
 
       pub tally-second : b .whole ≡ false → Is b

@@ -470,7 +470,8 @@ fn weigh(h: Home, e: Entry) -> u32
     e.num
 }
 
-// A tally on its way: whether everything that was found is tallied, whether the marks could tell what was counted before, how many are listed, and their sum.
+// A tally on its way: whether everything that was found is tallied, whether the marks could tell what was counted before, how many are
+// listed, and their sum.
 pub struct Running {
     pub whole: bool,
     pub sure: bool,
@@ -603,7 +604,8 @@ fn tally_by(
     }
 }
 
-// The tally of what a tile finds, by its own range and, at an end of its row, by the strips, over marks that are lent blank. Where they are few, it may be unsure.
+// The tally of what a tile finds, by its own range and, at an end of its row, by the strips, over marks that are lent blank. Where they are
+// few, it may be unsure.
 fn add_with(
     o: Options,
     z: u32,

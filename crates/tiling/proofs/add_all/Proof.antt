@@ -1,5 +1,5 @@
 -- `tiling::add_all` meets its contract: the marks that it lends are blank, and there is one for each place of the table. Assumes nothing.
-use mathlib.Core.Path.{_≡_, refl, sym}
+use mathlib.Core.Path.{refl, sym}
 use mathlib.Core.Bool.{false}
 use Prim.Native.Nat.{ℕ, _≤_}
 use native.Mathlib.Omega.{arith}

@@ -1,7 +1,7 @@
 -- `tiling::add_once` meets its contract: a bit that is not set is added. Assumes nothing.
 use mathlib.Core.Path.{_≡_, refl, sym, ap, _∙_}
-use mathlib.Core.Bool.{true, false}
-use Prim.Native.Nat.{ℕ, _+_, _/_, _%_, _<_}
+use mathlib.Core.Bool.{false}
+use Prim.Native.Nat.{ℕ, _+_, _/_, _%_}
 use native.Mathlib.Omega.{arith}
 use lib.ListN.{getD, length-set}
 use denote.Ref.{now}
@@ -47,7 +47,8 @@ slice-read-m c = omega (arith, start-of c .pre .0)
 add-marks : tie.Need-add-marks
 add-marks c =
     let a = start-of c .args in
-    let h = bit-fits (getD (now (a .marks)) (a .q / 8) 0) (a .q % 8) (omega arith) (omega (arith, c .slice-known2 .given (a .q / 8))) (unmarked (now (a .marks)) (a .q) (unmarked-at (tested c))) in
+    let h = bit-fits (getD (now (a .marks)) (a .q / 8) 0) (a .q % 8) (omega arith) (omega (arith, c .slice-known2 .given (a .q / 8)))
+    (unmarked (now (a .marks)) (a .q) (unmarked-at (tested c))) in
     omega (arith, h, c .before .bit .ensures)
 
 slice-write-marks : tie.Need-slice-write-marks

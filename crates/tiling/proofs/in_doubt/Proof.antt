@@ -11,7 +11,8 @@ returns-2 : tie.Need-returns-2
 returns-2 c = let e = c .before in simp (not-false (e .before .args .few) (e .if1 .left), le-leb 16 (e .before .args .k) (c .if2 .taken))
 
 returns-3 : tie.Need-returns-3
-returns-3 c = let e = c .before in simp (not-false (e .before .args .few) (e .if1 .left), lt-leb 16 (e .before .args .k) (omega (arith, c .if2 .left)))
+returns-3 c = let e = c .before in simp
+    (not-false (e .before .args .few) (e .if1 .left), lt-leb 16 (e .before .args .k) (omega (arith, c .if2 .left)))
 
 pub in-doubt-spec : {M : Type 1} → statement M
 in-doubt-spec = tie.close (tie.spec returns returns-2 returns-3)

@@ -1,7 +1,7 @@
--- `tiling::tally_by` meets its contract: at the head of the loop what is ahead of the walk, counted after what is counted, gives the whole tally. The measure is what
--- is ahead. Assumes nothing.
+-- `tiling::tally_by` meets its contract: at the head of the loop what is ahead of the walk, counted after what is counted, gives the
+-- whole tally. The measure is what is ahead. Assumes nothing.
 use mathlib.Core.Path.{_≡_, refl, sym, ap, _∙_, subst}
-use mathlib.Core.Bool.{Bool, true, false}
+use mathlib.Core.Bool.{true}
 use mathlib.Core.List.{List, [], _∷_}
 use Prim.Native.Nat.{ℕ, _+_, _*_, _<_, _≤_}
 use native.Mathlib.Omega.{arith}
@@ -27,13 +27,15 @@ use Rattle.tiling.proofs.tally_by.Tie as tie
 
 abbrev Inv-loop : tie.InvT-loop
 Inv-loop h x y seen id parent num ids coords few marks₀ a₀ q size n page₀ pages₀ marks a page pages =
-    AllBelow n (aheadOf q size n coords page pages) × (a .count + length (aheadOf q size n coords page pages) ≤ a₀ .count + n) × (a .sum ≤ a .count * 4294967295)
+    AllBelow n (aheadOf q size n coords page pages) × (a .count + length (aheadOf q size n coords page pages) ≤ a₀ .count + n)
+    × (a .sum ≤ a .count * 4294967295)
     × (counted few (weightBy h) (rows x y seen id parent num) (a .count) (a .sum) (places ids (aheadOf q size n coords page pages)) marks
     ≡ counted few (weightBy h) (rows x y seen id parent num) (a₀ .count) (a₀ .sum) (places ids (walk q size n coords)) marks₀)
     × (length page ≡ 16) × (length marks ≡ length marks₀) × (a .whole ≡ true) × (a .sure ≡ true)
 
 abbrev μ-loop : tie.MeasureT-loop
-μ-loop h x y seen id parent num ids coords few marks₀ a₀ q size n page₀ pages₀ marks a page pages = length (aheadOf q size n coords page pages)
+μ-loop h x y seen id parent num ids coords few marks₀ a₀ q size n page₀ pages₀ marks a page pages = length
+    (aheadOf q size n coords page pages)
 
 -- ---- the start, and the head of the loop
 
@@ -71,13 +73,15 @@ abbrev all-visits : Start → List Visit
 all-visits s = let a = s .args in walked (a .g) (length (now (a .x))) (now (a .ids)) (now (a .coords))
 
 -- once the search is made
-whole : (l : Loop) → of-places (begin l) (l .loop .a .count) (l .loop .a .sum) (places (now (begin l .args .ids)) (ahead l)) (l .loop .marks) ≡ of-visits (begin l) (all-visits (begin l))
+whole : (l : Loop) → of-places (begin l) (l .loop .a .count) (l .loop .a .sum) (places (now (begin l .args .ids)) (ahead l))
+    (l .loop .marks) ≡ of-visits (begin l) (all-visits (begin l))
 whole l =
     let s = begin l in
     let a = s .args in
     l .loop .inv .3
     ∙ ap (λ (ps : List ℕ). of-places s (a .r .count) (a .r .sum) ps (now (a .marks))) (sym (places-of (a .g) _))
-    ∙ ap (of-visits s) (sym (walked-made (a .g) (length (now (a .x))) (now (a .ids)) (now (a .coords)) (not-false (a .g .made) (asked-of l .if1 .left))))
+    ∙ ap (of-visits s) (sym (walked-made (a .g) (length (now (a .x))) (now (a .ids)) (now (a .coords))
+    (not-false (a .g .made) (asked-of l .if1 .left))))
 
 -- ---- a step
 
@@ -109,7 +113,8 @@ moves f =
     let u = t .before .before .next-slot in
     next-slot (ahead (loop-of t)) (onward t) (u .result .step) (slot f) (f .s .given .1) (u .ensures .0) (u .ensures .1)
 
-below : (f : Found) → (slot f < length (now (begin (head-of f) .args .x))) × AllBelow (length (now (begin (head-of f) .args .x))) (onward (turn-of f))
+below : (f : Found) → (slot f < length (now (begin (head-of f) .args .x)))
+    × AllBelow (length (now (begin (head-of f) .args .x))) (onward (turn-of f))
 below f =
     let l = head-of f in
     below-next (length (now (begin l .args .x))) (ahead l) (slot f) (onward (turn-of f)) (moves f) (l .loop .inv .0)
@@ -129,7 +134,8 @@ abbrev marks-of : Counted → List ℕ
 marks-of c = c .tally-one .last .1 .1 .1 .1 .1 .1 .1 .1 .1 .1 .0
 
 one : (c : Counted) → let l = loop-at c in let s = begin l in
-    heldOf (c .tally-one .result) (marks-of c) ≡ of-places s (l .loop .a .count) (l .loop .a .sum) (getD (now (s .args .ids)) (slot (found-of c)) 0 ∷ []) (l .loop .marks)
+    heldOf (c .tally-one .result) (marks-of c) ≡ of-places s (l .loop .a .count) (l .loop .a .sum)
+    (getD (now (s .args .ids)) (slot (found-of c)) 0 ∷ []) (l .loop .marks)
 one c = c .tally-one .ensures .0
 
 -- ---- the parts
@@ -139,7 +145,8 @@ returns c =
     let s = c .before .before .before .before .before .before .before .before .before .before .before in
     let a = s .args in (
       counted-none (a .few) (weightBy (a .h)) (table s) (a .r .count) (a .r .sum) (now (a .marks))
-          ∙ ap (of-visits s) (sym (walked-none (a .g) (length (now (a .x))) (now (a .ids)) (now (a .coords)) (not-true (a .g .made) (c .if1 .taken)))),
+          ∙ ap (of-visits s) (sym (walked-none (a .g) (length (now (a .x))) (now (a .ids)) (now (a .coords))
+          (not-true (a .g .made) (c .if1 .taken)))),
       omega arith,
       s .pre .1 .1 .1,
     )
@@ -152,8 +159,10 @@ loop-holds c =
     let s = c .before .before .before .before .before .before .before .before .before .before .before .before in
     let a = s .args in
     let w = walk (a .g .query) (a .g .«node_size») (length (now (a .x))) (now (a .coords)) in
-    let h : slots s _ (c .begin .result) ≡ w = ap (slots s _) (c .begin .ensures) ∙ ahead-begun (a .g .query) (a .g .«node_size») (length (now (a .x))) (now (a .coords)) _ in (
-      subst (λ (l : List ℕ). AllBelow (length (now (a .x))) l) (sym h) (walk-below (a .g .query) (a .g .«node_size») (length (now (a .x))) (now (a .coords))),
+    let h : slots s _ (c .begin .result) ≡ w = ap (slots s _) (c .begin .ensures)
+    ∙ ahead-begun (a .g .query) (a .g .«node_size») (length (now (a .x))) (now (a .coords)) _ in (
+      subst (λ (l : List ℕ). AllBelow (length (now (a .x))) l) (sym h)
+          (walk-below (a .g .query) (a .g .«node_size») (length (now (a .x))) (now (a .coords))),
       omega (arith, ap length h, walk-length (a .g .query) (a .g .«node_size») (length (now (a .x))) (now (a .coords))),
       s .pre .1 .1 .1,
       ap (λ (l : List ℕ). of-places s (a .r .count) (a .r .sum) (places (now (a .ids)) l) (now (a .marks))) h,
@@ -183,7 +192,8 @@ returns-2 c =
     let i = l .loop .inv in
     let a = l .loop .a in
     let e = no-more (ahead l) (u .result .step) (c .match .keys2) (u .ensures .0) in (
-      count-end (s .args .few) (weightBy (s .args .h)) (table s) (now (s .args .ids)) (a .count) (a .sum) (ahead l) (l .loop .marks) a (i .6) (i .7) refl refl e ∙ whole l,
+      count-end (s .args .few) (weightBy (s .args .h)) (table s) (now (s .args .ids)) (a .count) (a .sum) (ahead l) (l .loop .marks) a
+          (i .6) (i .7) refl refl e ∙ whole l,
       omega (arith, i .1),
       i .2,
     )
@@ -219,7 +229,8 @@ returns-3 c =
     let l = head-of f in
     let s = begin l in
     let a = l .loop .a in (
-      count-stop (s .args .few) (weightBy (s .args .h)) (table s) (now (s .args .ids)) (a .count) (a .sum) (ahead l) (l .loop .marks) (slot f) (onward (turn-of f)) (moves f)
+      count-stop (s .args .few) (weightBy (s .args .h)) (table s) (now (s .args .ids)) (a .count) (a .sum) (ahead l) (l .loop .marks)
+          (slot f) (onward (turn-of f)) (moves f)
           (w .tally-one .result) (marks-of w) (one w) (not-true _ (c .if2 .taken))
           ∙ whole l,
       omega (arith, ap length (moves f), l .loop .inv .1, w .tally-one .ensures .1),
@@ -241,13 +252,15 @@ loop-again c =
       below f .1,
       omega (arith, ap length (moves f), l .loop .inv .1, w .tally-one .ensures .1),
       w .tally-one .ensures .2,
-      count-next (s .args .few) (weightBy (s .args .h)) (table s) (now (s .args .ids)) (a .count) (a .sum) (ahead l) (l .loop .marks) (slot f) (onward t) (moves f)
+      count-next (s .args .few) (weightBy (s .args .h)) (table s) (now (s .args .ids)) (a .count) (a .sum) (ahead l) (l .loop .marks)
+          (slot f) (onward t) (moves f)
           (w .tally-one .result) (marks-of w) (one w) g
           ∙ l .loop .inv .3,
       t .before .before .next-slot .kept .1 .1 .1 .1 .1 .0 ∙ l .loop .inv .4,
       length-at w,
       g,
-      counted-sure (s .args .few) (weightBy (s .args .h)) (table s) (a .count) (a .sum) _ (l .loop .marks) (w .tally-one .result) (marks-of w) g (one w),
+      counted-sure (s .args .few) (weightBy (s .args .h)) (table s) (a .count) (a .sum) _ (l .loop .marks) (w .tally-one .result)
+          (marks-of w) g (one w),
     )
 
 pub tally-by-spec : {M : Type 1} → statement M

@@ -1,8 +1,8 @@
 -- `tiling::tally_one` meets its contract: each return is one law of `counted`, for one place. Assumes nothing.
 use mathlib.Core.Path.{_≡_, refl, sym, ap, ap₂, _∙_}
-use mathlib.Core.Bool.{Bool, true, false}
+use mathlib.Core.Bool.{true}
 use mathlib.Core.List.{List}
-use Prim.Native.Nat.{ℕ, _+_, _*_, _<_, _≤_}
+use Prim.Native.Nat.{ℕ, _+_, _*_, _<_}
 use native.Mathlib.Omega.{arith}
 use lib.ListN.{length}
 use denote.Ref.{now}
@@ -73,10 +73,12 @@ marked-of c = c .before .before .before
 abbrev start-of : Tested → tie.Start
 start-of c = begin (known-of (marked-of c))
 
-doubt-is : (c : Tested) → let a = start-of c .args in c .in-doubt .result ≡ doubt (a .few) (a .r .count) (marked (now (a .marks)) (markOf (a .few) (a .p)))
+doubt-is : (c : Tested) → let a = start-of c .args in c .in-doubt .result
+    ≡ doubt (a .few) (a .r .count) (marked (now (a .marks)) (markOf (a .few) (a .p)))
 doubt-is c =
     let a = start-of c .args in
-    c .in-doubt .ensures ∙ ap (doubt (a .few) (a .r .count)) (c .before .is-marked .ensures ∙ ap (marked (now (a .marks))) (mark-is (marked-of c)))
+    c .in-doubt .ensures ∙ ap (doubt (a .few) (a .r .count))
+    (c .before .is-marked .ensures ∙ ap (marked (now (a .marks))) (mark-is (marked-of c)))
 
 -- ---- the parts
 
@@ -94,7 +96,8 @@ returns c =
     let e = c .before .before in
     let s = named-start e in
     let a = s .args in (
-      counted-bad (a .few) (weightBy (a .h)) (table s) (a .r .count) (a .r .sum) (a .p) (now (a .marks)) (named-bad (table s) (a .p) (sym (e .entry-named .ensures) ∙ c .enum-told .given .1)),
+      counted-bad (a .few) (weightBy (a .h)) (table s) (a .r .count) (a .r .sum) (a .p) (now (a .marks))
+          (named-bad (table s) (a .p) (sym (e .entry-named .ensures) ∙ c .enum-told .given .1)),
       omega arith,
       s .pre .1 .1 .1,
     )
@@ -119,7 +122,8 @@ returns-2 c =
     let d = c .before in
     let s = start-of d in
     let a = s .args in (
-      counted-doubt (a .few) (weightBy (a .h)) (table s) (a .r .count) (a .r .sum) (a .p) (now (a .marks)) (named (known-of (marked-of d)) .0) (sym (doubt-is d) ∙ c .if1 .taken),
+      counted-doubt (a .few) (weightBy (a .h)) (table s) (a .r .count) (a .r .sum) (a .p) (now (a .marks))
+          (named (known-of (marked-of d)) .0) (sym (doubt-is d) ∙ c .if1 .taken),
       omega arith,
       s .pre .1 .1 .1,
     )
@@ -169,7 +173,8 @@ returns-3 c =
       ap₂ (λ (u : ℕ) (o : List ℕ). held true true (a .r .count + 1) u o)
           (n .ensures .0 ∙ ap₂ (λ (i j : ℕ). added i j (a .r .sum) m) (weighed-of w .weigh .ensures ∙ ap (weightBy (a .h)) (named k .1)) q)
           (n .ensures .1 ∙ ap (λ (j : ℕ). marking j m) q)
-          ∙ counted-one (a .few) (weightBy (a .h)) (table s) (a .r .count) (a .r .sum) (a .p) m (named k .0) (sym (doubt-is d) ∙ clear-of w .if1 .left),
+          ∙ counted-one (a .few) (weightBy (a .h)) (table s) (a .r .count) (a .r .sum) (a .p) m (named k .0)
+          (sym (doubt-is d) ∙ clear-of w .if1 .left),
       omega arith,
       omega (arith, n .ensures .2, s .pre .1 .1),
     )

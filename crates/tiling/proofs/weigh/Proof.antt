@@ -1,5 +1,5 @@
 -- `tiling::weigh` meets its contract: each return is one of the four tests, and the last passes them all. Assumes nothing.
-use mathlib.Core.Path.{_≡_, refl, sym}
+use mathlib.Core.Path.{_≡_}
 use mathlib.Core.Bool.{true, false}
 use lib.Ieee.{le, lt}
 use borrow.Author.Tests.{not-true, not-false}
@@ -22,11 +22,13 @@ module _ (h : Home) (e : Entry) where
   unfolding weightBy
   north-of a b c = rw (a, b, c)
 
-  south-of : le (h .west) (e .x) ≡ true → lt (e .x) (h .east) ≡ true → le (h .north) (e .y) ≡ true → lt (e .y) (h .south) ≡ false → 0 ≡ weightBy h e
+  south-of : le (h .west) (e .x) ≡ true → lt (e .x) (h .east) ≡ true → le (h .north) (e .y) ≡ true → lt (e .y) (h .south) ≡ false
+      → 0 ≡ weightBy h e
   unfolding weightBy
   south-of a b c d = rw (a, b, c, d)
 
-  between : le (h .west) (e .x) ≡ true → lt (e .x) (h .east) ≡ true → le (h .north) (e .y) ≡ true → lt (e .y) (h .south) ≡ true → e .num ≡ weightBy h e
+  between : le (h .west) (e .x) ≡ true → lt (e .x) (h .east) ≡ true → le (h .north) (e .y) ≡ true → lt (e .y) (h .south) ≡ true
+      → e .num ≡ weightBy h e
   unfolding weightBy
   between a b c d = rw (a, b, c, d)
 
@@ -64,7 +66,8 @@ returns-4 c =
     let l = third m in
     let k = second l in
     let a = first k .args in
-    south-of (a .h) (a .e) (not-false _ (k .if1 .left)) (not-false _ (l .if2 .left)) (not-false _ (m .if3 .left)) (not-true _ (c .if4 .taken))
+    south-of (a .h) (a .e) (not-false _ (k .if1 .left)) (not-false _ (l .if2 .left)) (not-false _ (m .if3 .left))
+    (not-true _ (c .if4 .taken))
 
 returns-5 : tie.Need-returns-5
 returns-5 c =
@@ -72,7 +75,8 @@ returns-5 c =
     let l = third m in
     let k = second l in
     let a = first k .args in
-    between (a .h) (a .e) (not-false _ (k .if1 .left)) (not-false _ (l .if2 .left)) (not-false _ (m .if3 .left)) (not-false _ (c .if4 .left))
+    between (a .h) (a .e) (not-false _ (k .if1 .left)) (not-false _ (l .if2 .left)) (not-false _ (m .if3 .left))
+    (not-false _ (c .if4 .left))
 
 pub weigh-spec : {M : Type 1} → statement M
 weigh-spec = tie.close (tie.spec returns returns-2 returns-3 returns-4 returns-5)
