@@ -7,4 +7,6 @@ pub mod Walks
 pub mod Leaves
 pub mod Boxed
 pub mod Tiled
+pub mod Sums
+pub mod Homes
 pub mod Unspoiled

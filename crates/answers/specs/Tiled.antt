@@ -2,7 +2,7 @@
 -- range, each once; then, where strips run, for x = 0, of exactly those of the strip in the east, each once; then, for x = z2 - 1, of exactly
 -- those of the strip in the west, each once. So each entry whose place lies in the tile is listed, and each item is that of an entry in one of
 -- the three; where strips do not run, as on a plan with the option on, no entry is listed twice. The tally is the sum of num over the distinct
--- places listed. Neither is ever refused 11. Assumes nothing.
+-- places listed whose centre the tile holds. Neither is ever refused 11. Assumes nothing.
 use mathlib.Core.Path.{_≡_, refl, ap, ap₂, sym, _∙_, subst}
 use mathlib.Core.Bool.{Bool, true, false, cond, _&&_}
 use mathlib.Core.List.{List, [], _∷_, _++_, map, append-nil}
@@ -41,11 +41,11 @@ use Rattle.asking.specs.Columns.{tableAt, idsAt, coordsAt}
 use Rattle.tiling.specs.declared.Item.{Item}
 use Rattle.tiling.specs.declared.Search.{Search}
 use Rattle.tiling.specs.declared.Tally.{Tally}
-use Rattle.tiling.specs.declared.Tally.the-variants.{Tile as Tally·Tile, Spoiled as Tally·Spoiled}
+use Rattle.tiling.specs.declared.Tally.the-variants.{Sum, Tile as Tally·Tile, Spoiled as Tally·Spoiled}
 use Rattle.tiling.specs.Framed.{tile-is}
 use Rattle.tiling.specs.Inside.{InTile, inside-passes}
 use Rattle.tiling.specs.Lists.{Lists, tile-whole, listed-whole}
-use Rattle.tiling.specs.Tally.{tallyNumber, distinct, total, tallyOf}
+use Rattle.tiling.specs.Tally.{tallyNumber, weightIn, distinct, total, tallyOf}
 use Rattle.tiling.specs.Tile.{Visit, isTile, edge, least, greatest, here, goesRound, wraps, east, west, visitsOf, visited, listed, whole, itemOf, itemAt, items}
 use Rattle.tiles.specs.Asked.{Asked, refused, told, asked, answerOf, someOf}
 use Rattle.tiles.specs.Ends.{asked-is}
@@ -333,20 +333,20 @@ module _ (o : Options) (xs ys : List Float) (a : Accepted o xs ys) (l : Lent) (r
         let f : w .0 ≡ i = told-same (sym (w .1) ∙ e) in
         lists-all (Why o z x y t) j (m .0) (m .1) (subst (All (Why o z x y t)) (f ∙ m .2) q)
 
-    tally-is : tallyBy o xs ys l z x y ≡ sumOf true (length finds) (total t (distinct [] (map (λ w. w .place) finds)))
+    tally-is : tallyBy o xs ys l z x y ≡ Sum (total (weightIn z x y) t (distinct [] (map (λ w. w .place) finds)))
     unfolding tallied tallyOf
     tally-is =
         rw (state-sound o xs ys a l r, tile)
-        (moved (λ q ids co. let v = visited o z x y q ids co in sumOf (whole q v) (length (listed q v)) (tallyOf q v))
-        ∙ ap₂ (λ (k : Bool) (v : List Visit). sumOf k (length v) (total t (distinct [] (map (λ w. w .place) v)))) all-whole all-listed)
+        (moved (λ q ids co. let v = visited o z x y q ids co in sumOf (whole q v) (tallyOf (weightIn z x y) q v))
+        ∙ ap₂ (λ (k : Bool) (v : List Visit). sumOf k (total (weightIn z x y) t (distinct [] (map (λ w. w .place) v)))) all-whole all-listed)
 
-    -- the tally is the sum of num over the distinct places of the items that the tile lists, and 8 where it lists none
+    -- the tally is the sum, over the distinct places of the items that the tile lists, of the num of those entries whose centre the tile holds; 0 where there is none
     pub tally-told : (i : List Item) × (tileBy o xs ys l z x y ≡ told true i)
-        × (tallyBy o xs ys l z x y ≡ sumOf true (length i) (total (usedBy o xs ys z) (distinct [] (map (λ j. j .place) i))))
+        × (tallyBy o xs ys l z x y ≡ Sum (total (weightIn z x y) (usedBy o xs ys z) (distinct [] (map (λ j. j .place) i))))
     tally-told = (
       items t finds,
       told-items,
-      tally-is ∙ ap₂ (λ (n : ℕ) (ps : List ℕ). sumOf true n (total t (distinct [] ps))) (sym (length-map finds (itemAt t))) (sym (item-places t finds)),
+      tally-is ∙ ap (λ (ps : List ℕ). Sum (total (weightIn z x y) t (distinct [] ps))) (sym (item-places t finds)),
     )
 
   -- nor has it a tally
@@ -366,10 +366,9 @@ module _ (o : Options) (xs ys : List Float) (a : Accepted o xs ys) (l : Lent) (r
   pub tally-not-spoiled : tallyBy o xs ys l z x y ≡ Tally·Spoiled → ⊥
   tally-not-spoiled = by (isTile z x y) refl
     where
-      of : (n sum : ℕ) → sumOf true n sum ≡ Tally·Spoiled → ⊥
-      of nought sum e = omega (arith, ap tallyNumber e)
-      of (suc n) sum e = omega (arith, ap tallyNumber e)
+      of : (sum : ℕ) → Sum sum ≡ Tally·Spoiled → ⊥
+      of sum e = omega (arith, ap tallyNumber e)
 
       by : (b : Bool) → isTile z x y ≡ b → tallyBy o xs ys l z x y ≡ Tally·Spoiled → ⊥
-      by true f h = of (length finds) (total t (distinct [] (map (λ w. w .place) finds))) (sym (tally-is f) ∙ h)
+      by true f h = of (total (weightIn z x y) t (distinct [] (map (λ w. w .place) finds))) (sym (tally-is f) ∙ h)
       by false f h = let w = sym (tally-refused f) ∙ h in omega (arith, ap tallyNumber w)

@@ -847,7 +847,7 @@ pub extern "C" fn supercluster_tile(
     r.number()
 }
 
-// The sum of num over the distinct entries that the tile (z, tile_x, tile_y) lists, as what is carried.
+// The sum of num over the distinct entries that the tile (z, tile_x, tile_y) lists and whose centre it holds, as what is carried.
 #[no_mangle]
 pub extern "C" fn supercluster_tally(
     min_zoom: u8,

@@ -20,6 +20,7 @@ use Rattle.tiling.specs.declared.Running.{Running}
 use Rattle.tiling.specs.declared.Tally.the-variants.{Tile as Tally·Tile, Spoiled as Tally·Spoiled}
 use Rattle.tiling.specs.Tile.{isTile, listed, whole, items, itemAt}
 use Rattle.tiling.specs.Runs.{left, run, ranOf, run-is}
+use Rattle.tiling.specs.Tally.{weightIn}
 use Rattle.tiling.specs.Counting.{runningOf}
 use Rattle.tiles.specs.Tallied.{sumOf, tallied}
 use Rattle.tiles.specs.Asked.{tableFor, visitsFor, Asked, told, asked, someOf, answerOf, shortest, firstOf, outcome, outcomeOf, tiled}
@@ -105,7 +106,7 @@ module _ (s : State) (c : Columns) (z x y : ℕ) where
   unfolding tallied
   tally-no-tile e f = rw (e, f)
 
-  pub tally-summed : stateOk s (roomOf c) ≡ true → isTile z x y ≡ true → (r : Running) → r ≡ runningOf (tableFor s c z) (visitsFor s c z x y)
-      → sumOf (r .whole) (r .count) (r .sum) ≡ tallied s c z x y
+  pub tally-summed : stateOk s (roomOf c) ≡ true → isTile z x y ≡ true → (r : Running) → r ≡ runningOf (weightIn z x y) (tableFor s c z) (visitsFor s c z x y)
+      → sumOf (r .whole) (r .sum) ≡ tallied s c z x y
   unfolding tallied
-  tally-summed e f r h = rw (e, f) (ap (λ (q : Running). sumOf (q .whole) (q .count) (q .sum)) h)
+  tally-summed e f r h = rw (e, f) (ap (λ (q : Running). sumOf (q .whole) (q .sum)) h)

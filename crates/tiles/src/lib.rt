@@ -12,6 +12,7 @@ ghost use Rattle.tables.specs.Sound.{stateOk};
 ghost use Rattle.asking.specs.Columns.{columns, roomOf};
 ghost use Rattle.tiling.specs.Framed.{IsTile};
 ghost use Rattle.tiling.specs.Runs.{left, run};
+ghost use Rattle.tiling.specs.Tally.{weightIn};
 ghost use Rattle.tiling.specs.Counting.{runningOf};
 ghost use Rattle.tiles.specs.Asked.{tableFor, visitsFor, someOf, outcome, tiled};
 ghost use Rattle.tiles.specs.Tallied.{sumOf, tallied};
@@ -222,7 +223,7 @@ fn tally_used(
 ) -> Running
     requires { ⌜ (stateOk s (roomOf (columns (now x) (now y) (now seen) (now id) (now parent) (now num) (now ids) (now coords))) ≡ true) × IsTile z tx ty ⌝ }
     requires { ⌜ (now starts ≡ s .starts) × (now lens ≡ s .lens) ⌝ }
-    ensures { λ r. ⌜ r ≡ runningOf (tableFor s (columns (now (x .entry)) (now (y .entry)) (now (seen .entry)) (now (id .entry)) (now (parent .entry)) (now (num .entry)) (now (ids .entry)) (now (coords .entry))) z)
+    ensures { λ r. ⌜ r ≡ runningOf (weightIn z tx ty) (tableFor s (columns (now (x .entry)) (now (y .entry)) (now (seen .entry)) (now (id .entry)) (now (parent .entry)) (now (num .entry)) (now (ids .entry)) (now (coords .entry))) z)
         (visitsFor s (columns (now (x .entry)) (now (y .entry)) (now (seen .entry)) (now (id .entry)) (now (parent .entry)) (now (num .entry)) (now (ids .entry)) (now (coords .entry))) z tx ty) ⌝ }
 {
     let o = s.options;
@@ -249,18 +250,15 @@ fn tally_used(
 
 // The answer of a tally that went to its end.
 fn sum_of(r: Running) -> Tally
-    ensures { λ a. ⌜ a ≡ sumOf (r .whole) (r .count) (r .sum) ⌝ }
+    ensures { λ a. ⌜ a ≡ sumOf (r .whole) (r .sum) ⌝ }
 {
     if !r.whole {
         return Tally::Spoiled;
     }
-    if r.count == 0 {
-        return Tally::EmptyTile;
-    }
     Tally::Sum(r.sum)
 }
 
-// The sum of num over the distinct entries that the tile (z, tx, ty) lists, of a state that is given by its parts.
+// The sum of num over the distinct entries that the tile (z, tx, ty) lists and whose centre it holds, of a state that is given by its parts.
 pub fn tally_lent(
     options: Options,
     count: u32,

@@ -1,4 +1,4 @@
--- Definitions that contracts cite: Tile, Runs (its first), Tally (its first), Counting (its first). All else is laws.
+-- Definitions that contracts cite: Tile, Floor (its first), Runs (its first), Tally (its first), Home (its first), Counting (its first). All else is laws.
 pub mod Tile
 pub mod Framed
 pub mod Finite
@@ -8,6 +8,9 @@ pub mod Three
 pub mod Inside
 pub mod Lists
 pub mod Marks
+pub mod Floor
 pub mod Tally
 pub mod Counting
+pub mod Told
+pub mod Home
 pub mod Replies

@@ -9,7 +9,7 @@ use lib.Pow.{pow-add, pow-pos}
 use lib.Dec.{eqb, ltb}
 use lib.ListN.{length, getD, set, replicate, getD-replicate}
 use lib.Seq.{getD-set-same, getD-set-other}
-use borrow.Author.Tests.{ltb-true, ltb-false, eqb-true, eqb-false, eq-eqb, ne-eqb}
+use borrow.Author.Tests.{ltb-true, ltb-false, eqb-true, eqb-false, eq-eqb}
 
 -- a number below 8 is one of eight
 eight : (P : ℕ → Type 0) → P 0 → P 1 → P 2 → P 3 → P 4 → P 5 → P 6 → P 7 → (j : ℕ) → j < 8 → P j
@@ -105,13 +105,9 @@ mark-other m p q h n e = go (eqb (q / 8) (p / 8)) refl
 
 -- ---- as the code has it: b is the bit of p
 
-pub once-yes : (m : List ℕ) (p b : ℕ) → b ≡ 2 ^ (p % 8) → getD m (p / 8) 0 / b % 2 ≡ 1 → marked m p ≡ true
+pub marked-is : (m : List ℕ) (p b : ℕ) → b ≡ 2 ^ (p % 8) → eqb (getD m (p / 8) 0 / b % 2) 1 ≡ marked m p
 unfolding marked
-once-yes m p b e h = eq-eqb _ _ (rw e at h)
-
-pub once-no : (m : List ℕ) (p b : ℕ) → b ≡ 2 ^ (p % 8) → (getD m (p / 8) 0 / b % 2 ≡ 1 → ⊥) → marked m p ≡ false
-unfolding marked
-once-no m p b e n = ne-eqb _ _ (rw e at n)
+marked-is m p b e = rw e
 
 pub mark-is : (m : List ℕ) (p b : ℕ) → b ≡ 2 ^ (p % 8) → set m (p / 8) (getD m (p / 8) 0 + b) ≡ mark m p
 unfolding mark

@@ -1,30 +1,30 @@
--- The tally of a tile: its answers, and the sum of num over the distinct entries listed. A place of the list is in the sum, and none twice. Definitions first.
--- Assumes nothing.
+-- The tally of a tile: its answers, and the sum over the distinct entries listed of what each weighs there: its num where the tile holds
+-- its centre, otherwise nothing. A place of the list is in the sum, and none twice. Definitions first. Assumes nothing.
 use mathlib.Core.Path.{_≡_, refl, sym, ap, _∙_}
-use mathlib.Core.Bool.{Bool, true, false, not, _&&_}
+use mathlib.Core.Bool.{Bool, true, false, not, cond, _&&_}
 use mathlib.Core.List.{List, [], _∷_, map}
 use Prim.Native.Nat.{ℕ, _+_}
 use native.Mathlib.Omega.{arith}
 use lib.Dec.{eqb}
 use borrow.Author.Tests.{eqb-true, eqb-false}
 use Rattle.kdslots.specs.Members.{In, NotIn, Distinct}
+use Rattle.tables.specs.declared.Entry.{Entry}
 use Rattle.tables.specs.Entries.{Table, entry}
 use Rattle.tiling.specs.declared.Tally.{Tally}
-use Rattle.tiling.specs.declared.Tally.the-variants.{Sum, Tile as No·Tile, EmptyTile, Spoiled}
+use Rattle.tiling.specs.declared.Tally.the-variants.{Sum, Tile as No·Tile, Spoiled}
+use Rattle.tiling.specs.Floor.{homeOf}
 use Rattle.tiling.specs.Tile.{Visit, listed}
 
 -- 01's number of an answer; 0 where there is no refusal
 abbrev pub tallyNumber : Tally → ℕ
 tallyNumber (Sum s) = 0
 tallyNumber No·Tile = 7
-tallyNumber EmptyTile = 8
 tallyNumber Spoiled = 11
 
 -- what it carries: the sum
 abbrev pub tallyValue : Tally → ℕ
 tallyValue (Sum s) = s
 tallyValue No·Tile = 0
-tallyValue EmptyTile = 0
 tallyValue Spoiled = 0
 
 -- whether p is in the list
@@ -37,14 +37,22 @@ unfoldable pub distinct : List ℕ → List ℕ → List ℕ
 distinct seen [] = []
 distinct seen (p ∷ ps) = elim (member p seen) [ true ↦ distinct seen ps | false ↦ p ∷ distinct (p ∷ seen) ps ]
 
--- the sum of num over the entries at these places
-unfoldable pub total : Table → List ℕ → ℕ
-total t [] = 0
-total t (p ∷ ps) = entry t p .num + total t ps
+-- the tile (z, x, y) holds the entry's centre: floor of cx * 2^z is x and floor of cy * 2^z is y, 1.0 belonging to the last tile
+abbrev pub atHome : ℕ → ℕ → ℕ → Entry → Bool
+atHome z x y e = eqb (homeOf z (e .x)) x && eqb (homeOf z (e .y)) y
 
--- the sum of num over the distinct entries listed
-unfoldable pub tallyOf : Table → List Visit → ℕ
-tallyOf t vs = total t (distinct [] (map (λ v. v .place) (listed t vs)))
+-- what an entry counts in the tile (z, x, y): its num where it is at home, otherwise nothing
+abbrev pub weightIn : ℕ → ℕ → ℕ → Entry → ℕ
+weightIn z x y e = cond (atHome z x y e) (e .num) 0
+
+-- the sum of w over the entries at these places
+unfoldable pub total : (Entry → ℕ) → Table → List ℕ → ℕ
+total w t [] = 0
+total w t (p ∷ ps) = w (entry t p) + total w t ps
+
+-- the sum of w over the distinct entries listed
+unfoldable pub tallyOf : (Entry → ℕ) → Table → List Visit → ℕ
+tallyOf w t vs = total w t (distinct [] (map (λ v. v .place) (listed t vs)))
 
 -- ---- what `distinct` leaves
 

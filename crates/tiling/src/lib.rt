@@ -5,9 +5,10 @@ use range::CoordinateSystem;
 use tables::Entry;
 use tables::Options;
 ghost use mathlib.Core.Path.{_≡_};
-ghost use mathlib.Core.Bool.{true, cond, _&&_};
-ghost use Prim.Native.Nat.{_+_, _*_, _^_, _<_, _≤_};
-ghost use lib.Dec.{T, eqb};
+ghost use mathlib.Core.Bool.{true, false, not, cond, _&&_};
+ghost use mathlib.Core.List.{[], _∷_};
+ghost use Prim.Native.Nat.{_+_, _*_, _/_, _^_, _<_, _≤_};
+ghost use lib.Dec.{T, eqb, ltb};
 ghost use lib.ListN.{length, set};
 ghost use lib.Ieee.{le, neg};
 ghost use Rattle.floats.specs.Numbers.{one, pow31};
@@ -20,8 +21,11 @@ ghost use Rattle.tiling.specs.Framed.{Framed, IsTile};
 ghost use Rattle.tiling.specs.Runs.{left, run};
 ghost use Rattle.tiling.specs.Turns.{walked};
 ghost use Rattle.tiling.specs.Marks.{marked};
-ghost use Rattle.tiling.specs.Tally.{tallyNumber, tallyValue};
-ghost use Rattle.tiling.specs.Counting.{held, placesIn, marking, counted, Blank, runningOf};
+ghost use Rattle.tiling.specs.Floor.{ends};
+ghost use Rattle.tiling.specs.Tally.{weightIn, tallyNumber, tallyValue};
+ghost use Rattle.tiling.specs.Home.{edgesOf, weightBy};
+ghost use Rattle.tiling.specs.Counting.{heldOf, placesIn, markOf, marksFor, doubt, added, marking, counted, runningOf};
+ghost use Rattle.tiling.specs.Told.{Blank};
 
 // One search of a tile: whether the tile has it, what it asks of the index, and what stands for the tile's x and y in the items that it finds.
 pub struct Search {
@@ -57,7 +61,6 @@ pub enum Named {
 pub enum Tally {
     Sum(u64),
     Tile,
-    EmptyTile,
     Spoiled,
 }
 
@@ -69,7 +72,6 @@ impl Tally {
         match self {
             Tally::Sum(_) => 0,
             Tally::Tile => 7,
-            Tally::EmptyTile => 8,
             Tally::Spoiled => 11,
         }
     }
@@ -81,7 +83,6 @@ impl Tally {
         match self {
             Tally::Sum(s) => s,
             Tally::Tile => 0,
-            Tally::EmptyTile => 0,
             Tally::Spoiled => 0,
         }
     }
@@ -391,31 +392,170 @@ fn bit(j: usize) -> u8
     1u8 << j
 }
 
-// Adds num to the sum, if the place p is not marked, and marks it.
-fn add_once(marks: &mut [u8], p: usize, num: u32, sum: u64) -> u64
-    requires { ⌜ (p < 8 * length (now marks)) × (sum + 4294967295 < 2 ^ 64) ⌝ }
-    ensures { λ r. ⌜ (r ≡ cond (marked (now (marks .entry)) p) sum (sum + num)) × (now (marks .exit) ≡ marking p (now (marks .entry))) × (r ≤ sum + 4294967295) ⌝ }
+// Whether the mark q is there.
+fn is_marked(marks: &[u8], q: usize) -> bool
+    requires { ⌜ q < 8 * length (now marks) ⌝ }
+    ensures { λ r. ⌜ r ≡ marked (now (marks .entry)) q ⌝ }
 {
-    let i = p / 8;
-    let b = bit(p % 8);
-    let m = marks[i];
-    if m / b % 2 == 1 {
+    let b = bit(q % 8);
+    marks[q / 8] / b % 2 == 1
+}
+
+// Adds num to the sum, if the mark q is not there, and sets it.
+fn add_once(marks: &mut [u8], q: usize, num: u32, sum: u64) -> u64
+    requires { ⌜ (q < 8 * length (now marks)) × (sum + 4294967295 < 2 ^ 64) ⌝ }
+    ensures { λ r. ⌜ (r ≡ added num q sum (now (marks .entry))) × (now (marks .exit) ≡ marking q (now (marks .entry))) × (r ≤ sum + 4294967295) ⌝ }
+{
+    if is_marked(marks, q) {
         return sum;
     }
+    let i = q / 8;
+    let b = bit(q % 8);
+    let m = marks[i];
     marks[i] = m + b;
     sum + wide(num)
 }
 
-// A tally on its way: whether everything found could be listed, how many were, and their sum.
+// The edges of a tile, between which it holds an entry's centre: the first of a pair is in, the second is not.
+pub struct Home {
+    pub west: f64,
+    pub east: f64,
+    pub north: f64,
+    pub south: f64,
+}
+
+// Where the tiles from v end: past every coordinate for the last, which holds 1.0 too.
+fn end_of(z: u32, z2: f64, v: u32) -> f64
+    requires { ⌜ (z < 32) × (z2 ≡ side z) ⌝ }
+    ensures { λ r. ⌜ r ≡ ends z v ⌝ }
+{
+    if wide(v) + 1 == across(z) {
+        return 2.0;
+    }
+    (v as f64 + 1.0) / z2
+}
+
+// The edges of the tile (z, x, y).
+fn home_of(z: u32, x: u32, y: u32) -> Home
+    requires { ⌜ z < 32 ⌝ }
+    ensures { λ r. ⌜ r ≡ edgesOf z x y ⌝ }
+{
+    let z2 = floats::power(z);
+    let east = end_of(z, z2, x);
+    let south = end_of(z, z2, y);
+    Home {
+        west: x as f64 / z2,
+        east,
+        north: y as f64 / z2,
+        south,
+    }
+}
+
+// What an entry counts: its num where its centre lies between the edges, otherwise nothing.
+fn weigh(h: Home, e: Entry) -> u32
+    ensures { λ r. ⌜ r ≡ weightBy h e ⌝ }
+{
+    if !(h.west <= e.x) {
+        return 0;
+    }
+    if !(e.x < h.east) {
+        return 0;
+    }
+    if !(h.north <= e.y) {
+        return 0;
+    }
+    if !(e.y < h.south) {
+        return 0;
+    }
+    e.num
+}
+
+// A tally on its way: whether everything that was found is tallied, whether the marks could tell what was counted before, how many are
+// listed, and their sum.
 pub struct Running {
     pub whole: bool,
+    pub sure: bool,
     pub count: usize,
     pub sum: u64,
+}
+
+// The mark of the place p: its own, or, where marks are few, that of its remainder.
+fn mark_of(few: bool, p: usize) -> usize
+    ensures { λ r. ⌜ r ≡ markOf few p ⌝ }
+{
+    if few {
+        return p % 8192;
+    }
+    p
+}
+
+// Whether few marks cannot tell if a place was counted before: many are listed, or its mark is there.
+fn in_doubt(few: bool, k: usize, there: bool) -> bool
+    ensures { λ r. ⌜ r ≡ doubt few k there ⌝ }
+{
+    if !few {
+        return false;
+    }
+    if 16 <= k {
+        return true;
+    }
+    there
+}
+
+// Tallies the entry at the place p, after what was tallied before: it counts where its centre lies between the edges, and once.
+fn tally_one(
+    h: Home,
+    x: &[f64],
+    y: &[f64],
+    seen: &[u8],
+    id: &[u32],
+    parent: &[u32],
+    num: &[u32],
+    p: u32,
+    few: bool,
+    r: Running,
+    marks: &mut [u8],
+) -> Running
+    requires { ⌜ Even (now x) (now y) (now seen) (now id) (now parent) (now num) ⌝ }
+    requires { ⌜ marksFor few (length (now x)) ≤ 8 * length (now marks) ⌝ }
+    requires { ⌜ (r .count < 4194304) × (r .sum ≤ r .count * 4294967295) ⌝ }
+    ensures { λ a. ⌜ (heldOf a (now (marks .exit))
+        ≡ counted few (weightBy h) (rows (now (x .entry)) (now (y .entry)) (now (seen .entry)) (now (id .entry)) (now (parent .entry)) (now (num .entry))) (r .count) (r .sum)
+        (p ∷ []) (now (marks .entry)))
+        × (a .count ≤ r .count + 1) × (a .sum ≤ a .count * 4294967295) ⌝ }
+{
+    let Named::At(e) = entry_named(x, y, seen, id, parent, num, p) else {
+        return Running {
+            whole: false,
+            sure: true,
+            count: r.count,
+            sum: r.sum,
+        };
+    };
+    let q = mark_of(few, index(p));
+    let there = is_marked(marks, q);
+    if in_doubt(few, r.count, there) {
+        return Running {
+            whole: false,
+            sure: false,
+            count: r.count,
+            sum: r.sum,
+        };
+    }
+    let w = weigh(h, e);
+    let sum = add_once(marks, q, w, r.sum);
+    Running {
+        whole: true,
+        sure: true,
+        count: r.count + 1,
+        sum,
+    }
 }
 
 // Tallies what a search finds, after what was tallied before.
 fn tally_by(
     g: Search,
+    h: Home,
     x: &[f64],
     y: &[f64],
     seen: &[u8],
@@ -424,25 +564,26 @@ fn tally_by(
     num: &[u32],
     ids: &[u32],
     coords: &[f64],
+    few: bool,
     r: Running,
     marks: &mut [u8],
 ) -> Running
     requires { ⌜ Even (now x) (now y) (now seen) (now id) (now parent) (now num) ⌝ }
-    requires { ⌜ (length (now x) ≤ length (now ids)) × (length (now x) ≤ 8 * length (now marks)) ⌝ }
+    requires { ⌜ (length (now x) ≤ length (now ids)) × (marksFor few (length (now x)) ≤ 8 * length (now marks)) ⌝ }
     requires { ⌜ (r .count + length (now x) ≤ 4194304) × (r .sum ≤ r .count * 4294967295) ⌝ }
-    ensures { λ a. ⌜ (held (a .whole) (a .count) (a .sum) (now (marks .exit))
-        ≡ counted (rows (now (x .entry)) (now (y .entry)) (now (seen .entry)) (now (id .entry)) (now (parent .entry)) (now (num .entry))) (r .count) (r .sum)
+    ensures { λ a. ⌜ (heldOf a (now (marks .exit))
+        ≡ counted few (weightBy h) (rows (now (x .entry)) (now (y .entry)) (now (seen .entry)) (now (id .entry)) (now (parent .entry)) (now (num .entry))) (r .count) (r .sum)
         (placesIn (walked g (length (now (x .entry))) (now (ids .entry)) (now (coords .entry)))) (now (marks .entry)))
         × (a .count ≤ r .count + length (now (x .entry))) × (a .sum ≤ a .count * 4294967295) ⌝ }
 {
-    let mut k = r.count;
-    let mut t = r.sum;
+    let mut a = Running {
+        whole: true,
+        sure: true,
+        count: r.count,
+        sum: r.sum,
+    };
     if !g.made {
-        return Running {
-            whole: true,
-            count: k,
-            sum: t,
-        };
+        return a;
     }
     let q = g.query;
     let size = g.node_size;
@@ -454,26 +595,17 @@ fn tally_by(
         pages = u.pages;
         let s = u.step;
         let Step::Slot(c) = s else {
-            return Running {
-                whole: true,
-                count: k,
-                sum: t,
-            };
+            return a;
         };
-        let p = ids[c];
-        let Named::At(e) = entry_named(x, y, seen, id, parent, num, p) else {
-            return Running {
-                whole: false,
-                count: k,
-                sum: t,
-            };
-        };
-        t = add_once(marks, index(p), e.num, t);
-        k += 1;
+        a = tally_one(h, x, y, seen, id, parent, num, ids[c], few, a, marks);
+        if !a.whole {
+            return a;
+        }
     }
 }
 
-// The tally of what a tile finds, by its own range and, at an end of its row, by the strips, over marks that are lent blank.
+// The tally of what a tile finds, by its own range and, at an end of its row, by the strips, over marks that are lent blank. Where they are
+// few, it may be unsure.
 fn add_with(
     o: Options,
     z: u32,
@@ -487,22 +619,40 @@ fn add_with(
     num: &[u32],
     ids: &[u32],
     coords: &[f64],
+    few: bool,
     marks: &mut [u8],
 ) -> Running
     requires { ⌜ InBounds o × IsTile z tx ty ⌝ }
     requires { ⌜ Even (now x) (now y) (now seen) (now id) (now parent) (now num) ⌝ }
     requires { ⌜ (coordsOk (o .«node_size») (length (now x)) (length (now coords)) ≡ true) × (length (now x) ≤ length (now ids)) ⌝ }
-    requires { ⌜ Blank (length (now x)) (now marks) ⌝ }
-    ensures { λ r. ⌜ r ≡ runningOf (rows (now (x .entry)) (now (y .entry)) (now (seen .entry)) (now (id .entry)) (now (parent .entry)) (now (num .entry)))
-        (visited o z tx ty (rows (now (x .entry)) (now (y .entry)) (now (seen .entry)) (now (id .entry)) (now (parent .entry)) (now (num .entry))) (now (ids .entry)) (now (coords .entry))) ⌝ }
+    requires { ⌜ Blank few (length (now x)) (now marks) ⌝ }
+    ensures { λ r. ⌜ ((few && not (r .sure)) ≡ false
+        → r ≡ runningOf (weightIn z tx ty) (rows (now (x .entry)) (now (y .entry)) (now (seen .entry)) (now (id .entry)) (now (parent .entry)) (now (num .entry)))
+        (visited o z tx ty (rows (now (x .entry)) (now (y .entry)) (now (seen .entry)) (now (id .entry)) (now (parent .entry)) (now (num .entry))) (now (ids .entry)) (now (coords .entry)))) ⌝ }
 {
     let r = Running {
         whole: true,
+        sure: true,
         count: 0,
         sum: 0,
     };
+    let home = home_of(z, tx, ty);
     let g = search_here(o, z, tx, ty);
-    let a = tally_by(g, x, y, seen, id, parent, num, ids, coords, r, marks);
+    let a = tally_by(
+        g,
+        home,
+        x,
+        y,
+        seen,
+        id,
+        parent,
+        num,
+        ids,
+        coords,
+        few,
+        r,
+        marks,
+    );
     if !a.whole {
         return a;
     }
@@ -510,16 +660,44 @@ fn add_with(
         return a;
     }
     let h = search_east(o, z, tx, ty);
-    let b = tally_by(h, x, y, seen, id, parent, num, ids, coords, a, marks);
+    let b = tally_by(
+        h,
+        home,
+        x,
+        y,
+        seen,
+        id,
+        parent,
+        num,
+        ids,
+        coords,
+        few,
+        a,
+        marks,
+    );
     if !b.whole {
         return b;
     }
     let w = search_west(o, z, tx, ty);
-    tally_by(w, x, y, seen, id, parent, num, ids, coords, b, marks)
+    tally_by(
+        w,
+        home,
+        x,
+        y,
+        seen,
+        id,
+        parent,
+        num,
+        ids,
+        coords,
+        few,
+        b,
+        marks,
+    )
 }
 
-// The tally of what a tile finds. A smaller table has fewer marks, so that fewer are cleared.
-pub fn add_up(
+// The tally of what a tile finds, with a mark for each place of the table. A smaller table has fewer marks, so that fewer are cleared.
+fn add_all(
     o: Options,
     z: u32,
     tx: u32,
@@ -536,27 +714,9 @@ pub fn add_up(
     requires { ⌜ InBounds o × IsTile z tx ty ⌝ }
     requires { ⌜ Even (now x) (now y) (now seen) (now id) (now parent) (now num) ⌝ }
     requires { ⌜ (coordsOk (o .«node_size») (length (now x)) (length (now coords)) ≡ true) × (length (now x) ≤ length (now ids)) ⌝ }
-    ensures { λ r. ⌜ r ≡ runningOf (rows (now (x .entry)) (now (y .entry)) (now (seen .entry)) (now (id .entry)) (now (parent .entry)) (now (num .entry)))
+    ensures { λ r. ⌜ r ≡ runningOf (weightIn z tx ty) (rows (now (x .entry)) (now (y .entry)) (now (seen .entry)) (now (id .entry)) (now (parent .entry)) (now (num .entry)))
         (visited o z tx ty (rows (now (x .entry)) (now (y .entry)) (now (seen .entry)) (now (id .entry)) (now (parent .entry)) (now (num .entry))) (now (ids .entry)) (now (coords .entry))) ⌝ }
 {
-    if x.len() <= 8192 {
-        let mut few = [0u8; 1024];
-        return add_with(
-            o,
-            z,
-            tx,
-            ty,
-            x,
-            y,
-            seen,
-            id,
-            parent,
-            num,
-            ids,
-            coords,
-            &mut few,
-        );
-    }
     if x.len() <= 131072 {
         let mut some = [0u8; 16384];
         return add_with(
@@ -572,6 +732,7 @@ pub fn add_up(
             num,
             ids,
             coords,
+            false,
             &mut some,
         );
     }
@@ -589,6 +750,67 @@ pub fn add_up(
         num,
         ids,
         coords,
+        false,
         &mut marks,
     )
+}
+
+// Whether few marks are not worth a try: the table is large, and has more entries than the zoom has tiles.
+fn is_crowded(z: u32, n: usize) -> bool
+    requires { ⌜ z < 32 ⌝ }
+    ensures { λ r. ⌜ r ≡ (ltb 8192 n && ltb (2 ^ z) (n / 2 ^ z)) ⌝ }
+{
+    if n <= 8192 {
+        return false;
+    }
+    let s = across(z);
+    s < n as u64 / s
+}
+
+// The tally of what a tile finds. Where a tile finds few entries of a large table, as most do whose zoom has enough tiles, few marks tell.
+pub fn add_up(
+    o: Options,
+    z: u32,
+    tx: u32,
+    ty: u32,
+    x: &[f64],
+    y: &[f64],
+    seen: &[u8],
+    id: &[u32],
+    parent: &[u32],
+    num: &[u32],
+    ids: &[u32],
+    coords: &[f64],
+) -> Running
+    requires { ⌜ InBounds o × IsTile z tx ty ⌝ }
+    requires { ⌜ Even (now x) (now y) (now seen) (now id) (now parent) (now num) ⌝ }
+    requires { ⌜ (coordsOk (o .«node_size») (length (now x)) (length (now coords)) ≡ true) × (length (now x) ≤ length (now ids)) ⌝ }
+    ensures { λ r. ⌜ r ≡ runningOf (weightIn z tx ty) (rows (now (x .entry)) (now (y .entry)) (now (seen .entry)) (now (id .entry)) (now (parent .entry)) (now (num .entry)))
+        (visited o z tx ty (rows (now (x .entry)) (now (y .entry)) (now (seen .entry)) (now (id .entry)) (now (parent .entry)) (now (num .entry))) (now (ids .entry)) (now (coords .entry))) ⌝ }
+{
+    if is_crowded(z, x.len()) {
+        return add_all(o, z, tx, ty, x, y, seen, id, parent, num, ids, coords);
+    }
+    let few = 8192 < x.len();
+    let mut marks = [0u8; 1024];
+    let a = add_with(
+        o,
+        z,
+        tx,
+        ty,
+        x,
+        y,
+        seen,
+        id,
+        parent,
+        num,
+        ids,
+        coords,
+        few,
+        &mut marks,
+    );
+    if a.sure {
+        return a;
+    }
+    add_all(o, z, tx, ty, x, y, seen, id, parent, num, ids, coords)
 }

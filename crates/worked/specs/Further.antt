@@ -30,6 +30,7 @@ use Rattle.zooms.specs.Zooms.{indexOf, slotsOf, run, joined, joinedIds, joinedC
 use Rattle.supercluster.specs.Build.{convertedAll, finest, tablesOf, Lent, written, roomy, checked, Outcome, loaded}
 use Rattle.asking.specs.declared.Answer.the-variants.{NoRoom}
 use Rattle.tiling.specs.declared.Tally.the-variants.{Sum}
+use Rattle.tiling.specs.Floor.{homeOf}
 use Rattle.tiling.specs.Tile.{here, wraps, east, west, visited, listed, whole, rounded}
 use Rattle.tiling.specs.Tally.{member, distinct, total, tallyOf}
 use Rattle.tiles.specs.Tallied.{tallied}
@@ -92,7 +93,7 @@ lone-no-room = ap (λ (a : Asked). outcomeOf a (9 ∷ 9 ∷ []) (pos 9 ∷ []) (
 
 -- listed twice, and counted once
 pub tally-of-lone : tallied (lone .reply .state) (columnsOf (lone .columns)) 0 0 0 ≡ Sum 1
-unfolding loaded checked zeros written joined joinedIds joinedCo starts lens tablesOf run convertedAll finest slotsOf indexOf radiusAt cluster scanFrom scanOne visit copyAll copyOne absorb absorbOne more converted normalized offsetOf scaleOf filled sorted indexed selected sel parted passes up down swapCo swapIds firstOutside tallied tallyOf total distinct member stateOk packed optionsOk systemInBounds inBounds visited here wraps east west listed whole rounded away neg add sub mul div ofInt ofBits le lt eq shape split scanned slots places rows options b
+unfolding loaded checked zeros written joined joinedIds joinedCo starts lens tablesOf run convertedAll finest slotsOf indexOf radiusAt cluster scanFrom scanOne visit copyAll copyOne absorb absorbOne more converted normalized offsetOf scaleOf filled sorted indexed selected sel parted passes up down swapCo swapIds firstOutside tallied tallyOf total distinct member homeOf stateOk packed optionsOk systemInBounds inBounds visited here wraps east west listed whole rounded away neg add sub mul div ofInt ofBits le lt eq shape split scanned slots places rows options b
 tally-of-lone = refl
 
 -- ---- the same lamp on a site plan, with the strips for longitude only: at (512,256) alone (02, #114)

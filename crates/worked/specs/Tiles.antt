@@ -12,6 +12,7 @@ use Rattle.kdbush.specs.Run.{places}
 use Rattle.tables.specs.Rows.{rows}
 use Rattle.asking.specs.declared.Answer.the-variants.{Listed, Tile, Spoiled}
 use Rattle.tiling.specs.declared.Tally.the-variants.{Sum, Spoiled as Tally·Spoiled}
+use Rattle.tiling.specs.Floor.{homeOf}
 use Rattle.tiling.specs.Tile.{here, wraps, east, west, visited, listed, whole, rounded}
 use Rattle.tiling.specs.Tally.{member, distinct, total, tallyOf}
 use Rattle.tiles.specs.Tallied.{tallied}
@@ -42,5 +43,5 @@ module _ (l : Lent) where
 
   -- its four lamps
   pub tally-000 : tallied state (held l) 0 0 0 ≡ Sum 4
-  unfolding tallied tallyOf total distinct member visited here wraps east west listed whole rounded away neg add sub mul div ofInt ofBits le lt eq shape split scanned slots places rows options state after b
+  unfolding tallied tallyOf total distinct member homeOf visited here wraps east west listed whole rounded away neg add sub mul div ofInt ofBits le lt eq shape split scanned slots places rows options state after b
   tally-000 = ap (λ (s : Bool). cond (not s) Tally·Spoiled (Sum 4)) (sound l)

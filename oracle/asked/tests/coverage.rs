@@ -66,7 +66,7 @@ fn every_reply() {
         ("leaves", &[0, 5, 6, 11]),
         ("expansion zoom", &[0, 5, 6, 11]),
         ("tile", &[7, 8, 11]),
-        ("tally", &[0, 7, 8, 11]),
+        ("tally", &[0, 7, 11]),
     ];
     let wanted = |all: &[(&'static str, &[u32])], some: bool| {
         for (name, numbers) in all {

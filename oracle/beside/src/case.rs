@@ -7,7 +7,7 @@ use crate::{
 };
 use asked::Build;
 use questions::{decoded, Answer, Lent, Outcome, Question, Refusal, State};
-use std::{collections::BTreeMap, fmt::Debug};
+use std::fmt::Debug;
 
 /// How the two compare.
 #[derive(Clone, Debug, PartialEq)]
@@ -74,7 +74,6 @@ impl Case<'_> {
                 ours.eq(theirs)
             }
             (Outcome::Number(ours), Said::Number(theirs)) => *ours == Ok(*theirs as u64),
-            (Outcome::Number(ours), Said::Items(items)) => *ours == Ok(distinct(items)),
             _ => false,
         }
     }
@@ -107,12 +106,6 @@ impl Case<'_> {
         };
         self.state.positions(zoom).nth(place as usize)
     }
-}
-
-/// The sum of the counts of distinct features.
-fn distinct(items: &[Item]) -> u64 {
-    let nums: BTreeMap<usize, usize> = items.iter().map(|item| (item.id, item.num)).collect();
-    nums.values().map(|num| *num as u64).sum()
 }
 
 /// The refusal that the Rust's error stands for.

@@ -7,7 +7,7 @@ use questions::Question;
 
 /// The tile of a question, where it has no strips because the options leave them out.
 pub fn without_strips(options: &Options, question: &Question) -> Option<(u8, u32, u32)> {
-    let (Question::Tile { z, x, y } | Question::Tally { z, x, y }) = *question else {
+    let Question::Tile { z, x, y } = *question else {
         return None;
     };
     let on_a_plan = matches!(options.plane, Plane::Cartesian(_));

@@ -2,10 +2,11 @@
 
 use crate::{
     judge::{Judge, Table},
-    plans, Item,
+    plans, Entry, Item,
 };
 use asked::{Build, Columns};
-use questions::Question;
+use questions::{home, Question};
+use std::collections::BTreeMap;
 
 /// What the Rust says to a question.
 #[derive(Debug, PartialEq)]
@@ -66,8 +67,23 @@ impl<J: Judge> Rust<J> {
         said(self.0.tile(z, f64::from(x), f64::from(y)))
     }
 
-    /// Asks, where a box has corners that the Rust can be given. The tally is the tile's. Where the strips are left
-    /// out, a tile is its own range: the Rust's `get_tile` has no such option.
+    /// The tally of a tile by 02's words (#104): the counts of the distinct features of its tile whose centre, as its own
+    /// table has it, lies in this one. Where there is no such tile it is what the Rust's tile says.
+    fn tally(&self, build: &Build, z: u8, x: u32, y: u32) -> Said {
+        let is_tile = z < 32 && u64::from(x.max(y)) < 1 << z;
+        let nums: BTreeMap<usize, usize> = match self.tile(z, x, y) {
+            Said::Items(items) if is_tile => items.iter().map(|item| (item.id, item.num)).collect(),
+            Said::NoTile if is_tile => BTreeMap::new(),
+            said => return said,
+        };
+        let table = self.0.table(build.state.zoom_used(z)).expect("a table of the zoom used");
+        let at_home = |entry: &&Entry| [home(z, entry.x), home(z, entry.y)] == [x, y];
+        let count = |entry: &Entry| nums.get(&(entry.id as usize)).copied().unwrap_or(0);
+        Said::Number(table.iter().filter(at_home).map(count).sum())
+    }
+
+    /// Asks, where a box has corners that the Rust can be given. Where the strips are left out, a tile is its own range:
+    /// the Rust's `get_tile` has no such option. A tally is the same with them and without.
     pub fn ask(&self, build: &Build, question: &Question) -> Option<Said> {
         let Rust(rust) = self;
         if let Some((z, x, y)) = plans::without_strips(&build.state.options, question) {
@@ -81,7 +97,8 @@ impl<J: Judge> Rust<J> {
             Question::Children { id } => self.children(id),
             Question::Leaves { id, limit, offset } => self.leaves(id, limit, offset),
             Question::ExpansionZoom { id } => Said::Number(rust.expansion_zoom(id as usize)),
-            Question::Tile { z, x, y } | Question::Tally { z, x, y } => self.tile(z, x, y),
+            Question::Tile { z, x, y } => self.tile(z, x, y),
+            Question::Tally { z, x, y } => self.tally(build, z, x, y),
         })
     }
 }

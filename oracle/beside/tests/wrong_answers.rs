@@ -59,11 +59,12 @@ fn lamps_at_limit_0_are_a_difference() {
     assert!(clusters > 100, "{clusters}");
 }
 
-/// On a plan without strips the Rust's own tile is the wrong answer where its strips list something, and so is its tally.
+/// On a plan without strips the Rust's own tile is the wrong answer where its strips list something. A tally is the same with
+/// them and without.
 #[test]
 fn ghosts_on_a_plan_are_a_difference() {
     let mut source = Splitmix(5);
-    let mut ghosts = [0; 2];
+    let mut ghosts = 0;
     for count in [2, 3, 5, 7, 8, 9, 12, 20, 30, 50, 80, 120] {
         let plane = Plane::Cartesian(UNIT);
         let options = Options { plane, ..corners::ordinary(&mut source) };
@@ -76,9 +77,7 @@ fn ghosts_on_a_plan_are_a_difference() {
             let case = Case { state: scene.state, lent: scene.lent, question };
             let [with, without] = [&off, scene.state].map(|s| question.answered(s, &scene.lent));
             match rusts.judged(&case, &without) {
-                Verdict::Listed("P1 to P3") => {
-                    ghosts[question.kind() - 5] += usize::from(with != without)
-                }
+                Verdict::Listed("P1 to P3") => ghosts += usize::from(with != without),
                 _ => assert_eq!(with, without, "{question:?}"),
             }
             if with != without {
@@ -87,7 +86,7 @@ fn ghosts_on_a_plan_are_a_difference() {
             }
         }
     }
-    assert!(ghosts.iter().all(|times| *times > 30), "{ghosts:?}");
+    assert!(ghosts > 30, "{ghosts}");
 }
 
 /// Refused by no right number; a number beside the right one; a list of too little, too much, or something else.

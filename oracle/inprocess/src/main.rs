@@ -6,12 +6,13 @@ mod index;
 mod leaves;
 mod questions;
 mod tables;
+mod tallies;
 
 use groups as report;
 use std::{env, process::ExitCode};
 
 const USAGE: &str =
-    "usage: inprocess index|tables|questions|overlap|leaves|effort [--full], or questions --spoiled";
+    "usage: inprocess index|tables|questions|overlap|leaves|effort|tallies [--full], or questions --spoiled";
 
 /// How much is compared.
 #[derive(Clone, Copy, PartialEq, Eq)]
@@ -37,6 +38,8 @@ fn main() -> ExitCode {
         ["leaves", "--full"] => leaves::run(Form::Full),
         ["effort"] => effort::run(Form::Short),
         ["effort", "--full"] => effort::run(Form::Full),
+        ["tallies"] => tallies::run(Form::Short),
+        ["tallies", "--full"] => tallies::run(Form::Full),
         _ => {
             eprintln!("{USAGE}");
             ExitCode::from(2)

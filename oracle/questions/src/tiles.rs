@@ -1,6 +1,7 @@
 //! The items of a tile, and its tally.
 
 use crate::{
+    home,
     search::{walk, Query},
     state::Table,
     Answer, Lent, Refusal, State,
@@ -35,15 +36,18 @@ pub fn tile(state: &State, lent: &Lent, z: u8, x: u32, y: u32) -> Answer<Item> {
     })
 }
 
-/// The sum of num over the distinct entries that are listed for tile (z, x, y).
+/// The sum of num over the distinct entries that are listed for tile (z, x, y) and whose centre it holds (02, #104).
 pub fn tally(state: &State, lent: &Lent, z: u8, x: u32, y: u32) -> Result<u64, Refusal> {
     let Answer { items, refusal } = tile(state, lent, z, x, y);
-    if let Some(refusal) = refusal {
-        return Err(refusal);
+    match refusal {
+        // A tally over no entry is 0.
+        None | Some(Refusal::EmptyTile) => {}
+        Some(refusal) => return Err(refusal),
     }
     let table = state.table(lent, state.zoom_used(z));
-    let places: BTreeSet<u32> = items.iter().map(|item| item.place).collect();
-    Ok(places.iter().map(|place| u64::from(table.num[*place as usize])).sum())
+    let places: BTreeSet<usize> = items.iter().map(|item| item.place as usize).collect();
+    let at_home = |place: &usize| [home(z, table.x[*place]), home(z, table.y[*place])] == [x, y];
+    Ok(places.into_iter().filter(at_home).map(|place| u64::from(table.num[place])).sum())
 }
 
 /// Whether the strips run: everywhere, or by the option of #114 for longitude only.

@@ -12,6 +12,7 @@ use Rattle.tables.specs.Entries.{Table}
 use Rattle.asking.specs.Columns.{Columns, columns, lent, lent-even}
 use Rattle.tiling.specs.Tile.{Visit, visited}
 use Rattle.tiling.specs.Framed.{IsTile}
+use Rattle.tiling.specs.Tally.{weightIn}
 use Rattle.tiling.specs.Counting.{runningOf}
 use Rattle.tiles.specs.Asked.{visitsFor}
 use Rattle.tiles.specs.Used.{Spot, spot, spot-at, lent-ok, lent-ids, lentTable, table-used, visits-used}
@@ -214,9 +215,9 @@ returns c =
     let f = from-of w in
     let n = len-of w in
     c .add-up .ensures
-    ∙ ap (λ (z : ℕ). runningOf (lentTable k f (f + n)) (visited (a .s .options) z (a .tx) (a .ty) (lentTable k f (f + n)) (lent f (f + n) (k .ids)) (lent (2 * f) (2 * (f + n)) (k .coords)))) (v .wide .ensures)
-    ∙ ap (λ (vs : List Visit). runningOf (lentTable k f (f + n)) vs) (visits-used (a .s) k (a .z) f n (from-is w) (len-is w) (a .tx) (a .ty))
-    ∙ ap (λ (t : Table). runningOf t (visitsFor (a .s) k (a .z) (a .tx) (a .ty))) (table-used (a .s) k (a .z) f n (from-is w) (len-is w))
+    ∙ ap (λ (z : ℕ). runningOf (weightIn z (a .tx) (a .ty)) (lentTable k f (f + n)) (visited (a .s .options) z (a .tx) (a .ty) (lentTable k f (f + n)) (lent f (f + n) (k .ids)) (lent (2 * f) (2 * (f + n)) (k .coords)))) (v .wide .ensures)
+    ∙ ap (λ (vs : List Visit). runningOf (weightIn (a .z) (a .tx) (a .ty)) (lentTable k f (f + n)) vs) (visits-used (a .s) k (a .z) f n (from-is w) (len-is w) (a .tx) (a .ty))
+    ∙ ap (λ (t : Table). runningOf (weightIn (a .z) (a .tx) (a .ty)) t (visitsFor (a .s) k (a .z) (a .tx) (a .ty))) (table-used (a .s) k (a .z) f n (from-is w) (len-is w))
 
 pub tally-used-spec : {M : Type 1} → statement M
 tally-used-spec =

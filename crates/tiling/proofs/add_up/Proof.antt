@@ -1,62 +1,76 @@
--- `tiling::add_up` meets its contract: the marks that it lends are blank, and reach over the table. Assumes nothing.
-use mathlib.Core.Path.{_≡_, sym}
-use Prim.Native.Nat.{ℕ, _≤_}
+-- `tiling::add_up` meets its contract: the marks that it lends are blank and enough, and what they leave unsure is tallied again with
+-- all. Assumes nothing.
+use mathlib.Core.Path.{_≡_, refl, sym}
+use mathlib.Core.Bool.{Bool, true, false, not, _&&_}
+use Prim.Native.Nat.{ℕ, _*_, _≤_}
 use native.Mathlib.Omega.{arith}
+use lib.Dec.{ltb}
 use lib.ListN.{length, length-replicate}
 use denote.Ref.{now}
-use Rattle.kdslots.specs.Bounds.{coords-is}
-use Rattle.tiling.specs.Counting.{blank}
+use borrow.Author.Tests.{ltb-false}
+use Rattle.tiling.specs.Counting.{marksFor}
+use Rattle.tiling.specs.Told.{blank}
 use Rattle.tiling.proofs.add_up.Statement.{statement}
 use Rattle.tiling.proofs.add_up.Tie as tie
 
-few-entries : (s : tie.Start) → length (now (s .args .x)) ≤ 1048576
-few-entries s = let a = s .args in coords-is (a .o .«node_size») (length (now (a .x))) (length (now (a .coords))) (s .pre .1 .1 .0) .n-to
+-- 8,192 marks are enough
+enough : (n : ℕ) → marksFor (ltb 8192 n) n ≤ 8 * 1024
+enough n = go (ltb 8192 n) refl
+  where
+    go : (b : Bool) → ltb 8192 n ≡ b → marksFor b n ≤ 8 * 1024
+    go true e = omega arith
+    go false e = omega (arith, ltb-false 8192 n e)
+
+sure-of : (few sure : Bool) → sure ≡ true → (few && not sure) ≡ false
+sure-of true sure e = rw e
+sure-of false sure e = refl
+
+abbrev lent-start : tie.After-shared-slice-known8 → tie.Start
+lent-start c = c .before .before .before .before .before .before .before .before
+
+-- past the first test
+abbrev begin : tie.After-marks → tie.Start
+begin c = lent-start (c .before .before .before)
+
+is-crowded-requires : tie.Need-is-crowded-requires
+is-crowded-requires c κs = let s = lent-start c in omega (arith, s .pre .0 .1 .z-to)
+
+add-all-requires : tie.Need-add-all-requires
+add-all-requires c κs = lent-start (c .before .before) .pre
+
+returns : tie.Need-returns
+returns c = c .add-all .ensures
 
 slice-aggregate-add-with : tie.Need-slice-aggregate-add-with
 slice-aggregate-add-with c = sym (length-replicate {A = ℕ} 1024 0)
 
 add-with-requires : tie.Need-add-with-requires
 add-with-requires c κs =
-    let t = c .before in
-    let s = t .before .before .before .before .before .before .before .before .before in
-    (s .pre .0, (s .pre .1 .0, (s .pre .1 .1, blank (length (now (s .args .x))) 1024 (omega (arith, t .if1 .taken)))))
-
-returns : tie.Need-returns
-returns c = c .before .add-with .ensures
-
-slice-aggregate-add-with-2 : tie.Need-slice-aggregate-add-with-2
-slice-aggregate-add-with-2 c = sym (length-replicate {A = ℕ} 16384 0)
-
-add-with-requires-2 : tie.Need-add-with-requires-2
-add-with-requires-2 c κs =
-    let t = c .before in
-    let s = t .before .before .before .before .before .before .before .before .before .before in
-    (s .pre .0, (s .pre .1 .0, (s .pre .1 .1, blank (length (now (s .args .x))) 16384 (omega (arith, t .if2 .taken)))))
+    let s = begin c in
+    let n = length (now (s .args .x)) in
+    (s .pre .0, (s .pre .1 .0, (s .pre .1 .1, blank (ltb 8192 n) n 1024 (enough n))))
 
 returns-2 : tie.Need-returns-2
-returns-2 c = c .before .add-with2 .ensures
+returns-2 c =
+    let w = c .before .before in
+    let s = begin (w .before) in
+    w .add-with .ensures (sure-of (ltb 8192 (length (now (s .args .x)))) (w .add-with .result .sure) (c .if2 .taken))
 
-slice-aggregate-add-with-3 : tie.Need-slice-aggregate-add-with-3
-slice-aggregate-add-with-3 c = sym (length-replicate {A = ℕ} 131072 0)
-
-add-with-requires-3 : tie.Need-add-with-requires-3
-add-with-requires-3 c κs =
-    let s = c .before .before .before .before .before .before .before .before .before .before .before in
-    (s .pre .0, (s .pre .1 .0, (s .pre .1 .1, blank (length (now (s .args .x))) 131072 (omega (arith, few-entries s)))))
+add-all-requires-2 : tie.Need-add-all-requires-2
+add-all-requires-2 c κs = begin (c .before .before .before) .pre
 
 returns-3 : tie.Need-returns-3
-returns-3 c = c .before .add-with3 .ensures
+returns-3 c = c .add-all2 .ensures
 
 pub add-up-spec : {M : Type 1} → statement M
 add-up-spec =
     tie.close
     (tie.spec
+    is-crowded-requires
+    add-all-requires
+    returns
     slice-aggregate-add-with
     add-with-requires
-    returns
-    slice-aggregate-add-with-2
-    add-with-requires-2
     returns-2
-    slice-aggregate-add-with-3
-    add-with-requires-3
+    add-all-requires-2
     returns-3)

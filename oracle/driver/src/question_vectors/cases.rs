@@ -34,6 +34,7 @@ pub fn all() -> Vec<Case> {
     let on_a_plan = Options { longitude_strips_only: true, ..WORKED };
     all.push(lamp_at_the_edge(on_a_plan, &mut source));
     all.extend(fences::all(&mut source));
+    all.push(on_borders(&mut source));
     all
 }
 
@@ -96,6 +97,34 @@ fn lamp_at_the_edge(options: Options, source: &mut Splitmix) -> Case {
 fn lamps_at_both_edges(source: &mut Splitmix) -> Case {
     let questions = vec![Question::Tile { z: 0, x: 0, y: 0 }, Question::Tally { z: 0, x: 0, y: 0 }];
     with_rooms(built("edges", WORKED, [vec![0.0, 1.0], vec![0.5, 0.5]]), questions, source)
+}
+
+/// Lamps on the borders of tiles, one step beside them and at the ends, and the tally of every tile of the zooms 0 to 2,
+/// of which each zoom's add up to N (02, #104).
+fn on_borders(source: &mut Splitmix) -> Case {
+    let half = 0.5_f64;
+    let lamps = [
+        [half, half],
+        [half.next_down(), 0.25],
+        [0.25, half.next_up()],
+        [1.0, 1.0],
+        [1.0, 0.75],
+        [0.0, -0.0],
+        [0.75_f64.next_down(), 0.0],
+        [0.125, 1.0_f64.next_down()],
+    ];
+    let build = built("borders", WORKED, columns(&lamps));
+    let of = |z: u8| (0..1_u32 << z).flat_map(move |y| (0..1 << z).map(move |x| (z, x, y)));
+    let tallies = |z| of(z).map(|(z, x, y)| Question::Tally { z, x, y }).collect::<Vec<_>>();
+    for z in 0..=2 {
+        let answered = |question: &Question| {
+            let outcome = question.answered(&build.state, &build.columns.lent());
+            outcome.told(&mut Out { places: &mut [], x: &mut [], y: &mut [] }).carried
+        };
+        let sum: u64 = tallies(z).iter().map(answered).sum();
+        assert_eq!(sum, lamps.len() as u64, "the tallies of zoom {z}");
+    }
+    with_rooms(build, (0..=2).flat_map(tallies).collect(), source)
 }
 
 /// 01's corner: a lamp at x = 1 and two beside a quarter, which a rounded edge cuts off where the index is split. By
