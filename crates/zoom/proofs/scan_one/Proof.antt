@@ -1,6 +1,6 @@
 -- `zoom::scan_one` meets its contract: an entry that was seen leaves the scan as it is; another is marked, its neighbours are listed, and the visit is the
 -- definition's. Assumes nothing.
-use mathlib.Core.Path.{_≡_, ap, sym, _∙_, subst}
+use mathlib.Core.Path.{_≡_, refl, ap, sym, _∙_, subst}
 use mathlib.Core.List.{List}
 use Prim.Native.Nat.{ℕ, _^_, _<_, _≤_}
 use native.Mathlib.Omega.{arith}
@@ -16,6 +16,7 @@ use Rattle.tables.specs.declared.Entry.{Entry}
 use Rattle.tables.specs.Entries.{Table, entry, none, marked}
 use Rattle.tables.specs.Rows.{rows, row, even-mark, rows-entry, rows-length, rows-mark}
 use Rattle.zoom.specs.Near.{nearOf, Placed}
+use Rattle.zoom.specs.Notes.{noted-at}
 use Rattle.zoom.specs.Keeps.{all-at}
 use Rattle.zoom.specs.Visit.{marked-room, marked-unseenNum, scanned, passed}
 use Rattle.zoom.proofs.scan_one.Statement.{statement}
@@ -55,7 +56,7 @@ placed-i : (s : tie.Start) → Placed (entry (table s) (s .args .i))
 placed-i s =
     let a = s .args in
     subst (λ (e : Entry). Placed e) (getD-take (a .len) (table s) (a .i) none (here s))
-    (all-at Placed (take (a .len) (table s)) (a .i) (s .pre .1 .1 .0) (omega (arith, length-take-le (a .len) (table s) (len-in s), here s)))
+    (all-at Placed (take (a .len) (table s)) (a .i) (s .pre .1 .1 .0 .0) (omega (arith, length-take-le (a .len) (table s) (len-in s), here s)))
 
 below-of : (s : tie.Start) → AllBelow (s .args .len) (places s)
 below-of s = let a = s .args in s .pre .1 .0 .0 .below (Within (getD (now (a .x)) (a .i) nan) (getD (now (a .y)) (a .i) nan) (a .r))
@@ -89,7 +90,7 @@ returns : tie.Need-returns
 returns c =
     let s = c .before .before .before .before .before .before .before .before .before .before .before in
     let a = s .args in
-    passed (a .n) (a .least) (a .z) (near-of s) (table s) (a .len) (a .done) (a .i) (here s) (rw (at-i s) (c .if1 .taken)) (omega (arith, s .pre .1 .1 .1 .0 .0, long s))
+    (λ j. refl, passed (a .n) (a .least) (a .z) (near-of s) (table s) (a .len) (a .done) (a .i) (here s) (rw (at-i s) (c .if1 .taken)) (omega (arith, s .pre .1 .1 .1 .0 .0, long s)))
 
 slice-write-seen : tie.Need-slice-write-seen
 slice-write-seen c = let s = start-of c in omega (arith, inside s, s .pre .0 .es)
@@ -111,19 +112,22 @@ neighbours-requires c κs =
     let s = c .before .before .before .before .before .before .before .before .before .before .before .before .before .before in
     let p = s .pre .1 .0 in
     let f = placed-i s in
-    ((p .0, p .1, p .2), (rw (at-i s) at (f .0), rw (at-i s) at (f .1)))
+    let a = s .args in (
+      (p .0, p .1, p .2, p .3, s .pre .1 .1 .1 .1 .0),
+      ((rw (at-i s) at (f .0), rw (at-i s) at (f .1)), noted-at (a .len) (near-of s) (now (a .near)) (table s) (a .i) _ (s .pre .1 .1 .0 .1) (here s) (at-i s)),
+    )
 
 slice-reshare-prefix-visit-one : tie.Need-slice-reshare-prefix-visit-one
 slice-reshare-prefix-visit-one c =
     let w = c .before .before .before .before .before .before .before .before in
     let s = start-of (else-of w) in
-    omega (arith, w .neighbours .ensures .count, few s, s .pre .1 .0 .2, w .neighbours .kept .1 .1 .0)
+    omega (arith, w .neighbours .ensures .0 .count, few s, s .pre .1 .0 .2, w .neighbours .kept .1 .1 .0)
 
 slice-aggregate-visit-one : tie.Need-slice-aggregate-visit-one
 slice-aggregate-visit-one c =
     let w = c .before .before .before .before .before .before .before .before .before in
     let s = start-of (else-of w) in
-    sym (length-take-le (w .neighbours .result) (w .neighbours .last .1 .1 .0) (omega (arith, w .neighbours .ensures .count, few s, s .pre .1 .0 .2, w .neighbours .kept .1 .1 .0)))
+    sym (length-take-le (w .neighbours .result) (w .neighbours .last .1 .1 .0) (omega (arith, w .neighbours .ensures .0 .count, few s, s .pre .1 .0 .2, w .neighbours .kept .1 .1 .0)))
 
 visit-one-requires : tie.Need-visit-one-requires
 visit-one-requires c κs =
@@ -132,7 +136,7 @@ visit-one-requires c κs =
     let s = start-of e in
     let a = s .args in
     let l = places s in
-    let fr : take (w .neighbours .result) (w .neighbours .last .1 .1 .0) ≡ l = w .neighbours .ensures .front in
+    let fr : take (w .neighbours .result) (w .neighbours .last .1 .1 .0) ≡ l = w .neighbours .ensures .0 .front in
     let o : Distinct l = s .pre .1 .0 .0 .once (Within (getD (now (a .x)) (a .i) nan) (getD (now (a .y)) (a .i) nan) (a .r)) in
     let q : entry (table s) (a .i) .num ≡ getD (now (a .num)) (a .i) 0 = ap (λ (v : Entry). v .num) (at-i s) in (
       even-mark (a .i) (a .z) (s .pre .0),
@@ -174,10 +178,12 @@ returns-2 c =
     let s = start-of e in
     let a = s .args in
     let l = places s in
-    let fr : take (w .neighbours .result) (w .neighbours .last .1 .1 .0) ≡ l = w .neighbours .ensures .front in
-    let le : near-of s (entry (table s) (a .i) .x) (entry (table s) (a .i) .y) ≡ l = rw (at-i s) in
-    scanned (a .n) (a .least) (a .z) (near-of s) (table s) (a .len) (a .done) (a .i) (here s) (unseen-i e) _ _
-    (rw le (rw (mark-i s, fr) at (v .visit-one .ensures)))
+    let fr : take (w .neighbours .result) (w .neighbours .last .1 .1 .0) ≡ l = w .neighbours .ensures .0 .front in
+    let le : near-of s (entry (table s) (a .i) .x) (entry (table s) (a .i) .y) ≡ l = rw (at-i s) in (
+      w .neighbours .ensures .1,
+      scanned (a .n) (a .least) (a .z) (near-of s) (table s) (a .len) (a .done) (a .i) (here s) (unseen-i e) _ _
+          (rw le (rw (mark-i s, fr) at (v .visit-one .ensures))),
+    )
 
 pub scan-one-spec : {M : Type 1} → statement M
 scan-one-spec =

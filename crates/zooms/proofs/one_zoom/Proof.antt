@@ -7,7 +7,7 @@ use denote.Ref.{now}
 use Rattle.tables.specs.Entries.{Table}
 use Rattle.tables.specs.Rows.{rows, Even, even-kept}
 use Rattle.zooms.specs.Zooms.{Plan, planOf}
-use Rattle.zooms.specs.Running.{Running, cur-promised}
+use Rattle.zooms.specs.Running.{Running, cur-promised, cur-slotted}
 use Rattle.zooms.specs.Zooming.{Zoomed, z-few, step-room, step-light, step-radius, step-placed, made-some, made-few, made-body, scanned, inside-made, advanced}
 use Rattle.zooms.proofs.one_zoom.Statement.{statement}
 use Rattle.zooms.proofs.one_zoom.Tie as tie
@@ -88,7 +88,10 @@ zoom-step-requires c κs =
           rw (rad .ensures) (step-radius (plan s) m (a .z) (a .start) (a .len) (table s) (now (a .ids)) (now (a .coords)) (low s) r),
         ),
         (
-          step-placed (plan s) m (a .z) (a .start) (a .len) (table s) (now (a .ids)) (now (a .coords)) (low s) r,
+          (
+            step-placed (plan s) m (a .z) (a .start) (a .len) (table s) (now (a .ids)) (now (a .coords)) (low s) r,
+            cur-slotted (plan s) m (suc (a .z - a .o .«min_zoom»)) (a .start) (a .len) (table s) (now (a .ids)) (now (a .coords)) r,
+          ),
           (
             (omega (arith, room s, r .ids-long), omega (arith, room s, r .co-long), omega (arith, r .len-few, s .pre .1 .0 .0), room s),
             (

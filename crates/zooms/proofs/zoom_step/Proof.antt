@@ -144,7 +144,7 @@ cluster-requires c κs =
       even-from (a .start) (now (a .x)) (now (a .y)) (now (a .seen)) (now (a .id)) (now (a .parent)) (now (a .num)) (s .pre .0),
       (
         (rw (ids-part s, co-part s) (p .0 .0), p .0 .1, room .2, omega (arith, from-length (a .start) (now (a .x)), room .3)),
-        (rw (lent-rows s) (p .1 .0), (rw (lent-rows s) (p .1 .1 .1 .0), (few .1, few .2, few .3))),
+        ((rw (lent-rows s) (p .1 .0 .0), rw (ids-part s, co-part s, lent-rows s) (p .1 .0 .1)), (rw (lent-rows s) (p .1 .1 .1 .0), (few .1, few .2, few .3))),
       ),
     )
 
