@@ -62,13 +62,15 @@ fn fill(
     }
 }
 
-// Zeros.
+// Zeros. What is zero already is not written, so that memory that was lent and never written to is not taken up.
 fn clear(a: &mut [u32])
     ensures { λ _. ⌜ now (a .exit) ≡ replicate (length (now (a .entry))) 0 ⌝ }
 {
     let mut i = 0;
     while i < a.len() {
-        a[i] = 0;
+        if a[i] != 0 {
+            a[i] = 0;
+        }
         i += 1;
     }
 }

@@ -1,19 +1,22 @@
 -- What is noted of an entry before a table is scanned: nothing, or the very list that `within` answers at its place, where that is the entry itself or the
--- entry and one other. The notes stand in the column `near` behind the places for a list. Assumes nothing.
+-- entry and one other. The notes of a table stand in the column `near` past the places for a list. Assumes nothing.
 use mathlib.Core.Path.{_≡_, refl, ap, sym, _∙_, subst}
 use mathlib.Core.Bool.{Bool, true, false}
 use mathlib.Core.List.{List, [], _∷_, _++_}
-use Prim.Native.Nat.{ℕ, zero, suc, _+_, _*_, _<_, _≤_}
+use Prim.Native.Nat.{ℕ, zero, suc, _+_, _-_, _*_, _<_, _≤_}
 use native.Mathlib.Omega.{arith}
 use native.Mathlib.Nat.{add-zero}
 use borrow.Author.Tests.{leb-true, le-leb, eqb-true, eqb-false}
 use lib.Dec.{leb, eqb}
-use lib.ListN.{length, getD, set, take, drop}
+use lib.ListN.{length, getD, set, take, drop, length-append}
 use lib.Seq.{getD-set-same, getD-set-other, drop-nil, take-all, getD-take}
 use lib.Ieee.{Float, nan}
 use Rattle.kdsort.specs.Cols.{key}
 use Rattle.kdslots.specs.declared.Query.{Query}
+use Rattle.kdslots.specs.declared.Query.the-variants.{Within}
 use Rattle.kdslots.specs.Query.{queryOk}
+use Rattle.kdslots.specs.All.{All, AllBelow}
+use Rattle.kdslots.specs.Members.{In}
 use Rattle.kdbush.specs.declared.SearchReply.{SearchReply}
 use Rattle.kdbush.specs.declared.SearchReply.the-variants.{Found, Box, NoRoom, Spoiled}
 use Rattle.kdbush.specs.Reply.{found, listed, listedColumn, searched, columnAfter, searchNumber, searchCarried}
@@ -21,7 +24,7 @@ use Rattle.kdbush.specs.Promise.{Promised, all-whole, all-sound}
 use Rattle.tables.specs.declared.Entry.{Entry}
 use Rattle.tables.specs.Entries.{Table, entry, none, marked, under}
 use Rattle.zoom.specs.Keeps.{Keeps}
-use Rattle.zoom.specs.Near.{Answered}
+use Rattle.zoom.specs.Near.{Answered, nearOf}
 
 -- ---- one note
 
@@ -35,10 +38,13 @@ pub tells-nothing : (i : ℕ) (l : List ℕ) → Tells i 0 l
 tells-nothing i l = record { alone = λ e. absurd (omega (arith, e)); before = λ o e. absurd (omega (arith, e)); behind = λ o e. absurd (omega (arith, e)) }
 
 -- a list of one, and of two
-one-is : (l rest : List ℕ) (a : ℕ) → length l ≡ 1 → getD (l ++ rest) 0 0 ≡ a → l ≡ a ∷ []
-one-is [] rest a h e = absurd (omega (arith, h))
-one-is (b ∷ []) rest a h e = ap (λ (k : ℕ). k ∷ []) e
-one-is (b ∷ c ∷ l) rest a h e = absurd (omega (arith, h))
+one-is : (l : List ℕ) (i : ℕ) → length l ≡ 1 → In i l → l ≡ i ∷ []
+one-is l i h m = go (m .0) (m .1) (m .2) (sym h ∙ ap length (m .2))
+  where
+    go : (pre post : List ℕ) → l ≡ pre ++ i ∷ post → 1 ≡ length (pre ++ i ∷ post) → l ≡ i ∷ []
+    go [] [] e k = e
+    go [] (a ∷ post) e k = absurd (omega (arith, k))
+    go (a ∷ pre) post e k = absurd (omega (arith, k, length-append pre (i ∷ post)))
 
 two-is : (l rest : List ℕ) (a b : ℕ) → length l ≡ 2 → getD (l ++ rest) 0 0 ≡ a → getD (l ++ rest) 1 0 ≡ b → l ≡ a ∷ b ∷ []
 two-is [] rest a b h e f = absurd (omega (arith, h))
@@ -46,15 +52,15 @@ two-is (c ∷ []) rest a b h e f = absurd (omega (arith, h))
 two-is (c ∷ d ∷ []) rest a b h e f = ap (λ (k : ℕ). k ∷ d ∷ []) e ∙ ap (λ (k : ℕ). a ∷ k ∷ []) f
 two-is (c ∷ d ∷ g ∷ l) rest a b h e f = absurd (omega (arith, h))
 
-module _ (i : ℕ) (l rest : List ℕ) where
-  pub tells-alone : (a : ℕ) → length l ≡ 1 → getD (l ++ rest) 0 0 ≡ a → a ≡ i → Tells i 1 l
-  tells-alone a h e q =
-      record {
-        alone = λ f. one-is l rest i h (e ∙ q);
-        before = λ o f. absurd (omega (arith, f));
-        behind = λ o f. absurd (omega (arith, f));
-      }
+pub tells-alone : (i : ℕ) (l : List ℕ) → length l ≡ 1 → In i l → Tells i 1 l
+tells-alone i l h m =
+    record {
+      alone = λ f. one-is l i h m;
+      before = λ o f. absurd (omega (arith, f));
+      behind = λ o f. absurd (omega (arith, f));
+    }
 
+module _ (i : ℕ) (l rest : List ℕ) where
   pub tells-before : (a b : ℕ) → length l ≡ 2 → getD (l ++ rest) 0 0 ≡ a → getD (l ++ rest) 1 0 ≡ b → a ≡ i → Tells i (2 + 2 * b) l
   tells-before a b h e f q =
       record {
@@ -104,68 +110,84 @@ module _ (size n : ℕ) (ids : List ℕ) (co : List Float) (P : Promised size n 
       → (length (found q size n ids co) ≡ k) × (columnAfter q size n ids co out ≡ found q size n ids co ++ drop (length (found q size n ids co)) out)
   few-found k f = few-by (queryOk q) refl k f
 
--- ---- the notes of a table, in the column behind the first len places
+-- ---- the notes of a table, in the column from `at` on
 
 -- the note of each entry is the answer at its place
-unfoldable pub Noted : ℕ → (Float → Float → List ℕ) → List ℕ → Table → Type 0
-Noted len near notes t = (i : ℕ) → i < len → Tells i (getD notes (len + i) 0) (near (entry t i .x) (entry t i .y))
+unfoldable pub Noted : ℕ → ℕ → (Float → Float → List ℕ) → List ℕ → Table → Type 0
+Noted at len near notes t = (i : ℕ) → i < len → Tells i (getD notes (at + i) 0) (near (entry t i .x) (entry t i .y))
 
--- each slot of the index names an entry, and holds its coordinates
+-- the place of each slot of an index is answered at the slot's own coordinates
+abbrev pub Owned : ℕ → (Float → Float → List ℕ) → List ℕ → List Float → Type 0
+Owned len near ids co = (s : ℕ) → s < len → In (getD ids s 0) (near (key 0 co s) (key 1 co s))
+
+-- and these are the coordinates of the entry at that place
 pub record Slotted (len : ℕ) (ids : List ℕ) (co : List Float) (t : Table) : Type 0 where
-  pub in-table : (s : ℕ) → s < len → getD ids s 0 < len
   pub x-is : (s : ℕ) → s < len → key 0 co s ≡ entry t (getD ids s 0) .x
   pub y-is : (s : ℕ) → s < len → key 1 co s ≡ entry t (getD ids s 0) .y
 
--- the notes are as they were
+-- what stands past the first len places is as it was
 abbrev pub Same : ℕ → List ℕ → List ℕ → Type 0
 Same len old new = (i : ℕ) → getD new (len + i) 0 ≡ getD old (len + i) 0
 
-pub noted-none : (len : ℕ) (near : Float → Float → List ℕ) (notes : List ℕ) (t : Table) → ((i : ℕ) → i < len → getD notes (len + i) 0 ≡ 0) → Noted len near notes t
-unfolding Noted
-noted-none len near notes t f i h = rw (f i h) (tells-nothing i _)
+all-in : (n : ℕ) (pre : List ℕ) (k : ℕ) (post : List ℕ) → AllBelow n (pre ++ k ∷ post) → k < n
+unfolding All
+all-in n [] k post w = w .0
+all-in n (a ∷ pre) k post w = all-in n pre k post (w .1)
 
-pub noted-same : (len : ℕ) (near : Float → Float → List ℕ) (old new : List ℕ) (t : Table) → Same len old new → Noted len near old t → Noted len near new t
+-- the place of a slot is one of the table's
+pub owned-in : (size len : ℕ) (ids : List ℕ) (co : List Float) (r : Float) → Promised size len ids co → Owned len (nearOf size len ids co r) ids co
+    → (s : ℕ) → s < len → getD ids s 0 < len
+owned-in size len ids co r P o s h =
+    let m = o s h in
+    all-in len (m .0) (getD ids s 0) (m .1) (subst (λ (l : List ℕ). AllBelow len l) (m .2) (P .below (Within (key 0 co s) (key 1 co s) r)))
+
+pub noted-none : (at len : ℕ) (near : Float → Float → List ℕ) (notes : List ℕ) (t : Table) → ((i : ℕ) → i < len → getD notes (at + i) 0 ≡ 0) → Noted at len near notes t
 unfolding Noted
-noted-same len near old new t f n i h = rw (f i) (n i h)
+noted-none at len near notes t f i h = rw (f i h) (tells-nothing i _)
+
+pub noted-same : (at len : ℕ) (near : Float → Float → List ℕ) (old new : List ℕ) (t : Table) → len ≤ at → Same len old new → Noted at len near old t → Noted at len near new t
+unfolding Noted
+noted-same at len near old new t k f n i h =
+    let e : len + (at + i - len) ≡ at + i = omega arith in
+    subst (λ (v : ℕ). Tells i v (near (entry t i .x) (entry t i .y))) (sym (subst (λ (j : ℕ). getD new j 0 ≡ getD old j 0) e (f (at + i - len)))) (n i h)
 
 -- a slot's coordinates, as they are read
 pub told-at : (i v : ℕ) (near : Float → Float → List ℕ) (co : List Float) (s : ℕ) → Tells i v (near (getD co (2 * s) nan) (getD co (2 * s + 1) nan)) → Tells i v (near (key 0 co s) (key 1 co s))
 told-at i v near co s t = rw (add-zero (2 * s)) t
 
 -- the note of an entry of the table that the rows hold
-pub noted-at : (len : ℕ) (near : Float → Float → List ℕ) (notes : List ℕ) (t : Table) (i : ℕ) (e : Entry) → Noted len near notes (take len t) → i < len → entry t i ≡ e
-    → Tells i (getD notes (len + i) 0) (near (e .x) (e .y))
+pub noted-at : (at len : ℕ) (near : Float → Float → List ℕ) (notes : List ℕ) (t : Table) (i : ℕ) (e : Entry) → Noted at len near notes (take len t) → i < len → entry t i ≡ e
+    → Tells i (getD notes (at + i) 0) (near (e .x) (e .y))
 unfolding Noted
-noted-at len near notes t i e n h q =
-    subst (λ (v : Entry). Tells i (getD notes (len + i) 0) (near (v .x) (v .y))) (getD-take len t i none h ∙ q) (n i h)
+noted-at at len near notes t i e n h q =
+    subst (λ (v : Entry). Tells i (getD notes (at + i) 0) (near (v .x) (v .y))) (getD-take len t i none h ∙ q) (n i h)
 
 -- one more note is cleared
-pub cleared-more : (len : ℕ) (notes : List ℕ) (i : ℕ) → len + i < length notes → ((j : ℕ) → j < i → getD notes (len + j) 0 ≡ 0)
-    → (j : ℕ) → j < i + 1 → getD (set notes (len + i) 0) (len + j) 0 ≡ 0
-cleared-more len notes i h f j k = go (eqb j i) refl
+pub cleared-more : (at : ℕ) (notes : List ℕ) (i : ℕ) → at + i < length notes → ((j : ℕ) → j < i → getD notes (at + j) 0 ≡ 0)
+    → (j : ℕ) → j < i + 1 → getD (set notes (at + i) 0) (at + j) 0 ≡ 0
+cleared-more at notes i h f j k = go (eqb j i) refl
   where
-    go : (b : Bool) → eqb j i ≡ b → getD (set notes (len + i) 0) (len + j) 0 ≡ 0
-    go true e = rw (eqb-true j i e) (getD-set-same notes (len + i) 0 0 h)
-    go false e = getD-set-other notes (len + i) (len + j) 0 0 (λ q. eqb-false j i e (omega (arith, q))) ∙ f j (let n = eqb-false j i e in omega (arith, k, n))
+    go : (b : Bool) → eqb j i ≡ b → getD (set notes (at + i) 0) (at + j) 0 ≡ 0
+    go true e = rw (eqb-true j i e) (getD-set-same notes (at + i) 0 0 h)
+    go false e = getD-set-other notes (at + i) (at + j) 0 0 (λ q. eqb-false j i e (omega (arith, q))) ∙ f j (let n = eqb-false j i e in omega (arith, k, n))
 
 -- one more note
-pub noted-more : (len : ℕ) (near : Float → Float → List ℕ) (notes : List ℕ) (t : Table) (p v : ℕ) → len + p < length notes
-    → Tells p v (near (entry t p .x) (entry t p .y)) → Noted len near notes t → Noted len near (set notes (len + p) v) t
+noted-more : (at len : ℕ) (near : Float → Float → List ℕ) (notes : List ℕ) (t : Table) (p v : ℕ) → at + p < length notes
+    → Tells p v (near (entry t p .x) (entry t p .y)) → Noted at len near notes t → Noted at len near (set notes (at + p) v) t
 unfolding Noted
-noted-more len near notes t p v h w n i k = go (eqb i p) refl
+noted-more at len near notes t p v h w n i k = go (eqb i p) refl
   where
-    go : (b : Bool) → eqb i p ≡ b → Tells i (getD (set notes (len + p) v) (len + i) 0) (near (entry t i .x) (entry t i .y))
+    go : (b : Bool) → eqb i p ≡ b → Tells i (getD (set notes (at + p) v) (at + i) 0) (near (entry t i .x) (entry t i .y))
     go true e =
-        subst (λ (j : ℕ). Tells j (getD (set notes (len + p) v) (len + j) 0) (near (entry t j .x) (entry t j .y))) (sym (eqb-true i p e))
-        (rw (getD-set-same notes (len + p) v 0 h) w)
-    go false e = rw (getD-set-other notes (len + p) (len + i) v 0 (λ q. eqb-false i p e (omega (arith, q)))) (n i k)
+        subst (λ (j : ℕ). Tells j (getD (set notes (at + p) v) (at + j) 0) (near (entry t j .x) (entry t j .y))) (sym (eqb-true i p e))
+        (rw (getD-set-same notes (at + p) v 0 h) w)
+    go false e = rw (getD-set-other notes (at + p) (at + i) v 0 (λ q. eqb-false i p e (omega (arith, q)))) (n i k)
 
 -- the note of the entry of a slot, from the answer at the slot's coordinates
-pub noted-slot : (len : ℕ) (near : Float → Float → List ℕ) (notes ids : List ℕ) (co : List Float) (s p v : ℕ) → s < len → len + len ≤ length notes → p ≡ getD ids s 0
-    → Tells (getD ids s 0) v (near (key 0 co s) (key 1 co s)) → (t : Table) → Slotted len ids co t → Noted len near notes t → Noted len near (set notes (len + p) v) t
-noted-slot len near notes ids co s p v h k e w t S n =
-    let b = S .in-table s h in
-    rw e (noted-more len near notes t (getD ids s 0) v (omega (arith, b, k)) (rw (sym (S .x-is s h), sym (S .y-is s h)) w) n)
+pub noted-slot : (at len : ℕ) (near : Float → Float → List ℕ) (notes ids : List ℕ) (co : List Float) (s p v : ℕ) → s < len → at + p < length notes → p ≡ getD ids s 0
+    → Tells (getD ids s 0) v (near (key 0 co s) (key 1 co s)) → (t : Table) → Slotted len ids co t → Noted at len near notes t → Noted at len near (set notes (at + p) v) t
+noted-slot at len near notes ids co s p v h k e w t S n =
+    noted-more at len near notes t p v k (rw e (rw (sym (S .x-is s h), sym (S .y-is s h)) w)) n
 
 -- ---- what a scan keeps of them
 
@@ -176,17 +198,17 @@ at-set f (a ∷ t) zero e q (suc i) = refl
 at-set f (a ∷ t) (suc k) e q zero = refl
 at-set f (a ∷ t) (suc k) e q (suc i) = at-set f t k e q i
 
-noted-set : (len : ℕ) (near : Float → Float → List ℕ) (notes : List ℕ) (t : Table) (k : ℕ) (e : Entry) → e .x ≡ entry t k .x → e .y ≡ entry t k .y
-    → Noted len near notes t → Noted len near notes (set t k e)
+noted-set : (at len : ℕ) (near : Float → Float → List ℕ) (notes : List ℕ) (t : Table) (k : ℕ) (e : Entry) → e .x ≡ entry t k .x → e .y ≡ entry t k .y
+    → Noted at len near notes t → Noted at len near notes (set t k e)
 unfolding Noted
-noted-set len near notes t k e a b n i h = rw (at-set (λ (q : Entry). q .x) t k e a i, at-set (λ (q : Entry). q .y) t k e b i) (n i h)
+noted-set at len near notes t k e a b n i h = rw (at-set (λ (q : Entry). q .x) t k e a i, at-set (λ (q : Entry). q .y) t k e b i) (n i h)
 
-pub kept-noted : (z len : ℕ) (near : Float → Float → List ℕ) (notes : List ℕ) → Keeps z (λ t. Noted len near notes t)
-kept-noted z len near notes =
+pub kept-noted : (z at len : ℕ) (near : Float → Float → List ℕ) (notes : List ℕ) → Keeps z (λ t. Noted at len near notes t)
+kept-noted z at len near notes =
     record {
-      join = λ t k p r. noted-set len near notes t k (under p (marked z (entry t k))) refl refl r;
-      mark = λ t k r. noted-set len near notes t k (marked z (entry t k)) refl refl r;
-      hang = λ t k p r. noted-set len near notes t k (under p (entry t k)) refl refl r;
+      join = λ t k p r. noted-set at len near notes t k (under p (marked z (entry t k))) refl refl r;
+      mark = λ t k r. noted-set at len near notes t k (marked z (entry t k)) refl refl r;
+      hang = λ t k p r. noted-set at len near notes t k (under p (entry t k)) refl refl r;
     }
 
 -- ---- a list at the front of the column leaves the notes as they are

@@ -9,7 +9,7 @@ use lib.ListN.{length, getD, take, drop, length-append, length-replicate, take-a
 use lib.Seq.{take-at, drop-at, length-take-le, drop-drop}
 use lib.Ieee.{Float, nan}
 use Rattle.floats.specs.Unit.{In01}
-use Rattle.kdsort.specs.Cols.{Cols, key}
+use Rattle.kdsort.specs.Cols.{Cols}
 use Rattle.kdsort.specs.Tree.{Index}
 use Rattle.kdsort.specs.Indexes.{blank, indexed-same}
 use Rattle.kdbush.specs.Reply.{built}
@@ -92,13 +92,3 @@ module _ (size : ℕ) (xs ys : List Float) (b : Indexable size xs ys) where
       promised size xs ys (blank (length xs)) (indexOf size xs ys) index-is
       (rw (le-leb 1 size (b .size-from), le-leb size 65535 (b .size-to), le-leb 1 (length xs) (b .some), le-leb (length xs) 1048576 (b .most), le-leb (2 * length xs) (length (indexOf size xs ys .co)) (omega (arith, index-co))))
       (omega (arith, index-ids))
-
-  -- each slot names a point and holds its coordinates
-  pub index-id : (p : ℕ) → p < length xs → getD (indexOf size xs ys .ids) p 0 < length xs
-  index-id = index-is .id-in
-
-  pub index-x : (p : ℕ) → p < length xs → key 0 (indexOf size xs ys .co) p ≡ getD xs (getD (indexOf size xs ys .ids) p 0) nan
-  index-x = index-is .x-of
-
-  pub index-y : (p : ℕ) → p < length xs → key 1 (indexOf size xs ys .co) p ≡ getD ys (getD (indexOf size xs ys .ids) p 0) nan
-  index-y = index-is .y-of

@@ -18,10 +18,9 @@ use Rattle.tables.specs.Entries.{Table, none, xsOf, ysOf}
 use Rattle.tables.specs.Radius.{radiusAt}
 use Rattle.zoom.specs.Keeps.{all-at}
 use Rattle.zoom.specs.Lamps.{total}
-use Rattle.zoom.specs.Notes.{Slotted}
 use Rattle.zoom.specs.Sound.{Body, Next, Sound, cluster-sound}
 use Rattle.zooms.specs.Zooms.{slotsOf, nearIn, Plan, zoomed}
-use Rattle.zooms.specs.Parts.{putAt, part-put, Inside, Indexable, index-ids, index-co, index-promised, index-id, index-x, index-y}
+use Rattle.zooms.specs.Parts.{putAt, part-put, Inside, Indexable, index-ids, index-co, index-promised}
 
 -- ---- a table whose entries lie from 0 to 1 has an index that keeps its promises
 
@@ -54,16 +53,6 @@ module _ (size : ℕ) (t : Table) (n1 : 1 ≤ size) (n2 : size ≤ 65535) (some 
   pub slots-promised : Promised size (length t) (slotsOf size t .ids) (slotsOf size t .co)
   unfolding slotsOf
   slots-promised = rw (length-map t (λ e. e .x)) at (index-promised size (xsOf t) (ysOf t) slots-indexable)
-
-  pub slots-slotted : Slotted (length t) (slotsOf size t .ids) (slotsOf size t .co) t
-  unfolding slotsOf
-  slots-slotted =
-      let l = length-map t (λ e. e .x) in
-      record {
-        in-table = λ s h. rw l at (index-id size (xsOf t) (ysOf t) slots-indexable s (rw l h));
-        x-is = λ s h. index-x size (xsOf t) (ysOf t) slots-indexable s (rw l h) ∙ List·getD-map (λ e. e .x) t _ none;
-        y-is = λ s h. index-y size (xsOf t) (ysOf t) slots-indexable s (rw l h) ∙ List·getD-map (λ e. e .y) t _ none;
-      }
 
 -- ---- between two zooms
 
@@ -126,12 +115,6 @@ module _ (p : Plan) (M k start len : ℕ) (t : Table) (ids : List ℕ) (co : Lis
   cur-promised =
       let size = p .options .«node_size» in
       rw (r .ids-at, r .co-at) (subst (λ (n : ℕ). Promised size n (slotsOf size (part start len t) .ids) (slotsOf size (part start len t) .co)) cur-long slots-kept)
-
-  pub cur-slotted : Slotted len (part start len ids) (part (start * 2) (len * 2) co) (part start len t)
-  cur-slotted =
-      let size = p .options .«node_size» in
-      rw (r .ids-at, r .co-at) (subst (λ (n : ℕ). Slotted n (slotsOf size (part start len t) .ids) (slotsOf size (part start len t) .co) (part start len t)) cur-long
-      (slots-slotted size (part start len t) (r .able .size-from) (r .able .size-to) cur-some cur-most cur-body))
 
   pub cur-once : (rad qx qy : Float) → Distinct (nearIn (p .options .«node_size») rad (part start len t) qx qy)
   cur-once rad qx qy = slots-kept .once (Within qx qy rad)

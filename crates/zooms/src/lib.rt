@@ -12,7 +12,7 @@ ghost use Rattle.tables.specs.Columns.{part};
 ghost use Rattle.zoom.specs.Zoom.{cluster};
 ghost use Rattle.zoom.specs.Scanned.{unseenNum};
 ghost use Rattle.zoom.specs.Near.{nearOf, Placed, Radius};
-ghost use Rattle.zoom.specs.Notes.{Slotted};
+ghost use Rattle.zoom.specs.Notes.{Owned, Slotted};
 ghost use Rattle.zooms.specs.Zooms.{indexOf, planOf, zoomsOf};
 ghost use Rattle.zooms.specs.Parts.{Inside, putAt};
 ghost use Rattle.zooms.specs.Step.{Stepped};
@@ -40,9 +40,10 @@ fn zoom_step(
     requires { ⌜ Even (now x) (now y) (now seen) (now id) (now parent) (now num) ⌝ }
     requires { ⌜ Promised (o .«node_size») len (part start len (now ids)) (part (start * 2) (len * 2) (now coords)) × Radius r ⌝ }
     requires { ⌜ All Placed (take len (drop start (rows (now x) (now y) (now seen) (now id) (now parent) (now num)))) × Slotted len (part start len (now ids)) (part (start * 2) (len * 2) (now coords)) (take len (drop start (rows (now x) (now y) (now seen) (now id) (now parent) (now num)))) ⌝ }
-    requires { ⌜ (start + len ≤ length (now ids)) × ((start + len) * 2 ≤ length (now coords)) × (len + len ≤ length (now near)) × (start + len + len ≤ length (now x)) ⌝ }
+    requires { ⌜ Owned len (nearOf (o .«node_size») len (part start len (now ids)) (part (start * 2) (len * 2) (now coords)) r) (part start len (now ids)) (part (start * 2) (len * 2) (now coords)) ⌝ }
+    requires { ⌜ (start + len ≤ length (now ids)) × ((start + len) * 2 ≤ length (now coords)) × (n + len ≤ length (now near)) × (start + len + len ≤ length (now x)) ⌝ }
     requires { ⌜ unseenNum z (take len (drop start (rows (now x) (now y) (now seen) (now id) (now parent) (now num)))) < 2 ^ 32 ⌝ }
-    requires { ⌜ (start ≤ 67108864) × (len ≤ 1048576) × (n ≤ 1048576) × (z ≤ 30) ⌝ }
+    requires { ⌜ (start ≤ 67108864) × (len ≤ n) × (n ≤ 1048576) × (z ≤ 30) ⌝ }
     ensures { λ d. ⌜ Stepped start len
         (cluster n (o .«min_points») z (nearOf (o .«node_size») len (part start len (now (ids .entry))) (part (start * 2) (len * 2) (now (coords .entry))) r)
         (take len (drop start (rows (now (x .entry)) (now (y .entry)) (now (seen .entry)) (now (id .entry)) (now (parent .entry)) (now (num .entry))))))

@@ -2,7 +2,7 @@
 -- and every entry of the table is at a finite place. Assumes nothing.
 use mathlib.Core.Path.{_≡_, refl, ap, sym, _∙_, subst}
 use mathlib.Core.List.{List}
-use Prim.Native.Nat.{ℕ, _-_}
+use Prim.Native.Nat.{ℕ, _-_, _≤_}
 use native.Mathlib.Omega.{arith}
 use lib.ListN.{length, take}
 use lib.Ieee.{Float}
@@ -24,7 +24,7 @@ abbrev Inv-loop : tie.InvT-loop
 Inv-loop x₀ y₀ seen₀ id₀ parent₀ num₀ ids coords near₀ size r len z n least d₀ i₀ x y seen id parent num near d i =
     Even x y seen id parent num × (length x ≡ length x₀) × (length near ≡ length near₀) ×
     Scanning n least z (nearOf size len ids coords r) len (rows x₀ y₀ seen₀ id₀ parent₀ num₀) (rows x y seen id parent num) d i × All Placed (take len (rows x y seen id parent num))
-    × Noted len (nearOf size len ids coords r) near (take len (rows x y seen id parent num))
+    × Noted n len (nearOf size len ids coords r) near (take len (rows x y seen id parent num))
 
 abbrev μ-loop : tie.MeasureT-loop
 μ-loop x₀ y₀ seen₀ id₀ parent₀ num₀ ids coords near₀ size r len z n least d₀ i₀ x y seen id parent num near d i = len - i
@@ -36,7 +36,7 @@ abbrev near-of : tie.Start Inv-loop μ-loop → Float → Float → List ℕ
 near-of s = let a = s .args in nearOf (a .node-size) (a .len) (now (a .ids)) (now (a .coords)) (a .r)
 
 abbrev start-of : tie.At-loop Inv-loop μ-loop → tie.Start Inv-loop μ-loop
-start-of l = l .before .before .before .before .before .before .before .before .before .before .before .before .before .before
+start-of l = l .before .before .before .before .before .before .before .before .before .before .before .before .before .before .before
 
 abbrev noting : tie.At-loop Inv-loop μ-loop → tie.After-note-all Inv-loop μ-loop
 noting l = l .before .before .before
@@ -47,18 +47,34 @@ long l = l .loop .inv .2 ∙ noting l .note-all .kept .1 .1 .0
 abbrev test-of : tie.After-slice-known15 Inv-loop μ-loop → tie.In-loop Inv-loop μ-loop
 test-of c = c .before .before .before .before .before .before .before .before .before .before .before .before .before .before .before .before .before .before .before .before .before .before
 
+len-few : (s : tie.Start Inv-loop μ-loop) → s .args .len ≤ s .args .n
+len-few s = s .pre .1 .1 .1 .1 .1 .0
+
+wide-requires : tie.Need-wide-requires Inv-loop μ-loop
+wide-requires c κs = search needs
+
 note-all-requires : tie.Need-note-all-requires Inv-loop μ-loop
 note-all-requires c κs =
-    let s = c .before .before .before .before .before .before .before .before .before .before in
+    let s = c .before .before .before .before .before .before .before .before .before .before .before in
     let p = s .pre .1 in
-    ((p .0 .0, p .0 .2, p .1 .1 .1 .0), p .1 .0 .1 .in-table)
+    let e : c .wide .result ≡ s .args .n = c .wide .ensures in
+    let q = p .1 .1 .1 .1 in
+    ((p .0 .0, omega (arith, e, p .0 .2), omega (arith, e, q .1), omega (arith, q .0, q .1)), p .1 .1 .0)
 
 loop-holds : tie.Need-loop-holds Inv-loop μ-loop
 loop-holds c =
-    let s = c .before .before .before .before .before .before .before .before .before .before .before .before .before in
+    let w = c .before .before in
+    let s = c .before .before .before .before .before .before .before .before .before .before .before .before .before .before in
     let a = s .args in
     let n = rows-length (now (a .x)) (now (a .y)) (now (a .seen)) (now (a .id)) (now (a .parent)) (now (a .num)) in
-    (s .pre .0, refl, refl, scanning-start (a .n) (a .least) (a .z) (near-of s) (a .len) (table s) (rw n (s .pre .1 .0 .3)), s .pre .1 .1 .0 .0, c .before .before .note-all .ensures (take (a .len) (table s)) (s .pre .1 .1 .0 .1))
+    let noted = w .note-all .ensures (take (a .len) (table s)) (s .pre .1 .1 .0 .1) in (
+      s .pre .0,
+      refl,
+      refl,
+      scanning-start (a .n) (a .least) (a .z) (near-of s) (a .len) (table s) (rw n (s .pre .1 .0 .3)),
+      s .pre .1 .1 .0 .0,
+      subst (λ (k : ℕ). Noted k (a .len) (near-of s) (w .note-all .last .1 .1 .0) (take (a .len) (table s))) (w .before .wide .ensures) noted,
+    )
 
 scan-one-requires : tie.Need-scan-one-requires Inv-loop μ-loop
 scan-one-requires c κs =
@@ -72,7 +88,7 @@ scan-one-requires c κs =
         (p .0 .0, p .0 .1, omega (arith, long (t .before), p .0 .2), t .loop-test .taken),
         (
           (l .inv .4, l .inv .5),
-          ((omega (arith, v .room, rows-length (l .x) (l .y) (l .seen) (l .id) (l .parent) (l .num)), omega (arith, v .light, p .1 .1 .0)), p .1 .1 .1),
+          ((omega (arith, v .room, rows-length (l .x) (l .y) (l .seen) (l .id) (l .parent) (l .num)), omega (arith, v .light, p .1 .1 .1 .0)), p .1 .1 .1 .1),
         ),
       ),
     )
@@ -98,9 +114,9 @@ loop-again c =
           (rows-length _ _ _ _ _ _ ∙ k .0 ∙ sym (rows-length (l .x) (l .y) (l .seen) (l .id) (l .parent) (l .num))),
       subst (λ (q : Table). All Placed q) (sym (ap (λ (q : Scan). q .table) (w .ensures .1 .scan)))
           (keep-one (a .z) (λ q. All Placed q) (kept-all Placed (a .z) (λ e q h. h) (λ e q h. h)) (a .n) (a .least) (near-of s) (scanOf (a .len) (l .d) t) (l .i) _ refl (l .inv .4)),
-      noted-same (a .len) (near-of s) (l .near) _ _ (w .ensures .0)
-          (subst (λ (q : Table). Noted (a .len) (near-of s) (l .near) q) (sym (ap (λ (q : Scan). q .table) (w .ensures .1 .scan)))
-          (keep-one (a .z) (λ q. Noted (a .len) (near-of s) (l .near) q) (kept-noted (a .z) (a .len) (near-of s) (l .near)) (a .n) (a .least) (near-of s) (scanOf (a .len) (l .d) t) (l .i) _ refl (l .inv .5))),
+      noted-same (a .n) (a .len) (near-of s) (l .near) _ _ (len-few s) (w .ensures .0)
+          (subst (λ (q : Table). Noted (a .n) (a .len) (near-of s) (l .near) q) (sym (ap (λ (q : Scan). q .table) (w .ensures .1 .scan)))
+          (keep-one (a .z) (λ q. Noted (a .n) (a .len) (near-of s) (l .near) q) (kept-noted (a .z) (a .n) (a .len) (near-of s) (l .near)) (a .n) (a .least) (near-of s) (scanOf (a .len) (l .d) t) (l .i) _ refl (l .inv .5))),
     )
 
 same-length : tie.Need-same-length Inv-loop μ-loop
@@ -137,6 +153,7 @@ cluster-spec =
     (tie.spec
     Inv-loop
     μ-loop
+    wide-requires
     note-all-requires
     loop-holds
     scan-one-requires

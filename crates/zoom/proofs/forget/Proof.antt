@@ -10,10 +10,10 @@ use Rattle.zoom.proofs.forget.Reads as reads
 use Rattle.zoom.proofs.forget.Lts as lts
 
 abbrev Inv-loop : tie.InvT-loop
-Inv-loop near₀ len i₀ near i = (i ≤ len) × (length near ≡ length near₀) × ((j : ℕ) → j < i → getD near (len + j) 0 ≡ 0)
+Inv-loop near₀ notes len i₀ near i = (i ≤ len) × (length near ≡ length near₀) × ((j : ℕ) → j < i → getD near (notes + j) 0 ≡ 0)
 
 abbrev μ-loop : tie.MeasureT-loop
-μ-loop near₀ len i₀ near i = len - i
+μ-loop near₀ notes len i₀ near i = len - i
 
 loop-holds : tie.Need-loop-holds Inv-loop μ-loop
 loop-holds c = (omega arith, refl, λ j h. absurd (omega (arith, h)))
@@ -40,8 +40,8 @@ loop-again c =
     let a = s .args in
     let h = c .loop-test .taken in (
       omega (arith, h),
-      length-set (l .near) (a .len + l .i) 0 ∙ l .inv .1,
-      cleared-more (a .len) (l .near) (l .i) (omega (arith, h, l .inv .1, s .pre)) (l .inv .2),
+      length-set (l .near) (a .notes + l .i) 0 ∙ l .inv .1,
+      cleared-more (a .notes) (l .near) (l .i) (omega (arith, h, l .inv .1, s .pre)) (l .inv .2),
     )
 
 same-length : tie.Need-same-length Inv-loop μ-loop

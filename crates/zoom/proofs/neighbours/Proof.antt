@@ -1,9 +1,9 @@
 -- `zoom::neighbours` meets its contract: a note, where there is one, is the answer, and otherwise it is searched for. Assumes nothing.
 use mathlib.Core.Path.{_≡_, ap}
 use mathlib.Core.List.{List, [], _∷_}
-use Prim.Native.Nat.{ℕ, _+_, _-_, _*_, _/_, _≤_}
+use Prim.Native.Nat.{ℕ, _-_, _/_, _≤_}
 use native.Mathlib.Omega.{arith}
-use lib.ListN.{length, getD, length-set}
+use lib.ListN.{length, length-set}
 use denote.Ref.{now}
 use Rattle.kdslots.specs.declared.Query.the-variants.{Within}
 use Rattle.zoom.specs.Near.{nearOf}
@@ -15,14 +15,14 @@ use Rattle.zoom.proofs.neighbours.Reads as reads
 use Rattle.zoom.proofs.neighbours.Lts as lts
 use Rattle.zoom.proofs.search_near.Reads as search-near-reads
 
-abbrev start-of : tie.After-slice-known2 → tie.Start
-start-of c = c .before .before .before .before
+abbrev start-of : tie.After-slice-known → tie.Start
+start-of c = c .before .before .before
 
 abbrev places : tie.Start → List ℕ
 places s = let a = s .args in nearOf (a .node-size) (a .len) (now (a .ids)) (now (a .coords)) (a .r) (a .qx) (a .qy)
 
 abbrev note : tie.Start → ℕ
-note s = let a = s .args in getD (now (a .near)) (a .len + a .i) 0
+note s = s .args .note
 
 few : (s : tie.Start) → length (places s) ≤ s .args .len
 few s = let a = s .args in s .pre .0 .0 .short (Within (a .qx) (a .qy) (a .r))
@@ -43,19 +43,10 @@ told-before c = ap length (is-before c)
 told-behind : (c : tie.Else3) → length (places (start-of (c .before .before .before))) ≡ 2
 told-behind c = ap length (is-behind c)
 
-add-v : tie.Need-add-v
-add-v c = search needs
-
-mul-v : tie.Need-mul-v
-mul-v c = search needs
-
-slice-read-v : tie.Need-slice-read-v
-slice-read-v c = search needs
-
 search-near-requires : tie.Need-search-near-requires
 search-near-requires c κs =
     let p = start-of (c .before .before) .pre in
-    ((p .0 .0, p .0 .1, omega (arith, p .0 .2)), p .1 .0)
+    ((p .0 .0, p .0 .1, p .0 .2), p .1 .0)
 
 same-length : tie.Need-same-length
 same-length c = search needs
@@ -95,7 +86,7 @@ returns-3 : tie.Need-returns-3
 returns-3 c =
     let s = start-of (c .before .before .before) in
     let a = s .args in
-    list-two (a .len) (now (a .near)) (places s) (a .i) ((note s - 2) / 2) (few s) (omega (arith, s .pre .0 .2)) (is-before c)
+    list-two (a .len) (now (a .near)) (places s) (a .i) ((note s - 2) / 2) (few s) (s .pre .0 .2) (is-before c)
 
 slice-write-near-4 : tie.Need-slice-write-near-4
 slice-write-near-4 c = search needs
@@ -110,15 +101,12 @@ returns-4 : tie.Need-returns-4
 returns-4 c =
     let s = start-of (c .before .before .before) in
     let a = s .args in
-    list-two (a .len) (now (a .near)) (places s) ((note s - 2) / 2) (a .i) (few s) (omega (arith, s .pre .0 .2)) (is-behind c)
+    list-two (a .len) (now (a .near)) (places s) ((note s - 2) / 2) (a .i) (few s) (s .pre .0 .2) (is-behind c)
 
 pub neighbours-spec : {M : Type 1} → statement M
 neighbours-spec =
     tie.close
     (tie.spec
-    add-v
-    mul-v
-    slice-read-v
     search-near-requires
     same-length
     returns

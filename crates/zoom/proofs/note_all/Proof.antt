@@ -7,9 +7,9 @@ use lib.ListN.{length, getD, set, length-set}
 use lib.Ieee.{Float}
 use denote.Ref.{now}
 use borrow.Author.Needs.{needs}
-use Rattle.tables.specs.Entries.{Table, entry}
+use Rattle.tables.specs.Entries.{Table}
 use Rattle.zoom.specs.Near.{nearOf}
-use Rattle.zoom.specs.Notes.{Tells, Noted, Slotted, noted-none, noted-slot}
+use Rattle.zoom.specs.Notes.{Noted, Slotted, owned-in, noted-none, noted-slot}
 use Rattle.zoom.proofs.note_all.Statement.{statement}
 use Rattle.zoom.proofs.note_all.Tie as tie
 use Rattle.zoom.proofs.note_all.Reads as reads
@@ -19,11 +19,11 @@ use Rattle.zoom.proofs.note_at.Reads as note-at-reads
 use Rattle.zoom.proofs.wide.Reads as wide-reads
 
 abbrev Inv-loop : tie.InvT-loop
-Inv-loop ids coords near₀ node-size r len left₀ s₀ near left s =
-    (s ≤ len) × (length near ≡ length near₀) × ((t : Table) → Slotted len ids coords t → Noted len (nearOf node-size len ids coords r) near t)
+Inv-loop ids coords near₀ node-size r len notes left₀ s₀ near left s =
+    (s ≤ len) × (length near ≡ length near₀) × ((t : Table) → Slotted len ids coords t → Noted notes len (nearOf node-size len ids coords r) near t)
 
 abbrev μ-loop : tie.MeasureT-loop
-μ-loop ids coords near₀ node-size r len left₀ s₀ near left s = len - s
+μ-loop ids coords near₀ node-size r len notes left₀ s₀ near left s = len - s
 
 abbrev start-of : tie.At-loop Inv-loop μ-loop → tie.Start Inv-loop μ-loop
 start-of l = l .before .before .before .before .before .before .before .before
@@ -41,24 +41,26 @@ kept l = l .loop .inv .1 ∙ l .before .before .before .forget .kept .0
 own-in : (c : tie.After-wide Inv-loop μ-loop) → c .wide .result < start-of (in-of c .before) .args .len
 own-in c =
     let i = in-of c in
-    let e : c .wide .result ≡ getD (now (start-of (i .before) .args .ids)) (i .before .loop .s) 0 = c .wide .ensures in
-    omega (arith, e, start-of (i .before) .pre .1 (i .before .loop .s) (i .loop-test .taken))
+    let s = start-of (i .before) in
+    let a = s .args in
+    let e : c .wide .result ≡ getD (now (a .ids)) (i .before .loop .s) 0 = c .wide .ensures in
+    omega (arith, e, owned-in (a .node-size) (a .len) (now (a .ids)) (now (a .coords)) (a .r) (s .pre .0 .0) (s .pre .1) (i .before .loop .s) (i .loop-test .taken))
 
 forget-requires : tie.Need-forget-requires Inv-loop μ-loop
-forget-requires c κs = let p = c .before .before .before .before .pre .0 in (p .1, p .2)
+forget-requires c κs = let p = c .before .before .before .before .pre .0 in (p .1, p .2, p .3)
 
 mul-left : tie.Need-mul-left Inv-loop μ-loop
-mul-left c = let p = c .before .before .before .before .before .before .before .pre .0 in omega (arith, p .2)
+mul-left c = let p = c .before .before .before .before .before .before .before .pre .0 in omega (arith, p .3)
 
 loop-holds : tie.Need-loop-holds Inv-loop μ-loop
 loop-holds c =
     let f = c .before .before in
     let s = f .before .before .before .before .before in
     let a = s .args in
-    (omega arith, refl, λ t S. noted-none (a .len) (near-of s) _ t (f .forget .ensures))
+    (omega arith, refl, λ t S. noted-none (a .notes) (a .len) (near-of s) _ t (f .forget .ensures))
 
 note-at-requires : tie.Need-note-at-requires Inv-loop μ-loop
-note-at-requires c κs = let p = start-of (c .before) .pre .0 in (p .0, c .loop-test .taken, p .2)
+note-at-requires c κs = let p = start-of (c .before) .pre in ((p .0 .0, c .loop-test .taken, p .0 .3), p .1)
 
 same-length : tie.Need-same-length Inv-loop μ-loop
 same-length c = kept (c .before .before .before .before)
@@ -67,7 +69,7 @@ returns : tie.Need-returns Inv-loop μ-loop
 returns c = c .before .before .before .before .loop .inv .2
 
 mul-wide : tie.Need-mul-wide Inv-loop μ-loop
-mul-wide c = let i = c .before .before .before .before in let p = start-of (i .before) .pre .0 in omega (arith, i .loop-test .taken, p .2)
+mul-wide c = let i = c .before .before .before .before in let p = start-of (i .before) .pre .0 in omega (arith, i .loop-test .taken, p .3)
 
 shared-slice-read-wide : tie.Need-shared-slice-read-wide Inv-loop μ-loop
 shared-slice-read-wide c = let i = c .before .before .before .before .before in let p = start-of (i .before) .pre .0 in omega (arith, i .loop-test .taken, p .0 .wide)
@@ -76,16 +78,16 @@ wide-requires : tie.Need-wide-requires Inv-loop μ-loop
 wide-requires c κs = search needs
 
 add-near : tie.Need-add-near Inv-loop μ-loop
-add-near c = let p = start-of (in-of c .before) .pre .0 in omega (arith, own-in c, p .2)
+add-near c = let p = start-of (in-of c .before) .pre .0 in omega (arith, own-in c, p .2, p .3)
 
 mul-near : tie.Need-mul-near Inv-loop μ-loop
-mul-near c = let p = start-of (in-of c .before) .pre .0 in omega (arith, own-in c, p .2)
+mul-near c = let p = start-of (in-of c .before) .pre .0 in omega (arith, own-in c, p .2, p .3)
 
 slice-write-near : tie.Need-slice-write-near Inv-loop μ-loop
 slice-write-near c = let p = start-of (in-of c .before) .pre .0 in omega (arith, own-in c, p .1, kept (in-of c .before))
 
 add-s : tie.Need-add-s Inv-loop μ-loop
-add-s c = let p = start-of (in-of c .before) .pre .0 in omega (arith, in-of c .loop-test .taken, p .2)
+add-s c = let p = start-of (in-of c .before) .pre .0 in omega (arith, in-of c .loop-test .taken, p .3)
 
 loop-less : tie.Need-loop-less Inv-loop μ-loop
 loop-less c = omega (arith, in-of c .loop-test .taken)
@@ -98,8 +100,8 @@ loop-again c =
     let h = in-of c .loop-test .taken in
     let w = c .before .before .before .before .before .note-at in (
       omega (arith, h),
-      length-set (l .near) (a .len + c .wide .result) (w .result .note) ∙ l .inv .1,
-      λ t S. noted-slot (a .len) (near-of s) (l .near) (now (a .ids)) (now (a .coords)) (l .s) (c .wide .result) (w .result .note) h (omega (arith, s .pre .0 .1, kept (in-of c .before))) (c .wide .ensures) (w .ensures) t S (l .inv .2 t S),
+      length-set (l .near) (a .notes + c .wide .result) (w .result .note) ∙ l .inv .1,
+      λ t S. noted-slot (a .notes) (a .len) (near-of s) (l .near) (now (a .ids)) (now (a .coords)) (l .s) (c .wide .result) (w .result .note) h (omega (arith, own-in c, s .pre .0 .1, kept (in-of c .before))) (c .wide .ensures) (w .ensures) t S (l .inv .2 t S),
     )
 
 same-length-2 : tie.Need-same-length-2 Inv-loop μ-loop

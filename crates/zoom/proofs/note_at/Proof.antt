@@ -1,31 +1,48 @@
--- `zoom::note_at` meets its contract: where the search says how many it found, they are all that is answered. Assumes nothing.
-use mathlib.Core.Path.{_≡_, ap, sym, _∙_}
-use mathlib.Core.List.{List, [], _∷_}
-use Prim.Native.Nat.{ℕ, _+_, _*_, _≤_}
+-- `zoom::note_at` meets its contract: the count is how many are answered at the slot, and the slot's own place is one of them. Assumes nothing.
+use mathlib.Core.Path.{_≡_, sym, _∙_}
+use mathlib.Core.List.{List}
+use Prim.Native.Nat.{ℕ, _+_, _*_}
 use native.Mathlib.Omega.{arith}
+use native.Mathlib.Nat.{add-zero}
 use lib.ListN.{length, getD}
+use lib.Ieee.{Float, nan}
 use denote.Ref.{now}
 use Rattle.kdslots.specs.declared.Query.the-variants.{Within}
-use Rattle.kdslots.specs.Bounds.{coords-is}
-use Rattle.zoom.specs.Notes.{few-found, tells-nothing, told-at}
+use Rattle.kdslots.specs.Bounds.{Searchable, coords-is}
+use Rattle.kdslots.specs.Members.{In}
+use Rattle.kdslots.specs.Slots.{answers}
+use Rattle.kdbush.specs.Run.{places-length}
 use Rattle.zoom.specs.Near.{nearOf}
-use lib.Ieee.{nan}
+use Rattle.zoom.specs.Notes.{tells-nothing, tells-alone, told-at}
 use borrow.Author.Needs.{needs}
 use Rattle.zoom.proofs.note_at.Statement.{statement}
 use Rattle.zoom.proofs.note_at.Tie as tie
 use Rattle.zoom.proofs.note_at.Reads as reads
 use Rattle.zoom.proofs.note_at.Lts as lts
-use Rattle.kdbush.proofs.within.Reads as within-reads
-use Rattle.zoom.proofs.note_of.Reads as note-of-reads
+use Rattle.zoom.proofs.count_near.Reads as count-near-reads
+use Rattle.zoom.proofs.note_two.Reads as note-two-reads
 
-pairs : (s : tie.Start) → 2 * s .args .len ≤ length (now (s .args .coords))
-pairs s = let a = s .args in coords-is (a .node-size) (a .len) (length (now (a .coords))) (s .pre .0 .ok) .pairs
+able : (s : tie.Start) → Searchable (s .args .node-size) (s .args .len) (length (now (s .args .coords)))
+able s = let a = s .args in coords-is (a .node-size) (a .len) (length (now (a .coords))) (s .pre .0 .0 .ok)
 
-mul-own : tie.Need-mul-own
-mul-own c = search needs
+abbrev near-of : tie.Start → Float → Float → List ℕ
+near-of s = let a = s .args in nearOf (a .node-size) (a .len) (now (a .ids)) (now (a .coords)) (a .r)
 
-shared-slice-read-own : tie.Need-shared-slice-read-own
-shared-slice-read-own c = search needs
+-- what is answered at the slot, by its coordinates as they are read
+abbrev places : tie.Start → List ℕ
+places s = let a = s .args in near-of s (getD (now (a .coords)) (2 * a .s) nan) (getD (now (a .coords)) (2 * a .s + 1) nan)
+
+abbrev start-of : tie.After-count-near → tie.Start
+start-of c = c .before .before .before .before .before
+
+count-is : (c : tie.After-count-near) → length (places (start-of c)) ≡ c .count-near .result
+count-is c =
+    let a = start-of c .args in
+    places-length (now (a .ids)) (answers (Within (getD (now (a .coords)) (2 * a .s) nan) (getD (now (a .coords)) (2 * a .s + 1) nan) (a .r)) (now (a .coords)) (a .node-size) (a .len))
+    ∙ sym (c .count-near .ensures)
+
+own-in : (s : tie.Start) → In (getD (now (s .args .ids)) (s .args .s) 0) (places s)
+own-in s = let a = s .args in rw (add-zero (2 * a .s)) at (s .pre .1 (a .s) (s .pre .0 .1))
 
 mul-qx : tie.Need-mul-qx
 mul-qx c = search needs
@@ -34,7 +51,7 @@ mul-qx-2 : tie.Need-mul-qx-2
 mul-qx-2 c = search needs
 
 shared-slice-read-qx : tie.Need-shared-slice-read-qx
-shared-slice-read-qx c = let s = c .before .before .before .before in omega (arith, s .pre .1, pairs s)
+shared-slice-read-qx c = let s = c .before .before .before in omega (arith, s .pre .0 .1, able s .pairs)
 
 mul-qy : tie.Need-mul-qy
 mul-qy c = search needs
@@ -46,60 +63,41 @@ mul-qy-2 : tie.Need-mul-qy-2
 mul-qy-2 c = search needs
 
 shared-slice-read-qy : tie.Need-shared-slice-read-qy
-shared-slice-read-qy c = let s = c .before .before .before .before .before in omega (arith, s .pre .1, pairs s)
+shared-slice-read-qy c = let s = c .before .before .before .before in omega (arith, s .pre .0 .1, able s .pairs)
 
-slice-aggregate-within : tie.Need-slice-aggregate-within
-slice-aggregate-within c = search needs
-
-within-requires : tie.Need-within-requires
-within-requires c κs = search needs
-
-enum-known-k : tie.Need-enum-known-k
-enum-known-k c = search needs
-
-array-read-note-of : tie.Need-array-read-note-of
-array-read-note-of c = search needs
-
-array-read-note-of-2 : tie.Need-array-read-note-of-2
-array-read-note-of-2 c = search needs
-
-note-of-requires : tie.Need-note-of-requires
-note-of-requires c κs = search needs
-
-enum-told : tie.Need-enum-told
-enum-told c = search needs
-
-enum-known-k-2 : tie.Need-enum-known-k-2
-enum-known-k-2 c = search needs
-
-enum-told-2 : tie.Need-enum-told-2
-enum-told-2 c = search needs
+count-near-requires : tie.Need-count-near-requires
+count-near-requires c κs = let s = c .before .before .before .before in (able s .pairs, able s .size-to)
 
 returns : tie.Need-returns
 returns c =
-    let w = c .before .before .before .before .before in
-    let s = w .before .before .before .before .before .before .before in
+    let s = start-of (c .before) in
     let a = s .args in
-    let g = c .before .before .k .given in
-    let f = few-found (a .node-size) (a .len) (now (a .ids)) (now (a .coords)) (s .pre .0) (Within (getD (now (a .coords)) (2 * a .s) nan) (getD (now (a .coords)) (2 * a .s + 1) nan) (a .r)) (0 ∷ 0 ∷ []) _ (sym (w .within .ensures .0) ∙ g .1) in
-    told-at _ _ (nearOf (a .node-size) (a .len) (now (a .ids)) (now (a .coords)) (a .r)) (now (a .coords)) (a .s)
-    (c .note-of .ensures _ _ (f .0) (ap (λ (l : List ℕ). getD l 0 0) (sym (w .within .ensures .1 ∙ f .1))) (ap (λ (l : List ℕ). getD l 1 0) (sym (w .within .ensures .1 ∙ f .1))))
+    told-at _ 1 (near-of s) (now (a .coords)) (a .s) (tells-alone _ (places s) (count-is (c .before) ∙ c .if1 .taken) (own-in s))
 
 returns-2 : tie.Need-returns-2
 returns-2 c = tells-nothing _ _
 
-returns-3 : tie.Need-returns-3
-returns-3 c = tells-nothing _ _
+mul-note-two : tie.Need-mul-note-two
+mul-note-two c = search needs
 
-returns-4 : tie.Need-returns-4
-returns-4 c = tells-nothing _ _
+shared-slice-read-note-two : tie.Need-shared-slice-read-note-two
+shared-slice-read-note-two c = search needs
+
+note-two-requires : tie.Need-note-two-requires
+note-two-requires c κs =
+    let n = c .before .before .before in
+    (start-of n .pre .0 .0, count-is n ∙ c .before .if2 .left)
+
+returns-3 : tie.Need-returns-3
+returns-3 c =
+    let s = start-of (c .before .before .before .before) in
+    let a = s .args in
+    told-at _ _ (near-of s) (now (a .coords)) (a .s) (c .note-two .ensures)
 
 pub note-at-spec : {M : Type 1} → statement M
 note-at-spec =
     tie.close
     (tie.spec
-    mul-own
-    shared-slice-read-own
     mul-qx
     mul-qx-2
     shared-slice-read-qx
@@ -107,16 +105,10 @@ note-at-spec =
     add-qy
     mul-qy-2
     shared-slice-read-qy
-    slice-aggregate-within
-    within-requires
-    enum-known-k
-    array-read-note-of
-    array-read-note-of-2
-    note-of-requires
-    enum-told
-    enum-known-k-2
-    enum-told-2
+    count-near-requires
     returns
     returns-2
-    returns-3
-    returns-4)
+    mul-note-two
+    shared-slice-read-note-two
+    note-two-requires
+    returns-3)

@@ -1,6 +1,5 @@
 -- `zoom::note_of` meets its contract. Assumes nothing.
-use mathlib.Core.Path.{_∙_}
-use Rattle.zoom.specs.Notes.{tells-nothing, tells-alone, tells-before, tells-behind}
+use Rattle.zoom.specs.Notes.{tells-nothing, tells-before, tells-behind}
 use borrow.Author.Needs.{needs}
 use Rattle.zoom.proofs.note_of.Statement.{statement}
 use Rattle.zoom.proofs.note_of.Tie as tie
@@ -8,16 +7,7 @@ use Rattle.zoom.proofs.note_of.Reads as reads
 use Rattle.zoom.proofs.note_of.Lts as lts
 
 returns : tie.Need-returns
-returns c = λ l rest h e f. tells-alone (c .before .before .args .own) l rest (c .before .before .args .first) (h ∙ c .before .if1 .taken) e (c .if2 .taken)
-
-returns-2 : tie.Need-returns-2
-returns-2 c = λ l rest h e f. tells-nothing _ l
-
-returns-3 : tie.Need-returns-3
-returns-3 c = λ l rest h e f. tells-nothing _ l
-
-returns-4 : tie.Need-returns-4
-returns-4 c = λ l rest h e f. tells-nothing _ l
+returns c = λ l rest h e f. tells-nothing _ l
 
 mul-result : tie.Need-mul-result
 mul-result c = search needs
@@ -25,16 +15,16 @@ mul-result c = search needs
 add-result : tie.Need-add-result
 add-result c = search needs
 
-returns-5 : tie.Need-returns-5
-returns-5 c =
-    let a = c .before .before .before .before .args in
-    λ l rest h e f. tells-before (a .own) l rest (a .first) (a .second) (h ∙ c .before .before .if3 .left) e f (c .before .if4 .taken)
+returns-2 : tie.Need-returns-2
+returns-2 c =
+    let a = c .before .before .args in
+    λ l rest h e f. tells-before (a .own) l rest (a .first) (a .second) h e f (c .before .if1 .taken)
 
-returns-6 : tie.Need-returns-6
-returns-6 c = λ l rest h e f. tells-nothing _ l
+returns-3 : tie.Need-returns-3
+returns-3 c = λ l rest h e f. tells-nothing _ l
 
-returns-7 : tie.Need-returns-7
-returns-7 c = λ l rest h e f. tells-nothing _ l
+returns-4 : tie.Need-returns-4
+returns-4 c = λ l rest h e f. tells-nothing _ l
 
 mul-result-2 : tie.Need-mul-result-2
 mul-result-2 c = search needs
@@ -42,24 +32,21 @@ mul-result-2 c = search needs
 add-result-2 : tie.Need-add-result-2
 add-result-2 c = search needs
 
-returns-8 : tie.Need-returns-8
-returns-8 c =
-    let a = c .before .before .before .before .before .args in
-    λ l rest h e f. tells-behind (a .own) l rest (a .first) (a .second) (h ∙ c .before .before .before .if3 .left) e f (c .before .if6 .left)
+returns-5 : tie.Need-returns-5
+returns-5 c =
+    let a = c .before .before .before .args in
+    λ l rest h e f. tells-behind (a .own) l rest (a .first) (a .second) h e f (c .before .if3 .left)
 
 pub note-of-spec : {M : Type 1} → statement M
 note-of-spec =
     tie.close
     (tie.spec
     returns
+    mul-result
+    add-result
     returns-2
     returns-3
     returns-4
-    mul-result
-    add-result
-    returns-5
-    returns-6
-    returns-7
     mul-result-2
     add-result-2
-    returns-8)
+    returns-5)
