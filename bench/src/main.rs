@@ -19,17 +19,25 @@ pub struct Size {
     pub rounds: usize,
     /// By what the number of queries in a measurement is divided.
     pub fewer: usize,
-    /// Of the builds of the tables: how many points, and how many rounds.
+    /// Of the builds of the tables: how many points, and how many rounds; and of points that are all close to each other.
     pub loads: &'static [[usize; 2]],
+    pub crowded: [usize; 2],
 }
 
 const WHOLE: Size = Size {
     points: 1_000_000,
     rounds: 11,
     fewer: 1,
-    loads: &[[10_000, 11], [100_000, 7], [1_000_000, 5]],
+    loads: &[[1_000, 41], [10_000, 11], [100_000, 7], [1_000_000, 5]],
+    crowded: [100_000, 11],
 };
-const QUICK: Size = Size { points: 100_000, rounds: 5, fewer: 10, loads: &[[10_000, 5]] };
+const QUICK: Size = Size {
+    points: 100_000,
+    rounds: 5,
+    fewer: 10,
+    loads: &[[1_000, 5], [10_000, 5]],
+    crowded: [10_000, 5],
+};
 
 fn main() -> ExitCode {
     let words: Vec<String> = env::args().skip(1).collect();

@@ -47,7 +47,7 @@ own-in c =
     omega (arith, e, owned-in (a .node-size) (a .len) (now (a .ids)) (now (a .coords)) (a .r) (s .pre .0 .0) (s .pre .1) (i .before .loop .s) (i .loop-test .taken))
 
 forget-requires : tie.Need-forget-requires Inv-loop μ-loop
-forget-requires c κs = let p = c .before .before .before .before .pre .0 in (p .1, p .2, p .3)
+forget-requires c κs = let p = c .before .before .before .before .pre .0 in (omega (arith, p .1), p .2, omega (arith, p .3))
 
 mul-left : tie.Need-mul-left Inv-loop μ-loop
 mul-left c = let p = c .before .before .before .before .before .before .before .pre .0 in omega (arith, p .3)
