@@ -10,7 +10,7 @@ use crate::{
 use builds::Row;
 use options::{Options, USUAL};
 use ported::{Columns, State, ZOOMS};
-use std::cell::Cell;
+use std::{cell::Cell, iter};
 
 /// The two sides, whose memory is measured too.
 const PORT: &str = "port";
@@ -36,7 +36,8 @@ pub fn run(size: &Size) -> Result<(), String> {
     table::head("entries");
     let mut took = Vec::new();
     for shape in SHAPES {
-        let of_shape = size.loads.iter().map(|[count, rounds]| times(shape, *count, *rounds));
+        let loads = iter::once(&size.small).chain(size.loads);
+        let of_shape = loads.map(|[count, rounds]| times(shape, *count, *rounds));
         took.push((shape, of_shape.collect::<Result<Vec<Took>, String>>()?));
     }
     let [count, rounds] = size.crowded;
@@ -46,14 +47,10 @@ pub fn run(size: &Size) -> Result<(), String> {
     println!();
     table::memory_head();
     for shape in SHAPES {
-        let mut counts = size.loads.iter().map(|load| load[0]).filter(|count| *count >= PEAKS_FROM);
-        counts.try_for_each(|count| peaks(shape, count))?;
+        size.loads.iter().try_for_each(|[count, _]| peaks(shape, *count))?;
     }
     Ok(())
 }
-
-/// With fewer points the memory of the program itself outweighs that of the tables.
-const PEAKS_FROM: usize = 10_000;
 
 /// How the time grows with the points: what one of them takes of a load, and one entry of the tables.
 fn growth(took: &[(Shape, Vec<Took>)]) {
