@@ -1,14 +1,14 @@
 -- How a count of answered slots goes on: slot by slot, and from the median to the right part and the left. Assumes nothing.
 use mathlib.Core.Bool.{Bool, true, false}
 use mathlib.Core.Path.{_≡_, refl, sym, ap, _∙_}
-use mathlib.Core.List.{List, [], _∷_, _++_}
+use mathlib.Core.List.{[], _∷_, _++_}
 use Prim.Native.Nat.{ℕ, _+_, _-_, _≤_, _<_}
 use native.Mathlib.Nat.{le-refl}
 use native.Mathlib.Omega.{arith}
 use mir.Val.{boolByte}
 use lib.ListN.{length, length-append}
 use Rattle.kdsort.specs.Shape.{shape, mid, spans}
-use Rattle.kdslots.specs.Slots.{Search, when, scanned, slots, below}
+use Rattle.kdslots.specs.Slots.{Search, when, scanned, slots}
 use Rattle.kdslots.specs.Intervals.{scanned-suc, slots-leaf, slots-node, when-length, slots-length}
 
 -- one slot counts one or nothing

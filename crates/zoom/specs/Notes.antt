@@ -17,8 +17,7 @@ use Rattle.kdslots.specs.declared.Query.the-variants.{Within}
 use Rattle.kdslots.specs.Query.{queryOk}
 use Rattle.kdslots.specs.All.{All, AllBelow}
 use Rattle.kdslots.specs.Members.{In}
-use Rattle.kdbush.specs.declared.SearchReply.{SearchReply}
-use Rattle.kdbush.specs.declared.SearchReply.the-variants.{Found, Box, NoRoom, Spoiled}
+use Rattle.kdbush.specs.declared.SearchReply.the-variants.{Found, Box, NoRoom}
 use Rattle.kdbush.specs.Reply.{found, listed, listedColumn, searched, columnAfter, searchNumber, searchCarried}
 use Rattle.kdbush.specs.Promise.{Promised, all-whole, all-sound}
 use Rattle.tables.specs.declared.Entry.{Entry}

@@ -1,6 +1,6 @@
 -- `zoom::count_part` meets its contract: a leaf is counted slot by slot; a node is its median, its right part and its left, each if it is searched. The
 -- measure is the interval's length. Assumes nothing.
-use mathlib.Core.Path.{_≡_, sym, ap, _∙_}
+use mathlib.Core.Path.{ap, _∙_}
 use mathlib.Core.Bool.{Bool}
 use Prim.Native.Nat.{ℕ, _+_, _-_, _<_, _≤_}
 use native.Mathlib.Omega.{arith}

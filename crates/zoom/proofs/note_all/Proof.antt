@@ -1,7 +1,7 @@
 -- `zoom::note_all` meets its contract: at the head of the loop every note that there is, is the answer at its entry. Assumes nothing.
-use mathlib.Core.Path.{_≡_, ap, sym, _∙_, subst, refl}
+use mathlib.Core.Path.{_≡_, refl, _∙_}
 use mathlib.Core.List.{List}
-use Prim.Native.Nat.{ℕ, _+_, _-_, _*_, _<_, _≤_}
+use Prim.Native.Nat.{ℕ, _+_, _-_, _<_, _≤_}
 use native.Mathlib.Omega.{arith}
 use lib.ListN.{length, getD, set, length-set}
 use lib.Ieee.{Float}
