@@ -4,19 +4,27 @@ use crate::{
     clock::timed,
     memory::{self, Peak},
     points::{Points, Shape, SHAPES},
-    rounds::{measured, Found, Side},
+    rounds::{measured, median, Found, Side},
     table, Size,
 };
 use builds::Row;
 use options::{Options, USUAL};
 use ported::{Columns, State, ZOOMS};
-use std::cell::Cell;
+use std::{cell::Cell, iter};
 
 /// The two sides, whose memory is measured too.
 const PORT: &str = "port";
 const UNTOUCHED: &str = "untouched";
 
-/// Both tables; or what differed.
+/// How long a load of so many points took.
+struct Took {
+    count: usize,
+    entries: usize,
+    port: u64,
+    untouched: u64,
+}
+
+/// All three tables; or what differed.
 pub fn run(size: &Size) -> Result<(), String> {
     let Options { min_zoom, max_zoom, min_points, radius, extent, node_size, .. } = USUAL;
     println!();
@@ -26,9 +34,16 @@ pub fn run(size: &Size) -> Result<(), String> {
     );
     println!();
     table::head("entries");
+    let mut took = Vec::new();
     for shape in SHAPES {
-        size.loads.iter().try_for_each(|[count, rounds]| times(shape, *count, *rounds))?;
+        let loads = iter::once(&size.small).chain(size.loads);
+        let of_shape = loads.map(|[count, rounds]| times(shape, *count, *rounds));
+        took.push((shape, of_shape.collect::<Result<Vec<Took>, String>>()?));
     }
+    let [count, rounds] = size.crowded;
+    times(Shape::Crowded, count, rounds)?;
+    println!();
+    growth(&took);
     println!();
     table::memory_head();
     for shape in SHAPES {
@@ -37,11 +52,25 @@ pub fn run(size: &Size) -> Result<(), String> {
     Ok(())
 }
 
+/// How the time grows with the points: what one of them takes of a load, and one entry of the tables.
+fn growth(took: &[(Shape, Vec<Took>)]) {
+    let counts: Vec<usize> = took[0].1.iter().map(|took| took.count).collect();
+    table::growth_head("a load, for each of its points", &counts);
+    for (shape, took) in took {
+        let row = |what: &str, share: &dyn Fn(&Took) -> f64| {
+            table::growth_line(&format!("{}, {what}", shape.name()), took.iter().map(share));
+        };
+        row(PORT, &|took| took.port as f64 / took.count as f64);
+        row(UNTOUCHED, &|took| took.untouched as f64 / took.count as f64);
+        row("port, for each entry", &|took| took.port as f64 / took.entries as f64);
+    }
+}
+
 /// Up to so many points the patched Rust is measured too.
 const PATCHED_UP_TO: usize = 100_000;
 
 /// One line: so many points loaded by both sides, and by the patched Rust where there are not too many.
-fn times(shape: Shape, count: usize, rounds: usize) -> Result<(), String> {
+fn times(shape: Shape, count: usize, rounds: usize) -> Result<Took, String> {
     let what = named(shape, count);
     let points = shape.points(count);
     let entries = Cell::new(0);
@@ -54,7 +83,8 @@ fn times(shape: Shape, count: usize, rounds: usize) -> Result<(), String> {
     }
     let measured = measured(rounds, &mut sides).map_err(|why| format!("{what}: {why}"))?;
     table::line(&what, &entries.get().to_string(), 1, &measured.times);
-    Ok(())
+    let [port, untouched] = [0, 1].map(|side| median(&measured.times[side]));
+    Ok(Took { count, entries: entries.get(), port, untouched })
 }
 
 /// In words: `load, uniform, 10000`.

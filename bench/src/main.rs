@@ -21,6 +21,9 @@ pub struct Size {
     pub fewer: usize,
     /// Of the builds of the tables: how many points, and how many rounds.
     pub loads: &'static [[usize; 2]],
+    /// Of two more that are loaded and not asked: a small one, and one of points that are all close to each other.
+    pub small: [usize; 2],
+    pub crowded: [usize; 2],
 }
 
 const WHOLE: Size = Size {
@@ -28,8 +31,17 @@ const WHOLE: Size = Size {
     rounds: 11,
     fewer: 1,
     loads: &[[10_000, 11], [100_000, 7], [1_000_000, 5]],
+    small: [1_000, 41],
+    crowded: [100_000, 11],
 };
-const QUICK: Size = Size { points: 100_000, rounds: 5, fewer: 10, loads: &[[10_000, 5]] };
+const QUICK: Size = Size {
+    points: 100_000,
+    rounds: 5,
+    fewer: 10,
+    loads: &[[10_000, 5]],
+    small: [1_000, 5],
+    crowded: [10_000, 5],
+};
 
 fn main() -> ExitCode {
     let words: Vec<String> = env::args().skip(1).collect();

@@ -13,8 +13,11 @@ pub struct Points {
 pub enum Shape {
     Uniform,
     Clustered,
+    /// All within one radius of each other, at every zoom of a load.
+    Crowded,
 }
 
+/// The shapes that are loaded at every size.
 pub const SHAPES: [Shape; 2] = [Shape::Uniform, Shape::Clustered];
 
 impl Shape {
@@ -22,6 +25,7 @@ impl Shape {
         match self {
             Shape::Uniform => "uniform",
             Shape::Clustered => "clustered",
+            Shape::Crowded => "crowded",
         }
     }
 
@@ -31,6 +35,7 @@ impl Shape {
         match self {
             Shape::Uniform => uniform(count, &mut source),
             Shape::Clustered => clustered(count, &mut source),
+            Shape::Crowded => crowded(count, &mut source),
         }
     }
 }
@@ -54,6 +59,13 @@ pub fn clustered(count: usize, source: &mut Splitmix) -> Points {
         points.ys.push(near(centres.ys[centre]));
     }
     points
+}
+
+/// Points in a square of a side of 2^-21: the radius of zoom 16 is 40 / (512 * 2^16), more than its diagonal.
+fn crowded(count: usize, source: &mut Splitmix) -> Points {
+    let Points { xs, ys } = uniform(count, source);
+    let drawn = |column: Vec<f64>| column.into_iter().map(|at| 0.5 + at / 2_097_152.0).collect();
+    Points { xs: drawn(xs), ys: drawn(ys) }
 }
 
 /// The same points in order of x.

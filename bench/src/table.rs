@@ -79,6 +79,19 @@ fn shown(nanoseconds: f64) -> String {
     }
 }
 
+/// The head of a table that follows a time along sizes.
+pub fn growth_head(what: &str, counts: &[usize]) {
+    let counts: String = counts.iter().map(|count| format!(" {count} |")).collect();
+    println!("| {what} |{counts}");
+    println!("|---|{}", "---|".repeat(counts.matches('|').count()));
+}
+
+/// One line of it: a time for each size.
+pub fn growth_line(what: &str, times: impl Iterator<Item = f64>) {
+    let times: String = times.map(|time| format!(" {} |", shown(time))).collect();
+    println!("| {what} |{times}");
+}
+
 /// The head of the table of memory: of the whole process, and what the work added to what was there before.
 pub fn memory_head() {
     println!(

@@ -48,7 +48,7 @@ use Rattle.supercluster.specs.Build.{Lent, need}
 use Rattle.supercluster.specs.Load.{Holds}
 use Rattle.supercluster.specs.Ready.{Accepted}
 use Rattle.builds.specs.Came.{tableAt as built}
-use Rattle.builds.specs.OwnPlace.{index-of}
+use Rattle.zooms.specs.OwnPlace.{index-of}
 use Rattle.builds.specs.RightAt.{right-at}
 use Rattle.answers.specs.Stored.{stateBy, columnsBy, long-is, state-sound, ids-are, coords-are}
 

@@ -3,7 +3,6 @@
 -- a build, the last of each file. All else is laws, in the order in which they rest on each other.
 pub mod Came
 pub mod RightAt
-pub mod OwnPlace
 pub mod Steps
 pub mod GroupsOfBuild
 pub mod Places

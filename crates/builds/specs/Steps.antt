@@ -27,7 +27,7 @@ use Rattle.groups.specs.OneZoom.{Copied, Joined, Fits, OneZoom}
 use Rattle.groups.specs.Fits.{one-zoom}
 use Rattle.zooms.specs.Zooms.{Plan, nearIn, zoomed}
 use Rattle.zooms.specs.Running.{Able, total-some, slots-promised}
-use Rattle.builds.specs.OwnPlace.{own-answered}
+use Rattle.zooms.specs.OwnPlace.{own-answered}
 
 -- what the zoom z answers around a place of the table t
 abbrev pub nearAt : Plan → ℕ → Table → Float → Float → List ℕ

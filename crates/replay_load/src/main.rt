@@ -4,7 +4,7 @@
 //     longitude_strips_only, as `stored` reads these,
 //     n, n times `x y`, m, m times `x y seen id parent num slot_id slot_x slot_y`, `start len` for each zoom from min_zoom to max_zoom + 1
 // The n points are built in columns that are filled with old contents. Expected are the m entries of all tables, the slots of their indexes
-// at the same positions, zeros in the first n of `near`, the old contents past all of these, and in the state the options, n, and zeros as start and
+// at the same positions, zeros in the first 2n of `near`, the old contents past all of these, and in the state the options, n, and zeros as start and
 // length of the other zooms.
 // n goes to 64, and the tables to 1152 entries in all; a case beyond is not of the form, nor is one with a max_zoom that is past 30 or below min_zoom.
 // Proved: nothing here reads or writes outside its columns, the verdict of a case is the equation `loadsTo` of specs/, and the tally is right.
@@ -494,7 +494,7 @@ fn replay_state(
     if !read_tables(min_zoom, max_zoom, &mut starts, &mut lens) {
         return Verdict::Malformed;
     }
-    clear(xs.len(), &mut near);
+    clear(xs.len() + xs.len(), &mut near);
     replay_load(
         o,
         xs,

@@ -58,7 +58,7 @@ pub record Lent : Type 0 where
 abbrev pub lent : List Float → List Float → List ℕ → List ℕ → List ℕ → List ℕ → List ℕ → List Float → List ℕ → Lent
 lent x y s i p n d c r = record { x = x; y = y; seen = s; id = i; parent = p; num = n; ids = d; coords = c; near = r }
 
--- the columns after a build of n points: the packed tables, their indexes, zeros in the first n of `near`, and past them the old contents
+-- the columns after a build of n points: the packed tables, their indexes, zeros in the first 2n of `near`, and past them the old contents
 unfoldable pub written : ℕ → ℕ → List Table → Lent → Lent
 written size n ts l =
     let t = joined ts in
@@ -71,7 +71,7 @@ written size n ts l =
       num = over (numsOf t) (l .num);
       ids = over (joinedIds size ts) (l .ids);
       coords = over (joinedCo size ts) (l .coords);
-      near = over (replicate n 0) (l .near);
+      near = over (replicate (n + n) 0) (l .near);
     }
 
 -- the state: the tables from max_zoom + 1 down, packed from 0

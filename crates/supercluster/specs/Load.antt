@@ -3,7 +3,7 @@
 use mathlib.Core.Path.{_≡_, refl, ap, sym, _∙_}
 use mathlib.Core.Bool.{true}
 use mathlib.Core.List.{List, _++_, map}
-use Prim.Native.Nat.{ℕ, _*_, _≤_}
+use Prim.Native.Nat.{ℕ, _+_, _*_, _≤_}
 use native.Mathlib.Omega.{arith}
 use borrow.Author.Tests.{leb-true, eqb-true}
 use lib.Dec.{leb, eqb}
@@ -117,12 +117,12 @@ fronts-even m n l h =
     }
 
 module _ (o : Options) (xs ys : List Float) (m : ℕ) (l l′ : Lent) (s : State) (h : Holds m l)
-    (v : EvenIn (fronts m (length xs) l)) (v′ : EvenIn l′) (k : length (l′ .x) ≡ m) (kd : length (l′ .ids) ≡ m) (kc : length (l′ .coords) ≡ m * 2)
-    (g : Made o xs ys s (rowsIn (fronts m (length xs) l)) (rowsIn l′) (take m (l .ids)) (l′ .ids) (take (m * 2) (l .coords)) (l′ .coords) (l′ .near)) where
-  pub whole : rejoined m (length xs) l′ l ≡ written (o .«node_size») (length xs) (tablesOf o xs ys) l
+    (v : EvenIn (fronts m (length xs + length xs) l)) (v′ : EvenIn l′) (k : length (l′ .x) ≡ m) (kd : length (l′ .ids) ≡ m) (kc : length (l′ .coords) ≡ m * 2)
+    (g : Made o xs ys s (rowsIn (fronts m (length xs + length xs) l)) (rowsIn l′) (take m (l .ids)) (l′ .ids) (take (m * 2) (l .coords)) (l′ .coords) (l′ .near)) where
+  pub whole : rejoined m (length xs + length xs) l′ l ≡ written (o .«node_size») (length xs) (tablesOf o xs ys) l
   unfolding written
   whole =
-      let f = fronts m (length xs) l in
+      let f = fronts m (length xs + length xs) l in
       let T = joined (tablesOf o xs ys) in
       let ex = col (λ e. e .x) T (rowsIn f) (rowsIn l′) (f .x) (l′ .x) (l .x) m (g .of-rows) (xs-rows (l′ .x) (l′ .y) (l′ .seen) (l′ .id) (l′ .parent) (l′ .num)) (xs-rows (f .x) (f .y) (f .seen) (f .id) (f .parent) (f .num)) refl (h .hx) k in
       let ey = col (λ e. e .y) T (rowsIn f) (rowsIn l′) (f .y) (l′ .y) (l .y) m (g .of-rows) (ys-rows (l′ .x) (l′ .y) (l′ .seen) (l′ .id) (l′ .parent) (l′ .num) (v′ .ey)) (ys-rows (f .x) (f .y) (f .seen) (f .id) (f .parent) (f .num) (v .ey)) refl (h .hy) (v′ .ey ∙ k) in
@@ -132,8 +132,9 @@ module _ (o : Options) (xs ys : List Float) (m : ℕ) (l l′ : Lent) (s : State
       let en = col (λ e. e .num) T (rowsIn f) (rowsIn l′) (f .num) (l′ .num) (l .num) m (g .of-rows) (num-rows (l′ .x) (l′ .y) (l′ .seen) (l′ .id) (l′ .parent) (l′ .num) (v′ .en)) (num-rows (f .x) (f .y) (f .seen) (f .id) (f .parent) (f .num) (v .en)) refl (h .hn) (v′ .en ∙ k) in
       let ed = cut-over (joinedIds (o .«node_size») (tablesOf o xs ys)) (l .ids) (l′ .ids) m (h .hd) (g .of-ids) kd in
       let ec = cut-over (joinedCo (o .«node_size») (tablesOf o xs ys)) (l .coords) (l′ .coords) (m * 2) (h .hc) (g .of-co) kc in
-      let er : l′ .near ++ drop (length xs) (l .near) ≡ over (replicate (length xs) 0) (l .near) =
-      ap (λ (q : List ℕ). q ++ drop (length xs) (l .near)) (g .of-near) ∙ ap (λ (q : ℕ). replicate (length xs) 0 ++ drop q (l .near)) (sym (length-replicate {A = ℕ} (length xs) 0)) in
+      let two = length xs + length xs in
+      let er : l′ .near ++ drop two (l .near) ≡ over (replicate two 0) (l .near) =
+      ap (λ (q : List ℕ). q ++ drop two (l .near)) (g .of-near) ∙ ap (λ (q : ℕ). replicate two 0 ++ drop q (l .near)) (sym (length-replicate {A = ℕ} two 0)) in
       λ i. record { x = ex i; y = ey i; seen = es i; id = ei i; parent = ep i; num = en i; ids = ed i; coords = ec i; near = er i }
 
 -- ---- what `load` leaves, by its reply

@@ -42,7 +42,7 @@ pub record Made (o : Options) (xs ys : List Float) (s : State) (r r′ : Table) 
   pub of-rows : r′ ≡ over (joined (tablesOf o xs ys)) r
   pub of-ids : ids′ ≡ over (joinedIds (o .«node_size») (tablesOf o xs ys)) ids
   pub of-co : co′ ≡ over (joinedCo (o .«node_size») (tablesOf o xs ys)) co
-  pub of-near : near′ ≡ replicate (length xs) 0
+  pub of-near : near′ ≡ replicate (length xs + length xs) 0
 
 -- the state before the first zoom: the finest table alone
 abbrev pub firstState : Options → ℕ → State
@@ -58,6 +58,14 @@ pub need-some : (o : Options) (n : ℕ) → o .«min_zoom» ≤ o .«max_zoom» 
 need-some o n h =
     let e : o .«max_zoom» - o .«min_zoom» + 2 ≡ suc (zoomsOf o) = omega arith in
     ap (λ (q : ℕ). q * n) e ∙ suc-mul (zoomsOf o) n ∙ (let k : zoomsOf o * n + n ≡ n + zoomsOf o * n = omega arith in k)
+
+-- two of the columns' parts, a list of places and the notes beside it, fit in one column
+pub need-two : (o : Options) (n : ℕ) → o .«min_zoom» ≤ o .«max_zoom» → n + n ≤ need o n
+need-two o n h =
+    let k = o .«max_zoom» - o .«min_zoom» in
+    let e : zoomsOf o ≡ suc k = omega arith in
+    let q : zoomsOf o * n ≡ k * n + n = ap (λ (j : ℕ). j * n) e ∙ suc-mul k n in
+    omega (arith, need-some o n h, q)
 
 pub able : (o : Options) (xs ys : List Float) → Accepted o xs ys → Able (planOf o (length xs))
 able o xs ys a =
@@ -194,11 +202,11 @@ module _ (o : Options) (xs ys : List Float) (a : Accepted o xs ys) where
           ∙ ap (λ (q : List Table). lens Z q (replicate 32 0)) runs in
           λ i. record { options = f .of-options i; count = f .of-count i; starts = a3 i; lens = a4 i }
 
-      made : (near′ : List ℕ) → near′ ≡ replicate (length xs) 0 → Made o xs ys s′ R t′ ids₀ ids′ co₀ co′ near′
+      made : (near′ : List ℕ) → near′ ≡ replicate (length xs + length xs) 0 → Made o xs ys s′ R t′ ids₀ ids′ co₀ co′ near′
       made near′ e = record { of-state = state-built; of-rows = rows-built; of-ids = ids-built; of-co = co-built; of-near = e }
 
     pub made-at : (s s′ : State) (t′ : Table) (ids′ : List ℕ) (co′ : List Float) (near′ : List ℕ) → s ≡ firstState o (length xs)
-        → Finished (planOf (s .options) (length xs)) (zoomsOf (s .options)) s s′ (part 0 (length xs) t) t t′ ids ids′ co co′ → near′ ≡ replicate (length xs) 0
+        → Finished (planOf (s .options) (length xs)) (zoomsOf (s .options)) s s′ (part 0 (length xs) t) t t′ ids ids′ co co′ → near′ ≡ replicate (length xs + length xs) 0
         → Made o xs ys s′ R t′ ids₀ ids′ co₀ co′ near′
     made-at s s′ t′ ids′ co′ near′ e f =
         made s′ t′ ids′ co′

@@ -9,7 +9,7 @@ use tables::Options;
 use tables::State;
 ghost use mathlib.Core.Path.{_≡_};
 ghost use mathlib.Core.List.{map};
-ghost use Prim.Native.Nat.{_*_, _≤_};
+ghost use Prim.Native.Nat.{_+_, _*_, _≤_};
 ghost use lib.ListN.{length, replicate};
 ghost use Rattle.kdbush.specs.Reply.{pairOk, firstOutside, inOrder};
 ghost use Rattle.tables.specs.Rows.{rows, Even};
@@ -62,13 +62,15 @@ fn fill(
     }
 }
 
-// Zeros.
+// Zeros. What is zero already is not written, so that memory that was lent and never written to is not taken up.
 fn clear(a: &mut [u32])
     ensures { λ _. ⌜ now (a .exit) ≡ replicate (length (now (a .entry))) 0 ⌝ }
 {
     let mut i = 0;
     while i < a.len() {
-        a[i] = 0;
+        if a[i] != 0 {
+            a[i] = 0;
+        }
         i += 1;
     }
 }
@@ -90,7 +92,7 @@ fn build_in(
 ) -> State
     requires { ⌜ Even (now x) (now y) (now seen) (now id) (now parent) (now num) ⌝ }
     requires { ⌜ Accepted o (now xs) (now ys) ⌝ }
-    requires { ⌜ (length (now x) ≡ need o (length (now xs))) × (length (now ids) ≡ need o (length (now xs))) × (length (now coords) ≡ need o (length (now xs)) * 2) × (length (now near) ≡ length (now xs)) ⌝ }
+    requires { ⌜ (length (now x) ≡ need o (length (now xs))) × (length (now ids) ≡ need o (length (now xs))) × (length (now coords) ≡ need o (length (now xs)) * 2) × (length (now near) ≡ length (now xs) + length (now xs)) ⌝ }
     ensures { λ s. ⌜ Made o (now (xs .entry)) (now (ys .entry)) s
         (rows (now (x .entry)) (now (y .entry)) (now (seen .entry)) (now (id .entry)) (now (parent .entry)) (now (num .entry)))
         (rows (now (x .exit)) (now (y .exit)) (now (seen .exit)) (now (id .exit)) (now (parent .exit)) (now (num .exit)))
@@ -130,6 +132,7 @@ fn build_all(
         ≡ written (o .«node_size») (length (now (xs .entry))) (tablesOf o (now (xs .entry)) (now (ys .entry))) (lent (now (x .entry)) (now (y .entry)) (now (seen .entry)) (now (id .entry)) (now (parent .entry)) (now (num .entry)) (now (ids .entry)) (now (coords .entry)) (now (near .entry)))) ⌝ }
 {
     let n = xs.len();
+    let w = n + n;
     let m = o.table_count() * n;
     let c = m * 2;
     build_in(
@@ -144,7 +147,7 @@ fn build_all(
         &mut num[..m],
         &mut ids[..m],
         &mut coords[..c],
-        &mut near[..n],
+        &mut near[..w],
     )
 }
 

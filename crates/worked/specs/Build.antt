@@ -60,7 +60,7 @@ after l =
       num = 1 ∷ 1 ∷ 1 ∷ 1 ∷ 2 ∷ 2 ∷ 4 ∷ drop 7 (l .num);
       ids = 0 ∷ 1 ∷ 2 ∷ 3 ∷ 0 ∷ 1 ∷ 0 ∷ drop 7 (l .ids);
       coords = p ∷ h ∷ q ∷ h ∷ r ∷ h ∷ r ∷ h ∷ u ∷ h ∷ r ∷ h ∷ v ∷ h ∷ drop 14 (l .coords);
-      near = 0 ∷ 0 ∷ 0 ∷ 0 ∷ drop 4 (l .near);
+      near = 0 ∷ 0 ∷ 0 ∷ 0 ∷ 0 ∷ 0 ∷ 0 ∷ 0 ∷ drop 8 (l .near);
     }
 
 -- and as a question is lent them

@@ -1,4 +1,4 @@
--- Definitions that contracts cite: Zoom, Scanned, Near. All else is laws.
+-- Definitions that contracts cite: Zoom, Scanned, Near, Notes (which has laws too). All else is laws.
 pub mod Zoom
 pub mod Scanned
 pub mod Near
@@ -12,3 +12,4 @@ pub mod Fewer
 pub mod Scanning
 pub mod Lamps
 pub mod Sound
+pub mod Notes

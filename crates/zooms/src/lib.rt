@@ -12,6 +12,7 @@ ghost use Rattle.tables.specs.Columns.{part};
 ghost use Rattle.zoom.specs.Zoom.{cluster};
 ghost use Rattle.zoom.specs.Scanned.{unseenNum};
 ghost use Rattle.zoom.specs.Near.{nearOf, Placed, Radius};
+ghost use Rattle.zoom.specs.Notes.{Owned, Slotted};
 ghost use Rattle.zooms.specs.Zooms.{indexOf, planOf, zoomsOf};
 ghost use Rattle.zooms.specs.Parts.{Inside, putAt};
 ghost use Rattle.zooms.specs.Step.{Stepped};
@@ -38,10 +39,11 @@ fn zoom_step(
 ) -> usize
     requires { ⌜ Even (now x) (now y) (now seen) (now id) (now parent) (now num) ⌝ }
     requires { ⌜ Promised (o .«node_size») len (part start len (now ids)) (part (start * 2) (len * 2) (now coords)) × Radius r ⌝ }
-    requires { ⌜ All Placed (take len (drop start (rows (now x) (now y) (now seen) (now id) (now parent) (now num)))) ⌝ }
-    requires { ⌜ (start + len ≤ length (now ids)) × ((start + len) * 2 ≤ length (now coords)) × (len ≤ length (now near)) × (start + len + len ≤ length (now x)) ⌝ }
+    requires { ⌜ All Placed (take len (drop start (rows (now x) (now y) (now seen) (now id) (now parent) (now num)))) × Slotted len (part start len (now ids)) (part (start * 2) (len * 2) (now coords)) (take len (drop start (rows (now x) (now y) (now seen) (now id) (now parent) (now num)))) ⌝ }
+    requires { ⌜ Owned len (nearOf (o .«node_size») len (part start len (now ids)) (part (start * 2) (len * 2) (now coords)) r) (part start len (now ids)) (part (start * 2) (len * 2) (now coords)) ⌝ }
+    requires { ⌜ (start + len ≤ length (now ids)) × ((start + len) * 2 ≤ length (now coords)) × (n + len ≤ length (now near)) × (start + len + len ≤ length (now x)) ⌝ }
     requires { ⌜ unseenNum z (take len (drop start (rows (now x) (now y) (now seen) (now id) (now parent) (now num)))) < 2 ^ 32 ⌝ }
-    requires { ⌜ (start ≤ 67108864) × (len ≤ 1048576) × (n ≤ 1048576) × (z ≤ 30) ⌝ }
+    requires { ⌜ (start ≤ 67108864) × (len ≤ n) × (n ≤ 1048576) × (z ≤ 30) ⌝ }
     ensures { λ d. ⌜ Stepped start len
         (cluster n (o .«min_points») z (nearOf (o .«node_size») len (part start len (now (ids .entry))) (part (start * 2) (len * 2) (now (coords .entry))) r)
         (take len (drop start (rows (now (x .entry)) (now (y .entry)) (now (seen .entry)) (now (id .entry)) (now (parent .entry)) (now (num .entry))))))
@@ -118,7 +120,7 @@ fn one_zoom(
     n: u32,
 ) -> usize
     requires { ⌜ Even (now x) (now y) (now seen) (now id) (now parent) (now num) ⌝ }
-    requires { ⌜ (n ≤ length (now near)) × (o .«min_zoom» ≤ z) ⌝ }
+    requires { ⌜ (n + n ≤ length (now near)) × (o .«min_zoom» ≤ z) ⌝ }
     requires { ⌜ Running (planOf o n) (length (now x)) (suc (z - o .«min_zoom»)) start len (rows (now x) (now y) (now seen) (now id) (now parent) (now num)) (now ids) (now coords) ⌝ }
     ensures { λ d. ⌜ Advanced (planOf o n) z start len d
         (rows (now (x .entry)) (now (y .entry)) (now (seen .entry)) (now (id .entry)) (now (parent .entry)) (now (num .entry)))
@@ -164,7 +166,7 @@ pub fn run_zooms(
     n: u32,
 ) -> State
     requires { ⌜ Even (now x) (now y) (now seen) (now id) (now parent) (now num) ⌝ }
-    requires { ⌜ (n ≤ length (now near)) × (s .options .«min_zoom» ≤ s .options .«max_zoom» + 1) ⌝ }
+    requires { ⌜ (n + n ≤ length (now near)) × (s .options .«min_zoom» ≤ s .options .«max_zoom» + 1) ⌝ }
     requires { ⌜ Running (planOf (s .options) n) (length (now x)) (zoomsOf (s .options)) 0 n (rows (now x) (now y) (now seen) (now id) (now parent) (now num)) (now ids) (now coords) ⌝ }
     requires { ⌜ (set (s .starts) (s .options .«max_zoom» + 1) 0 ≡ s .starts) × (set (s .lens) (s .options .«max_zoom» + 1) n ≡ s .lens) ⌝ }
     ensures { λ r. ⌜ Finished (planOf (s .options) n) (zoomsOf (s .options)) s r

@@ -15,6 +15,9 @@ read-tables-requires c κs = search needs
 returns : tie.Need-returns
 returns c = search needs
 
+add-clear : tie.Need-add-clear
+add-clear c = search needs
+
 slice-aggregate-clear : tie.Need-slice-aggregate-clear
 slice-aggregate-clear c = search needs
 
@@ -44,6 +47,7 @@ replay-state-spec =
     slice-aggregate-read-tables-2
     read-tables-requires
     returns
+    add-clear
     slice-aggregate-clear
     clear-requires
     slice-aggregate-replay-load

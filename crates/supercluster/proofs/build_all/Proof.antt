@@ -1,7 +1,7 @@
 -- `supercluster::build_all` meets its contract: the fronts of the columns just hold the build, and what `build_in` leaves in them, with what follows them, are
 -- the definition's columns. Assumes nothing.
 use mathlib.Core.Path.{_≡_, ap, sym, _∙_, subst}
-use Prim.Native.Nat.{ℕ, _*_, _≤_}
+use Prim.Native.Nat.{ℕ, _+_, _*_, _≤_}
 use native.Mathlib.Omega.{arith}
 use lib.ListN.{length}
 use lib.Seq.{length-take-le}
@@ -10,7 +10,7 @@ use Rattle.tables.specs.Bounds.{InBounds, options-are}
 use Rattle.tables.specs.Rows.{even-kept}
 use Rattle.supercluster.specs.Build.{Lent, lent, need}
 use Rattle.supercluster.specs.Over.{cut-long}
-use Rattle.supercluster.specs.Ready.{Accepted, need-few, need-some}
+use Rattle.supercluster.specs.Ready.{Accepted, need-few, need-two}
 use Rattle.supercluster.specs.Load.{Holds, EvenIn, fronts, fronts-even, whole}
 use Rattle.supercluster.proofs.build_all.Statement.{statement}
 use Rattle.supercluster.proofs.build_all.Tie as tie
@@ -29,8 +29,8 @@ accepted s = s .pre .0
 bounds : (s : tie.Start) → InBounds (s .args .o)
 bounds s = options-are (s .args .o) (accepted s .options)
 
-near-held : (s : tie.Start) → count s ≤ length (now (s .args .near))
-near-held s = omega (arith, need-some (s .args .o) (count s) (bounds s .zooms), s .pre .1 .hr)
+near-held : (s : tie.Start) → count s + count s ≤ length (now (s .args .near))
+near-held s = omega (arith, need-two (s .args .o) (count s) (bounds s .zooms), s .pre .1 .hr)
 
 -- ---- once the tables are counted
 
@@ -49,8 +49,8 @@ few w = let s = start-of w in rw (size-is w) (need-few (s .args .o) (now (s .arg
 held : (w : tie.After-table-count) → Holds (size w) (old (start-of w))
 held w = subst (λ (q : ℕ). Holds q (old (start-of w))) (sym (size-is w)) (start-of w .pre .1)
 
-even : (w : tie.After-table-count) → EvenIn (fronts (size w) (count (start-of w)) (old (start-of w)))
-even w = fronts-even (size w) (count (start-of w)) (old (start-of w)) (held w)
+even : (w : tie.After-table-count) → EvenIn (fronts (size w) (count (start-of w) + count (start-of w)) (old (start-of w)))
+even w = fronts-even (size w) (count (start-of w) + count (start-of w)) (old (start-of w)) (held w)
 
 -- ---- and once they are built
 
@@ -61,6 +61,9 @@ abbrev count-of : tie.After-build-in → tie.After-table-count
 count-of b = b .before .before .before .before .before .before .before .before .before .before
 
 -- ---- the parts
+
+add-w : tie.Need-add-w
+add-w c = omega (arith, accepted (c .before .before .before .before .before .before .before .before .before .before .before) .few)
 
 table-count-requires : tie.Need-table-count-requires
 table-count-requires c κs = bounds (c .before .before .before .before .before .before .before .before .before .before .before) .zooms
@@ -123,7 +126,7 @@ slice-relend-prefix-build-in-9 : tie.Need-slice-relend-prefix-build-in-9
 slice-relend-prefix-build-in-9 c = near-held (start-of (c .before .before .before .before .before .before .before .before))
 
 slice-aggregate-build-in-9 : tie.Need-slice-aggregate-build-in-9
-slice-aggregate-build-in-9 c = let w = c .before .before .before .before .before .before .before .before .before in sym (length-take-le (count (start-of w)) (now (start-of w .args .near)) (near-held (start-of w)))
+slice-aggregate-build-in-9 c = let w = c .before .before .before .before .before .before .before .before .before in sym (length-take-le (count (start-of w) + count (start-of w)) (now (start-of w .args .near)) (near-held (start-of w)))
 
 build-in-requires : tie.Need-build-in-requires
 build-in-requires c κs =
@@ -139,7 +142,7 @@ build-in-requires c κs =
           length-take-le (size w) (now (a .x)) (h .hx) ∙ m,
           length-take-le (size w) (now (a .ids)) (h .hd) ∙ m,
           length-take-le (size w * 2) (now (a .coords)) (h .hc) ∙ ap (λ (q : ℕ). q * 2) m,
-          length-take-le (count s) (now (a .near)) (near-held s),
+          length-take-le (count s + count s) (now (a .near)) (near-held s),
         ),
       ),
     )
@@ -169,7 +172,7 @@ same-length-8 : tie.Need-same-length-8
 same-length-8 c = let b = built-of c in let w = count-of b in cut-long (size w * 2) (b .build-in .last .1 .1 .1 .1 .1 .1 .1 .1 .1 .1 .0) (now (start-of w .args .coords)) (b .build-in .kept .1 .1 .1 .1 .1 .1 .1 .1 .1 .1 .0)
 
 same-length-9 : tie.Need-same-length-9
-same-length-9 c = let b = built-of c in let w = count-of b in cut-long (count (start-of w)) (b .build-in .last .1 .1 .1 .1 .1 .1 .1 .1 .1 .1 .1 .0) (now (start-of w .args .near)) (b .build-in .kept .1 .1 .1 .1 .1 .1 .1 .1 .1 .1 .1 .0)
+same-length-9 c = let b = built-of c in let w = count-of b in cut-long (count (start-of w) + count (start-of w)) (b .build-in .last .1 .1 .1 .1 .1 .1 .1 .1 .1 .1 .1 .0) (now (start-of w .args .near)) (b .build-in .kept .1 .1 .1 .1 .1 .1 .1 .1 .1 .1 .1 .0)
 
 returns : tie.Need-returns
 returns c =
@@ -191,6 +194,7 @@ pub build-all-spec : {M : Type 1} → statement M
 build-all-spec =
     tie.close
     (tie.spec
+    add-w
     table-count-requires
     mul-m
     mul-c

@@ -1,9 +1,11 @@
 -- `supercluster::clear` meets its contract. Assumes nothing.
-use mathlib.Core.Path.{_≡_, refl, _∙_}
+use mathlib.Core.Path.{_≡_, refl, sym, ap, _∙_}
+use mathlib.Core.Logic.{⊎-elim}
 use mathlib.Core.List.{_++_}
 use Prim.Native.Nat.{_-_, _<_, _≤_}
 use native.Mathlib.Omega.{arith}
-use lib.ListN.{length, drop, replicate, length-set}
+use lib.ListN.{length, set, drop, replicate, length-set}
+use lib.Seq.{set-getD}
 use Rattle.supercluster.specs.Fill.{clear-step, clear-end}
 use borrow.Author.Needs.{needs}
 use Rattle.supercluster.proofs.clear.Statement.{statement}
@@ -17,6 +19,18 @@ abbrev μ-loop : tie.MeasureT-loop
 
 loop-holds : tie.Need-loop-holds Inv-loop μ-loop
 loop-holds c = (omega arith, refl, refl)
+
+-- the entry i is a zero, whether it was written or was one before
+zeroed : (c : tie.Joined1 Inv-loop μ-loop) → let l = c .before .before .before .loop in c .if1 .a ≡ set (l .a) (l .i) 0
+zeroed c =
+    let l = c .before .before .before .loop in
+    ⊎-elim (λ w. w .1) (λ w. w .1 ∙ sym (set-getD (l .a) (l .i) 0) ∙ ap (set (l .a) (l .i)) (w .0 .left)) (c .if1 .came)
+
+mul-if1 : tie.Need-mul-if1 Inv-loop μ-loop
+mul-if1 c = search needs
+
+slice-read-if1 : tie.Need-slice-read-if1 Inv-loop μ-loop
+slice-read-if1 c = search needs
 
 mul-a : tie.Need-mul-a Inv-loop μ-loop
 mul-a c = search needs
@@ -32,11 +46,11 @@ loop-less c = search needs
 
 loop-again : tie.Need-loop-again Inv-loop μ-loop
 loop-again c =
-    let s = c .before .before in
-    let l = c .before .loop in
-    let h = c .loop-test .taken in
-    let b : l .i < length (s .args .a .now) = omega (arith, h, l .inv .1) in
-    (omega (arith, b), length-set (l .a) (l .i) 0 ∙ l .inv .1, clear-step (s .args .a .now) (l .a) (l .i) (l .inv .2) b)
+    let i = c .before .before in
+    let s = i .before .before in
+    let l = i .before .loop in
+    let b : l .i < length (s .args .a .now) = omega (arith, i .loop-test .taken, l .inv .1) in
+    rw (zeroed c) (omega (arith, b), length-set (l .a) (l .i) 0 ∙ l .inv .1, clear-step (s .args .a .now) (l .a) (l .i) (l .inv .2) b)
 
 same-length : tie.Need-same-length Inv-loop μ-loop
 same-length c =
@@ -55,6 +69,8 @@ clear-spec =
     Inv-loop
     μ-loop
     loop-holds
+    mul-if1
+    slice-read-if1
     mul-a
     slice-write-a
     add-i

@@ -2,7 +2,7 @@
 -- and every entry of the table is at a finite place. Assumes nothing.
 use mathlib.Core.Path.{_≡_, refl, ap, sym, _∙_, subst}
 use mathlib.Core.List.{List}
-use Prim.Native.Nat.{ℕ, _-_}
+use Prim.Native.Nat.{ℕ, _-_, _≤_}
 use native.Mathlib.Omega.{arith}
 use lib.ListN.{length, take}
 use lib.Ieee.{Float}
@@ -15,6 +15,7 @@ use Rattle.zoom.specs.Zoom.{Scan}
 use Rattle.zoom.specs.Scanned.{scanOf}
 use Rattle.zoom.specs.Near.{nearOf, Placed}
 use Rattle.zoom.specs.Keeps.{kept-all, keep-one}
+use Rattle.zoom.specs.Notes.{Noted, noted-same, kept-noted}
 use Rattle.zoom.specs.Scanning.{Scanning, scanning-start, scanning-step, scanning-end}
 use Rattle.zoom.proofs.cluster.Statement.{statement}
 use Rattle.zoom.proofs.cluster.Tie as tie
@@ -23,6 +24,7 @@ abbrev Inv-loop : tie.InvT-loop
 Inv-loop x₀ y₀ seen₀ id₀ parent₀ num₀ ids coords near₀ size r len z n least d₀ i₀ x y seen id parent num near d i =
     Even x y seen id parent num × (length x ≡ length x₀) × (length near ≡ length near₀) ×
     Scanning n least z (nearOf size len ids coords r) len (rows x₀ y₀ seen₀ id₀ parent₀ num₀) (rows x y seen id parent num) d i × All Placed (take len (rows x y seen id parent num))
+    × Noted n len (nearOf size len ids coords r) near (take len (rows x y seen id parent num))
 
 abbrev μ-loop : tie.MeasureT-loop
 μ-loop x₀ y₀ seen₀ id₀ parent₀ num₀ ids coords near₀ size r len z n least d₀ i₀ x y seen id parent num near d i = len - i
@@ -34,17 +36,45 @@ abbrev near-of : tie.Start Inv-loop μ-loop → Float → Float → List ℕ
 near-of s = let a = s .args in nearOf (a .node-size) (a .len) (now (a .ids)) (now (a .coords)) (a .r)
 
 abbrev start-of : tie.At-loop Inv-loop μ-loop → tie.Start Inv-loop μ-loop
-start-of l = l .before .before .before .before .before .before .before .before .before .before
+start-of l = l .before .before .before .before .before .before .before .before .before .before .before .before .before .before .before
 
-abbrev test-of : tie.After-slice-known14 Inv-loop μ-loop → tie.In-loop Inv-loop μ-loop
+abbrev noting : tie.At-loop Inv-loop μ-loop → tie.After-note-all Inv-loop μ-loop
+noting l = l .before .before .before
+
+long : (l : tie.At-loop Inv-loop μ-loop) → length (l .loop .near) ≡ length (now (start-of l .args .near))
+long l = l .loop .inv .2 ∙ noting l .note-all .kept .1 .1 .0
+
+abbrev test-of : tie.After-slice-known15 Inv-loop μ-loop → tie.In-loop Inv-loop μ-loop
 test-of c = c .before .before .before .before .before .before .before .before .before .before .before .before .before .before .before .before .before .before .before .before .before .before
+
+len-few : (s : tie.Start Inv-loop μ-loop) → s .args .len ≤ s .args .n
+len-few s = s .pre .1 .1 .1 .1 .1 .0
+
+wide-requires : tie.Need-wide-requires Inv-loop μ-loop
+wide-requires c κs = search needs
+
+note-all-requires : tie.Need-note-all-requires Inv-loop μ-loop
+note-all-requires c κs =
+    let s = c .before .before .before .before .before .before .before .before .before .before .before in
+    let p = s .pre .1 in
+    let e : c .wide .result ≡ s .args .n = c .wide .ensures in
+    let q = p .1 .1 .1 .1 in
+    ((p .0 .0, omega (arith, e, p .0 .2), omega (arith, e, q .1), omega (arith, q .0, q .1)), p .1 .1 .0)
 
 loop-holds : tie.Need-loop-holds Inv-loop μ-loop
 loop-holds c =
-    let s = c .before .before .before .before .before .before .before .before .before in
+    let w = c .before .before in
+    let s = c .before .before .before .before .before .before .before .before .before .before .before .before .before .before in
     let a = s .args in
     let n = rows-length (now (a .x)) (now (a .y)) (now (a .seen)) (now (a .id)) (now (a .parent)) (now (a .num)) in
-    (s .pre .0, refl, refl, scanning-start (a .n) (a .least) (a .z) (near-of s) (a .len) (table s) (rw n (s .pre .1 .0 .3)), s .pre .1 .1 .0)
+    let noted = w .note-all .ensures (take (a .len) (table s)) (s .pre .1 .1 .0 .1) in (
+      s .pre .0,
+      refl,
+      refl,
+      scanning-start (a .n) (a .least) (a .z) (near-of s) (a .len) (table s) (rw n (s .pre .1 .0 .3)),
+      s .pre .1 .1 .0 .0,
+      subst (λ (k : ℕ). Noted k (a .len) (near-of s) (w .note-all .last .1 .1 .0) (take (a .len) (table s))) (w .before .wide .ensures) noted,
+    )
 
 scan-one-requires : tie.Need-scan-one-requires Inv-loop μ-loop
 scan-one-requires c κs =
@@ -55,10 +85,10 @@ scan-one-requires c κs =
     let p = s .pre .1 in (
       l .inv .0,
       (
-        (p .0 .0, p .0 .1, omega (arith, l .inv .2, p .0 .2), t .loop-test .taken),
+        (p .0 .0, p .0 .1, omega (arith, long (t .before), p .0 .2), t .loop-test .taken),
         (
-          l .inv .4,
-          ((omega (arith, v .room, rows-length (l .x) (l .y) (l .seen) (l .id) (l .parent) (l .num)), omega (arith, v .light, p .1 .1 .0)), p .1 .1 .1),
+          (l .inv .4, l .inv .5),
+          ((omega (arith, v .room, rows-length (l .x) (l .y) (l .seen) (l .id) (l .parent) (l .num)), omega (arith, v .light, p .1 .1 .1 .0)), p .1 .1 .1 .1),
         ),
       ),
     )
@@ -80,10 +110,13 @@ loop-again c =
       even-kept (l .inv .0) (k .0) (k .1 .0) (k .1 .1 .0) (k .1 .1 .1 .0) (k .1 .1 .1 .1 .0) (k .1 .1 .1 .1 .1 .0),
       k .0 ∙ l .inv .1,
       k .1 .1 .1 .1 .1 .1 .1 .1 .0 ∙ l .inv .2,
-      scanning-step (a .n) (a .least) (a .z) (near-of s) (a .len) (table s) _ _ (l .d) (w .result) (l .i) (l .inv .3) (test-of c .loop-test .taken) (w .ensures)
+      scanning-step (a .n) (a .least) (a .z) (near-of s) (a .len) (table s) _ _ (l .d) (w .result) (l .i) (l .inv .3) (test-of c .loop-test .taken) (w .ensures .1)
           (rows-length _ _ _ _ _ _ ∙ k .0 ∙ sym (rows-length (l .x) (l .y) (l .seen) (l .id) (l .parent) (l .num))),
-      subst (λ (q : Table). All Placed q) (sym (ap (λ (q : Scan). q .table) (w .ensures .scan)))
+      subst (λ (q : Table). All Placed q) (sym (ap (λ (q : Scan). q .table) (w .ensures .1 .scan)))
           (keep-one (a .z) (λ q. All Placed q) (kept-all Placed (a .z) (λ e q h. h) (λ e q h. h)) (a .n) (a .least) (near-of s) (scanOf (a .len) (l .d) t) (l .i) _ refl (l .inv .4)),
+      noted-same (a .n) (a .len) (near-of s) (l .near) _ _ (len-few s) (w .ensures .0)
+          (subst (λ (q : Table). Noted (a .n) (a .len) (near-of s) (l .near) q) (sym (ap (λ (q : Scan). q .table) (w .ensures .1 .scan)))
+          (keep-one (a .z) (λ q. Noted (a .n) (a .len) (near-of s) (l .near) q) (kept-noted (a .z) (a .n) (a .len) (near-of s) (l .near)) (a .n) (a .least) (near-of s) (scanOf (a .len) (l .d) t) (l .i) _ refl (l .inv .5))),
     )
 
 same-length : tie.Need-same-length Inv-loop μ-loop
@@ -105,7 +138,7 @@ same-length-6 : tie.Need-same-length-6 Inv-loop μ-loop
 same-length-6 c = let v = c .before .loop .inv in v .0 .en ∙ v .1 ∙ sym (start-of (c .before) .pre .0 .en)
 
 same-length-7 : tie.Need-same-length-7 Inv-loop μ-loop
-same-length-7 c = c .before .loop .inv .2
+same-length-7 c = long (c .before)
 
 returns : tie.Need-returns Inv-loop μ-loop
 returns c =
@@ -120,6 +153,8 @@ cluster-spec =
     (tie.spec
     Inv-loop
     μ-loop
+    wide-requires
+    note-all-requires
     loop-holds
     scan-one-requires
     add-i

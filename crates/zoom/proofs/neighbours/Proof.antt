@@ -1,110 +1,125 @@
--- `zoom::neighbours` meets its contract: over an index that keeps its promises no search of a zoom is refused, and the column holds its places.
--- Assumes nothing.
-use mathlib.Core.Path.{_≡_, sym, ap, _∙_}
-use mathlib.Core.List.{List}
-use Prim.Native.Nat.{ℕ}
+-- `zoom::neighbours` meets its contract: a note, where there is one, is the answer, and otherwise it is searched for. Assumes nothing.
+use mathlib.Core.Path.{_≡_, ap}
+use mathlib.Core.List.{List, [], _∷_}
+use Prim.Native.Nat.{ℕ, _-_, _/_, _≤_}
 use native.Mathlib.Omega.{arith}
-use lib.ListN.{length}
+use lib.ListN.{length, length-set}
 use denote.Ref.{now}
-use borrow.Author.Needs.{needs}
-use Rattle.kdbush.specs.declared.SearchReply.{SearchReply}
-use Rattle.kdbush.specs.declared.SearchReply.the-variants.{Found, Box, NoRoom, Spoiled}
 use Rattle.kdslots.specs.declared.Query.the-variants.{Within}
-use Rattle.kdbush.specs.Reply.{searchNumber, searchCarried}
-use Rattle.kdbush.specs.Promise.{promised-searched, promised-column}
-use Rattle.zoom.specs.Near.{nearOf, query-fine, answered}
+use Rattle.zoom.specs.Near.{nearOf}
+use Rattle.zoom.specs.Notes.{list-one, list-two}
+use borrow.Author.Needs.{needs}
 use Rattle.zoom.proofs.neighbours.Statement.{statement}
 use Rattle.zoom.proofs.neighbours.Tie as tie
+use Rattle.zoom.proofs.neighbours.Reads as reads
+use Rattle.zoom.proofs.neighbours.Lts as lts
+use Rattle.zoom.proofs.search_near.Reads as search-near-reads
 
-abbrev begin : tie.After-within → tie.Start
-begin w = w .before .before .before .before .before
+abbrev start-of : tie.After-slice-known → tie.Start
+start-of c = c .before .before .before
 
-abbrev places : (w : tie.After-within) → List ℕ
-places w = let a = begin w .args in nearOf (a .node-size) (a .len) (now (a .ids)) (now (a .coords)) (a .r) (a .qx) (a .qy)
+abbrev places : tie.Start → List ℕ
+places s = let a = s .args in nearOf (a .node-size) (a .len) (now (a .ids)) (now (a .coords)) (a .r) (a .qx) (a .qy)
 
-reply-is : (w : tie.After-within) → w .within .result ≡ Found (length (places w))
-reply-is w =
-    let s = begin w in
-    let a = s .args in
-    let p = s .pre in
-    w .within .ensures .0
-    ∙ promised-searched (a .node-size) (a .len) (now (a .ids)) (now (a .coords)) (p .0 .0) (Within (a .qx) (a .qy) (a .r)) (query-fine (a .qx) (a .qy) (a .r) (p .1 .0) (p .1 .1) (p .0 .1)) (now (a .near)) (p .0 .2)
+abbrev note : tie.Start → ℕ
+note s = s .args .note
 
--- no refusal is the reply
-refused : (k : ℕ) (r : SearchReply) → r ≡ Found k → searchNumber r ≡ 0
-refused k r e = ap searchNumber e
+few : (s : tie.Start) → length (places s) ≤ s .args .len
+few s = let a = s .args in s .pre .0 .0 .short (Within (a .qx) (a .qy) (a .r))
 
-within-requires : tie.Need-within-requires
-within-requires c κs = search needs
+is-before : (c : tie.Then3) → let s = start-of (c .before .before .before) in places s ≡ s .args .i ∷ (note s - 2) / 2 ∷ []
+is-before c =
+    let s = start-of (c .before .before .before) in
+    s .pre .1 .1 .before ((note s - 2) / 2) (omega (arith, c .if3 .taken, c .before .if2 .left, c .before .before .if1 .left))
 
-enum-known-k : tie.Need-enum-known-k
-enum-known-k c = search needs
+is-behind : (c : tie.Else3) → let s = start-of (c .before .before .before) in places s ≡ (note s - 2) / 2 ∷ s .args .i ∷ []
+is-behind c =
+    let s = start-of (c .before .before .before) in
+    s .pre .1 .1 .behind ((note s - 2) / 2) (omega (arith, c .if3 .left, c .before .if2 .left, c .before .before .if1 .left))
 
-enum-told : tie.Need-enum-told
-enum-told c = search needs
+told-before : (c : tie.Then3) → length (places (start-of (c .before .before .before))) ≡ 2
+told-before c = ap length (is-before c)
 
-enum-told-2 : tie.Need-enum-told-2
-enum-told-2 c = search needs
+told-behind : (c : tie.Else3) → length (places (start-of (c .before .before .before))) ≡ 2
+told-behind c = ap length (is-behind c)
 
-enum-told-3 : tie.Need-enum-told-3
-enum-told-3 c = search needs
+search-near-requires : tie.Need-search-near-requires
+search-near-requires c κs =
+    let p = start-of (c .before .before) .pre in
+    ((p .0 .0, p .0 .1, p .0 .2), p .1 .0)
 
 same-length : tie.Need-same-length
 same-length c = search needs
 
 returns : tie.Need-returns
-returns c =
-    let w = c .before .before .before .before .before in
-    let s = begin w in
-    let a = s .args in
-    let p = s .pre in
-    let g = c .before .k .given in
-    answered (places w) (now (a .near)) _ (g .0 .0) (ap searchCarried (sym (g .1) ∙ reply-is w))
-    (w .within .ensures .1
-    ∙ promised-column (a .node-size) (a .len) (now (a .ids)) (now (a .coords)) (p .0 .0) (Within (a .qx) (a .qy) (a .r)) (query-fine (a .qx) (a .qy) (a .r) (p .1 .0) (p .1 .1) (p .0 .1)) (now (a .near)) (p .0 .2))
+returns c = search needs
+
+cast-own : tie.Need-cast-own
+cast-own c = search needs
+
+slice-write-near : tie.Need-slice-write-near
+slice-write-near c = search needs
 
 same-length-2 : tie.Need-same-length-2
 same-length-2 c = search needs
 
 returns-2 : tie.Need-returns-2
 returns-2 c =
-    let w = c .before .before .before .before in
-    let e : searchNumber Box ≡ 0 = ap searchNumber (sym (c .enum-told .given .1)) ∙ refused _ _ (reply-is w) in
-    absurd (omega (arith, e))
+    let s = start-of (c .before .before) in
+    let a = s .args in
+    let p = s .pre in
+    list-one (a .len) (now (a .near)) (places s) (a .i) (omega (arith, p .0 .3)) (omega (arith, p .0 .2, p .0 .3)) (p .1 .1 .alone (c .if2 .taken))
+
+sub-other : tie.Need-sub-other
+sub-other c = search needs
+
+slice-write-near-2 : tie.Need-slice-write-near-2
+slice-write-near-2 c = search needs
+
+slice-write-near-3 : tie.Need-slice-write-near-3
+slice-write-near-3 c = let s = start-of (c .before .before .before) in simp (length-set) (omega (arith, told-before c, s .pre .0 .2, few s))
 
 same-length-3 : tie.Need-same-length-3
 same-length-3 c = search needs
 
 returns-3 : tie.Need-returns-3
 returns-3 c =
-    let w = c .before .before .before .before in
-    let g = c .enum-told2 .given in
-    let e : searchNumber (NoRoom (g .0 .0)) ≡ 0 = ap searchNumber (sym (g .1)) ∙ refused _ _ (reply-is w) in
-    absurd (omega (arith, e))
+    let s = start-of (c .before .before .before) in
+    let a = s .args in
+    list-two (a .len) (now (a .near)) (places s) (a .i) ((note s - 2) / 2) (few s) (s .pre .0 .2) (is-before c)
+
+slice-write-near-4 : tie.Need-slice-write-near-4
+slice-write-near-4 c = search needs
+
+slice-write-near-5 : tie.Need-slice-write-near-5
+slice-write-near-5 c = let s = start-of (c .before .before .before) in simp (length-set) (omega (arith, told-behind c, s .pre .0 .2, few s))
 
 same-length-4 : tie.Need-same-length-4
 same-length-4 c = search needs
 
 returns-4 : tie.Need-returns-4
 returns-4 c =
-    let w = c .before .before .before .before in
-    let e : searchNumber Spoiled ≡ 0 = ap searchNumber (sym (c .enum-told3 .given .1)) ∙ refused _ _ (reply-is w) in
-    absurd (omega (arith, e))
+    let s = start-of (c .before .before .before) in
+    let a = s .args in
+    list-two (a .len) (now (a .near)) (places s) ((note s - 2) / 2) (a .i) (few s) (s .pre .0 .2) (is-behind c)
 
 pub neighbours-spec : {M : Type 1} → statement M
 neighbours-spec =
     tie.close
     (tie.spec
-    within-requires
-    enum-known-k
-    enum-told
-    enum-told-2
-    enum-told-3
+    search-near-requires
     same-length
     returns
+    cast-own
+    slice-write-near
     same-length-2
     returns-2
+    sub-other
+    slice-write-near-2
+    slice-write-near-3
     same-length-3
     returns-3
+    slice-write-near-4
+    slice-write-near-5
     same-length-4
     returns-4)

@@ -6,8 +6,10 @@ use lib.ListN.{length}
 use denote.Ref.{now}
 use Rattle.tables.specs.Entries.{Table}
 use Rattle.tables.specs.Rows.{rows, Even, even-kept}
+use Rattle.zoom.specs.Near.{Radius}
 use Rattle.zooms.specs.Zooms.{Plan, planOf}
 use Rattle.zooms.specs.Running.{Running, cur-promised}
+use Rattle.zooms.specs.OwnPlace.{cur-slotted, cur-owned}
 use Rattle.zooms.specs.Zooming.{Zoomed, z-few, step-room, step-light, step-radius, step-placed, made-some, made-few, made-body, scanned, inside-made, advanced}
 use Rattle.zooms.proofs.one_zoom.Statement.{statement}
 use Rattle.zooms.proofs.one_zoom.Tie as tie
@@ -80,20 +82,27 @@ zoom-step-requires c κs =
     let a = s .args in
     let m = length (now (a .x)) in
     let r = running s in
-    let rad = c .before .before .before .before .before .before .before .before .before .radius-at in (
+    let rad = c .before .before .before .before .before .before .before .before .before .radius-at in
+    let radius : Radius (rad .result) = rw (rad .ensures) (step-radius (plan s) m (a .z) (a .start) (a .len) (table s) (now (a .ids)) (now (a .coords)) (low s) r) in (
       s .pre .0,
       (
         (
           cur-promised (plan s) m (suc (a .z - a .o .«min_zoom»)) (a .start) (a .len) (table s) (now (a .ids)) (now (a .coords)) r,
-          rw (rad .ensures) (step-radius (plan s) m (a .z) (a .start) (a .len) (table s) (now (a .ids)) (now (a .coords)) (low s) r),
+          radius,
         ),
         (
-          step-placed (plan s) m (a .z) (a .start) (a .len) (table s) (now (a .ids)) (now (a .coords)) (low s) r,
           (
-            (omega (arith, room s, r .ids-long), omega (arith, room s, r .co-long), omega (arith, r .len-few, s .pre .1 .0 .0), room s),
+            step-placed (plan s) m (a .z) (a .start) (a .len) (table s) (now (a .ids)) (now (a .coords)) (low s) r,
+            cur-slotted (plan s) m (suc (a .z - a .o .«min_zoom»)) (a .start) (a .len) (table s) (now (a .ids)) (now (a .coords)) r,
+          ),
+          (
+            cur-owned (plan s) m (suc (a .z - a .o .«min_zoom»)) (a .start) (a .len) (table s) (now (a .ids)) (now (a .coords)) r (rad .result) (radius .0),
             (
-              step-light (plan s) m (a .z) (a .start) (a .len) (table s) (now (a .ids)) (now (a .coords)) (low s) r,
-              (omega (arith, room s, r .M-few), omega (arith, r .len-few, r .able .few), r .able .few, few s),
+              (omega (arith, room s, r .ids-long), omega (arith, room s, r .co-long), omega (arith, r .len-few, s .pre .1 .0 .0), room s),
+              (
+                step-light (plan s) m (a .z) (a .start) (a .len) (table s) (now (a .ids)) (now (a .coords)) (low s) r,
+                (omega (arith, room s, r .M-few), r .len-few, r .able .few, few s),
+              ),
             ),
           ),
         ),

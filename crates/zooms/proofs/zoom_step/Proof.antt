@@ -139,12 +139,15 @@ cluster-requires c κs =
     let s = start-of c in
     let a = s .args in
     let p = s .pre .1 in
-    let room = p .1 .1 .0 in
-    let few = p .1 .1 .1 .1 in (
+    let room = p .1 .1 .1 .0 in
+    let few = p .1 .1 .1 .1 .1 in (
       even-from (a .start) (now (a .x)) (now (a .y)) (now (a .seen)) (now (a .id)) (now (a .parent)) (now (a .num)) (s .pre .0),
       (
         (rw (ids-part s, co-part s) (p .0 .0), p .0 .1, room .2, omega (arith, from-length (a .start) (now (a .x)), room .3)),
-        (rw (lent-rows s) (p .1 .0), (rw (lent-rows s) (p .1 .1 .1 .0), (few .1, few .2, few .3))),
+        (
+          (rw (lent-rows s) (p .1 .0 .0), rw (ids-part s, co-part s, lent-rows s) (p .1 .0 .1)),
+          (rw (ids-part s, co-part s) (p .1 .1 .0), (rw (lent-rows s) (p .1 .1 .1 .1 .0), (few .1, few .2, few .3))),
+        ),
       ),
     )
 
@@ -175,7 +178,7 @@ returns c =
     let s = start-of (w .before) in
     let a = s .args in
     let l = w .cluster .last in
-    stepped (a .start) (now (a .x)) (now (a .y)) (now (a .seen)) (now (a .id)) (now (a .parent)) (now (a .num)) (s .pre .0) (omega (arith, s .pre .1 .1 .1 .0 .3))
+    stepped (a .start) (now (a .x)) (now (a .y)) (now (a .seen)) (now (a .id)) (now (a .parent)) (now (a .num)) (s .pre .0) (omega (arith, s .pre .1 .1 .1 .1 .0 .3))
     (l .0) (l .1 .0) (l .1 .1 .0) (l .1 .1 .1 .0) (l .1 .1 .1 .1 .0) (l .1 .1 .1 .1 .1 .0)
     (a .len) (w .cluster .result) _ (rw (sym (lent-rows s)) (rw (ids-part s, co-part s) at (w .cluster .ensures)))
 

@@ -44,7 +44,7 @@ impl Request<'_> {
 impl Outcome {
     /// How this is not a build of these tables, if it is not.
     pub fn is_not(&self, tables: &Tables) -> Option<String> {
-        let near = vec![0; self.count];
+        let near = vec![0; 2 * self.count];
         other("reply", Reply { number: 0, carried: 0 }, self.reply)
             .or_else(|| self.other_state(&tables.starts, &tables.lens))
             .or_else(|| self.other_columns(tables, &near))
