@@ -8,11 +8,12 @@ use tables::Options;
 ghost use mathlib.Core.Path.{_≡_};
 ghost use Prim.Native.Nat.{_<_, _≤_};
 ghost use lib.ListN.{drop};
-ghost use Rattle.lent.specs.Lent.{old, new};
+ghost use Rattle.lent.specs.Lent.{old};
 ghost use Rattle.listing.specs.Scan.{startsWith, moreOf, numberOf, lineOf, valueIn};
-ghost use Rattle.listing.specs.Form.{headOf, countIn, pointOf, pointsOk, fillX, fillY};
+ghost use Rattle.listing.specs.Form.{headOf, countIn, pointOf, pointsOk, filled};
 ghost use Rattle.listing.specs.Values.{coordOf, optionsOf};
 ghost use Rattle.listing.specs.Text.{Parsing};
+ghost use Rattle.listing.specs.Lent.{lentPoints};
 
 // A place in the text.
 pub struct Cursor {
@@ -43,9 +44,9 @@ pub enum Parsed {
     Refused,
 }
 
-// A point's two lines and the place past them, or no such lines.
-pub enum Pair {
-    Both { x: u32, y: u32, next: Cursor },
+// The numbers of a point's lines and the place past these, or no such lines.
+pub enum Point {
+    Stands { x: u32, y: u32, next: Cursor },
     Missing,
 }
 
@@ -184,17 +185,17 @@ fn read_head(s: &[u8]) -> Parsed
     })
 }
 
-// The two lines of a point.
-fn read_point(s: &[u8], from: Cursor) -> Pair
+// The lines of a point.
+fn read_point(s: &[u8], from: Cursor) -> Point
     ensures { λ r. ⌜ r ≡ pointOf (old s) (from .at) ⌝ }
 {
     let Value::Number { v: x, next: c1 } = line(s, from, b"x=", 9999999) else {
-        return Pair::Missing;
+        return Point::Missing;
     };
     let Value::Number { v: y, next: c2 } = line(s, c1, b"y=", 9999999) else {
-        return Pair::Missing;
+        return Point::Missing;
     };
-    Pair::Both { x, y, next: c2 }
+    Point::Stands { x, y, next: c2 }
 }
 
 // Whether n points stand at the cursor, and then nothing.
@@ -204,7 +205,7 @@ fn points_ok(s: &[u8], from: Cursor, n: u32) -> bool
     let mut at = from.at;
     let mut left = n;
     while 0 < left {
-        let Pair::Both { x: _, y: _, next } = read_point(s, Cursor { at }) else {
+        let Point::Stands { x: _, y: _, next } = read_point(s, Cursor { at }) else {
             return false;
         };
         at = next.at;
@@ -223,14 +224,13 @@ pub fn coordinate(k: u32) -> f64
 // Writes the n points at the cursor to the columns.
 fn fill(s: &[u8], from: Cursor, n: u32, xs: &mut [f64; 1152], ys: &mut [f64; 1152])
     requires { ⌜ n ≤ 1152 ⌝ }
-    ensures { λ _.
-        ⌜ (new xs ≡ fillX n (old s) (from .at) 0 (old xs)) × (new ys ≡ fillY n (old s) (from .at) 0 (old ys)) ⌝ }
+    ensures { λ _. let c = lentPoints xs ys in ⌜ c .exit ≡ filled n (old s) (from .at) 0 (c .entry) ⌝ }
 {
     let mut at = from.at;
     let mut left = n;
     let mut i: usize = 0;
     while 0 < left {
-        let Pair::Both { x, y, next } = read_point(s, Cursor { at }) else {
+        let Point::Stands { x, y, next } = read_point(s, Cursor { at }) else {
             return;
         };
         xs[i] = coordinate(x);
@@ -243,7 +243,7 @@ fn fill(s: &[u8], from: Cursor, n: u32, xs: &mut [f64; 1152], ys: &mut [f64; 115
 
 // Reads a text: its numbers, and its points into the columns; or refuses it, and writes nothing.
 pub fn parse(s: &[u8], xs: &mut [f64; 1152], ys: &mut [f64; 1152]) -> Parsed
-    ensures { λ r. ⌜ Parsing (old s) (old xs) (old ys) r (new xs) (new ys) ⌝ }
+    ensures { λ r. let c = lentPoints xs ys in ⌜ Parsing (old s) (c .entry) r (c .exit) ⌝ }
 {
     if 65536 < s.len() {
         return Parsed::Refused;
