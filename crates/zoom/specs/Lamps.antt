@@ -1,6 +1,7 @@
--- No lamp is lost or counted twice: at each step of a scan what is unseen and what is made add up to the same. So the next table adds up to no more
--- than the table. Said once, of any number that an entry carries: a mark and a parent leave it, and a cluster's is the sum. Assumes nothing.
-use mathlib.Core.Path.{_≡_, refl, ap, sym, _∙_}
+-- No lamp is lost or counted twice: at each step of a scan what is unseen and what is made add up to the same. So the next table adds up to no
+-- more than the table. Said once, of any number that an entry carries: a mark and a parent leave it, and a cluster's is the sum. Assumes
+-- nothing.
+use mathlib.Core.Path.{_≡_, refl, ap, _∙_}
 use mathlib.Core.Bool.{Bool, true, false}
 use mathlib.Core.List.{List, [], _∷_, _++_}
 use Prim.Native.Nat.{ℕ, zero, suc, _+_, _<_, _≤_}
@@ -16,7 +17,7 @@ use Rattle.tables.specs.Entries.{Table, entry, none, unseen, marked, under}
 use Rattle.tables.specs.Ids.{clusterId}
 use Rattle.zoom.specs.Scanned.{unseenOf}
 use Rattle.zoom.specs.Zoom.{numOf, adds, moreOf, Absorbed, absorbOne, absorb, started, centre, Scan, copyOne, copyAll, enough, visit, markAt, scanOne, scanFrom, cluster}
-use Rattle.zoom.specs.Steps.{joined, absorbOne-yes, absorbOne-no, copyOne-yes, copyOne-no, more-nil, more-yes, more-no, totalOf, visit-made, visit-left, scan-seen, scan-visit}
+use Rattle.zoom.specs.Steps.{absorbOne-yes, absorbOne-no, copyOne-yes, copyOne-no, more-nil, more-yes, more-no, totalOf, visit-made, visit-left, scan-seen, scan-visit}
 use Rattle.zoom.specs.Unseen.{unseen-in, unseenOf-mark, unseenOf-under, more-same}
 
 -- f of a table's entries, added up
@@ -43,17 +44,21 @@ unseenOf-sum f z (a ∷ t) = by (unseen z a) refl (unseenOf-sum f z t)
     by false e h = rw e (omega (arith, h))
 
 -- one neighbour, the others being other entries
-absorbOne-weighs : (f : Entry → ℕ) (z p : ℕ) (s : Absorbed) (k : ℕ) (ks : List ℕ) → NotIn k ks → (b : Bool) → unseen z (entry (s .table) k) ≡ b
-    → unseenOf f z (absorbOne z p s k .table) + moreOf f z (s .table) (k ∷ ks) ≡ unseenOf f z (s .table) + moreOf f z (absorbOne z p s k .table) ks
+absorbOne-weighs : (f : Entry → ℕ) (z p : ℕ) (s : Absorbed) (k : ℕ) (ks : List ℕ) → NotIn k ks
+    → (b : Bool) → unseen z (entry (s .table) k) ≡ b
+    → unseenOf f z (absorbOne z p s k .table) + moreOf f z (s .table) (k ∷ ks)
+    ≡ unseenOf f z (s .table) + moreOf f z (absorbOne z p s k .table) ks
 absorbOne-weighs f z p s k ks o true e =
     let t = s .table in
     let u : z < entry t k .seen = ltb-true z (entry t k .seen) e in
     let m = under p (marked z (entry t k)) in
-    rw (absorbOne-yes z p s k e) (omega (arith, more-yes f z t k ks e, unseenOf-mark f z t k m (unseen-in z t k u) u (le-refl z), more-same f z t k m ks o))
+    let h = unseenOf-mark f z t k m (unseen-in z t k u) u (le-refl z) in
+    rw (absorbOne-yes z p s k e) (omega (arith, more-yes f z t k ks e, h, more-same f z t k m ks o))
 absorbOne-weighs f z p s k ks o false e = rw (absorbOne-no z p s k e) (omega (arith, more-no f z (s .table) k ks e))
 
 -- the neighbours of a cluster: what they add is no longer unseen
-pub absorb-weighs : (f : Entry → ℕ) (z p : ℕ) (s : Absorbed) (l : List ℕ) → Distinct l → unseenOf f z (absorb z p s l .table) + moreOf f z (s .table) l ≡ unseenOf f z (s .table)
+pub absorb-weighs : (f : Entry → ℕ) (z p : ℕ) (s : Absorbed) (l : List ℕ) → Distinct l
+    → unseenOf f z (absorb z p s l .table) + moreOf f z (s .table) l ≡ unseenOf f z (s .table)
 unfolding absorb
 absorb-weighs f z p s [] o = omega (arith, more-nil f z (s .table))
 absorb-weighs f z p s (k ∷ ks) o =
@@ -67,24 +72,30 @@ absorb-weighs f z p s (k ∷ ks) o =
 pub record Carried (f : Entry → ℕ) : Type 0 where
   pub marks : (e : Entry) (q : ℕ) → f (marked q e) ≡ f e
   pub hangs : (e : Entry) (q : ℕ) → f (under q e) ≡ f e
-  pub sums : (z p i : ℕ) (near : List ℕ) (t : Table) → Distinct near → f (centre (absorb z p (started t (entry t i)) near) p (totalOf z near i t)) ≡ f (entry t i) + moreOf f z t near
+  pub sums : (z p i : ℕ) (near : List ℕ) (t : Table) → Distinct near
+      → f (centre (absorb z p (started t (entry t i)) near) p (totalOf z near i t)) ≡ f (entry t i) + moreOf f z t near
 
 pub num-carried : Carried numOf
 num-carried = record { marks = λ e q. refl; hangs = λ e q. refl; sums = λ z p i near t o. refl }
 
 -- ---- a scan
 
+-- what is unseen and what is made
+abbrev pub heldOf : (Entry → ℕ) → ℕ → Scan → ℕ
+heldOf f z s = unseenOf f z (s .table) + sumOf f (s .next)
+
 module _ (f : Entry → ℕ) (C : Carried f) where
   -- copies: what is no longer unseen is in the next table
   copyOne-weighs-by : (z : ℕ) (s : Scan) (k : ℕ) (b : Bool) → unseen z (entry (s .table) k) ≡ b
-      → unseenOf f z (copyOne z s k .table) + sumOf f (copyOne z s k .next) ≡ unseenOf f z (s .table) + sumOf f (s .next)
+      → heldOf f z (copyOne z s k) ≡ heldOf f z s
   copyOne-weighs-by z s k true e =
       let u : z < entry (s .table) k .seen = ltb-true z (entry (s .table) k .seen) e in
       let m = marked z (entry (s .table) k) in
-      rw (copyOne-yes z s k e) (omega (arith, unseenOf-mark f z (s .table) k m (unseen-in z (s .table) k u) u (le-refl z), sum-snoc f (s .next) m, C .marks (entry (s .table) k) z))
+      let h = unseenOf-mark f z (s .table) k m (unseen-in z (s .table) k u) u (le-refl z) in
+      rw (copyOne-yes z s k e) (omega (arith, h, sum-snoc f (s .next) m, C .marks (entry (s .table) k) z))
   copyOne-weighs-by z s k false e = rw (copyOne-no z s k e)
 
-  copyAll-weighs : (z : ℕ) (s : Scan) (l : List ℕ) → unseenOf f z (copyAll z s l .table) + sumOf f (copyAll z s l .next) ≡ unseenOf f z (s .table) + sumOf f (s .next)
+  copyAll-weighs : (z : ℕ) (s : Scan) (l : List ℕ) → heldOf f z (copyAll z s l) ≡ heldOf f z s
   unfolding copyAll
   copyAll-weighs z s [] = refl
   copyAll-weighs z s (k ∷ ks) = copyAll-weighs z (copyOne z s k) ks ∙ copyOne-weighs-by z s k _ refl
@@ -92,21 +103,28 @@ module _ (f : Entry → ℕ) (C : Carried f) where
   -- the entry i was marked before: its number is in neither
   visit-weighs-by : (n least z : ℕ) (near : List ℕ) (i : ℕ) (s : Scan) → Distinct near → (b : Bool)
       → enough (entry (s .table) i .num) (totalOf z near i (s .table)) least ≡ b
-      → unseenOf f z (visit n least z near i s .table) + sumOf f (visit n least z near i s .next) ≡ f (entry (s .table) i) + unseenOf f z (s .table) + sumOf f (s .next)
+      → heldOf f z (visit n least z near i s) ≡ f (entry (s .table) i) + heldOf f z s
   visit-weighs-by n least z near i s o true e =
       let p = clusterId n z i in
       let t = s .table in
       let st = started t (entry t i) in
       let g = absorb z p st near in
       rw (visit-made n least z near i s e)
-      (omega (arith, absorb-weighs f z p st near o, unseenOf-under f (C .hangs) z (g .table) i p, sum-snoc f (s .next) (centre g p (totalOf z near i t)), C .sums z p i near t o))
+      (omega (
+        arith,
+        absorb-weighs f z p st near o,
+        unseenOf-under f (C .hangs) z (g .table) i p,
+        sum-snoc f (s .next) (centre g p (totalOf z near i t)),
+        C .sums z p i near t o,
+      ))
   visit-weighs-by n least z near i s o false e =
-      rw (visit-left n least z near i s e)
-      (omega (arith, copyAll-weighs z (record { table = s .table; next = s .next ++ (entry (s .table) i ∷ []) }) near, sum-snoc f (s .next) (entry (s .table) i)))
+      let own = entry (s .table) i in
+      let h = copyAll-weighs z (record { table = s .table; next = s .next ++ (own ∷ []) }) near in
+      rw (visit-left n least z near i s e) (omega (arith, h, sum-snoc f (s .next) own))
 
   module _ (n least z : ℕ) (near : Float → Float → List ℕ) (o : (qx qy : Float) → Distinct (near qx qy)) where
     pub scan-weighs-by : (s : Scan) (i : ℕ) (b : Bool) → unseen z (entry (s .table) i) ≡ b
-        → unseenOf f z (scanOne n least z near s i .table) + sumOf f (scanOne n least z near s i .next) ≡ unseenOf f z (s .table) + sumOf f (s .next)
+        → heldOf f z (scanOne n least z near s i) ≡ heldOf f z s
     scan-weighs-by s i true e =
         let u : z < entry (s .table) i .seen = ltb-true z (entry (s .table) i .seen) e in
         let m = marked z (entry (s .table) i) in
@@ -117,8 +135,7 @@ module _ (f : Entry → ℕ) (C : Carried f) where
         (omega (arith, v, ap f g, C .marks (entry (s .table) i) z, unseenOf-mark f z (s .table) i m hin u (le-refl z)))
     scan-weighs-by s i false e = rw (scan-seen n least z near s i (ltb-false z (entry (s .table) i .seen) e))
 
-    pub from-weighs : (s : Scan) (i k : ℕ)
-        → unseenOf f z (scanFrom n least z near s i k .table) + sumOf f (scanFrom n least z near s i k .next) ≡ unseenOf f z (s .table) + sumOf f (s .next)
+    pub from-weighs : (s : Scan) (i k : ℕ) → heldOf f z (scanFrom n least z near s i k) ≡ heldOf f z s
     unfolding scanFrom
     from-weighs s i zero = refl
     from-weighs s i (suc k) = from-weighs (scanOne n least z near s i) (suc i) k ∙ scan-weighs-by s i _ refl

@@ -13,3 +13,4 @@ pub mod Scanning
 pub mod Lamps
 pub mod Sound
 pub mod Notes
+pub mod Back

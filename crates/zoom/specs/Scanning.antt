@@ -57,8 +57,9 @@ module _ (n least z : ℕ) (near : Float → Float → List ℕ) (len : ℕ) (t�
         rest = l .rest ∙ simp (drop-drop, q) at (ap (drop (d′ - d)) (v .rest));
         room = omega (arith, c, nx, ny, v .room, e);
         light = λ f g.
-            le-trans (subst (λ (q : Scan). unseenOf f z (q .table) ≤ unseenOf f z (s .table)) (sym (l .scan))
-            (keep-one z (λ t. unseenOf f z t ≤ unseenOf f z (s .table)) (kept-unseenOf f g z (unseenOf f z (s .table))) n least near s i _ refl (le-refl _))) (v .light f g);
+            let m = unseenOf f z (s .table) in
+            let k = keep-one z (λ t. unseenOf f z t ≤ m) (kept-unseenOf f g z m) n least near s i _ refl (le-refl m) in
+            le-trans (subst (λ (q : Scan). unseenOf f z (q .table) ≤ m) (sym (l .scan)) k) (v .light f g);
       }
 
   pub scanning-end : (t : Table) (d i : ℕ) → Scanning n least z near len t₀ t d i → len ≤ i → Scanned len 0 (cluster n least z near (take len t₀)) t₀ t d

@@ -40,7 +40,10 @@ kept-body z = kept-all Body z (λ e q b. b) (λ e q b. b)
 pub unseenOf-all : (f : Entry → ℕ) (z : ℕ) (t : Table) → All (Next (suc z)) t → unseenOf f z t ≡ sumOf f t
 unfolding unseenOf sumOf All
 unseenOf-all f z [] a = refl
-unseenOf-all f z (e ∷ t) a = rw (lt-ltb z (e .seen) (let q : z < e .seen = omega (arith, a .0 .1) in q)) (let r = unseenOf-all f z t (a .1) in omega (arith, r))
+unseenOf-all f z (e ∷ t) a =
+    let r = unseenOf-all f z t (a .1) in
+    let q : z < e .seen = omega (arith, a .0 .1) in
+    rw (lt-ltb z (e .seen) q) (omega (arith, r))
 
 -- ---- the centres: sums of what counts at most B lamps
 
@@ -183,8 +186,11 @@ module _ (n least z : ℕ) (near : Float → Float → List ℕ) (o : (qx qy : F
     unfolding first last sumOf
     carried-next =
         let w = from-weighs f C n least z near o first 0 (length t) in
-        let len : length (last .table) ≡ length t = keep-scan z (λ q. length q ≡ length t) (kept-length z (length t)) n least near first 0 (length t) refl in
-        let left : unseenOf f z (last .table) ≡ 0 = unseenOf-none f z (last .table) (λ j h. scan-sees n least z near first 0 (length t) j (λ q. absurd (omega arith)) (omega (arith, len, h))) in
+        let len : length (last .table) ≡ length t
+        = keep-scan z (λ q. length q ≡ length t) (kept-length z (length t)) n least near first 0 (length t) refl in
+        let left : unseenOf f z (last .table) ≡ 0
+        = unseenOf-none f z (last .table)
+        (λ j h. scan-sees n least z near first 0 (length t) j (λ q. absurd (omega arith)) (omega (arith, len, h))) in
         omega (arith, w, unseenOf-all f z t a, left)
 
     carried-table : sumOf f (last .table) ≡ sumOf f t

@@ -1,8 +1,8 @@
--- A turn of each loop over the neighbours: what is done with the j-th neighbour is the definition's step, so that what remains from the next one on leads to the
--- same. For a neighbour that is absorbed or copied, also that what the code stores in the columns is that step. Assumes nothing.
+-- A turn of each loop over the neighbours: what is done with the j-th neighbour is the definition's step, so that what remains from the next one
+-- on leads to the same. For a neighbour that is absorbed or copied, also that what the code stores in the columns is that step. Assumes nothing.
 use mathlib.Core.Path.{_≡_, refl, ap, sym, _∙_, subst}
 use mathlib.Core.List.{List, _∷_}
-use Prim.Native.Nat.{ℕ, suc, _+_, _-_, _<_, _≤_}
+use Prim.Native.Nat.{ℕ, _+_, _-_, _<_, _≤_}
 use native.Mathlib.Omega.{arith}
 use native.Mathlib.Nat.{le-refl}
 use native.Mathlib.Numerals.{add-one}
@@ -12,7 +12,7 @@ use lib.Seq.{drop-cons, getD-take, take-set-le, take-set-lt, drop-set-add, drop-
 use lib.Ieee.{Float, binary64, add, mul}
 use Rattle.floats.specs.Numbers.{float}
 use Rattle.tables.specs.declared.Entry.{Entry}
-use Rattle.tables.specs.Entries.{Table, entry, none, unseen, marked, under}
+use Rattle.tables.specs.Entries.{Table, entry, none, marked}
 use Rattle.tables.specs.Rows.{Cols, rows, Even, withSeen, withParent, rows-join}
 use Rattle.tables.specs.Columns.{part-long}
 use Rattle.zoom.specs.Scanned.{scanOf, Scanned, unseenCount}
@@ -54,11 +54,13 @@ module _ (c : Cols) (z p : ℕ) (a b : Float) (k : ℕ) (e : Entry) (q : e ≡ e
       (add binary64 b (mul binary64 (e .y) (float (e .num))))
       ≡ absorbOne z p (absorbed (rows c) a b) k
   joined-row v h u =
-      rw (rows-join c k v h z p, q)
-      (sym (absorbOne-yes z p (absorbed (rows c) a b) k (let g : z < entry (rows c) k .seen = rw q at u in lt-ltb z (entry (rows c) k .seen) g)))
+      let g : z < entry (rows c) k .seen = rw q at u in
+      rw (rows-join c k v h z p, q) (sym (absorbOne-yes z p (absorbed (rows c) a b) k (lt-ltb z (entry (rows c) k .seen) g)))
 
   pub passed-row : e .seen ≤ z → absorbed (rows c) a b ≡ absorbOne z p (absorbed (rows c) a b) k
-  passed-row u = sym (absorbOne-no z p (absorbed (rows c) a b) k (let g : entry (rows c) k .seen ≤ z = rw q at u in le-ltb z (entry (rows c) k .seen) g))
+  passed-row u =
+      let g : entry (rows c) k .seen ≤ z = rw q at u in
+      sym (absorbOne-no z p (absorbed (rows c) a b) k (le-ltb z (entry (rows c) k .seen) g))
 
 -- ---- copies
 
@@ -76,10 +78,12 @@ module _ (t : Table) (len d k z : ℕ) (hk : k < len) (room : len + d + unseenCo
   pub copy-room : z < entry t k .seen → len + d < length t
   copy-room u =
       let l : len ≤ length t = omega arith in
-      let f = unseenCount-mark z (take len t) k (marked z (entry t k)) (rw (length-take-le len t l) hk) (rw (getD-take len t k none hk) u) (le-refl z) in
+      let n : k < length (take len t) = rw (length-take-le len t l) hk in
+      let f = unseenCount-mark z (take len t) k (marked z (entry t k)) n (rw (getD-take len t k none hk) u) (le-refl z) in
       omega (arith, f)
 
-  pub copied : z < entry t k .seen → Scanned len d (copyOne z (scanOf len d t) k) t (set (set t k (marked z (entry t k))) (len + d) (marked z (entry t k))) (d + 1)
+  pub copied : z < entry t k .seen → let m = marked z (entry t k) in
+      Scanned len d (copyOne z (scanOf len d t) k) t (set (set t k m) (len + d) m) (d + 1)
   copied u =
       let m = marked z (entry t k) in
       let r = copy-room u in
@@ -125,7 +129,8 @@ module _ (len z : ℕ) (near : List ℕ) (t₀ : Table) (w : ℕ) where
       → Scanned len d (copyOne z (scanOf len d t) (getD near j 0)) t t′ d′ → length t′ ≡ length t → Copying len z near t₀ w t′ d′ (j + 1)
   copying-step t t′ d d′ j v hj l e =
       let s = scanOf len d t in
-      let c : needed z (scanOf len d′ t′) ≤ needed z s = subst (λ (q : Scan). needed z q ≤ needed z s) (sym (l .scan)) (copyOne-fewer z s (getD near j 0) _ refl) in
+      let c : needed z (scanOf len d′ t′) ≤ needed z s
+      = subst (λ (q : Scan). needed z q ≤ needed z s) (sym (l .scan)) (copyOne-fewer z s (getD near j 0) _ refl) in
       let q : len + d + (d′ - d) ≡ len + d′ = omega (arith, l .grown) in
       let nx = part-long len d t (omega (arith, v .room)) in
       let ny = part-long len d′ t′ (l .fits) in
@@ -136,7 +141,8 @@ module _ (len z : ℕ) (near : List ℕ) (t₀ : Table) (w : ℕ) where
         grown = omega (arith, l .grown, v .grown);
       }
 
-  pub copying-end : (t : Table) (d j : ℕ) → Copying len z near t₀ w t d j → length near ≤ j → Scanned len w (copyAll z (scanOf len w t₀) near) t₀ t d
+  pub copying-end : (t : Table) (d j : ℕ) → Copying len z near t₀ w t d j → length near ≤ j
+      → Scanned len w (copyAll z (scanOf len w t₀) near) t₀ t d
   copying-end t d j v h =
       record {
         scan = sym (copyAll-end z (scanOf len d t) near j h) ∙ v .scan;

@@ -63,7 +63,8 @@ unseenCount-under z [] k p = refl
 unseenCount-under z (a ∷ t) zero p = refl
 unseenCount-under z (a ∷ t) (suc k) p = let r = unseenCount-under z t k p in omega (arith, r)
 
-pub unseenOf-under : (f : Entry → ℕ) → ((e : Entry) (q : ℕ) → f (under q e) ≡ f e) → (z : ℕ) (t : Table) (k p : ℕ) → unseenOf f z (set t k (under p (entry t k))) ≡ unseenOf f z t
+pub unseenOf-under : (f : Entry → ℕ) → ((e : Entry) (q : ℕ) → f (under q e) ≡ f e)
+    → (z : ℕ) (t : Table) (k p : ℕ) → unseenOf f z (set t k (under p (entry t k))) ≡ unseenOf f z t
 unfolding unseenOf
 unseenOf-under f g z [] k p = refl
 unseenOf-under f g z (a ∷ t) zero p = rw (g a p)
@@ -83,7 +84,9 @@ unseenCount-length z (a ∷ t) = by (unseen z a) (unseenCount-length z t)
 pub unseenOf-none : (f : Entry → ℕ) (z : ℕ) (t : Table) → ((j : ℕ) → j < length t → entry t j .seen ≤ z) → unseenOf f z t ≡ 0
 unfolding unseenOf
 unseenOf-none f z [] g = refl
-unseenOf-none f z (e ∷ t) g = rw (le-ltb z (e .seen) (g 0 (omega arith))) (let r = unseenOf-none f z t (λ j h. g (suc j) (omega arith)) in omega (arith, r))
+unseenOf-none f z (e ∷ t) g =
+    let r = unseenOf-none f z t (λ j h. g (suc j) (omega arith)) in
+    rw (le-ltb z (e .seen) (g 0 (omega arith))) (omega (arith, r))
 
 -- ---- the neighbours
 
@@ -101,14 +104,16 @@ more-grow f z t r [] b = refl
 more-grow f z t r (k ∷ ks) b =
     rw (List·getD-append t r none k (b .0)) (ap (λ (q : ℕ). adds f z (entry t k) + q) (more-grow f z t r ks (b .1)))
 
-pub more-take : (f : Entry → ℕ) (z len : ℕ) (t : Table) (near : List ℕ) → AllBelow len near → len ≤ length t → moreOf f z t near ≡ moreOf f z (take len t) near
+pub more-take : (f : Entry → ℕ) (z len : ℕ) (t : Table) (near : List ℕ) → AllBelow len near → len ≤ length t
+    → moreOf f z t near ≡ moreOf f z (take len t) near
 more-take f z len t near b h =
     ap (λ (q : Table). moreOf f z q near) (sym (take-append-drop len t))
     ∙ more-grow f z (take len t) (drop len t) near (rw (length-take-le len t h) b)
 
 -- one neighbour, once what is said holds of the others in every table as long
 more-le-by : (f : Entry → ℕ) (z : ℕ) (t : Table) (k : ℕ) (ks : List ℕ) → k < length t → NotIn k ks
-    → ((t′ : Table) → length t′ ≡ length t → moreOf f z t′ ks ≤ unseenOf f z t′) → (b : Bool) → unseen z (entry t k) ≡ b → moreOf f z t (k ∷ ks) ≤ unseenOf f z t
+    → ((t′ : Table) → length t′ ≡ length t → moreOf f z t′ ks ≤ unseenOf f z t′) → (b : Bool) → unseen z (entry t k) ≡ b
+    → moreOf f z t (k ∷ ks) ≤ unseenOf f z t
 more-le-by f z t k ks h o r true e =
     let u : z < entry t k .seen = ltb-true z (entry t k .seen) e in
     let m = marked z (entry t k) in

@@ -5,7 +5,7 @@ use mathlib.Core.List.{List}
 use Prim.Native.Nat.{ℕ, _+_, _<_, _≤_}
 use native.Mathlib.Omega.{arith}
 use native.Mathlib.Nat.{le-refl}
-use lib.ListN.{length, getD, set, drop, take, length-set}
+use lib.ListN.{length, set, drop, take, length-set}
 use lib.Seq.{length-take-le, getD-take, getD-set-same, take-set-lt, drop-set-lt}
 use lib.Ieee.{Float}
 use Rattle.kdslots.specs.All.{AllBelow}
@@ -61,7 +61,8 @@ module _ (t : Table) (len d z i : ℕ) (hi : i < len) (hl : len ≤ length t) (u
       rw taken (omega (arith, f, j, h, k))
 
   -- the same, of the columns: what the entry carries and its unseen neighbours
-  pub marked-fits : (f : Entry → ℕ) → ((e : Entry) (q : ℕ) → f (marked q e) ≡ f e) → (m : ℕ) (l : List ℕ) → AllBelow len l → Distinct l → unseenOf f z (take len t) < m
+  pub marked-fits : (f : Entry → ℕ) → ((e : Entry) (q : ℕ) → f (marked q e) ≡ f e)
+      → (m : ℕ) (l : List ℕ) → AllBelow len l → Distinct l → unseenOf f z (take len t) < m
       → f (entry (marking t len d z i hi) i) + moreOf f z (marking t len d z i hi) l < m
   marked-fits f g m l b o h =
       let q = marking t len d z i hi in

@@ -1,9 +1,9 @@
--- `zoom::absorb_near` meets its contract: at the head of the loop the columns and the sums so far absorb the remaining neighbours to what the first ones
--- absorb all to. Assumes nothing.
-use mathlib.Core.Path.{_≡_, refl, ap, sym, _∙_, subst}
-use Prim.Native.Nat.{ℕ, _+_, _-_, _^_, _<_, _≤_}
+-- `zoom::absorb_near` meets its contract: at the head of the loop the columns and the sums so far absorb the remaining neighbours to what
+-- the first ones absorb all to. Assumes nothing.
+use mathlib.Core.Path.{_≡_, refl, ap, sym, _∙_}
+use Prim.Native.Nat.{ℕ, _+_, _-_, _<_}
 use native.Mathlib.Omega.{arith}
-use lib.ListN.{length, getD, set, drop, take, length-set}
+use lib.ListN.{length, getD, drop}
 use borrow.Author.Needs.{needs}
 use Rattle.kdslots.specs.All.{below-at}
 use Rattle.tables.specs.Lent.{given}
@@ -32,11 +32,13 @@ abbrev place : tie.In-loop Inv-loop μ-loop → ℕ
 place i = getD (start-of i .args .near .now) (i .before .loop .j) 0
 
 place-in : (i : tie.In-loop Inv-loop μ-loop) → place i < length (start-of i .args .x .now)
-place-in i = let s = start-of i in below-at (length (s .args .x .now)) (s .args .near .now) (i .before .loop .j) (s .pre .1) (i .loop-test .taken)
+place-in i = let s = start-of i in below-at (length (s .args .x .now)) (s .args .near .now) (i
+    .before .loop .j) (s .pre .1) (i .loop-test .taken)
 
 -- the columns at the head
 abbrev here : tie.In-loop Inv-loop μ-loop → Cols
-here i = let a = start-of i .args in let l = i .before .loop in withParent (withSeen (given (a .x) (a .y) (a .seen) (a .id) (a .parent) (a .num)) (l .seen)) (l .parent)
+here i = let a = start-of i .args in let l = i
+    .before .loop in withParent (withSeen (given (a .x) (a .y) (a .seen) (a .id) (a .parent) (a .num)) (l .seen)) (l .parent)
 
 abbrev sums : tie.In-loop Inv-loop μ-loop → Absorbed
 sums i = let s = i .before .loop .s in absorbed (rows (here i)) (s .x) (s .y)
@@ -57,7 +59,9 @@ absorb-one-requires : tie.Need-absorb-one-requires Inv-loop μ-loop
 absorb-one-requires c κs = let i = c .before .before .before in (i .before .loop .inv .0, place-in i)
 
 add-j : tie.Need-add-j Inv-loop μ-loop
-add-j c = let i = c .before .before .before .before .before .before .before .before in omega (arith, i .loop-test .taken, start-of i .good .1 .1 .1 .1 .1 .1 .0 .0)
+add-j c =
+    let i = c .before .before .before .before .before .before .before .before in
+    omega (arith, i .loop-test .taken, start-of i .good .1 .1 .1 .1 .1 .1 .0 .0)
 
 loop-less : tie.Need-loop-less Inv-loop μ-loop
 loop-less c = omega (arith, c .before .before .before .before .before .before .before .before .loop-test .taken)
@@ -68,8 +72,9 @@ loop-again c =
     let l = i .before .loop in
     let a = start-of i .args in
     let w = c .before .before .before .before .absorb-one in
-    let ss = w .last .1 .1 .0 in (
-      even-parent (withSeen (here i) ss) (w .last .1 .1 .1 .1 .0) (w .kept .1 .1 .1 .1 .0) (even-seen (here i) ss (w .kept .1 .1 .0) (l .inv .0)),
+    let ss = w .last .1 .1 .0 in
+    let v = even-seen (here i) ss (w .kept .1 .1 .0) (l .inv .0) in (
+      even-parent (withSeen (here i) ss) (w .last .1 .1 .1 .1 .0) (w .kept .1 .1 .1 .1 .0) v,
       ap (λ (q : Absorbed). absorb (a .z) (a .p) q (drop (l .j + 1) (a .near .now))) (w .ensures)
           ∙ sym (absorb-front (a .z) (a .p) (sums i) (a .near .now) (l .j) (i .loop-test .taken))
           ∙ l .inv .1,

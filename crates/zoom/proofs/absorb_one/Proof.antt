@@ -1,14 +1,13 @@
 -- `zoom::absorb_one` meets its contract: what it stores and adds is the definition's step. Assumes nothing.
-use mathlib.Core.Path.{_≡_, refl, ap, sym, _∙_, subst}
-use Prim.Native.Nat.{ℕ, _+_, _-_, _^_, _<_, _≤_}
-use native.Mathlib.Omega.{arith}
-use lib.ListN.{length, getD, set, drop, take, length-set}
 use borrow.Author.Needs.{needs}
 use Rattle.tables.specs.Lent.{given}
-use Rattle.tables.specs.Rows.{Cols, cols, rows}
+use Rattle.tables.specs.Rows.{Cols}
 use Rattle.zoom.specs.Turns.{joined-row, passed-row}
 use Rattle.zoom.proofs.absorb_one.Statement.{statement}
 use Rattle.zoom.proofs.absorb_one.Tie as tie
+
+abbrev columns : tie.Start → Cols
+columns s = let a = s .args in (given (a .x) (a .y) (a .seen) (a .id) (a .parent) (a .num))
 
 entry-at-requires : tie.Need-entry-at-requires
 entry-at-requires c κs = let s = c .before .before .before .before .before .before .before .before in (s .pre .0, s .pre .1)
@@ -21,9 +20,10 @@ same-length-2 c = search needs
 
 returns : tie.Need-returns
 returns c =
-    let a = c .before .before .before .before .before .before .before .before .before .before .before .args in
+    let s = c .before .before .before .before .before .before .before .before .before .before .before in
+    let a = s .args in
     let r = c .before .before .entry-at in
-    passed-row (given (a .x) (a .y) (a .seen) (a .id) (a .parent) (a .num)) (a .z) (a .p) (a .sums .x) (a .sums .y) (a .k) (r .result) (r .ensures) (c .if1 .taken)
+    passed-row (columns s) (a .z) (a .p) (a .sums .x) (a .sums .y) (a .k) (r .result) (r .ensures) (c .if1 .taken)
 
 slice-write-seen : tie.Need-slice-write-seen
 slice-write-seen c = search needs
@@ -48,7 +48,8 @@ returns-2 c =
     let s = c .before .before .before .before .before .before .before .before .before .before .before .before .before .before .before .before in
     let a = s .args in
     let r = c .before .before .before .before .before .before .before .entry-at in
-    joined-row (given (a .x) (a .y) (a .seen) (a .id) (a .parent) (a .num)) (a .z) (a .p) (a .sums .x) (a .sums .y) (a .k) (r .result) (r .ensures) (s .pre .0) (s .pre .1) (c .before .before .before .before .before .if1 .left)
+    joined-row (columns s) (a .z) (a .p) (a .sums .x) (a .sums .y) (a .k) (r .result) (r .ensures) (s .pre .0) (s .pre .1)
+    (c .before .before .before .before .before .if1 .left)
 
 pub absorb-one-spec : {M : Type 1} → statement M
 absorb-one-spec =

@@ -1,16 +1,17 @@
--- `zoom::cluster` meets its contract: at the head of the loop what is still to be scanned leads to the definition's scan, there is room for what it can make,
--- and every entry of the table is at a finite place. Assumes nothing.
+-- `zoom::cluster` meets its contract: at the head of the loop what is still to be scanned leads to the definition's scan, there is room for
+-- what it can make, every entry of the table is at a finite place, and the notes are those of the table. Assumes nothing.
 use mathlib.Core.Path.{_≡_, refl, ap, sym, _∙_, subst}
 use mathlib.Core.List.{List}
-use Prim.Native.Nat.{ℕ, _+_, _-_, _^_, _<_, _≤_}
+use Prim.Native.Nat.{ℕ, _-_}
 use native.Mathlib.Omega.{arith}
-use lib.ListN.{length, getD, set, drop, take, length-set}
+use lib.ListN.{length, take}
 use lib.Ieee.{Float}
 use borrow.Author.Needs.{needs}
 use Rattle.kdslots.specs.All.{All}
 use Rattle.tables.specs.Entries.{Table}
 use Rattle.tables.specs.Lent.{given}
 use Rattle.tables.specs.Rows.{Cols, cols, rows, Even, Kept, even-kept, kept-even, rows-length}
+use Rattle.zoom.specs.Back.{lastCols, keptCols}
 use Rattle.zoom.specs.Zoom.{numOf, Scan}
 use Rattle.zoom.specs.Scanned.{scanOf}
 use Rattle.zoom.specs.Near.{nearOf, Placed}
@@ -53,21 +54,26 @@ long : (l : tie.At-loop Inv-loop μ-loop) → length (l .loop .near) ≡ length 
 long l = l .loop .inv .2 ∙ l .before .before .before .note-all .kept .1 .1 .0
 
 abbrev test-of : tie.After-slice-known15 Inv-loop μ-loop → tie.In-loop Inv-loop μ-loop
-test-of c = c .before .before .before .before .before .before .before .before .before .before .before .before .before .before .before .before .before .before .before .before .before .before
+test-of c = c .before .before .before .before .before .before .before .before .before .before .before .before .before
+    .before .before .before .before .before .before .before .before .before
+
+abbrev stepping : tie.After-slice-known15 Inv-loop μ-loop → tie.After-scan-one Inv-loop μ-loop
+stepping c = c .before .before .before .before .before .before .before .before .before .before .before .before .before .before
 
 -- the columns after a step
 abbrev after : tie.After-slice-known15 Inv-loop μ-loop → Cols
-after c = let w = c .before .before .before .before .before .before .before .before .before .before .before .before .before .before .scan-one in (cols (w .last .0) (w .last .1 .0) (w .last .1 .1 .0) (w .last .1 .1 .1 .0) (w .last .1 .1 .1 .1 .0) (w .last .1 .1 .1 .1 .1 .0))
+after c = lastCols (stepping c .scan-one .last)
 
 -- what stores in the table keep holds after a step of the scan
-kept-step : (c : tie.After-slice-known15 Inv-loop μ-loop) (P : Table → Type 0) → let h = test-of c .before in let a = start-of h .args in
-    Keeps (a .z) P → P (take (a .len) (rows (here h))) → P (take (a .len) (rows (after c)))
+kept-step : (c : tie.After-slice-known15 Inv-loop μ-loop) (P : Table → Type 0)
+    → let h = test-of c
+    .before in let a = start-of h .args in Keeps (a .z) P → P (take (a .len) (rows (here h))) → P (take (a .len) (rows (after c)))
 kept-step c P k p =
     let h = test-of c .before in
     let l = h .loop in
     let s = start-of h in
     let a = s .args in
-    subst P (sym (ap (λ (q : Scan). q .table) (c .before .before .before .before .before .before .before .before .before .before .before .before .before .before .scan-one .ensures .1 .scan)))
+    subst P (sym (ap (λ (q : Scan). q .table) (stepping c .scan-one .ensures .1 .scan)))
     (keep-one (a .z) P k (a .n) (a .least) (near-of s) (scanOf (a .len) (l .d) (rows (here h))) (l .i) _ refl p)
 
 wide-requires : tie.Need-wide-requires Inv-loop μ-loop
@@ -76,7 +82,8 @@ wide-requires c κs = search needs
 note-all-requires : tie.Need-note-all-requires Inv-loop μ-loop
 note-all-requires c κs =
     let p = c .before .before .before .before .before .before .before .before .before .before .before .pre in
-    let e : c .wide .result ≡ c .before .before .before .before .before .before .before .before .before .before .before .args .n = c .wide .ensures in
+    let e : c .wide .result ≡ c .before .before .before .before .before .before .before .before .before .before
+    .before .args .n = c .wide .ensures in
     ((p .1, omega (arith, e, p .3), omega (arith, e, p .9), omega (arith, p .8, p .9)), p .7)
 
 loop-holds : tie.Need-loop-holds Inv-loop μ-loop
@@ -90,7 +97,8 @@ loop-holds c =
       refl,
       scanning-start (a .n) (a .least) (a .z) (near-of s) (a .len) (table s) (rw (rows-length (columns s)) (s .pre .4)),
       s .pre .5,
-      subst (λ (k : ℕ). Noted k (a .len) (near-of s) (w .note-all .last .1 .1 .0) (take (a .len) (table s))) (w .before .wide .ensures) noted,
+      subst (λ (k : ℕ). Noted k (a .len) (near-of s) (w .note-all .last .1 .1 .0) (take (a .len) (table s)))
+          (w .before .wide .ensures) noted,
     )
 
 scan-one-requires : tie.Need-scan-one-requires Inv-loop μ-loop
@@ -126,17 +134,17 @@ loop-again c =
     let l = h .loop in
     let s = start-of h in
     let a = s .args in
-    let w = c .before .before .before .before .before .before .before .before .before .before .before .before .before .before .scan-one in
+    let w = stepping c .scan-one in
     let old = here h in
-    let k : Kept old (after c) = (record { kx = w .kept .0; ky = w .kept .1 .0; ks = w .kept .1 .1 .0; ki = w .kept .1 .1 .1 .0; kp = w .kept .1 .1 .1 .1 .0; kn = w .kept .1 .1 .1 .1 .1 .0 }) in (
+    let k = keptCols old (after c) (w .kept) in (
       even-kept old (after c) k (l .inv .0),
       k .kx ∙ l .inv .1,
       w .kept .1 .1 .1 .1 .1 .1 .1 .1 .0 ∙ l .inv .2,
-      scanning-step (a .n) (a .least) (a .z) (near-of s) (a .len) (table s) (rows old) (rows (after c)) (l .d) (w .result) (l .i) (l .inv .3) (test-of c .loop-test .taken)
-          (w .ensures .1) (rows-length (after c) ∙ k .kx ∙ sym (rows-length old)),
+      scanning-step (a .n) (a .least) (a .z) (near-of s) (a .len) (table s) (rows old) (rows (after c)) (l .d) (w .result) (l .i) (l .inv .3)
+          (test-of c .loop-test .taken) (w .ensures .1) (rows-length (after c) ∙ k .kx ∙ sym (rows-length old)),
       kept-step c (λ q. All Placed q) (kept-all Placed (a .z) (λ e q h. h) (λ e q h. h)) (l .inv .4),
       noted-same (a .n) (a .len) (near-of s) (l .near) _ _ (s .pre .8) (w .ensures .0)
-          (kept-step c (λ q. Noted (a .n) (a .len) (near-of s) (l .near) q) (kept-noted (a .z) (a .n) (a .len) (near-of s) (l .near)) (l .inv .5)),
+          (kept-step c (Noted (a .n) (a .len) (near-of s) (l .near)) (kept-noted (a .z) (a .n) (a .len) (near-of s) (l .near)) (l .inv .5)),
     )
 
 same-length : tie.Need-same-length Inv-loop μ-loop

@@ -1,13 +1,14 @@
--- `zoom::copy_near` meets its contract: at the head of the loop the copies so far and those that remain are the definition's, and there is room for what
--- can yet be copied. Assumes nothing.
-use mathlib.Core.Path.{_≡_, refl, ap, sym, _∙_, subst}
-use Prim.Native.Nat.{ℕ, _+_, _-_, _^_, _<_, _≤_}
+-- `zoom::copy_near` meets its contract: at the head of the loop the copies so far and those that remain are the definition's, and there is
+-- room for what can yet be copied. Assumes nothing.
+use mathlib.Core.Path.{_≡_, refl, sym, _∙_}
+use Prim.Native.Nat.{ℕ, _-_, _<_}
 use native.Mathlib.Omega.{arith}
-use lib.ListN.{length, getD, set, drop, take, length-set}
+use lib.ListN.{length, getD}
 use borrow.Author.Needs.{needs}
 use Rattle.kdslots.specs.All.{below-at}
 use Rattle.tables.specs.Lent.{given}
 use Rattle.tables.specs.Rows.{Cols, cols, rows, Even, Kept, even-kept, kept-even, rows-length}
+use Rattle.zoom.specs.Back.{lastCols, keptCols}
 use Rattle.zoom.specs.Turns.{Copying, copying-start, copying-step, copying-end}
 use Rattle.zoom.proofs.copy_near.Statement.{statement}
 use Rattle.zoom.proofs.copy_near.Tie as tie
@@ -40,7 +41,8 @@ abbrev here : tie.At-loop Inv-loop μ-loop → Cols
 here h = let l = h .loop in (cols (l .x) (l .y) (l .seen) (l .id) (l .parent) (l .num))
 
 kept-by : (h : tie.At-loop Inv-loop μ-loop) → Kept (first (h .before .before .before .before .before .before .before .before)) (here h)
-kept-by h = let s = h .before .before .before .before .before .before .before .before in kept-even (first s) (here h) (s .pre .0) (h .loop .inv .0) (h .loop .inv .1)
+kept-by h = let s = h .before .before .before .before .before .before .before
+    .before in kept-even (first s) (here h) (s .pre .0) (h .loop .inv .0) (h .loop .inv .1)
 
 loop-holds : tie.Need-loop-holds Inv-loop μ-loop
 loop-holds c =
@@ -64,25 +66,34 @@ copy-one-requires c κs =
     (v .0, place-in i, rw (rows-length (here (i .before))) at (v .2 .room))
 
 add-j : tie.Need-add-j Inv-loop μ-loop
-add-j c = let i = c .before .before .before .before .before .before .before .before .before .before .before .before .before .before .before .before .before .before .before .before in omega (arith, i .loop-test .taken, start-of i .good .1 .1 .1 .1 .1 .1 .0 .0)
+add-j c =
+    let i = c .before .before .before .before .before .before .before .before .before .before .before .before .before .before
+    .before .before .before .before .before .before in
+    omega (arith, i .loop-test .taken, start-of i .good .1 .1 .1 .1 .1 .1 .0 .0)
 
 loop-less : tie.Need-loop-less Inv-loop μ-loop
-loop-less c = omega (arith, c .before .before .before .before .before .before .before .before .before .before .before .before .before .before .before .before .before .before .before .before .loop-test .taken)
+loop-less c =
+    omega (
+      arith,
+      c .before .before .before .before .before .before .before .before .before .before .before .before .before
+          .before .before .before .before .before .before .before .loop-test .taken,
+    )
 
 loop-again : tie.Need-loop-again Inv-loop μ-loop
 loop-again c =
-    let i = c .before .before .before .before .before .before .before .before .before .before .before .before .before .before .before .before .before .before .before .before in
+    let i = c .before .before .before .before .before .before .before .before .before .before .before .before .before .before
+    .before .before .before .before .before .before in
     let l = i .before .loop in
     let s = start-of i in
     let a = s .args in
     let w = c .before .before .before .before .before .before .before .before .before .before .before .before .copy-one in
     let old = here (i .before) in
-    let new : Cols = (cols (w .last .0) (w .last .1 .0) (w .last .1 .1 .0) (w .last .1 .1 .1 .0) (w .last .1 .1 .1 .1 .0) (w .last .1 .1 .1 .1 .1 .0)) in
-    let k : Kept old new = (record { kx = w .kept .0; ky = w .kept .1 .0; ks = w .kept .1 .1 .0; ki = w .kept .1 .1 .1 .0; kp = w .kept .1 .1 .1 .1 .0; kn = w .kept .1 .1 .1 .1 .1 .0 }) in (
+    let new = lastCols (w .last) in
+    let k = keptCols old new (w .kept) in (
       even-kept old new k (l .inv .0),
       k .kx ∙ l .inv .1,
-      copying-step (a .len) (a .z) (a .near .now) (rows (first s)) (a .done) (rows old) (rows new) (l .d) (w .result) (l .j) (l .inv .2) (i .loop-test .taken) (w .ensures)
-          (rows-length new ∙ k .kx ∙ sym (rows-length old)),
+      copying-step (a .len) (a .z) (a .near .now) (rows (first s)) (a .done) (rows old) (rows new) (l .d) (w .result) (l .j) (l .inv .2)
+          (i .loop-test .taken) (w .ensures) (rows-length new ∙ k .kx ∙ sym (rows-length old)),
     )
 
 same-length : tie.Need-same-length Inv-loop μ-loop

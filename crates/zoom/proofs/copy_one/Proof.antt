@@ -1,13 +1,14 @@
 -- `zoom::copy_one` meets its contract: a row that is unseen is marked and put after the next table's last. Assumes nothing.
 use mathlib.Core.Path.{_≡_, refl, ap, sym, _∙_, subst}
-use Prim.Native.Nat.{ℕ, _+_, _-_, _^_, _<_, _≤_}
+use Prim.Native.Nat.{_+_, _<_, _≤_}
 use native.Mathlib.Omega.{arith}
-use lib.ListN.{length, getD, set, drop, take, length-set}
+use lib.ListN.{length, set, take}
 use borrow.Author.Needs.{needs}
 use Rattle.tables.specs.declared.Entry.{Entry}
-use Rattle.tables.specs.Entries.{Table, entry, none, marked}
+use Rattle.tables.specs.Entries.{Table, entry, marked}
 use Rattle.tables.specs.Lent.{given}
-use Rattle.tables.specs.Rows.{Cols, cols, rows, Kept, withSeen, rows-length, rows-mark, even-mark, kept-mark, kept-then}
+use Rattle.tables.specs.Rows.{Cols, rows, Kept, withSeen, rows-length, rows-mark, even-mark, kept-mark, kept-then}
+use Rattle.zoom.specs.Back.{lastCols, keptCols}
 use Rattle.zoom.specs.Zoom.{copyOne}
 use Rattle.zoom.specs.Scanned.{scanOf, Scanned, unseenCount}
 use Rattle.zoom.specs.Turns.{copy-room, copied, skipped}
@@ -17,7 +18,10 @@ use Rattle.zoom.proofs.copy_one.Tie as tie
 abbrev columns : tie.Start → Cols
 columns s = let a = s .args in (given (a .x) (a .y) (a .seen) (a .id) (a .parent) (a .num))
 
-room : (s : tie.Start) → s .args .len + s .args .done + unseenCount (s .args .z) (take (s .args .len) (rows (columns s))) ≤ length (rows (columns s))
+abbrev table : tie.Start → Table
+table s = rows (columns s)
+
+room : (s : tie.Start) → let a = s .args in a .len + a .done + unseenCount (a .z) (take (a .len) (table s)) ≤ length (table s)
 room s = rw (rows-length (columns s)) (s .pre .2)
 
 inside : (s : tie.Start) → s .args .k < length (s .args .x .now)
@@ -27,11 +31,14 @@ inside s = omega (arith, s .pre .1, s .pre .2)
 abbrev start-of : tie.Else1 → tie.Start
 start-of e = e .before .before .before .before .before .before .before .before .before .before .before .before .before .before .before
 
-unseen-k : (e : tie.Else1) → start-of e .args .z < entry (rows (columns (start-of e))) (start-of e .args .k) .seen
+unseen-k : (e : tie.Else1) → let s = start-of e in s .args .z < entry (table s) (s .args .k) .seen
 unseen-k e = rw (e .before .before .entry-at .ensures) at (e .if1 .left)
 
-space : (e : tie.Else1) → start-of e .args .len + start-of e .args .done < length (start-of e .args .x .now)
-space e = let s = start-of e in let a = s .args in rw (rows-length (columns s)) at (copy-room (rows (columns s)) (a .len) (a .done) (a .k) (a .z) (s .pre .1) (room s) (unseen-k e))
+space : (e : tie.Else1) → let a = start-of e .args in a .len + a .done < length (a .x .now)
+space e =
+    let s = start-of e in
+    let a = s .args in
+    rw (rows-length (columns s)) at (copy-room (table s) (a .len) (a .done) (a .k) (a .z) (s .pre .1) (room s) (unseen-k e))
 
 -- and after the row was put
 abbrev putting : tie.After-slice-known12 → tie.After-put-entry
@@ -44,17 +51,18 @@ abbrev now-marked : tie.Start → Cols
 now-marked s = withSeen (columns s) (set (s .args .seen .now) (s .args .k) (s .args .z))
 
 abbrev after : tie.After-put-entry → Cols
-after c = let w = c .put-entry in (cols (w .last .0) (w .last .1 .0) (w .last .1 .1 .0) (w .last .1 .1 .1 .0) (w .last .1 .1 .1 .1 .0) (w .last .1 .1 .1 .1 .1 .0))
+after c = lastCols (c .put-entry .last)
 
 kept-by : (c : tie.After-put-entry) → Kept (columns (start-of (else-of c))) (after c)
 kept-by c =
     let s = start-of (else-of c) in
-    let w = c .put-entry in
-    let k : Kept (now-marked s) (after c) = (record { kx = w .kept .0; ky = w .kept .1 .0; ks = w .kept .1 .1 .0; ki = w .kept .1 .1 .1 .0; kp = w .kept .1 .1 .1 .1 .0; kn = w .kept .1 .1 .1 .1 .1 .0 }) in
+    let k = keptCols (now-marked s) (after c) (c .put-entry .kept) in
     kept-then (columns s) (now-marked s) (after c) k (kept-mark (columns s) (s .args .k) (s .args .z))
 
 entry-at-requires : tie.Need-entry-at-requires
-entry-at-requires c κs = let s = c .before .before .before .before .before .before .before .before .before .before .before .before in (s .pre .0, inside s)
+entry-at-requires c κs =
+    let s = c .before .before .before .before .before .before .before .before .before .before .before .before in
+    (s .pre .0, inside s)
 
 same-length : tie.Need-same-length
 same-length c = refl
@@ -78,16 +86,23 @@ returns : tie.Need-returns
 returns c =
     let s = c .before .before .before .before .before .before .before .before .before .before .before .before .before .before .before in
     let a = s .args in
-    skipped (rows (columns s)) (a .len) (a .done) (a .k) (a .z) (s .pre .1) (room s) (rw (c .before .before .entry-at .ensures) at (c .if1 .taken))
+    skipped (table s) (a .len) (a .done) (a .k) (a .z) (s .pre .1) (room s)
+    (rw (c .before .before .entry-at .ensures) at (c .if1 .taken))
 
 slice-write-seen : tie.Need-slice-write-seen
 slice-write-seen c = search needs
 
 add-put-entry : tie.Need-add-put-entry
-add-put-entry c = let s = c .before .before .before .before .before .before .before .before .before .before .before .before .before .before .before .before .before .before .before .before .before in omega (arith, space (c .before .before .before .before .before .before), s .good .0 .0)
+add-put-entry c =
+    let s = c .before .before .before .before .before .before .before .before .before .before .before .before .before .before
+    .before .before .before .before .before .before .before in
+    omega (arith, space (c .before .before .before .before .before .before), s .good .0 .0)
 
 put-entry-requires : tie.Need-put-entry-requires
-put-entry-requires c κs = let s = c .before .before .before .before .before .before .before .before .before .before .before .before .before .before .before .before .before .before .before .before .before in (even-mark (columns s) (s .args .k) (s .args .z) (s .pre .0), space (c .before .before .before .before .before .before))
+put-entry-requires c κs =
+    let s = c .before .before .before .before .before .before .before .before .before .before .before .before .before .before
+    .before .before .before .before .before .before .before in
+    (even-mark (columns s) (s .args .k) (s .args .z) (s .pre .0), space (c .before .before .before .before .before .before))
 
 add-result : tie.Need-add-result
 add-result c = let e = else-of (putting c) in omega (arith, space e, start-of e .good .0 .0)
@@ -116,7 +131,7 @@ returns-2 c =
     let e = else-of w in
     let s = start-of e in
     let a = s .args in
-    let t = rows (columns s) in
+    let t = table s in
     let m = marked (a .z) (entry t (a .k)) in
     let r = e .before .before .entry-at in
     let p : rows (after w) ≡ set (set t (a .k) m) (a .len + a .done) m

@@ -1,5 +1,4 @@
 -- `zoom::counted` meets its contract, by its test. Assumes nothing.
-use mathlib.Core.Path.{_≡_, refl}
 use borrow.Author.Tests.{lt-ltb, le-ltb}
 use Rattle.zoom.proofs.counted.Statement.{statement}
 use Rattle.zoom.proofs.counted.Tie as tie

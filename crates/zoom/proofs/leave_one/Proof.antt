@@ -1,13 +1,14 @@
--- `zoom::leave_one` meets its contract: row i is put after the next table's last, and then the copies of the neighbours follow. Assumes nothing.
-use mathlib.Core.Path.{_≡_, refl, ap, sym, _∙_, subst}
-use Prim.Native.Nat.{ℕ, _+_, _-_, _^_, _<_, _≤_}
+-- `zoom::leave_one` meets its contract: row i is put after the next table's last, and then the copies of the neighbours follow. Assumes
+-- nothing.
+use mathlib.Core.Path.{_≡_, ap, _∙_}
+use Prim.Native.Nat.{_+_, _<_, _≤_}
 use native.Mathlib.Omega.{arith}
-use lib.ListN.{length, getD, set, drop, take, length-set}
-use borrow.Author.Needs.{needs}
+use lib.ListN.{length, set, take}
 use Rattle.tables.specs.declared.Entry.{Entry}
-use Rattle.tables.specs.Entries.{Table, entry, none, marked}
+use Rattle.tables.specs.Entries.{Table, entry}
 use Rattle.tables.specs.Lent.{given}
-use Rattle.tables.specs.Rows.{Cols, cols, rows, Kept, rows-length, even-kept, kept-then}
+use Rattle.tables.specs.Rows.{Cols, rows, Kept, rows-length, even-kept, kept-then}
+use Rattle.zoom.specs.Back.{lastCols, keptCols}
 use Rattle.zoom.specs.Scanned.{unseenCount}
 use Rattle.zoom.specs.Stored.{left-leaves, left-room}
 use Rattle.zoom.proofs.leave_one.Statement.{statement}
@@ -19,7 +20,7 @@ columns s = let a = s .args in (given (a .x) (a .y) (a .seen) (a .id) (a .parent
 abbrev table : tie.Start → Table
 table s = rows (columns s)
 
-room : (s : tie.Start) → s .args .len + s .args .done + 1 + unseenCount (s .args .z) (take (s .args .len) (table s)) ≤ length (table s)
+room : (s : tie.Start) → let a = s .args in a .len + a .done + 1 + unseenCount (a .z) (take (a .len) (table s)) ≤ length (table s)
 room s = rw (rows-length (columns s)) (s .pre .3)
 
 space : (s : tie.Start) → s .args .len + s .args .done < length (table s)
@@ -28,18 +29,21 @@ space s = omega (arith, room s)
 -- ---- after row i was put
 
 abbrev start-of : tie.After-put-entry → tie.Start
-start-of w = w .before .before .before .before .before .before .before .before .before .before .before .before .before .before .before .before .before .before .before .before .before
+start-of w = w .before .before .before .before .before .before .before .before .before .before .before .before .before
+    .before .before .before .before .before .before .before .before
 
 abbrev put : tie.After-put-entry → Cols
-put c = let w = c .put-entry in (cols (w .last .0) (w .last .1 .0) (w .last .1 .1 .0) (w .last .1 .1 .1 .0) (w .last .1 .1 .1 .1 .0) (w .last .1 .1 .1 .1 .1 .0))
+put c = lastCols (c .put-entry .last)
 
 kept-put : (c : tie.After-put-entry) → Kept (columns (start-of c)) (put c)
-kept-put c = let w = c .put-entry in (record { kx = w .kept .0; ky = w .kept .1 .0; ks = w .kept .1 .1 .0; ki = w .kept .1 .1 .1 .0; kp = w .kept .1 .1 .1 .1 .0; kn = w .kept .1 .1 .1 .1 .1 .0 })
+kept-put c = keptCols (columns (start-of c)) (put c) (c .put-entry .kept)
 
-put-is : (c : tie.After-put-entry) → rows (put c) ≡ set (table (start-of c)) (start-of c .args .len + start-of c .args .done) (entry (table (start-of c)) (start-of c .args .i))
+put-is : (c : tie.After-put-entry) → let s = start-of c in
+    rows (put c) ≡ set (table s) (s .args .len + s .args .done) (entry (table s) (s .args .i))
 put-is c =
     let s = start-of c in
-    c .put-entry .ensures ∙ ap (λ (v : Entry). set (table s) (s .args .len + s .args .done) v) (c .before .before .before .before .before .before .before .entry-at .ensures)
+    let r = c .before .before .before .before .before .before .before .entry-at in
+    c .put-entry .ensures ∙ ap (λ (v : Entry). set (table s) (s .args .len + s .args .done) v) (r .ensures)
 
 -- ---- and after the copies
 
@@ -47,36 +51,50 @@ abbrev copying : tie.After-slice-known18 → tie.After-copy-near
 copying c = c .before .before .before .before .before .before .before .before .before .before .before .before
 
 abbrev putting : tie.After-copy-near → tie.After-put-entry
-putting c = c .before .before .before .before .before .before .before .before .before .before .before .before .before .before .before .before .before .before .before
+putting c = c .before .before .before .before .before .before .before .before .before .before .before .before .before
+    .before .before .before .before .before .before
 
-kept-by : (c : tie.After-copy-near) → Kept (columns (start-of (putting c))) (let w = c .copy-near in (cols (w .last .0) (w .last .1 .0) (w .last .1 .1 .0) (w .last .1 .1 .1 .0) (w .last .1 .1 .1 .1 .0) (w .last .1 .1 .1 .1 .1 .0)))
+kept-by : (c : tie.After-copy-near) → Kept (columns (start-of (putting c))) (lastCols (c .copy-near .last))
 kept-by c =
-    let w = c .copy-near in
     let p = putting c in
-    let k : Kept (put p) (cols (w .last .0) (w .last .1 .0) (w .last .1 .1 .0) (w .last .1 .1 .1 .0) (w .last .1 .1 .1 .1 .0) (w .last .1 .1 .1 .1 .1 .0)) = (record { kx = w .kept .0; ky = w .kept .1 .0; ks = w .kept .1 .1 .0; ki = w .kept .1 .1 .1 .0; kp = w .kept .1 .1 .1 .1 .0; kn = w .kept .1 .1 .1 .1 .1 .0 }) in
-    kept-then (columns (start-of p)) (put p) (cols (w .last .0) (w .last .1 .0) (w .last .1 .1 .0) (w .last .1 .1 .1 .0) (w .last .1 .1 .1 .1 .0) (w .last .1 .1 .1 .1 .1 .0)) k (kept-put p)
+    let new = lastCols (c .copy-near .last) in
+    kept-then (columns (start-of p)) (put p) new (keptCols (put p) new (c .copy-near .kept)) (kept-put p)
 
 entry-at-requires : tie.Need-entry-at-requires
-entry-at-requires c κs = let s = c .before .before .before .before .before .before .before .before .before .before .before .before .before in (s .pre .0, omega (arith, s .pre .2, s .pre .3))
+entry-at-requires c κs =
+    let s = c .before .before .before .before .before .before .before .before .before .before .before .before .before in
+    (s .pre .0, omega (arith, s .pre .2, s .pre .3))
 
 add-put-entry : tie.Need-add-put-entry
-add-put-entry c = let s = c .before .before .before .before .before .before .before .before .before .before .before .before .before .before .before .before .before .before .before .before in omega (arith, s .pre .3, s .good .0 .0)
+add-put-entry c =
+    let s = c .before .before .before .before .before .before .before .before .before .before .before .before .before .before
+    .before .before .before .before .before .before in
+    omega (arith, s .pre .3, s .good .0 .0)
 
 put-entry-requires : tie.Need-put-entry-requires
-put-entry-requires c κs = let s = c .before .before .before .before .before .before .before .before .before .before .before .before .before .before .before .before .before .before .before .before in (s .pre .0, omega (arith, s .pre .3))
+put-entry-requires c κs =
+    let s = c .before .before .before .before .before .before .before .before .before .before .before .before .before .before
+    .before .before .before .before .before .before in
+    (s .pre .0, omega (arith, s .pre .3))
 
 add-copy-near : tie.Need-add-copy-near
-add-copy-near c = let s = c .before .before .before .before .before .before .before .before .before .before .before .before .before .before .before .before .before .before .before .before .before .before .before .before .before .before .before .before .before .before .before .before .before .before .before .before .before .before .before in omega (arith, s .pre .3, s .good .0 .0)
+add-copy-near c =
+    let s = c .before .before .before .before .before .before .before .before .before .before .before .before .before .before
+    .before .before .before .before .before .before .before .before .before .before .before .before .before .before .before
+    .before .before .before .before .before .before .before .before .before .before in
+    omega (arith, s .pre .3, s .good .0 .0)
 
 copy-near-requires : tie.Need-copy-near-requires
 copy-near-requires c κs =
-    let w = c .before .before .before .before .before .before .before .before .before .before .before .before .before .before .before .before .before .before in
+    let w = c .before .before .before .before .before .before .before .before .before .before .before .before .before .before
+    .before .before .before .before in
     let s = start-of w in
     let a = s .args in
-    let k = kept-put w in (
+    let k = kept-put w in
+    let r = left-room (table s) (a .len) (a .done) (a .i) (a .z) (a .near .now) (s .pre .2) (space s) (room s) in (
       even-kept (columns s) (put w) k (s .pre .0),
       s .pre .1,
-      rw (put-is w, k .kx) (rw (rows-length (columns s)) at (left-room (table s) (a .len) (a .done) (a .i) (a .z) (a .near .now) (s .pre .2) (space s) (room s))),
+      rw (put-is w, k .kx) (rw (rows-length (columns s)) at r),
     )
 
 same-length : tie.Need-same-length
@@ -103,7 +121,8 @@ returns c =
     let w = putting v in
     let s = start-of w in
     let a = s .args in
-    left-leaves (table s) (a .len) (a .done) (a .i) (a .z) (a .near .now) (s .pre .2) (space s) _ _ (rw (put-is w) at (v .copy-near .ensures))
+    left-leaves (table s) (a .len) (a .done) (a .i) (a .z) (a .near .now) (s .pre .2) (space s) _ _
+    (rw (put-is w) at (v .copy-near .ensures))
 
 pub leave-one-spec : {M : Type 1} → statement M
 leave-one-spec =

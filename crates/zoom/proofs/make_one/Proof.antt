@@ -1,15 +1,18 @@
--- `zoom::make_one` meets its contract: what absorbing gives, the origin's parent, and the new entry after the table are a cluster made. Assumes nothing.
+-- `zoom::make_one` meets its contract: what absorbing gives, the origin's parent, and the new entry after the table are a cluster made. Assumes
+-- nothing.
 use mathlib.Core.Path.{_≡_, refl, ap, sym, _∙_, subst}
-use Prim.Native.Nat.{ℕ, _+_, _-_, _^_, _<_, _≤_}
+use Prim.Native.Nat.{ℕ, _+_, _<_}
 use native.Mathlib.Omega.{arith}
-use lib.ListN.{length, getD, set, drop, take, length-set}
+use lib.ListN.{length, set, length-set}
 use borrow.Author.Needs.{needs}
 use Rattle.kdslots.specs.All.{below-le}
 use Rattle.tables.specs.declared.Entry.{Entry}
-use Rattle.tables.specs.Entries.{Table, entry, none, marked}
+use Rattle.tables.specs.Entries.{Table, entry}
 use Rattle.tables.specs.Lent.{given}
-use Rattle.tables.specs.Rows.{Cols, cols, rows, Even, Kept, withSeen, withParent, rows-length, rows-parent, even-seen, even-parent, kept-even, kept-then}
-use Rattle.zoom.specs.Stored.{made-with, begun}
+use Rattle.tables.specs.Rows.{Cols, rows, Even, Kept, withSeen, withParent, rows-length, rows-parent, even-seen, even-parent, kept-even, kept-then}
+use Rattle.zoom.specs.Back.{lastCols, keptCols}
+use Rattle.zoom.specs.Stored.{made-with}
+use mathlib.Core.List.{List}
 use Rattle.zoom.specs.Scanned.{scanOf, Scanned}
 use Rattle.zoom.specs.Zoom.{Absorbed, absorbed, absorb, started, centre, madeAt}
 use Rattle.zoom.proofs.make_one.Statement.{statement}
@@ -24,33 +27,45 @@ inside s = omega (arith, s .pre .2, s .pre .3)
 -- ---- what absorbing leaves
 
 abbrev start-of : tie.After-absorb-near → tie.Start
-start-of w = w .before .before .before .before .before .before .before .before .before .before .before .before .before .before .before .before .before .before .before .before .before .before .before .before .before
+start-of w = w .before .before .before .before .before .before .before .before .before .before .before .before .before
+    .before .before .before .before .before .before .before .before .before .before .before .before
 
 abbrev naming : tie.After-absorb-near → tie.After-cluster-id
-naming w = w .before .before .before .before .before .before .before .before .before .before .before .before .before .before .before .before .before
+naming w = w .before .before .before .before .before .before .before .before .before .before .before .before .before .before
+    .before .before .before
 
 abbrev reading : tie.After-absorb-near → tie.After-entry-at
 reading w = w .before .before .before .before .before .before .before .before .before .before
 
+-- its marks and its parents
+abbrev marks : tie.After-absorb-near → List ℕ
+marks w = w .absorb-near .last .1 .1 .0
+
+abbrev parents : tie.After-absorb-near → List ℕ
+parents w = w .absorb-near .last .1 .1 .1 .1 .0
+
 abbrev seen-by : tie.After-absorb-near → Cols
-seen-by w = withSeen (columns (start-of w)) (w .absorb-near .last .1 .1 .0)
+seen-by w = withSeen (columns (start-of w)) (marks w)
 
 abbrev absorbed-by : tie.After-absorb-near → Cols
-absorbed-by w = withParent (seen-by w) (w .absorb-near .last .1 .1 .1 .1 .0)
+absorbed-by w = withParent (seen-by w) (parents w)
 
 even-by : (w : tie.After-absorb-near) → Even (absorbed-by w)
 even-by w =
+    let s = start-of w in
     let k = w .absorb-near .kept in
-    even-parent (seen-by w) (w .absorb-near .last .1 .1 .1 .1 .0) (k .1 .1 .1 .1 .0) (even-seen (columns (start-of w)) (w .absorb-near .last .1 .1 .0) (k .1 .1 .0) (start-of w .pre .0))
+    even-parent (seen-by w) (parents w) (k .1 .1 .1 .1 .0) (even-seen (columns s) (marks w) (k .1 .1 .0) (s .pre .0))
 
 -- and the origin's parent
+abbrev with-origin : tie.After-absorb-near → List ℕ
+with-origin w = set (parents w) (start-of w .args .i) (naming w .cluster-id .result)
+
 abbrev hung : tie.After-absorb-near → Cols
-hung w = withParent (absorbed-by w) (set (w .absorb-near .last .1 .1 .1 .1 .0) (start-of w .args .i) (naming w .cluster-id .result))
+hung w = withParent (absorbed-by w) (with-origin w)
 
 even-hung : (w : tie.After-absorb-near) → Even (hung w)
 even-hung w =
-    let ps = w .absorb-near .last .1 .1 .1 .1 .0 in
-    even-parent (absorbed-by w) (set ps (start-of w .args .i) (naming w .cluster-id .result)) (length-set ps (start-of w .args .i) (naming w .cluster-id .result)) (even-by w)
+    even-parent (absorbed-by w) (with-origin w) (length-set (parents w) (start-of w .args .i) (naming w .cluster-id .result)) (even-by w)
 
 kept-hung : (w : tie.After-absorb-near) → Kept (columns (start-of w)) (hung w)
 kept-hung w = kept-even (columns (start-of w)) (hung w) (start-of w .pre .0) (even-hung w) refl
@@ -64,31 +79,35 @@ abbrev absorbing : tie.After-put-entry → tie.After-absorb-near
 absorbing c = c .before .before .before .before .before .before .before .before .before .before .before .before .before .before
 
 abbrev after : tie.After-put-entry → Cols
-after c = let w = c .put-entry in (cols (w .last .0) (w .last .1 .0) (w .last .1 .1 .0) (w .last .1 .1 .1 .0) (w .last .1 .1 .1 .1 .0) (w .last .1 .1 .1 .1 .1 .0))
+after c = lastCols (c .put-entry .last)
 
 kept-by : (c : tie.After-put-entry) → Kept (columns (start-of (absorbing c))) (after c)
 kept-by c =
     let h = absorbing c in
-    let w = c .put-entry in
-    let k : Kept (hung h) (after c) = (record { kx = w .kept .0; ky = w .kept .1 .0; ks = w .kept .1 .1 .0; ki = w .kept .1 .1 .1 .0; kp = w .kept .1 .1 .1 .1 .0; kn = w .kept .1 .1 .1 .1 .1 .0 }) in
-    kept-then (columns (start-of h)) (hung h) (after c) k (kept-hung h)
+    kept-then (columns (start-of h)) (hung h) (after c) (keptCols (hung h) (after c) (c .put-entry .kept)) (kept-hung h)
 
 cluster-id-requires : tie.Need-cluster-id-requires
 cluster-id-requires c κs = let h = c .before .before .before .before .before .before .before .pre in (omega (arith, h .2, h .4), h .6, h .5)
 
 entry-at-requires : tie.Need-entry-at-requires
-entry-at-requires c κs = let s = c .before .before .before .before .before .before .before .before .before .before .before .before .before .before in (s .pre .0, inside s)
+entry-at-requires c κs =
+    let s = c .before .before .before .before .before .before .before .before .before .before .before .before .before .before in
+    (s .pre .0, inside s)
 
 int-to-float-own : tie.Need-int-to-float-own
 int-to-float-own c = search needs
 
 absorb-near-requires : tie.Need-absorb-near-requires
 absorb-near-requires c κs =
-    let s = c .before .before .before .before .before .before .before .before .before .before .before .before .before .before .before .before .before .before .before .before .before .before .before .before in
+    let s = c .before .before .before .before .before .before .before .before .before .before .before .before .before .before
+    .before .before .before .before .before .before .before .before .before .before in
     (s .pre .0, below-le (s .args .len) (length (s .args .x .now)) (s .args .near .now) (omega (arith, s .pre .3)) (s .pre .1))
 
 mul-parent : tie.Need-mul-parent
-mul-parent c = let h = c .before .before .before .before .before .before .before .before .before .before .before .before .before .before .before .before .before .before .before .before .before .before .before .before .before .before .before .before .before .pre in omega (arith, h .2, h .4)
+mul-parent c =
+    let h = c .before .before .before .before .before .before .before .before .before .before .before .before .before .before
+    .before .before .before .before .before .before .before .before .before .before .before .before .before .before .before .pre in
+    omega (arith, h .2, h .4)
 
 slice-write-parent : tie.Need-slice-write-parent
 slice-write-parent c =
@@ -99,10 +118,16 @@ int-to-float-t : tie.Need-int-to-float-t
 int-to-float-t c = search needs
 
 add-put-entry : tie.Need-add-put-entry
-add-put-entry c = let s = c .before .before .before .before .before .before .before .before .before .before .before .before .before .before .before .before .before .before .before .before .before .before .before .before .before .before .before .before .before .before .before .before .before .before .before .before .before .before in omega (arith, s .pre .3, s .good .0 .0)
+add-put-entry c =
+    let s = c .before .before .before .before .before .before .before .before .before .before .before .before .before .before
+    .before .before .before .before .before .before .before .before .before .before .before .before .before .before .before
+    .before .before .before .before .before .before .before .before .before in
+    omega (arith, s .pre .3, s .good .0 .0)
 
 put-entry-requires : tie.Need-put-entry-requires
-put-entry-requires c κs = let w = c .before .before .before .before .before .before .before .before .before .before .before .before .before in (even-hung w, start-of w .pre .3)
+put-entry-requires c κs =
+    let w = c .before .before .before .before .before .before .before .before .before .before .before .before .before in
+    (even-hung w, start-of w .pre .3)
 
 same-length : tie.Need-same-length
 same-length c = kept-by (putting c) .kx
@@ -132,14 +157,15 @@ returns c =
     let id = naming w .cluster-id in
     let t = rows (columns s) in
     let n = rows-length (columns s) in
-    let room : a .len + a .done < length (a .x .now) = s .pre .3 in
+    let room : a .len + a .done < length t = rw n (s .pre .3) in
     let f : Absorbed = absorbed (rows (absorbed-by w)) (ab .result .x) (ab .result .y) in
-    let e : f ≡ absorb (a .z) (id .result) (begun t (a .len) (a .done) (a .i) (a .z) (a .n) (a .total) (a .near .now) (s .pre .2) (rw n room) (s .pre .1) t) (a .near .now)
+    let e : f ≡ absorb (a .z) (id .result) (started t (entry t (a .i))) (a .near .now)
     = ab .ensures ∙ ap (λ (v : Entry). absorb (a .z) (id .result) (started t v) (a .near .now)) (reading w .entry-at .ensures) in
     let h = rows-parent (absorbed-by w) (a .i) (even-by w) (inside s) (id .result) in
-    subst (λ (q : Table). Scanned (a .len) (a .done) (madeAt (a .n) (a .z) (a .i) (a .total) (a .near .now) (scanOf (a .len) (a .done) t)) t q (a .done + 1))
+    let made = madeAt (a .n) (a .z) (a .i) (a .total) (a .near .now) (scanOf (a .len) (a .done) t) in
+    subst (λ (q : Table). Scanned (a .len) (a .done) made t q (a .done + 1))
     (sym (put .ensures ∙ ap (λ (q : Table). set q (a .len + a .done) (centre f (id .result) (a .total))) h))
-    (made-with t (a .len) (a .done) (a .i) (a .z) (a .n) (a .total) (a .near .now) (s .pre .2) (rw n room) (s .pre .1) (id .result) (id .ensures) f e)
+    (made-with t (a .len) (a .done) (a .i) (a .z) (a .n) (a .total) (a .near .now) (s .pre .2) room (s .pre .1) (id .result) (id .ensures) f e)
 
 pub make-one-spec : {M : Type 1} → statement M
 make-one-spec =

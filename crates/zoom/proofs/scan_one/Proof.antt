@@ -1,24 +1,27 @@
--- `zoom::scan_one` meets its contract: one that is seen is passed by, and what the visit of a marked entry leaves is the definition's scan. Assumes nothing.
-use mathlib.Core.Path.{_≡_, refl, ap, sym, _∙_, subst}
+-- `zoom::scan_one` meets its contract: one that is seen is passed by, and what the visit of a marked entry leaves is the definition's scan. Assumes
+-- nothing.
+use mathlib.Core.Path.{_≡_, refl, ap, sym, subst}
 use mathlib.Core.List.{List}
-use Prim.Native.Nat.{ℕ, _+_, _-_, _^_, _<_, _≤_}
+use Prim.Native.Nat.{ℕ, _+_, _^_, _<_, _≤_}
 use native.Mathlib.Omega.{arith}
-use lib.ListN.{length, getD, set, drop, take, length-set}
+use lib.ListN.{length, getD, set, take}
 use lib.Seq.{getD-take, length-take-le}
 use lib.Ieee.{Float}
 use borrow.Author.Needs.{needs}
+use Rattle.kdslots.specs.declared.Query.{Query}
 use Rattle.kdslots.specs.declared.Query.the-variants.{Within}
 use Rattle.kdslots.specs.All.{AllBelow}
 use Rattle.kdslots.specs.Members.{Distinct}
 use Rattle.tables.specs.declared.Entry.{Entry}
 use Rattle.tables.specs.Entries.{Table, entry, none, marked}
 use Rattle.tables.specs.Lent.{given}
-use Rattle.tables.specs.Rows.{Cols, cols, rows, Kept, withSeen, rows-length, rows-mark, even-mark, kept-mark, kept-then}
+use Rattle.tables.specs.Rows.{Cols, rows, Kept, withSeen, rows-length, rows-mark, even-mark, kept-mark, kept-then}
+use Rattle.zoom.specs.Back.{lastCols, keptCols}
 use Rattle.zoom.specs.Zoom.{numOf}
 use Rattle.zoom.specs.Keeps.{all-at}
 use Rattle.zoom.specs.Near.{nearOf, Placed}
 use Rattle.zoom.specs.Notes.{Tells, noted-at}
-use Rattle.zoom.specs.Visit.{marking, marked-room, marked-fits, scanned, passed}
+use Rattle.zoom.specs.Visit.{marked-room, marked-fits, scanned, passed}
 use Rattle.zoom.proofs.scan_one.Statement.{statement}
 use Rattle.zoom.proofs.scan_one.Tie as tie
 
@@ -49,43 +52,57 @@ placed-i : (s : tie.Start) → Placed (entry (table s) (s .args .i))
 placed-i s =
     let a = s .args in
     subst (λ (e : Entry). Placed e) (getD-take (a .len) (table s) (a .i) none (s .pre .4))
-    (all-at Placed (take (a .len) (table s)) (a .i) (s .pre .5) (omega (arith, length-take-le (a .len) (table s) (len-in s), s .pre .4)))
+    (all-at Placed (take (a .len) (table s)) (a .i) (s .pre .5) (rw (length-take-le (a .len) (table s) (len-in s)) (s .pre .4)))
 
 -- ---- and once the entry is read
 
 abbrev start-of : tie.After-entry-at → tie.Start
-start-of c = c .before .before .before .before .before .before .before .before .before .before .before .before .before .before .before .before
+start-of c = c .before .before .before .before .before .before .before .before .before .before .before .before .before
+    .before .before .before
 
 abbrev places : tie.After-entry-at → List ℕ
 places c = near-of (start-of c) (c .entry-at .result .x) (c .entry-at .result .y)
 
+abbrev question : tie.After-entry-at → Query
+question c = Within (c .entry-at .result .x) (c .entry-at .result .y) (start-of c .args .r)
+
 below-of : (c : tie.After-entry-at) → AllBelow (start-of c .args .len) (places c)
-below-of c = start-of c .pre .1 .below (Within (c .entry-at .result .x) (c .entry-at .result .y) (start-of c .args .r))
+below-of c = start-of c .pre .1 .below (question c)
 
 few : (c : tie.After-entry-at) → length (places c) ≤ start-of c .args .len
-few c = start-of c .pre .1 .short (Within (c .entry-at .result .x) (c .entry-at .result .y) (start-of c .args .r))
+few c = start-of c .pre .1 .short (question c)
 
 once : (c : tie.After-entry-at) → Distinct (places c)
-once c = start-of c .pre .1 .once (Within (c .entry-at .result .x) (c .entry-at .result .y) (start-of c .args .r))
+once c = start-of c .pre .1 .once (question c)
 
 -- ---- the branch of an entry that is not passed by
 
 abbrev reading : tie.Else1 → tie.After-entry-at
 reading e = e .before .before
 
-unseen-i : (e : tie.Else1) → start-of (reading e) .args .z < entry (table (start-of (reading e))) (start-of (reading e) .args .i) .seen
+unseen-i : (e : tie.Else1) → let s = start-of (reading e) in s .args .z < entry (table s) (s .args .i) .seen
 unseen-i e = rw (reading e .entry-at .ensures) at (e .if1 .left)
 
 -- the entry's note is one of the column
-note-in : (c : tie.After-wide) → let s = c .before .before .before .before .before .before .before .before .before .before .before .before .before .before .before .before .before .before .before in (c .wide .result ≡ s .args .n) × (s .args .n + s .args .i < length (s .args .near .now))
-note-in c = let s = c .before .before .before .before .before .before .before .before .before .before .before .before .before .before .before .before .before .before .before in (c .wide .ensures, omega (arith, s .pre .3, s .pre .4))
+note-in : (c : tie.After-wide) → let a = start-of (reading (c .before)) .args in
+    (c .wide .result ≡ a .n) × (a .n + a .i < length (a .near .now))
+note-in c = let s = start-of (reading (c .before)) in (c .wide .ensures, omega (arith, s .pre .3, s .pre .4))
 
 -- the search, and how many it found
 abbrev else-of : tie.After-neighbours → tie.Else1
 else-of w = w .before .before .before .before
 
-fits : (w : tie.After-neighbours) → w .neighbours .result ≤ length (w .neighbours .last .1 .1 .0)
-fits w = let r = reading (else-of w) in omega (arith, w .neighbours .ensures .0 .count, few r, start-of r .pre .3, w .neighbours .kept .1 .1 .0)
+abbrev listed : tie.After-neighbours → List ℕ
+listed w = w .neighbours .last .1 .1 .0
+
+fits : (w : tie.After-neighbours) → w .neighbours .result ≤ length (listed w)
+fits w =
+    let r = reading (else-of w) in
+    omega (arith, w .neighbours .ensures .0 .count, few r, start-of r .pre .3, w .neighbours .kept .1 .1 .0)
+
+-- they are the neighbours
+front-of : (w : tie.After-neighbours) → take (w .neighbours .result) (listed w) ≡ places (reading (else-of w))
+front-of w = w .neighbours .ensures .0 .front
 
 -- the visit
 abbrev visiting : tie.After-slice-known15 → tie.After-visit-one
@@ -94,15 +111,16 @@ visiting c = c .before .before .before .before .before .before .before .before .
 abbrev listing : tie.After-visit-one → tie.After-neighbours
 listing v = v .before .before .before .before .before .before .before .before .before .before
 
-kept-by : (c : tie.After-visit-one) → Kept (columns (c .before .before .before .before .before .before .before .before .before .before .before .before .before .before .before .before .before .before .before .before .before .before .before .before .before .before .before .before .before .before .before .before)) (let w = c .visit-one in (cols (w .last .0) (w .last .1 .0) (w .last .1 .1 .0) (w .last .1 .1 .1 .0) (w .last .1 .1 .1 .1 .0) (w .last .1 .1 .1 .1 .1 .0)))
+kept-by : (c : tie.After-visit-one) → Kept (columns (start-of (reading (else-of (listing c))))) (lastCols (c .visit-one .last))
 kept-by c =
-    let s = c .before .before .before .before .before .before .before .before .before .before .before .before .before .before .before .before .before .before .before .before .before .before .before .before .before .before .before .before .before .before .before .before in
-    let w = c .visit-one in
-    let k : Kept (now-marked s) (cols (w .last .0) (w .last .1 .0) (w .last .1 .1 .0) (w .last .1 .1 .1 .0) (w .last .1 .1 .1 .1 .0) (w .last .1 .1 .1 .1 .1 .0)) = (record { kx = w .kept .0; ky = w .kept .1 .0; ks = w .kept .1 .1 .0; ki = w .kept .1 .1 .1 .0; kp = w .kept .1 .1 .1 .1 .0; kn = w .kept .1 .1 .1 .1 .1 .0 }) in
-    kept-then (columns s) (now-marked s) (cols (w .last .0) (w .last .1 .0) (w .last .1 .1 .0) (w .last .1 .1 .1 .0) (w .last .1 .1 .1 .1 .0) (w .last .1 .1 .1 .1 .1 .0)) k (kept-mark (columns s) (s .args .i) (s .args .z))
+    let s = start-of (reading (else-of (listing c))) in
+    let new = lastCols (c .visit-one .last) in
+    kept-then (columns s) (now-marked s) new (keptCols (now-marked s) new (c .visit-one .kept)) (kept-mark (columns s) (s .args .i) (s .args .z))
 
 entry-at-requires : tie.Need-entry-at-requires
-entry-at-requires c κs = let s = c .before .before .before .before .before .before .before .before .before .before .before .before .before .before .before in (s .pre .0, inside s)
+entry-at-requires c κs =
+    let s = c .before .before .before .before .before .before .before .before .before .before .before .before .before .before .before in
+    (s .pre .0, inside s)
 
 same-length : tie.Need-same-length
 same-length c = refl
@@ -124,21 +142,33 @@ same-length-6 c = refl
 
 returns : tie.Need-returns
 returns c =
-    let s = c .before .before .before .before .before .before .before .before .before .before .before .before .before .before .before .before .before .before in
+    let s = c .before .before .before .before .before .before .before .before .before .before .before .before .before .before
+    .before .before .before .before in
     let a = s .args in
-    (λ j. refl, passed (a .n) (a .least) (a .z) (near-of s) (table s) (a .len) (a .done) (a .i) (s .pre .4) (rw (c .before .before .entry-at .ensures) at (c .if1 .taken)) (omega (arith, s .pre .7, rows-length (columns s))))
+    let u = rw (c .before .before .entry-at .ensures) at (c .if1 .taken) in
+    let h : a .len + a .done ≤ length (table s) = omega (arith, s .pre .7, rows-length (columns s)) in
+    (λ j. refl, passed (a .n) (a .least) (a .z) (near-of s) (table s) (a .len) (a .done) (a .i) (s .pre .4) u h)
 
 slice-write-seen : tie.Need-slice-write-seen
-slice-write-seen c = let s = c .before .before .before .before .before .before .before .before .before .before .before .before .before .before .before .before .before .before in omega (arith, inside s, s .pre .0 .es)
+slice-write-seen c =
+    let s = c .before .before .before .before .before .before .before .before .before .before .before .before .before .before
+    .before .before .before .before in
+    omega (arith, inside s, s .pre .0 .es)
 
 wide-requires : tie.Need-wide-requires
 wide-requires c κs = search needs
 
 add-note : tie.Need-add-note
-add-note c = let s = c .before .before .before .before .before .before .before .before .before .before .before .before .before .before .before .before .before .before .before in omega (arith, note-in c .0, s .pre .4, s .pre .8, s .pre .9)
+add-note c =
+    let s = c .before .before .before .before .before .before .before .before .before .before .before .before .before .before
+    .before .before .before .before .before in
+    omega (arith, note-in c .0, s .pre .4, s .pre .8, s .pre .9)
 
 mul-note : tie.Need-mul-note
-mul-note c = let s = c .before .before .before .before .before .before .before .before .before .before .before .before .before .before .before .before .before .before .before in omega (arith, note-in c .0, s .pre .4, s .pre .8, s .pre .9)
+mul-note c =
+    let s = c .before .before .before .before .before .before .before .before .before .before .before .before .before .before
+    .before .before .before .before .before in
+    omega (arith, note-in c .0, s .pre .4, s .pre .8, s .pre .9)
 
 slice-read-note : tie.Need-slice-read-note
 slice-read-note c = omega (arith, note-in (c .before) .0, note-in (c .before) .1)
@@ -146,7 +176,8 @@ slice-read-note c = omega (arith, note-in (c .before) .0, note-in (c .before) .1
 neighbours-requires : tie.Need-neighbours-requires
 neighbours-requires c κs =
     let w = c .before .before .wide in
-    let s = c .before .before .before .before .before .before .before .before .before .before .before .before .before .before .before .before .before .before .before .before .before in
+    let s = c .before .before .before .before .before .before .before .before .before .before .before .before .before
+    .before .before .before .before .before .before .before .before in
     let r = c .before .before .before .before .before .entry-at in
     let a = s .args in
     let p = s .pre in
@@ -154,7 +185,8 @@ neighbours-requires c κs =
       (p .1, p .2, omega (arith, p .3), p .4, omega (arith, p .8, p .9)),
       (
         f,
-        subst (λ (k : ℕ). Tells (a .i) (getD (a .near .now) (k + a .i) 0) (places (c .before .before .before .before .before))) (sym (w .ensures))
+        subst (λ (k : ℕ). Tells (a .i) (getD (a .near .now) (k + a .i) 0) (places (c .before .before .before .before
+            .before))) (sym (w .ensures))
             (noted-at (a .n) (a .len) (near-of s) (a .near .now) (table s) (a .i) (r .result) (p .6) (p .4) (sym (r .ensures))),
       ),
     )
@@ -163,7 +195,9 @@ slice-reshare-prefix-visit-one : tie.Need-slice-reshare-prefix-visit-one
 slice-reshare-prefix-visit-one c = fits (c .before .before .before .before .before .before .before .before)
 
 slice-aggregate-visit-one : tie.Need-slice-aggregate-visit-one
-slice-aggregate-visit-one c = let w = c .before .before .before .before .before .before .before .before .before in sym (length-take-le (w .neighbours .result) (w .neighbours .last .1 .1 .0) (fits w))
+slice-aggregate-visit-one c =
+    let w = c .before .before .before .before .before .before .before .before .before in
+    sym (length-take-le (w .neighbours .result) (listed w) (fits w))
 
 visit-one-requires : tie.Need-visit-one-requires
 visit-one-requires c κs =
@@ -175,15 +209,15 @@ visit-one-requires c κs =
     let p = s .pre in
     let t = table s in
     let l = places r in
-    let fr : take (w .neighbours .result) (w .neighbours .last .1 .1 .0) ≡ l = w .neighbours .ensures .0 .front in (
+    let fits = marked-fits t (a .len) (a .done) (a .z) (a .i) (p .4) (len-in s) (unseen-i e) numOf (λ e q. refl) (2 ^ 32) l (below-of r) (once r) in (
       even-mark (columns s) (a .i) (a .z) (p .0),
-      rw fr (below-of r),
+      rw (front-of w) (below-of r),
       p .4,
       rw (mark-i s) (marked-room t (a .len) (a .done) (a .z) (a .i) (p .4) (len-in s) (unseen-i e) (length (a .x .now)) (p .7)),
       omega (arith, p .8, p .9),
       p .9,
       p .10,
-      rw (mark-i s, fr) (marked-fits t (a .len) (a .done) (a .z) (a .i) (p .4) (len-in s) (unseen-i e) numOf (λ e q. refl) (2 ^ 32) l (below-of r) (once r) (p .11)),
+      rw (mark-i s, front-of w) (fits (p .11)),
     )
 
 same-length-7 : tie.Need-same-length-7
@@ -215,12 +249,11 @@ returns-2 c =
     let r = reading e in
     let s = start-of r in
     let a = s .args in
-    let l = places r in
-    let fr : take (w .neighbours .result) (w .neighbours .last .1 .1 .0) ≡ l = w .neighbours .ensures .0 .front in
-    let le : near-of s (entry (table s) (a .i) .x) (entry (table s) (a .i) .y) ≡ l = sym (ap (λ (q : Entry). near-of s (q .x) (q .y)) (r .entry-at .ensures)) in (
+    let le : near-of s (entry (table s) (a .i) .x) (entry (table s) (a .i) .y) ≡ places r
+    = sym (ap (λ (q : Entry). near-of s (q .x) (q .y)) (r .entry-at .ensures)) in
+    let visited = rw (mark-i s, front-of w) at (v .visit-one .ensures) in (
       w .neighbours .ensures .1,
-      scanned (a .n) (a .least) (a .z) (near-of s) (table s) (a .len) (a .done) (a .i) (s .pre .4) (unseen-i e) _ _
-          (rw le (rw (mark-i s, fr) at (v .visit-one .ensures))),
+      scanned (a .n) (a .least) (a .z) (near-of s) (table s) (a .len) (a .done) (a .i) (s .pre .4) (unseen-i e) _ _ (rw le visited),
     )
 
 pub scan-one-spec : {M : Type 1} → statement M

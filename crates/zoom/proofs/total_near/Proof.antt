@@ -1,14 +1,15 @@
--- `zoom::total_near` meets its contract: at the head of the loop the total so far and what the remaining neighbours add are the whole total. Assumes nothing.
-use mathlib.Core.Path.{_≡_, refl, ap, sym, _∙_, subst}
-use Prim.Native.Nat.{ℕ, _+_, _-_, _^_, _<_, _≤_}
+-- `zoom::total_near` meets its contract: at the head of the loop the total so far and what the remaining neighbours add are the whole total.
+-- Assumes nothing.
+use mathlib.Core.Path.{_≡_, refl, ap, _∙_}
+use Prim.Native.Nat.{ℕ, _+_, _-_, _<_}
 use native.Mathlib.Omega.{arith}
-use lib.ListN.{length, getD, set, drop, take, length-set}
+use lib.ListN.{length, getD, drop}
 use borrow.Author.Needs.{needs}
 use Rattle.kdslots.specs.All.{below-at}
 use Rattle.tables.specs.declared.Entry.{Entry}
 use Rattle.tables.specs.Entries.{Table, entry}
 use Rattle.tables.specs.Lent.{given}
-use Rattle.tables.specs.Rows.{Cols, cols, rows}
+use Rattle.tables.specs.Rows.{cols, rows}
 use Rattle.zoom.specs.Zoom.{numOf, adds, more}
 use Rattle.zoom.specs.Turns.{more-turn, more-end}
 use Rattle.zoom.proofs.total_near.Statement.{statement}
@@ -32,7 +33,8 @@ abbrev place : tie.In-loop Inv-loop μ-loop → ℕ
 place i = getD (start-of i .args .near .now) (i .before .loop .j) 0
 
 place-in : (i : tie.In-loop Inv-loop μ-loop) → place i < length (start-of i .args .x .now)
-place-in i = let s = start-of i in below-at (length (s .args .x .now)) (s .args .near .now) (i .before .loop .j) (s .pre .1) (i .loop-test .taken)
+place-in i = let s = start-of i in below-at (length (s .args .x .now)) (s .args .near .now) (i
+    .before .loop .j) (s .pre .1) (i .loop-test .taken)
 
 abbrev table : tie.Start Inv-loop μ-loop → Table
 table s = let a = s .args in rows (given (a .x) (a .y) (a .seen) (a .id) (a .parent) (a .num))

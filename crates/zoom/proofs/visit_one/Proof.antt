@@ -1,16 +1,18 @@
--- `zoom::visit_one` meets its contract: the total is the definition's, and so is the test of it; each branch is what its function leaves. Assumes nothing.
-use mathlib.Core.Path.{_≡_, refl, ap, sym, _∙_, subst}
+-- `zoom::visit_one` meets its contract: the total is the definition's, and so is the test of it; each branch is what its function leaves. Assumes
+-- nothing.
+use mathlib.Core.Path.{_≡_, ap, sym, _∙_}
 use mathlib.Core.Bool.{Bool, true, false}
-use Prim.Native.Nat.{ℕ, _+_, _-_, _^_, _<_, _≤_}
+use Prim.Native.Nat.{ℕ, _+_, _≤_}
 use native.Mathlib.Omega.{arith}
-use lib.ListN.{length, getD, set, drop, take, length-set}
+use lib.ListN.{length, take}
 use lib.Seq.{getD-take}
 use borrow.Author.Needs.{needs}
 use Rattle.kdslots.specs.All.{below-le}
 use Rattle.tables.specs.declared.Entry.{Entry}
-use Rattle.tables.specs.Entries.{Table, entry, none, marked}
+use Rattle.tables.specs.Entries.{Table, entry, none}
 use Rattle.tables.specs.Lent.{given}
-use Rattle.tables.specs.Rows.{Cols, cols, rows, Kept, rows-length}
+use Rattle.tables.specs.Rows.{Cols, rows, Kept, rows-length}
+use Rattle.zoom.specs.Back.{lastCols, keptCols}
 use Rattle.zoom.specs.Scanned.{scanOf}
 use Rattle.zoom.specs.Zoom.{numOf, more, enough}
 use Rattle.zoom.specs.Steps.{totalOf, made-by, left-by}
@@ -34,13 +36,18 @@ len-in s = omega (arith, s .pre .3, rows-length (columns s))
 -- ---- after the total and its test
 
 abbrev start-of : tie.After-total-near → tie.Start
-start-of c = c .before .before .before .before .before .before .before .before .before .before .before .before .before .before .before .before .before .before .before .before .before
+start-of c = c .before .before .before .before .before .before .before .before .before .before .before .before .before
+    .before .before .before .before .before .before .before .before
 
 -- the entry that was read
-own-is : (c : tie.After-total-near) → c .before .before .before .before .before .before .before .entry-at .result ≡ entry (scanned (start-of c)) (start-of c .args .i)
-own-is c = let s = start-of c in c .before .before .before .before .before .before .before .entry-at .ensures ∙ sym (getD-take (s .args .len) (table s) (s .args .i) none (s .pre .2))
+abbrev reading : tie.After-total-near → tie.After-entry-at
+reading c = c .before .before .before .before .before .before .before
 
-total-is : (c : tie.After-total-near) → c .total-near .result ≡ totalOf (start-of c .args .z) (start-of c .args .near .now) (start-of c .args .i) (scanned (start-of c))
+own-is : (c : tie.After-total-near) → reading c .entry-at .result ≡ entry (scanned (start-of c)) (start-of c .args .i)
+own-is c = let s = start-of c in reading c .entry-at .ensures ∙ sym (getD-take (s .args .len) (table s) (s .args .i) none (s .pre .2))
+
+total-is : (c : tie.After-total-near) → let s = start-of c in let a = s .args in
+    c .total-near .result ≡ totalOf (a .z) (a .near .now) (a .i) (scanned s)
 total-is c =
     let s = start-of c in
     let a = s .args in
@@ -48,8 +55,8 @@ total-is c =
     ∙ ap (λ (e : Entry). e .num + more (a .z) (table s) (a .near .now)) (own-is c)
     ∙ ap (λ (q : ℕ). entry (scanned s) (a .i) .num + q) (more-take numOf (a .z) (a .len) (table s) (a .near .now) (s .pre .1) (len-in s))
 
-enough-is : (c : tie.After-is-enough) (b : Bool) → c .is-enough .result ≡ b
-    → enough (entry (scanned (start-of (c .before))) (start-of (c .before) .args .i) .num) (c .before .total-near .result) (start-of (c .before) .args .least) ≡ b
+enough-is : (c : tie.After-is-enough) (b : Bool) → c .is-enough .result ≡ b → let w = c .before in let s = start-of w in
+    enough (entry (scanned s) (s .args .i) .num) (w .total-near .result) (s .args .least) ≡ b
 enough-is c b e =
     let w = c .before in
     ap (λ (v : Entry). enough (v .num) (w .total-near .result) (start-of w .args .least)) (sym (own-is w)) ∙ sym (c .is-enough .ensures) ∙ e
@@ -59,34 +66,49 @@ enough-is c b e =
 abbrev making : tie.After-slice-known12 → tie.After-make-one
 making c = c .before .before .before .before .before .before .before .before .before .before .before .before
 
-kept-made : (c : tie.After-make-one) → Kept (columns (c .before .before .before .before .before .before .before .before .before .before .before .before .before .before .before .before .before .before .before .before .before .before .before .before .before .before .before .before .before .before)) (let w = c .make-one in (cols (w .last .0) (w .last .1 .0) (w .last .1 .1 .0) (w .last .1 .1 .1 .0) (w .last .1 .1 .1 .1 .0) (w .last .1 .1 .1 .1 .1 .0)))
-kept-made c = let w = c .make-one in (record { kx = w .kept .0; ky = w .kept .1 .0; ks = w .kept .1 .1 .0; ki = w .kept .1 .1 .1 .0; kp = w .kept .1 .1 .1 .1 .0; kn = w .kept .1 .1 .1 .1 .1 .0 })
+kept-made : (c : tie.After-make-one) → Kept (columns (start-of (c .before .before .before .before .before .before .before
+    .before .before))) (lastCols (c .make-one .last))
+kept-made c = let s = start-of (c .before .before .before .before .before .before .before .before
+    .before) in keptCols (columns s) (lastCols (c .make-one .last)) (c .make-one .kept)
 
 abbrev leaving : tie.After-slice-known18 → tie.After-leave-one
 leaving c = c .before .before .before .before .before .before .before .before .before .before .before .before
 
-kept-left : (c : tie.After-leave-one) → Kept (columns (c .before .before .before .before .before .before .before .before .before .before .before .before .before .before .before .before .before .before .before .before .before .before .before .before .before .before .before .before .before .before)) (let w = c .leave-one in (cols (w .last .0) (w .last .1 .0) (w .last .1 .1 .0) (w .last .1 .1 .1 .0) (w .last .1 .1 .1 .1 .0) (w .last .1 .1 .1 .1 .1 .0)))
-kept-left c = let w = c .leave-one in (record { kx = w .kept .0; ky = w .kept .1 .0; ks = w .kept .1 .1 .0; ki = w .kept .1 .1 .1 .0; kp = w .kept .1 .1 .1 .1 .0; kn = w .kept .1 .1 .1 .1 .1 .0 })
+kept-left : (c : tie.After-leave-one) → Kept (columns (start-of (c .before .before .before .before .before .before .before
+    .before .before))) (lastCols (c .leave-one .last))
+kept-left c = let s = start-of (c .before .before .before .before .before .before .before .before
+    .before) in keptCols (columns s) (lastCols (c .leave-one .last)) (c .leave-one .kept)
 
 entry-at-requires : tie.Need-entry-at-requires
-entry-at-requires c κs = let s = c .before .before .before .before .before .before .before .before .before .before .before .before .before in (s .pre .0, omega (arith, s .pre .2, s .pre .3))
+entry-at-requires c κs =
+    let s = c .before .before .before .before .before .before .before .before .before .before .before .before .before in
+    (s .pre .0, omega (arith, s .pre .2, s .pre .3))
 
 total-near-requires : tie.Need-total-near-requires
 total-near-requires c κs =
-    let s = c .before .before .before .before .before .before .before .before .before .before .before .before .before .before .before .before .before .before .before .before in
-    let r = c .before .before .before .before .before .before .entry-at in
-    (s .pre .0, below-le (s .args .len) (length (s .args .x .now)) (s .args .near .now) (omega (arith, s .pre .3)) (s .pre .1), rw (r .ensures) (s .pre .7))
+    let s = c .before .before .before .before .before .before .before .before .before .before .before .before .before .before
+    .before .before .before .before .before .before in
+    let r = c .before .before .before .before .before .before .entry-at in (
+      s .pre .0,
+      below-le (s .args .len) (length (s .args .x .now)) (s .args .near .now) (omega (arith, s .pre .3)) (s .pre .1),
+      rw (r .ensures) (s .pre .7),
+    )
 
 is-enough-requires : tie.Need-is-enough-requires
 is-enough-requires c κs = search needs
 
 make-one-requires : tie.Need-make-one-requires
 make-one-requires c κs =
-    let p = c .before .before .before .before .before .before .before .before .before .before .before .before .before .before .before .before .before .before .before .before .before .before .before .before .before .before .before .before .before .pre in
+    let p = c .before .before .before .before .before .before .before .before .before .before .before .before .before .before
+    .before .before .before .before .before .before .before .before .before .before .before .before .before .before .before .pre in
     (p .0, p .1, p .2, omega (arith, p .3), p .4, p .5, p .6)
 
 add-result : tie.Need-add-result
-add-result c = let s = c .before .before .before .before .before .before .before .before .before .before .before .before .before .before .before .before .before .before .before .before .before .before .before .before .before .before .before .before .before .before .before .before .before .before .before .before .before .before .before .before .before .before in omega (arith, s .pre .3, s .good .0 .0)
+add-result c =
+    let s = c .before .before .before .before .before .before .before .before .before .before .before .before .before .before
+    .before .before .before .before .before .before .before .before .before .before .before .before .before .before .before
+    .before .before .before .before .before .before .before .before .before .before .before .before .before in
+    omega (arith, s .pre .3, s .good .0 .0)
 
 same-length : tie.Need-same-length
 same-length c = kept-made (making c) .kx
@@ -113,11 +135,15 @@ returns c =
     let k = t .before .before in
     let s = start-of k in
     let a = s .args in
-    rw (made-by (a .n) (a .least) (a .z) (a .near .now) (a .i) (scanOf (a .len) (a .done) (table s)) (k .total-near .result) (total-is k) (enough-is (t .before) true (t .if1 .taken)))
+    let e = enough-is (t .before) true (t .if1 .taken) in
+    rw (made-by (a .n) (a .least) (a .z) (a .near .now) (a .i) (scanOf (a .len) (a .done) (table s)) (k .total-near .result) (total-is k) e)
     (v .make-one .ensures)
 
 leave-one-requires : tie.Need-leave-one-requires
-leave-one-requires c κs = let p = c .before .before .before .before .before .before .before .before .before .before .before .before .before .before .before .before .before .before .before .before .before .before .before .before .before .before .before .before .before .pre in (p .0, p .1, p .2, p .3)
+leave-one-requires c κs =
+    let p = c .before .before .before .before .before .before .before .before .before .before .before .before .before .before
+    .before .before .before .before .before .before .before .before .before .before .before .before .before .before .before .pre in
+    (p .0, p .1, p .2, p .3)
 
 same-length-7 : tie.Need-same-length-7
 same-length-7 c = kept-left (leaving c) .kx
@@ -144,7 +170,8 @@ returns-2 c =
     let k = t .before .before in
     let s = start-of k in
     let a = s .args in
-    rw (left-by (a .n) (a .least) (a .z) (a .near .now) (a .i) (scanOf (a .len) (a .done) (table s)) (k .total-near .result) (total-is k) (enough-is (t .before) false (t .if1 .left)))
+    let e = enough-is (t .before) false (t .if1 .left) in
+    rw (left-by (a .n) (a .least) (a .z) (a .near .now) (a .i) (scanOf (a .len) (a .done) (table s)) (k .total-near .result) (total-is k) e)
     (v .leave-one .ensures)
 
 pub visit-one-spec : {M : Type 1} → statement M
