@@ -2,7 +2,7 @@
 use mathlib.Core.List.{List, [], _∷_, _++_, map}
 use mathlib.Core.Path.{_≡_}
 use Prim.Native.Nat.{ℕ, _+_, _≤_}
-use lib.ListN.{length}
+use lib.ListN.{length, take}
 use lib.Seq.{sets}
 use lib.Ieee.{Float}
 use Rattle.listing.specs.declared.Head.{Head}
@@ -136,7 +136,19 @@ pub record PointCols : Type 0 where
 abbrev pub pointCols : List Float → List Float → PointCols
 pointCols xs ys = record { xs = xs; ys = ys }
 
--- with points from the place k on, and elsewhere what they held
+-- those of an input
+abbrev pub pointsOf : Input → PointCols
+pointsOf i = pointCols (xsOf i) (ysOf i)
+
+-- the first n of each, and that each holds n
+abbrev pub frontOf : ℕ → PointCols → PointCols
+frontOf n c = pointCols (take n (c .xs)) (take n (c .ys))
+
+pub record Fits (n : ℕ) (c : PointCols) : Type 0 where
+  pub x : n ≤ length (c .xs)
+  pub y : n ≤ length (c .ys)
+
+-- the columns with points from the place k on, and elsewhere what they held
 abbrev pub putPoints : PointCols → ℕ → List Place → PointCols
 putPoints c k ps = pointCols (sets (c .xs) k (map xOf ps)) (sets (c .ys) k (map yOf ps))
 

@@ -13,7 +13,7 @@ use Rattle.listing.specs.declared.Head.{Head}
 use Rattle.listing.specs.declared.Parsed.{Parsed}
 use Rattle.listing.specs.declared.Parsed.the-variants.{Read, Refused}
 use Rattle.listing.specs.Text.{Place, Input, pointsText, headText, headIs, text, Valid}
-use Rattle.listing.specs.Text.{PointCols, putPoints, Reads, Parsing, xOf, yOf, xsOf, ysOf}
+use Rattle.listing.specs.Text.{PointCols, pointCols, pointsOf, frontOf, Fits, putPoints, Reads, Parsing, xOf, yOf}
 use Rattle.listing.specs.Form.{headOf, pointsOk, withPoints, parsedOf, filledBy}
 use Rattle.listing.specs.Points.{Found, points-read, points-end}
 use Rattle.listing.specs.OneInput.{text-one}
@@ -113,10 +113,8 @@ module _ (s : List ℕ) (c : PointCols) where
 -- ---- the points that were read stand at the front of the columns
 
 pub record Front (i : Input) (n : ℕ) (c : PointCols) : Type 0 where
-  pub of-x : take n (c .xs) ≡ xsOf i
-  pub of-y : take n (c .ys) ≡ ysOf i
-  pub fits-x : n ≤ length (c .xs)
-  pub fits-y : n ≤ length (c .ys)
+  pub is : frontOf n c ≡ pointsOf i
+  pub fits : Fits n c
 
 -- columns of 1,152 places
 pub record Wide (c : PointCols) : Type 0 where
@@ -133,11 +131,8 @@ front f ps n d d′ e k h =
 pub reads-front : (s : List ℕ) (c : PointCols) (h : Head) (c′ : PointCols) (p : Reads s c h c′) → Wide c′ → Front (p .input) (h .count) c′
 reads-front s c h c′ p w =
     let n : h .count ≡ length (p .input .points) = ap (λ (k : Head). k .count) (p .head) in
-    let fx : h .count ≤ length (c′ .xs) = omega (arith, n, p .valid .count, w .x) in
-    let fy : h .count ≤ length (c′ .ys) = omega (arith, n, p .valid .count, w .y) in
-    record {
-      of-x = front xOf (p .input .points) (h .count) (c .xs) (c′ .xs) (ap (λ (d : PointCols). d .xs) (p .stored)) n fx;
-      of-y = front yOf (p .input .points) (h .count) (c .ys) (c′ .ys) (ap (λ (d : PointCols). d .ys) (p .stored)) n fy;
-      fits-x = fx;
-      fits-y = fy;
-    }
+    let ps = p .input .points in
+    let f : Fits (h .count) c′ = record { x = omega (arith, n, p .valid .count, w .x); y = omega (arith, n, p .valid .count, w .y) } in
+    let ex = front xOf ps (h .count) (c .xs) (c′ .xs) (ap (λ (d : PointCols). d .xs) (p .stored)) n (f .x) in
+    let ey = front yOf ps (h .count) (c .ys) (c′ .ys) (ap (λ (d : PointCols). d .ys) (p .stored)) n (f .y) in
+    record { is = λ k. pointCols (ex k) (ey k); fits = f }

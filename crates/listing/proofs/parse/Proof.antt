@@ -3,7 +3,8 @@ use mathlib.Core.Path.{refl, sym, _∙_, subst}
 use borrow.Author.Needs.{needs}
 use borrow.Author.Tests.{lt-ltb, le-ltb, not-true, not-false}
 use Rattle.listing.specs.declared.Parsed.the-variants.{Read, Refused}
-use Rattle.listing.specs.Text.{PointCols, pointCols}
+use Rattle.listing.specs.Text.{PointCols}
+use Rattle.listing.specs.Lent.{givenPoints}
 use Rattle.listing.specs.Form.{parsedOf, countIn}
 use Rattle.listing.specs.Whole.{parsing}
 use Rattle.listing.proofs.parse.Statement.{statement}
@@ -11,7 +12,7 @@ use Rattle.listing.proofs.parse.Tie as tie
 
 -- the columns as they came
 abbrev points-of : tie.Start → PointCols
-points-of a = pointCols (a .args .xs .now) (a .args .ys .now)
+points-of a = givenPoints (a .args .xs) (a .args .ys)
 
 returns : tie.Need-returns
 unfolding parsedOf
