@@ -19,7 +19,7 @@ use Rattle.builds.specs.Came.{came, tableAt, down}
 use Rattle.builds.specs.GroupsOfBuild.{groupsBy}
 use Rattle.builds.specs.Identities.{Known, came-known, identities, ids-distinct, id-table-suc}
 use Rattle.builds.specs.Places.{Arose}
-use Rattle.builds.specs.Same.{Same, same-trans, same-sym, same-marked, arose-by, table-same}
+use Rattle.builds.specs.Same.{plain, Same, idOf, arose-by, table-same}
 
 -- where the cluster of an entry e was made: the place in the table before that of its origin, and the entry there is e
 pub record Born (o : Options) (xs ys : List Float) (e : Entry) : Type 0 where
@@ -32,8 +32,8 @@ born-same : (o : Options) (xs ys : List Float) (a b : Entry) → Same a b → Bo
 born-same o xs ys a b s w =
     record {
       place = w .place;
-      there = subst (λ (i : ℕ). w .place < length (tableAt o xs ys (tableOf (length xs) i - 1))) (s .id) (w .there);
-      same = same-trans _ _ _ (subst (λ (i : ℕ). Same (entry (tableAt o xs ys (tableOf (length xs) i - 1)) (w .place)) a) (s .id) (w .same)) s;
+      there = subst (λ (i : ℕ). w .place < length (tableAt o xs ys (tableOf (length xs) i - 1))) (ap idOf s) (w .there);
+      same = subst (λ (i : ℕ). Same (entry (tableAt o xs ys (tableOf (length xs) i - 1)) (w .place)) a) (ap idOf s) (w .same) ∙ s;
     }
 
 -- e is made in table z, at j
@@ -61,9 +61,9 @@ module _ (o : Options) (xs ys : List Float) (a : Accepted o xs ys) where
     where
       by : Arose (length xs) z (came o xs ys (suc z)) (tableAt o xs ys (suc z)) (came o xs ys z) (groupsBy o xs ys z) j → Born o xs ys (entry (came o xs ys z) j)
       by (inl (i, s)) =
-          let m = same-marked z _ _ (s .copy) in
-          let e = m .id in
-          born-same o xs ys (entry (came o xs ys (suc z)) i) (entry (came o xs ys z) j) (same-sym _ _ m) (ih i (s .place) (omega arith))
+          let m : Same (entry (came o xs ys z) j) (entry (came o xs ys (suc z)) i) = ap plain (s .copy) in
+          let e = ap idOf m in
+          born-same o xs ys (entry (came o xs ys (suc z)) i) (entry (came o xs ys z) j) (sym m) (ih i (s .place) (omega arith))
       by (inr (i, s)) =
           let t = options-are o (a .options) .zoom-to in
           let e : tableOf (length xs) (entry (came o xs ys z) j .id) ≡ suc z = ap (tableOf (length xs)) (s .id) ∙ id-table-suc (length xs) z i (omega arith) in
@@ -82,13 +82,13 @@ module _ (o : Options) (xs ys : List Float) (a : Accepted o xs ys) where
       let s = table-same o xs ys a z h l in
       let w = s .long in
       let q : i < length (came o xs ys z) = omega arith in
-      let e = s .each i q .id in
-      born-same o xs ys (entry (came o xs ys z) i) (entry (tableAt o xs ys z) i) (same-sym _ _ (s .each i q)) (came-born z h l i q (omega arith))
+      let e = ap idOf (s .each i q) in
+      born-same o xs ys (entry (came o xs ys z) i) (entry (tableAt o xs ys z) i) (sym (s .each i q)) (came-born z h l i q (omega arith))
 
   -- an id determines the entry
-  pub same-id : (z w : ℕ) → o .«min_zoom» ≤ z → z ≤ o .«max_zoom» + 1 → o .«min_zoom» ≤ w → w ≤ o .«max_zoom» + 1 → (i j : ℕ) → i < length (tableAt o xs ys z) → j < length (tableAt o xs ys w) →
+  pub one-entry : (z w : ℕ) → o .«min_zoom» ≤ z → z ≤ o .«max_zoom» + 1 → o .«min_zoom» ≤ w → w ≤ o .«max_zoom» + 1 → (i j : ℕ) → i < length (tableAt o xs ys z) → j < length (tableAt o xs ys w) →
       entry (tableAt o xs ys z) i .id ≡ entry (tableAt o xs ys w) j .id → Same (entry (tableAt o xs ys z) i) (entry (tableAt o xs ys w) j)
-  same-id z w h k m n i j p q e = by (identities o xs ys a z h k i p) (identities o xs ys a w m n j q)
+  one-entry z w h k m n i j p q e = by (identities o xs ys a z h k i p) (identities o xs ys a w m n j q)
     where
       A : Entry
       A = entry (tableAt o xs ys z) i
@@ -98,7 +98,7 @@ module _ (o : Options) (xs ys : List Float) (a : Accepted o xs ys) where
 
       by : Known o xs ys z (entry (tableAt o xs ys z) i) → Known o xs ys w (entry (tableAt o xs ys w) j) → Same (entry (tableAt o xs ys z) i) (entry (tableAt o xs ys w) j)
       by (inl u) (inl v) =
-          same-trans _ _ _ (subst (λ (k : ℕ). Same A (entry (lamps (o .«coordinate_system») xs ys) k)) e (u .same)) (same-sym _ _ (v .same))
+          subst (λ (k : ℕ). Same A (entry (lamps (o .«coordinate_system») xs ys) k)) e (u .same) ∙ sym (v .same)
       by (inl u) (inr v) = absurd (let b = u .below in let c = v .above in omega arith)
       by (inr u) (inl v) = absurd (let b = u .above in let c = v .below in omega arith)
       by (inr u) (inr v) = meet (born z h k i p (u .above)) (born w m n j q (v .above))
@@ -114,5 +114,5 @@ module _ (o : Options) (xs ys : List Float) (a : Accepted o xs ys) where
               let is : Same (entry (tableAt o xs ys W) Q) B = subst (λ (v : ℕ). Same (entry (tableAt o xs ys v) Q) B) r (t .same) in
               let b = u .table-from in
               let c = u .table-to in
-              let one : s .place ≡ Q = ids-distinct o xs ys a W (omega arith) (omega arith) (s .place) Q (s .there) at (s .same .id ∙ e ∙ sym (is .id)) in
-              same-trans _ _ _ (same-sym _ _ (s .same)) (subst (λ (v : ℕ). Same (entry (tableAt o xs ys W) v) B) (sym one) is)
+              let one : s .place ≡ Q = ids-distinct o xs ys a W (omega arith) (omega arith) (s .place) Q (s .there) at (ap idOf (s .same) ∙ e ∙ sym (ap idOf is)) in
+              sym (s .same) ∙ subst (λ (v : ℕ). Same (entry (tableAt o xs ys W) v) B) (sym one) is

@@ -14,6 +14,7 @@ use Rattle.tables.specs.Entries.{Table, entry}
 use Rattle.tables.specs.Ids.{clusterId, originOf, tableOf, id-origin, id-from}
 use Rattle.zoom.specs.Keeps.{all-at}
 use Rattle.zoom.specs.Sound.{Next}
+use Rattle.zoom.specs.Zoom.{numOf}
 use Rattle.groups.specs.Sums.{count}
 use Rattle.groups.specs.Groups.{from}
 use Rattle.supercluster.specs.Fill.{lamps, lamps-length, lamps-at}
@@ -21,7 +22,7 @@ use Rattle.supercluster.specs.Ready.{Accepted}
 use Rattle.builds.specs.Came.{came, came-first, tableAt, down}
 use Rattle.builds.specs.GroupsOfBuild.{groupsBy, nearBy, groups-of-build, came-coming}
 use Rattle.builds.specs.Places.{Arose, groupAt, sole}
-use Rattle.builds.specs.Same.{Same, same-trans, same-marked, arose-by, table-same}
+use Rattle.builds.specs.Same.{plain, Same, idOf, arose-by, table-same}
 
 -- a lamp: its id is its point's number, and it has that point's place and num
 pub record Lamp (o : Options) (xs ys : List Float) (e : Entry) : Type 0 where
@@ -54,18 +55,18 @@ id-whole n id h k = omega arith
 module _ (o : Options) (xs ys : List Float) where
   lamp-same : (a b : Entry) → Same a b → Lamp o xs ys b → Lamp o xs ys a
   lamp-same a b s l =
-      let i = s .id in
+      let i = ap idOf s in
       let w = l .below in
       record {
         below = omega arith;
-        num = s .num ∙ l .num;
-        same = subst (λ (k : ℕ). Same a (entry (lamps (o .«coordinate_system») xs ys) k)) (sym i) (same-trans _ _ _ s (l .same));
+        num = ap numOf s ∙ l .num;
+        same = subst (λ (k : ℕ). Same a (entry (lamps (o .«coordinate_system») xs ys) k)) (sym i) (s ∙ l .same);
       }
 
   cluster-same : (z w : ℕ) (a b : Entry) → w ≤ z → Same a b → Cluster o xs ys z (b .id) (b .num) → Cluster o xs ys w (a .id) (a .num)
   cluster-same z w a b h s c =
-      subst (λ (i : ℕ). Cluster o xs ys w i (a .num)) (sym (s .id))
-      (subst (λ (n : ℕ). Cluster o xs ys w (b .id) n) (sym (s .num))
+      subst (λ (i : ℕ). Cluster o xs ys w i (a .num)) (sym (ap idOf s))
+      (subst (λ (n : ℕ). Cluster o xs ys w (b .id) n) (sym (ap numOf s))
       (let t = c .table-from in
       record { above = c .above; many = c .many; table-from = omega arith; table-to = c .table-to; origin = c .origin; origin-parent = c .origin-parent; decodes = c .decodes }))
 
@@ -111,7 +112,7 @@ module _ (o : Options) (xs ys : List Float) (a : Accepted o xs ys) where
       record {
         below = omega arith;
         num = ap (λ (e : Entry). e .num) (lamps-at c xs ys (a .same) i (omega arith));
-        same = subst (λ (k : ℕ). Same (entry (lamps c xs ys) i) (entry (lamps c xs ys) k)) (sym e) (record { x = refl; y = refl; id = refl; num = refl });
+        same = subst (λ (k : ℕ). Same (entry (lamps c xs ys) i) (entry (lamps c xs ys) k)) (sym e) refl;
       }
 
   -- ---- each table as it came
@@ -121,7 +122,7 @@ module _ (o : Options) (xs ys : List Float) (a : Accepted o xs ys) where
   known-step z h l ih j k = by (arose-by o xs ys a z h (omega arith) j k)
     where
       by : Arose (length xs) z (came o xs ys (suc z)) (tableAt o xs ys (suc z)) (came o xs ys z) (groupsBy o xs ys z) j → Known o xs ys z (entry (came o xs ys z) j)
-      by (inl (i, s)) = known-same o xs ys (suc z) z _ _ (omega arith) (same-marked z _ _ (s .copy)) (ih i (s .place))
+      by (inl (i, s)) = known-same o xs ys (suc z) z _ _ (omega arith) (ap plain (s .copy)) (ih i (s .place))
       by (inr (i, s)) =
           let t = high in
           let w = table-same o xs ys a (suc z) (omega arith) (omega arith) .long in
@@ -194,4 +195,4 @@ module _ (o : Options) (xs ys : List Float) (a : Accepted o xs ys) where
       let w = s .long in
       let u : i < length (came o xs ys z) = omega arith in
       let v : j < length (came o xs ys z) = omega arith in
-      came-distinct z h l i j u v (sym (s .each i u .id) ∙ e ∙ s .each j v .id)
+      came-distinct z h l i j u v (sym (ap idOf (s .each i u)) ∙ e ∙ ap idOf (s .each j v))

@@ -17,14 +17,14 @@ use Rattle.supercluster.specs.Ready.{Accepted}
 use Rattle.builds.specs.Came.{came, tableAt, table-last}
 use Rattle.builds.specs.Identities.{Known, identities, ids-distinct, id-table-suc}
 use Rattle.builds.specs.Marks.{Carried, New, marks-came}
-use Rattle.builds.specs.Same.{Same, table-same}
+use Rattle.builds.specs.Same.{Same, idOf, table-same}
 
 -- by its id, the entry is a cluster that was made in table z, in a build of n points
 abbrev pub MadeAt : ℕ → ℕ → Entry → Type 0
 MadeAt n z e = (n ≤ e .id) × (tableOf n (e .id) ≡ suc z)
 
 made-like : (n z : ℕ) (a b : Entry) → Same a b → MadeAt n z b → MadeAt n z a
-made-like n z a b s m = subst (λ (i : ℕ). (n ≤ i) × (tableOf n i ≡ suc z)) (sym (s .id)) m
+made-like n z a b s m = subst (λ (i : ℕ). (n ≤ i) × (tableOf n i ≡ suc z)) (sym (ap idOf s)) m
 
 module _ (o : Options) (xs ys : List Float) (a : Accepted o xs ys) where
   -- what the zoom z made was made in table z
@@ -39,7 +39,7 @@ module _ (o : Options) (xs ys : List Float) (a : Accepted o xs ys) where
   carried-not z h l j c m = by (identities o xs ys a (suc z) (omega arith) (omega arith) (c .source) (c .place))
     where
       same : entry (came o xs ys z) j .id ≡ entry (tableAt o xs ys (suc z)) (c .source) .id
-      same = c .same .id
+      same = ap idOf (c .same)
 
       by : Known o xs ys (suc z) (entry (tableAt o xs ys (suc z)) (c .source)) → ⊥
       by (inl w) = let b = w .below in let e = same in let d = m .0 in omega arith
@@ -94,6 +94,8 @@ module _ (o : Options) (xs ys : List Float) (a : Accepted o xs ys) where
       let u = s .long in
       let v = t .long in
       let top = options-are o (a .options) .zoom-to in
-      let x = made-once z w h k k' j l (omega arith) (omega arith) (made-like (length xs) z _ _ (s .each j m) (new-made z k j p)) (made-like (length xs) w _ _ (t .each l n) (new-made w k' l q))
-      (s .each j m .id ∙ e ∙ sym (t .each l n .id)) in
+      let x = made-once z w h k k' j l (omega arith) (omega arith)
+      (made-like (length xs) z (entry (tableAt o xs ys z) j) (entry (came o xs ys z) j) (s .each j m) (new-made z k j p))
+      (made-like (length xs) w (entry (tableAt o xs ys w) l) (entry (came o xs ys w) l) (t .each l n) (new-made w k' l q))
+      (ap idOf (s .each j m) ∙ e ∙ sym (ap idOf (t .each l n))) in
       (x .0, x .1, id-apart (length xs) z w (p .origin) (q .origin) (omega arith) (omega arith) (sym (p .id) ∙ e ∙ q .id) .0)

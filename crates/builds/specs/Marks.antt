@@ -1,6 +1,6 @@
 -- Of every such build: in each table but the last, each entry is marked with the zoom that clustered it, one below the table's number. In the last table an entry
 -- that was carried there is marked with min_zoom, and one that was made there is marked by none. Assumes nothing.
-use mathlib.Core.Path.{_≡_, sym, ap, subst}
+use mathlib.Core.Path.{_≡_, sym, ap, _∙_, subst}
 use mathlib.Core.Logic.{_⊎_, inl, inr, ⊎-elim}
 use mathlib.Core.List.{List}
 use Prim.Native.Nat.{ℕ, suc, _≤_, _<_}
@@ -17,7 +17,7 @@ use Rattle.supercluster.specs.Ready.{Accepted}
 use Rattle.builds.specs.Came.{came, tableAt, table-last}
 use Rattle.builds.specs.GroupsOfBuild.{groupsBy}
 use Rattle.builds.specs.Places.{Arose}
-use Rattle.builds.specs.Same.{Same, Alike, same-trans, same-sym, same-marked, went-by, arose-by, table-same}
+use Rattle.builds.specs.Same.{plain, Same, Alike, went-by, arose-by, table-same}
 
 -- T is table z + 1 and U table z, of a build of n points
 
@@ -58,7 +58,7 @@ module _ (o : Options) (xs ys : List Float) (a : Accepted o xs ys) where
           inl (record {
             source = k;
             place = omega arith;
-            same = same-trans _ _ _ (same-marked z _ _ (s .copy)) (same-sym _ _ (alike .each k p));
+            same = ap plain (s .copy) ∙ sym (alike .each k p);
             seen = ap (λ (e : Entry). e .seen) (s .copy);
           })
       by (inr (i, s)) =

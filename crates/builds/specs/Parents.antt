@@ -1,6 +1,6 @@
 -- Of every such build: in each table but the last, an entry has no parent, and then the next table has it too; or its parent is a cluster that the zoom made at a
 -- place of the same table, and then the next table has an entry with this id. In the last table no entry has a parent. Assumes nothing.
-use mathlib.Core.Path.{_≡_, ap, _∙_}
+use mathlib.Core.Path.{_≡_, sym, ap, _∙_}
 use mathlib.Core.Logic.{_⊎_, inl, inr}
 use mathlib.Core.List.{List}
 use Prim.Native.Nat.{ℕ, suc, _≤_, _<_}
@@ -19,7 +19,7 @@ use Rattle.supercluster.specs.Ready.{Accepted}
 use Rattle.builds.specs.Came.{came, tableAt, table-last}
 use Rattle.builds.specs.GroupsOfBuild.{groupsBy, came-coming}
 use Rattle.builds.specs.Places.{Went}
-use Rattle.builds.specs.Same.{Same, Alike, same-trans, same-sym, same-marked, went-by, table-same}
+use Rattle.builds.specs.Same.{plain, Same, idOf, Alike, went-by, table-same}
 use Rattle.builds.specs.Steps.{Coming, Lone}
 
 -- T is table z + 1 and U table z, of a build of n points
@@ -69,7 +69,7 @@ module _ (o : Options) (xs ys : List Float) (a : Accepted o xs ys) where
             parent = ap (λ (e : Entry). e .parent) (s .finer) ∙ all-at Lone (came o xs ys (suc z)) i (c .lone) here;
             place = j;
             there = omega arith;
-            same = same-trans _ _ _ (next .each j p) (same-trans _ _ _ (same-marked z _ _ (s .copy)) (same-sym _ _ (fine .each i here)));
+            same = next .each j p ∙ ap plain (s .copy) ∙ sym (fine .each i here);
           })
       by (inr (x, j, s)) =
           let w = next .long in
@@ -87,7 +87,7 @@ module _ (o : Options) (xs ys : List Float) (a : Accepted o xs ys) where
             small = id-small (length xs) z x (omega arith) most (omega arith);
             place = j;
             there = omega arith;
-            id = next .each j p .id ∙ s .id;
+            id = ap idOf (next .each j p) ∙ s .id;
           })
 
   -- the last table

@@ -1,6 +1,6 @@
 -- Of every such build: each table is as long as it came, and each of its entries has the place, the id and the num with which it came. Where its places went and
 -- where they are from, by table number. Assumes nothing.
-use mathlib.Core.Path.{_≡_, refl, sym, ap₂, _∙_, subst}
+use mathlib.Core.Path.{_≡_, refl, sym, ap, ap₂, _∙_, subst}
 use mathlib.Core.Logic.{⊎-elim}
 use mathlib.Core.List.{List, map}
 use Prim.Native.Nat.{ℕ, zero, suc, _+_, _≤_, _<_}
@@ -14,7 +14,7 @@ use Rattle.tables.specs.Bounds.{options-are}
 use Rattle.tables.specs.declared.Entry.{Entry}
 use Rattle.tables.specs.declared.Options.{Options}
 use Rattle.tables.specs.Entries.{Table, entry, none, marked, xsOf, ysOf}
-use Rattle.tables.specs.Ids.{clusterId}
+use Rattle.zoom.specs.Lamps.{Carried}
 use Rattle.zoom.specs.Near.{nearOf}
 use Rattle.groups.specs.Groups.{took}
 use Rattle.zooms.specs.Zooms.{indexOf, slotsOf, nearIn}
@@ -23,34 +23,31 @@ use Rattle.builds.specs.Came.{came, tableAt, table-last}
 use Rattle.builds.specs.GroupsOfBuild.{groupsBy, nearBy, groups-of-build}
 use Rattle.builds.specs.Places.{Went, Arose, went, arose}
 
--- two entries that differ in seen and parent at most
-pub record Same (a b : Entry) : Type 0 where
-  pub x : a .x ≡ b .x
-  pub y : a .y ≡ b .y
-  pub id : a .id ≡ b .id
-  pub num : a .num ≡ b .num
+-- an entry whatever its seen and its parent are
+abbrev pub plain : Entry → Entry
+plain e = took 0 0 e
+
+-- two entries that differ in seen and parent at most. So what a mark and a parent leave is the same of both: `ap idOf s`
+abbrev pub Same : Entry → Entry → Type 0
+Same a b = plain a ≡ plain b
+
+abbrev pub idOf : Entry → ℕ
+idOf e = e .id
+
+-- and each number that entries carry
+pub same-carried : (f : Entry → ℕ) → Carried f → (a b : Entry) → Same a b → f a ≡ f b
+same-carried f C a b s = sym (of a) ∙ ap f s ∙ of b
+  where
+    of : (e : Entry) → f (plain e) ≡ f e
+    of e = C .hangs (marked 0 e) 0 ∙ C .marks e 0
 
 -- two tables that differ in seen and parent at most
 pub record Alike (s t : Table) : Type 0 where
   pub long : length s ≡ length t
   pub each : (i : ℕ) → i < length t → Same (entry s i) (entry t i)
 
-pub same-trans : (a b c : Entry) → Same a b → Same b c → Same a c
-same-trans a b c p q = record { x = p .x ∙ q .x; y = p .y ∙ q .y; id = p .id ∙ q .id; num = p .num ∙ q .num }
-
-pub same-sym : (a b : Entry) → Same a b → Same b a
-same-sym a b p = record { x = sym (p .x); y = sym (p .y); id = sym (p .id); num = sym (p .num) }
-
--- an entry that is marked
-pub same-marked : (z : ℕ) (a b : Entry) → a ≡ marked z b → Same a b
-same-marked z a b e = subst (λ (c : Entry). Same c b) (sym e) (record { x = refl; y = refl; id = refl; num = refl })
-
--- and one that is under a cluster too
-pub same-took : (z p : ℕ) (a b : Entry) → a ≡ took z p b → Same a b
-same-took z p a b e = subst (λ (c : Entry). Same c b) (sym e) (record { x = refl; y = refl; id = refl; num = refl })
-
 alike-self : (s t : Table) → s ≡ t → Alike s t
-alike-self s t q = subst (λ (u : Table). Alike u t) (sym q) (record { long = refl; each = λ i h. record { x = refl; y = refl; id = refl; num = refl } })
+alike-self s t q = subst (λ (u : Table). Alike u t) (sym q) (record { long = refl; each = λ i h. refl })
 
 -- ---- the index of a table is that of each table that is like it, and so are its answers
 
@@ -62,8 +59,8 @@ columns-alike c s t l h =
 pub near-alike : (size : ℕ) (r : Float) (s t : Table) → Alike s t → nearIn size r s ≡ nearIn size r t
 unfolding slotsOf
 near-alike size r s t w =
-    let ex : xsOf s ≡ xsOf t = columns-alike (λ e. e .x) s t (w .long) (λ i h. w .each i h .x) in
-    let ey : ysOf s ≡ ysOf t = columns-alike (λ e. e .y) s t (w .long) (λ i h. w .each i h .y) in
+    let ex : xsOf s ≡ xsOf t = columns-alike (λ e. e .x) s t (w .long) (λ i h. ap (λ (e : Entry). e .x) (w .each i h)) in
+    let ey : ysOf s ≡ ysOf t = columns-alike (λ e. e .y) s t (w .long) (λ i h. ap (λ (e : Entry). e .y) (w .each i h)) in
     let es : indexOf size (xsOf s) (ysOf s) ≡ indexOf size (xsOf t) (ysOf t) = ap₂ (indexOf size) ex ey in
     ap₂ (λ (n : ℕ) (k : Cols). nearOf size n (k .ids) (k .co) r) (w .long) es
 
@@ -87,7 +84,7 @@ module _ (o : Options) (xs ys : List Float) (a : Accepted o xs ys) where
     where
       by : (i : ℕ) → Went (length xs) z (came o xs ys (suc z)) (tableAt o xs ys (suc z)) (came o xs ys z) (groupsBy o xs ys z) i →
           Same (entry (tableAt o xs ys (suc z)) i) (entry (came o xs ys (suc z)) i)
-      by i w = ⊎-elim (λ s. same-marked z _ _ (s .1 .finer)) (λ s. same-took z (clusterId (length xs) z (s .0)) _ _ (s .2 .finer)) w
+      by i w = ⊎-elim (λ s. ap plain (s .1 .finer)) (λ s. ap plain (s .2 .finer)) w
 
   -- each table is as it came, but for seen and parent
   pub table-same : (z : ℕ) → o .«min_zoom» ≤ z → z ≤ o .«max_zoom» + 1 → Alike (tableAt o xs ys z) (came o xs ys z)

@@ -15,6 +15,7 @@ use Rattle.tables.specs.declared.Options.{Options}
 use Rattle.tables.specs.Entries.{entry}
 use Rattle.tables.specs.Ids.{clusterId, originOf, tableOf, id-from, id-origin}
 use Rattle.tables.specs.Radius.{radiusAt}
+use Rattle.zoom.specs.Zoom.{numOf}
 use Rattle.groups.specs.Sums.{below, count}
 use Rattle.groups.specs.Groups.{Group, copied, joined, entryOf}
 use Rattle.groups.specs.OneZoom.{Copied, Joined, Fits}
@@ -24,9 +25,10 @@ use Rattle.builds.specs.Came.{came, tableAt, down}
 use Rattle.builds.specs.GroupsOfBuild.{groupsBy, nearBy}
 use Rattle.builds.specs.Identities.{Known, identities, ids-distinct, id-table-suc}
 use Rattle.builds.specs.Places.{groupAt}
-use Rattle.builds.specs.Same.{table-same, near-same}
+use Rattle.builds.specs.Same.{idOf, table-same, near-same}
 use Rattle.lamps.specs.Owner.{gather, lampsOf, answersAt, membersOf}
-use Rattle.lamps.specs.Owners.{lamps-first, lamps-joined, lamps-copied, first-long, first-id, lamps-long, group-id, group-num, group-fits}
+use Rattle.lamps.specs.Owners.{lamps-first, lamps-joined, lamps-copied, first-long, first-id, group-same, group-id, group-fits}
+use Rattle.lamps.specs.Carries.{lamps-long}
 
 module _ (o : Options) (xs ys : List Float) (a : Accepted o xs ys) where
   high : o .«max_zoom» ≤ 30
@@ -45,7 +47,7 @@ module _ (o : Options) (xs ys : List Float) (a : Accepted o xs ys) where
       let r = radiusAt (o .radius) (o .extent) z in
       let s = table-same o xs ys a (suc z) (omega arith) (omega arith) .each i q in
       let n = near-same o xs ys a (suc z) (omega arith) (omega arith) (o .«node_size») r in
-      ap₂ (λ (x y : Float). nearIn (o .«node_size») r C x y) (sym (s .x)) (sym (s .y))
+      ap₂ (λ (x y : Float). nearIn (o .«node_size») r C x y) (sym (ap (λ (e : Entry). e .x) s)) (sym (ap (λ (e : Entry). e .y) s))
       ∙ ap (λ (g : Float → Float → List ℕ). g (entry T i .x) (entry T i .y)) (sym n)
       ∙ ap (λ (v : ℕ). nearIn (o .«node_size») (radiusAt (o .radius) (o .extent) v) T (entry T i .x) (entry T i .y)) (sym e)
 
@@ -71,12 +73,12 @@ module _ (o : Options) (xs ys : List Float) (a : Accepted o xs ys) where
           let n = s .long in
           let m = w .place in
           again k (omega arith)
-          (group-id o xs ys a z h l j q ∙ ap (λ (g : Group). entryOf g .id) p ∙ ap (λ (x : Entry). x .id) (w .same) ∙ sym (s .each k m .id))
+          (group-id o xs ys a z h l j q ∙ ap (λ (g : Group). entryOf g .id) p ∙ ap (λ (x : Entry). x .id) (w .same) ∙ sym (ap idOf (s .each k m)))
           (lamps-copied o xs ys z l j k e p)
       by (joined i ks e) p =
           let w : Joined (length xs) (o .«min_points») z (nearBy o xs ys z) (came o xs ys (suc z)) (tableAt o xs ys (suc z)) i ks e = fit (joined i ks e) p in
-          let s = table-same o xs ys a (suc z) (omega arith) (omega arith) .each i (w .place) .num in
-          let n = group-num o xs ys a z h l j q ∙ ap (λ (g : Group). entryOf g .num) p in
+          let s = ap numOf (table-same o xs ys a (suc z) (omega arith) (omega arith) .each i (w .place)) in
+          let n = ap numOf (group-same o xs ys a z h l j q) ∙ ap (λ (g : Group). entryOf g .num) p in
           let b = w .beyond in
           anew i ks (group-id o xs ys a z h l j q ∙ ap (λ (g : Group). entryOf g .id) p ∙ w .made-id) (omega arith) (w .has)
           (w .kids ∙ ap (λ (r : List ℕ). keep (λ k. eqb (entry (tableAt o xs ys (suc z)) k .parent) (clusterId (length xs) z i)) r) (near-build z h l i (w .place)))

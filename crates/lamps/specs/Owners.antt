@@ -1,6 +1,6 @@
 -- Of every accepted build: each lamp's owner is a place of each table, and the lamp is among the lamps of this entry
--- once, and of no other. So the lamps of a table's entries are all lamps, in another order. An entry's num is the length of the list of its lamps, and the number
--- of lamps that it owns. Lamps that share an owner share one in each coarser table. Assumes nothing.
+-- once, and of no other. So the lamps of an entry are those that it owns, and the lamps of a table's entries are all lamps, in another order. Lamps that share an
+-- owner share one in each coarser table. Assumes nothing.
 use mathlib.Core.Path.{_≡_, sym, ap, _∙_}
 use mathlib.Core.Logic.{⊎-elim}
 use mathlib.Core.List.{List, [], _∷_, append-nil, List·Permᴰ}
@@ -9,27 +9,30 @@ use native.Mathlib.Omega.{arith}
 use native.Mathlib.Nat.{le-refl}
 use borrow.Author.Tests.{ne-eqb}
 use lib.Dec.{eqb}
-use lib.ListN.{length, length-map}
-use lib.Ieee.{Float}
+use lib.ListN.{length, getD, length-map}
+use lib.Ieee.{Float, nan}
+use Rattle.range.specs.Range.{converted}
 use Rattle.kdslots.specs.All.{AllBelow, all-getD}
 use Rattle.kdslots.specs.Members.{Distinct}
+use Rattle.kdslots.specs.Keep.{keep}
 use Rattle.tables.specs.Bounds.{options-are}
 use Rattle.tables.specs.declared.Entry.{Entry}
 use Rattle.tables.specs.declared.Options.{Options}
 use Rattle.tables.specs.Entries.{Table, entry, none}
-use Rattle.groups.specs.Sums.{one, hit, below, sum, count, sum-ext, range, range-in}
+use Rattle.groups.specs.Sums.{one, hit, below, count, sum-ext, range, range-in}
 use Rattle.groups.specs.Counts.{count-distinct, count-below, permutes}
 use Rattle.groups.specs.Groups.{Group, copied, joined, entryOf, from, froms}
 use Rattle.groups.specs.Literal.{next-entry}
 use Rattle.groups.specs.OneZoom.{Fits}
+use Rattle.supercluster.specs.Build.{lamp}
 use Rattle.supercluster.specs.Fill.{lamps-length, lamps-at}
 use Rattle.supercluster.specs.Ready.{Accepted}
 use Rattle.builds.specs.Came.{came, came-first, tableAt, down}
 use Rattle.builds.specs.GroupsOfBuild.{groupsBy, nearBy, groups-of-build}
 use Rattle.builds.specs.Places.{groupAt}
-use Rattle.builds.specs.Same.{table-same}
+use Rattle.builds.specs.Same.{plain, Same, idOf, table-same}
 use Rattle.lamps.specs.Owner.{placeIn, gather, owner, ownerAt, lampsOf, lampsAt}
-use Rattle.lamps.specs.Gather.{sum-none, sum-gather, length-gather, range-below, length-by-counts}
+use Rattle.lamps.specs.Gather.{sum-none, sum-gather, range-below, permutes-kept}
 use Rattle.lamps.specs.PlaceIn.{place-at, place-in, member-in}
 
 -- ---- by table number, of any build
@@ -93,20 +96,18 @@ module _ (o : Options) (xs ys : List Float) (a : Accepted o xs ys) where
       table-same o xs ys a (o .«max_zoom» + 1) (omega arith) (le-refl (o .«max_zoom» + 1)) .long
       ∙ ap length (came-first o xs ys) ∙ lamps-length (o .«coordinate_system») xs ys (a .same)
 
-  first-at : (j : ℕ) → j < length (tableAt o xs ys (o .«max_zoom» + 1)) →
-      (entry (tableAt o xs ys (o .«max_zoom» + 1)) j .id ≡ j) × (entry (tableAt o xs ys (o .«max_zoom» + 1)) j .num ≡ 1)
-  first-at j h =
+  -- each with its point
+  pub first-same : (j : ℕ) → j < length xs →
+      Same (entry (tableAt o xs ys (o .«max_zoom» + 1)) j) (lamp (converted (o .«coordinate_system») (record { x = getD xs j nan; y = getD ys j nan })) j)
+  first-same j h =
       let w = low in
-      let c = o .«coordinate_system» in
       let s = table-same o xs ys a (o .«max_zoom» + 1) (omega arith) (le-refl (o .«max_zoom» + 1)) in
       let t = s .long in
       let n = first-long in
-      let e = s .each j (omega arith) in
-      let d = ap (λ (t : Table). entry t j) (came-first o xs ys) ∙ lamps-at c xs ys (a .same) j (omega arith) in
-      (e .id ∙ ap (λ (q : Entry). q .id) d, e .num ∙ ap (λ (q : Entry). q .num) d)
+      s .each j (omega arith) ∙ ap (λ (t : Table). plain (entry t j)) (came-first o xs ys) ∙ ap plain (lamps-at (o .«coordinate_system») xs ys (a .same) j h)
 
   pub first-id : (j : ℕ) → j < length (tableAt o xs ys (o .«max_zoom» + 1)) → entry (tableAt o xs ys (o .«max_zoom» + 1)) j .id ≡ j
-  first-id j h = first-at j h .0
+  first-id j h = ap idOf (first-same j (let n = first-long in omega arith))
 
   -- ---- the zoom z: from table z + 1 to table z
 
@@ -121,23 +122,17 @@ module _ (o : Options) (xs ys : List Float) (a : Accepted o xs ys) where
         let g = groups-of-build o xs ys a z h k in
         table-same o xs ys a z h (omega arith) .long ∙ ap length (g .next) ∙ length-map (groupsBy o xs ys z) entryOf
 
-    -- with its id and its num
-    entry-is : (j : ℕ) → j < length (tableAt o xs ys z) →
-        (entry (tableAt o xs ys z) j .id ≡ entryOf (groupAt (groupsBy o xs ys z) j) .id) × (entry (tableAt o xs ys z) j .num ≡ entryOf (groupAt (groupsBy o xs ys z) j) .num)
-    entry-is j l =
+    -- which is the group's, but for seen and parent
+    pub group-same : (j : ℕ) → j < length (tableAt o xs ys z) → Same (entry (tableAt o xs ys z) j) (entryOf (groupAt (groupsBy o xs ys z) j))
+    group-same j l =
         let g = groups-of-build o xs ys a z h k in
         let s = table-same o xs ys a z h (omega arith) in
         let n = s .long in
         let m = groups-long in
-        let e = s .each j (omega arith) in
-        let d = ap (λ (t : Table). entry t j) (g .next) ∙ next-entry (groupsBy o xs ys z) (copied 0 none) j (omega arith) in
-        (e .id ∙ ap (λ (q : Entry). q .id) d, e .num ∙ ap (λ (q : Entry). q .num) d)
+        s .each j (omega arith) ∙ ap (λ (t : Table). plain (entry t j)) (g .next) ∙ ap plain (next-entry (groupsBy o xs ys z) (copied 0 none) j (omega arith))
 
     pub group-id : (j : ℕ) → j < length (tableAt o xs ys z) → entry (tableAt o xs ys z) j .id ≡ entryOf (groupAt (groupsBy o xs ys z) j) .id
-    group-id j l = entry-is j l .0
-
-    pub group-num : (j : ℕ) → j < length (tableAt o xs ys z) → entry (tableAt o xs ys z) j .num ≡ entryOf (groupAt (groupsBy o xs ys z) j) .num
-    group-num j l = entry-is j l .1
+    group-id j l = ap idOf (group-same j l)
 
     -- what the group is
     pub group-fits : (j : ℕ) → j < length (tableAt o xs ys z) →
@@ -214,39 +209,6 @@ module _ (o : Options) (xs ys : List Float) (a : Accepted o xs ys) where
       ∙ sum-gather (λ x. one (eqb l x)) (λ i. lampsOf o xs ys (suc z) i) ks
       ∙ sum-none (λ i. count l (lampsOf o xs ys (suc z) i)) ks (λ i c. ih l w i (group-member z h m j q i c)))
 
-  -- ---- nums
-
-  long-step : (z : ℕ) → (h : o .«min_zoom» ≤ z) → (k : z ≤ o .«max_zoom») →
-      ((j : ℕ) → j < length (tableAt o xs ys (suc z)) → entry (tableAt o xs ys (suc z)) j .num ≡ length (lampsOf o xs ys (suc z) j)) →
-      (j : ℕ) → j < length (tableAt o xs ys z) → entry (tableAt o xs ys z) j .num ≡ length (lampsOf o xs ys z j)
-  long-step z h k ih j q =
-      group-num z h k j q ∙ by (groupAt (groupsBy o xs ys z) j) (group-fits z h k j q) ∙ ap length (sym (lamps-next o xs ys z k j))
-    where
-      num-came : (i : ℕ) → i < length (came o xs ys (suc z)) → entry (came o xs ys (suc z)) i .num ≡ length (lampsOf o xs ys (suc z) i)
-      num-came i l = let s = table-same o xs ys a (suc z) (omega arith) (omega arith) in let w = s .long in sym (s .each i l .num) ∙ ih i (omega arith)
-
-      by : (g : Group) → Fits (length xs) (o .«min_points») z (nearBy o xs ys z) (came o xs ys (suc z)) (tableAt o xs ys (suc z)) g →
-          entryOf g .num ≡ length (gather (λ k. lampsOf o xs ys (suc z) k) (from g))
-      by (copied i e) w = ap (λ (q : Entry). q .num) (w .same) ∙ num-came i (w .place) ∙ ap length (sym (append-nil (lampsOf o xs ys (suc z) i)))
-      by (joined i ks e) w =
-          w .made-num
-          ∙ sum-ext (λ k. entry (came o xs ys (suc z)) k .num) (λ k. length (lampsOf o xs ys (suc z) k)) ks (λ k c. num-came k (w .member k c))
-          ∙ sym (length-gather (λ k. lampsOf o xs ys (suc z) k) ks)
-
-  -- an entry's num is the length of the list of its lamps
-  pub lamps-long : (z : ℕ) → o .«min_zoom» ≤ z → z ≤ o .«max_zoom» + 1 → (j : ℕ) → j < length (tableAt o xs ys z) → entry (tableAt o xs ys z) j .num ≡ length (lampsOf o xs ys z j)
-  lamps-long =
-      down (λ z. (j : ℕ) → j < length (tableAt o xs ys z) → entry (tableAt o xs ys z) j .num ≡ length (lampsOf o xs ys z j)) (o .«min_zoom») (o .«max_zoom» + 1)
-      (λ j h. first-at j h .1 ∙ ap length (sym (lamps-first o xs ys j))) (λ z h k ih j q. long-step z h (omega arith) ih j q)
-
-  -- and the number of the lamps that it owns
-  pub num-owned : (z : ℕ) → o .«min_zoom» ≤ z → z ≤ o .«max_zoom» + 1 → (j : ℕ) → j < length (tableAt o xs ys z) →
-      entry (tableAt o xs ys z) j .num ≡ sum (λ l. one (eqb (owner o xs ys z l) j)) (range 0 (length xs))
-  num-owned z h k j q =
-      lamps-long z h k j q
-      ∙ length-by-counts (length xs) (lampsOf o xs ys z j) (λ l w. owns-none z h k l w j q)
-      ∙ sum-ext (λ l. count l (lampsOf o xs ys z j)) (λ l. one (eqb (owner o xs ys z l) j)) (range 0 (length xs)) (λ l c. owns z h k l (range-below (length xs) l c) j q)
-
   -- ---- each lamp once
 
   -- no lamp is twice among the lamps of an entry, and each is below N
@@ -258,6 +220,12 @@ module _ (o : Options) (xs ys : List Float) (a : Accepted o xs ys) where
 
   pub lamps-below : (z : ℕ) → o .«min_zoom» ≤ z → z ≤ o .«max_zoom» + 1 → (j : ℕ) → j < length (tableAt o xs ys z) → AllBelow (length xs) (lampsOf o xs ys z j)
   lamps-below z h k j q = count-below (length xs) (lampsOf o xs ys z j) (λ l w. owns-none z h k l w j q)
+
+  -- they are the lamps that it owns, in another order
+  pub lamps-owned : (z : ℕ) → o .«min_zoom» ≤ z → z ≤ o .«max_zoom» + 1 → (j : ℕ) → j < length (tableAt o xs ys z) →
+      List·Permᴰ (lampsOf o xs ys z j) (keep (λ l. eqb (owner o xs ys z l) j) (range 0 (length xs)))
+  lamps-owned z h k j q =
+      permutes-kept (length xs) (λ l. eqb (owner o xs ys z l) j) (lampsOf o xs ys z j) (λ l w. owns z h k l w j q) (λ l w. owns-none z h k l w j q)
 
   -- the lamps of the entries of a table, one entry after the other, are all lamps in another order
   pub lamps-permute : (z : ℕ) → o .«min_zoom» ≤ z → z ≤ o .«max_zoom» + 1 →
