@@ -2,7 +2,7 @@
 -- where they are from, by table number. Assumes nothing.
 use mathlib.Core.Path.{_≡_, refl, sym, ap, ap₂, _∙_, subst}
 use mathlib.Core.Logic.{⊎-elim}
-use mathlib.Core.List.{List, map}
+use mathlib.Core.List.{map}
 use Prim.Native.Nat.{ℕ, zero, suc, _+_, _≤_, _<_}
 use native.Mathlib.Omega.{arith}
 use native.Mathlib.Nat.{eq-or-lt-of-le}
@@ -12,13 +12,12 @@ use lib.Ieee.{Float}
 use Rattle.kdsort.specs.Cols.{Cols}
 use Rattle.tables.specs.Bounds.{options-are}
 use Rattle.tables.specs.declared.Entry.{Entry}
-use Rattle.tables.specs.declared.Options.{Options}
 use Rattle.tables.specs.Entries.{Table, entry, none, marked, xsOf, ysOf}
 use Rattle.zoom.specs.Lamps.{Carried}
 use Rattle.zoom.specs.Near.{nearOf}
 use Rattle.groups.specs.Groups.{took}
 use Rattle.zooms.specs.Zooms.{indexOf, slotsOf, nearIn}
-use Rattle.supercluster.specs.Ready.{Accepted}
+use Rattle.builds.specs.Given.{Given, Taken, points, minZ, maxZ}
 use Rattle.builds.specs.Came.{came, tableAt, table-last}
 use Rattle.builds.specs.GroupsOfBuild.{groupsBy, nearBy, groups-of-build}
 use Rattle.builds.specs.Places.{Went, Arose, went, arose}
@@ -64,39 +63,42 @@ near-alike size r s t w =
     let es : indexOf size (xsOf s) (ysOf s) ≡ indexOf size (xsOf t) (ysOf t) = ap₂ (indexOf size) ex ey in
     ap₂ (λ (n : ℕ) (k : Cols). nearOf size n (k .ids) (k .co) r) (w .long) es
 
-module _ (o : Options) (xs ys : List Float) (a : Accepted o xs ys) where
+module _ (G : Given) (a : Taken G) where
   -- where the place k of table z + 1 went
-  pub went-by : (z : ℕ) → o .«min_zoom» ≤ z → z ≤ o .«max_zoom» → (k : ℕ) → k < length (came o xs ys (suc z)) →
-      Went (length xs) z (came o xs ys (suc z)) (tableAt o xs ys (suc z)) (came o xs ys z) (groupsBy o xs ys z) k
+  pub went-by : (z : ℕ) → minZ G ≤ z → z ≤ maxZ G → (k : ℕ) → k < length (came G (suc z)) →
+      Went (points G) z (came G (suc z)) (tableAt G (suc z)) (came G z) (groupsBy G z) k
   went-by z h l k =
-      let g = groups-of-build o xs ys a z h l in
-      went (length xs) (o .«min_points») z (nearBy o xs ys z) (came o xs ys (suc z)) (tableAt o xs ys (suc z)) (came o xs ys z) (groupsBy o xs ys z) (g .groups) (g .next) k
+      let g = groups-of-build G a z h l in
+      went (points G) (G .options .«min_points») z (nearBy G z) (came G (suc z)) (tableAt G (suc z)) (came G z) (groupsBy G z) (g .groups)
+      (g .next) k
 
   -- where the place j of table z is from
-  pub arose-by : (z : ℕ) → o .«min_zoom» ≤ z → z ≤ o .«max_zoom» → (j : ℕ) → j < length (came o xs ys z) →
-      Arose (length xs) z (came o xs ys (suc z)) (tableAt o xs ys (suc z)) (came o xs ys z) (groupsBy o xs ys z) j
+  pub arose-by : (z : ℕ) → minZ G ≤ z → z ≤ maxZ G → (j : ℕ) → j < length (came G z) →
+      Arose (points G) z (came G (suc z)) (tableAt G (suc z)) (came G z) (groupsBy G z) j
   arose-by z h l j =
-      let g = groups-of-build o xs ys a z h l in
-      arose (length xs) (o .«min_points») z (nearBy o xs ys z) (came o xs ys (suc z)) (tableAt o xs ys (suc z)) (came o xs ys z) (groupsBy o xs ys z) (g .groups) (g .next) j
+      let g = groups-of-build G a z h l in
+      arose (points G) (G .options .«min_points») z (nearBy G z) (came G (suc z)) (tableAt G (suc z)) (came G z) (groupsBy G z) (g .groups)
+      (g .next) j
 
-  marked-alike : (z : ℕ) → o .«min_zoom» ≤ z → z ≤ o .«max_zoom» → Alike (tableAt o xs ys (suc z)) (came o xs ys (suc z))
-  marked-alike z h l = record { long = groups-of-build o xs ys a z h l .groups .long; each = λ i k. by i (went-by z h l i k) }
+  marked-alike : (z : ℕ) → minZ G ≤ z → z ≤ maxZ G → Alike (tableAt G (suc z)) (came G (suc z))
+  marked-alike z h l = record { long = groups-of-build G a z h l .groups .long; each = λ i k. by i (went-by z h l i k) }
     where
-      by : (i : ℕ) → Went (length xs) z (came o xs ys (suc z)) (tableAt o xs ys (suc z)) (came o xs ys z) (groupsBy o xs ys z) i →
-          Same (entry (tableAt o xs ys (suc z)) i) (entry (came o xs ys (suc z)) i)
+      by : (i : ℕ) → Went (points G) z (came G (suc z)) (tableAt G (suc z)) (came G z) (groupsBy G z) i →
+          Same (entry (tableAt G (suc z)) i) (entry (came G (suc z)) i)
       by i w = ⊎-elim (λ s. ap plain (s .1 .finer)) (λ s. ap plain (s .2 .finer)) w
 
   -- each table is as it came, but for seen and parent
-  pub table-same : (z : ℕ) → o .«min_zoom» ≤ z → z ≤ o .«max_zoom» + 1 → Alike (tableAt o xs ys z) (came o xs ys z)
+  pub table-same : (z : ℕ) → minZ G ≤ z → z ≤ maxZ G + 1 → Alike (tableAt G z) (came G z)
   table-same z h l = ⊎-elim last (inner z l) (eq-or-lt-of-le h)
     where
-      last : o .«min_zoom» ≡ z → Alike (tableAt o xs ys z) (came o xs ys z)
-      last e = subst (λ (w : ℕ). Alike (tableAt o xs ys w) (came o xs ys w)) e (alike-self _ _ (table-last o xs ys (options-are o (a .options) .zooms)))
+      last : minZ G ≡ z → Alike (tableAt G z) (came G z)
+      last e =
+          subst (λ (w : ℕ). Alike (tableAt G w) (came G w)) e (alike-self _ _ (table-last G (options-are (G .options) (a .options) .zooms)))
 
-      inner : (w : ℕ) → w ≤ o .«max_zoom» + 1 → o .«min_zoom» < w → Alike (tableAt o xs ys w) (came o xs ys w)
+      inner : (w : ℕ) → w ≤ maxZ G + 1 → minZ G < w → Alike (tableAt G w) (came G w)
       inner zero l q = absurd (omega arith)
       inner (suc w) l q = marked-alike w (omega arith) (omega arith)
 
   -- so what is answered of a table of the build is answered of it as it came
-  pub near-same : (z : ℕ) → o .«min_zoom» ≤ z → z ≤ o .«max_zoom» + 1 → (size : ℕ) (r : Float) → nearIn size r (tableAt o xs ys z) ≡ nearIn size r (came o xs ys z)
-  near-same z h l size r = near-alike size r (tableAt o xs ys z) (came o xs ys z) (table-same z h l)
+  pub near-same : (z : ℕ) → minZ G ≤ z → z ≤ maxZ G + 1 → (size : ℕ) (r : Float) → nearIn size r (tableAt G z) ≡ nearIn size r (came G z)
+  near-same z h l size r = near-alike size r (tableAt G z) (came G z) (table-same z h l)

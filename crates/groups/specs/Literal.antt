@@ -106,7 +106,8 @@ module _ (n least z len : ℕ) (near : ℕ → List ℕ) (A : Answers len near) 
   own = getD-set-same d i (marked z (entry d i)) none at-i
 
   -- a number that a mark leaves, of the place and of its unseen answers
-  more-at : (f : Entry → ℕ) → ((e : Entry) (q : ℕ) → f (marked q e) ≡ f e) → f (entry (markedAt z i d) i) + moreOf f z (markedAt z i d) (near i) ≡ sumAt f z near d i
+  more-at : (f : Entry → ℕ) → ((e : Entry) (q : ℕ) → f (marked q e) ≡ f e) →
+      f (entry (markedAt z i d) i) + moreOf f z (markedAt z i d) (near i) ≡ sumAt f z near d i
   more-at f same =
       let like : (k : ℕ) → f (entry (markedAt z i d) k) ≡ f (entry d k) =
       λ k. sym (same (entry (markedAt z i d) k) z) ∙ ap f (marked-like z i d k at-i) ∙ same (entry d k) z in
@@ -136,7 +137,8 @@ module _ (n least z len : ℕ) (near : ℕ → List ℕ) (A : Answers len near) 
       let p = clusterId n z i in
       let s = started (markedAt z i d) (marked z (entry d i)) in
       let a = absorb-sums z p s (near i) (λ j. A .single i j i<len) in
-      ap₂ (λ (a b : Float). centre (absorbed d a b) p (total z near d i)) (a .0 ∙ sum-is (λ e. e .x) (λ e. refl) (s .sx)) (a .1 ∙ sum-is (λ e. e .y) (λ e. refl) (s .sy))
+      ap₂ (λ (a b : Float). centre (absorbed d a b) p (total z near d i)) (a .0 ∙ sum-is (λ e. e .x) (λ e. refl) (s .sx))
+      (a .1 ∙ sum-is (λ e. e .y) (λ e. refl) (s .sy))
 
   -- what the cluster carries: the sum of what the place and the others do
   pub centre-carries : (f : Entry → ℕ) → Carried f → f (centreAt n z near d i) ≡ sumAt f z near d i

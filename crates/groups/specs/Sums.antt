@@ -103,7 +103,7 @@ gate-add : (b : Bool) (m n : ℕ) → gate b m + gate b n ≡ gate b (m + n)
 gate-add true m n = refl
 gate-add false m n = refl
 
-gate-zero : (b : Bool) → gate b 0 ≡ 0
+pub gate-zero : (b : Bool) → gate b 0 ≡ 0
 gate-zero true = refl
 gate-zero false = refl
 

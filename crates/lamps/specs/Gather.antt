@@ -1,16 +1,14 @@
--- Lists put one after the other: what they add up to. Sums of zeros and of ones. And which list of numbers below n has given counts, but for its order. Assumes
--- nothing.
+-- Lists put one after the other: what they add up to. Sums of zeros and of ones. And which list of numbers below n has given counts, but
+-- for its order. Assumes nothing.
 use mathlib.Core.Path.{_≡_, refl, sym, ap, ap₂, _∙_}
 use mathlib.Core.Logic.{inr, ⊎-elim}
 use mathlib.Core.Bool.{Bool}
 use mathlib.Core.List.{List, [], _∷_, _++_, List·Permᴰ}
 use Prim.Native.Nat.{ℕ, zero, suc, _≤_, _<_}
 use native.Mathlib.Omega.{arith}
-use borrow.Author.Tests.{ne-eqb}
-use lib.Dec.{eqb}
 use lib.ListN.{length}
 use Rattle.kdslots.specs.Keep.{keep}
-use Rattle.groups.specs.Sums.{gate, one, below, sum, count, count-head, sum-append, count-keep, keep-in, range, range-in, range-out}
+use Rattle.groups.specs.Sums.{gate, gate-zero, one, below, sum, count, count-head, sum-append, count-keep, range, range-in, range-out}
 use Rattle.groups.specs.Counts.{same-counts}
 use Rattle.lamps.specs.Owner.{gather}
 
@@ -57,7 +55,6 @@ permutes-kept n p ks each none = same-counts ks (keep p (range 0 n)) (λ k. ⊎-
     inside k h = each k h ∙ sym (count-keep k p (range 0 n) ∙ ap (gate (p k)) (range-in 0 n k (omega arith) (omega arith)))
 
     past : (k : ℕ) → n ≤ k → count k ks ≡ count k (keep p (range 0 n))
-    past k h = none k h ∙ sym (sum-none (λ x. one (eqb k x)) (keep p (range 0 n)) (λ x c. ap one (ne-eqb k x (other x (range-below n x (keep-in p (range 0 n) x c))))))
-      where
-        other : (x : ℕ) → x < n → k ≡ x → ⊥
-        other x l e = omega arith
+    past k h =
+        none k h
+        ∙ sym (count-keep k p (range 0 n) ∙ ap (gate (p k)) (range-out 0 n k (inr (omega arith))) ∙ gate-zero (p k))
