@@ -10,7 +10,7 @@ use Rattle.tables.specs.Bounds.{options-are}
 use Rattle.tables.specs.declared.Entry.{Entry}
 use Rattle.tables.specs.Entries.{entry}
 use Rattle.tables.specs.Ids.{tableOf}
-use Rattle.builds.specs.Given.{Given, Taken, points, minZ, maxZ, lampsIn}
+use Rattle.builds.specs.Given.{Given, Accepted, points, minZ, maxZ, lampsIn}
 use Rattle.builds.specs.Came.{came, tableAt, down}
 use Rattle.builds.specs.GroupsOfBuild.{groupsBy}
 use Rattle.builds.specs.Identities.{Known, came-known, identities, ids-distinct, id-table-suc}
@@ -42,7 +42,7 @@ born-here G z j e q h s =
       same = subst (λ (v : ℕ). Same (entry (tableAt G v) j) e) (sym q) s;
     }
 
-module _ (G : Given) (a : Taken G) where
+module _ (G : Given) (a : Accepted G) where
   -- no cluster is in the finest table
   none-finest : (i : ℕ) → i < length (came G (maxZ G + 1)) → points G ≤ entry (came G (maxZ G + 1)) i .id → ⊥
   none-finest i h b =

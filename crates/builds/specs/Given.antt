@@ -12,7 +12,7 @@ use Rattle.tables.specs.Entries.{Table, entry}
 use Rattle.zooms.specs.Zooms.{Plan, planOf}
 use Rattle.supercluster.specs.Build.{lamp, tablesOf}
 use Rattle.supercluster.specs.Fill.{lamps, lamps-length, lamps-at}
-use Rattle.supercluster.specs.Ready.{Accepted}
+use Rattle.supercluster.specs.Ready.{Accepted as Accepts}
 
 -- the options and the points
 pub record Given : Type 0 where
@@ -24,8 +24,8 @@ abbrev pub given : Options → List Float → List Float → Given
 given o xs ys = record { options = o; xs = xs; ys = ys }
 
 -- the build is accepted
-abbrev pub Taken : Given → Type 0
-Taken G = Accepted (G .options) (G .xs) (G .ys)
+abbrev pub Accepted : Given → Type 0
+Accepted G = Accepts (G .options) (G .xs) (G .ys)
 
 -- how many points there are
 abbrev pub points : Given → ℕ
@@ -53,7 +53,7 @@ lampsIn G = lamps (G .options .«coordinate_system») (G .xs) (G .ys)
 abbrev pub lampOf : Given → ℕ → Entry
 lampOf G k = lamp (converted (G .options .«coordinate_system») (record { x = getD (G .xs) k nan; y = getD (G .ys) k nan })) k
 
-module _ (G : Given) (a : Taken G) where
+module _ (G : Given) (a : Accepted G) where
   pub lampsIn-length : length (lampsIn G) ≡ points G
   lampsIn-length = lamps-length (G .options .«coordinate_system») (G .xs) (G .ys) (a .same)
 

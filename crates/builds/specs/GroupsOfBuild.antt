@@ -19,7 +19,7 @@ use Rattle.zooms.specs.Running.{Able}
 use Rattle.supercluster.specs.Build.{convertedAll}
 use Rattle.supercluster.specs.Fill.{lamps, finest-fine, finest-total}
 use Rattle.supercluster.specs.Ready.{able}
-use Rattle.builds.specs.Given.{Given, Taken, points, minZ, maxZ, plan, lampsIn, lampsIn-length, lampsIn-at}
+use Rattle.builds.specs.Given.{Given, Accepted, points, minZ, maxZ, plan, lampsIn, lampsIn-length, lampsIn-at}
 use Rattle.builds.specs.Came.{came, came-first, came-next, tableAt, table-left, down}
 use Rattle.builds.specs.Steps.{Coming, Grouped, Lone, nearAt, groupsOn, zoom-grouped, coming-next}
 
@@ -51,7 +51,7 @@ run-grouped p a (suc k) t h c =
     let d : Coming p (suc (p .options .«min_zoom» + k)) t = rw (add-suc (p .options .«min_zoom») k) at c in
     (zoom-grouped p a z t (omega arith) d, run-grouped p a k (zoomed p z t .next) (omega arith) (coming-next p a z t (omega arith) d))
 
-module _ (G : Given) (a : Taken G) where
+module _ (G : Given) (a : Accepted G) where
   low : minZ G ≤ maxZ G
   low = options-are (G .options) (a .options) .zooms
 

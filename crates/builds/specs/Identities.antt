@@ -14,7 +14,7 @@ use Rattle.zoom.specs.Sound.{Next}
 use Rattle.zoom.specs.Zoom.{numOf}
 use Rattle.groups.specs.Sums.{count}
 use Rattle.groups.specs.Groups.{from}
-use Rattle.builds.specs.Given.{Given, Taken, points, minZ, maxZ, lampsIn, lampsIn-length, lampsIn-at}
+use Rattle.builds.specs.Given.{Given, Accepted, points, minZ, maxZ, lampsIn, lampsIn-length, lampsIn-at}
 use Rattle.builds.specs.Came.{came, came-first, tableAt, down}
 use Rattle.builds.specs.GroupsOfBuild.{groupsBy, nearBy, groups-of-build, came-coming}
 use Rattle.builds.specs.Places.{Arose, groupAt, sole}
@@ -94,7 +94,7 @@ module _ (G : Given) where
 
 -- ---- of a build
 
-module _ (G : Given) (a : Taken G) where
+module _ (G : Given) (a : Accepted G) where
   high : maxZ G ≤ 30
   high = options-are (G .options) (a .options) .zoom-to
 

@@ -10,7 +10,7 @@ use Rattle.tables.specs.Bounds.{options-are}
 use Rattle.tables.specs.declared.Entry.{Entry}
 use Rattle.tables.specs.Entries.{Table, entry, never}
 use Rattle.tables.specs.Ids.{tableOf, id-apart}
-use Rattle.builds.specs.Given.{Given, Taken, points, minZ, maxZ}
+use Rattle.builds.specs.Given.{Given, Accepted, points, minZ, maxZ}
 use Rattle.builds.specs.Came.{came, tableAt, table-last}
 use Rattle.builds.specs.Identities.{Known, identities, ids-distinct, id-table-suc}
 use Rattle.builds.specs.Marks.{Carried, New, marks-came}
@@ -23,7 +23,7 @@ MadeAt n z e = (n ≤ e .id) × (tableOf n (e .id) ≡ suc z)
 made-like : (n z : ℕ) (a b : Entry) → Same a b → MadeAt n z b → MadeAt n z a
 made-like n z a b s m = subst (λ (i : ℕ). (n ≤ i) × (tableOf n i ≡ suc z)) (sym (ap idOf s)) m
 
-module _ (G : Given) (a : Taken G) where
+module _ (G : Given) (a : Accepted G) where
   -- what the zoom z made was made in table z
   pub new-made : (z : ℕ) → z ≤ maxZ G → (j : ℕ) → New (points G) z (tableAt G (suc z)) (came G z) j →
       MadeAt (points G) z (entry (came G z) j)

@@ -10,7 +10,7 @@ use Rattle.tables.specs.Bounds.{options-are}
 use Rattle.tables.specs.declared.Entry.{Entry}
 use Rattle.tables.specs.Entries.{Table, entry, never}
 use Rattle.tables.specs.Ids.{clusterId}
-use Rattle.builds.specs.Given.{Given, Taken, points, minZ, maxZ}
+use Rattle.builds.specs.Given.{Given, Accepted, points, minZ, maxZ}
 use Rattle.builds.specs.Came.{came, tableAt, table-last}
 use Rattle.builds.specs.GroupsOfBuild.{groupsBy}
 use Rattle.builds.specs.Places.{Arose}
@@ -32,7 +32,7 @@ pub record New (n z : ℕ) (T U : Table) (j : ℕ) : Type 0 where
   pub id : entry U j .id ≡ clusterId n z origin
   pub seen : entry U j .seen ≡ never
 
-module _ (G : Given) (a : Taken G) where
+module _ (G : Given) (a : Accepted G) where
   -- table z + 1: each entry is marked z
   pub marks : (z : ℕ) → minZ G ≤ z → z ≤ maxZ G → (i : ℕ) → i < length (tableAt G (suc z)) → entry (tableAt G (suc z)) i .seen ≡ z
   marks z h l i k =

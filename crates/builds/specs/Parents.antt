@@ -11,7 +11,7 @@ use Rattle.tables.specs.declared.Entry.{Entry}
 use Rattle.tables.specs.Entries.{Table, entry, unset}
 use Rattle.tables.specs.Ids.{clusterId, id-small}
 use Rattle.zoom.specs.Keeps.{all-at}
-use Rattle.builds.specs.Given.{Given, Taken, points, minZ, maxZ, plan}
+use Rattle.builds.specs.Given.{Given, Accepted, points, minZ, maxZ, plan}
 use Rattle.builds.specs.Came.{came, tableAt, table-last}
 use Rattle.builds.specs.GroupsOfBuild.{groupsBy, came-coming}
 use Rattle.builds.specs.Places.{Went}
@@ -38,7 +38,7 @@ pub record Under (n z : ℕ) (T U : Table) (i : ℕ) : Type 0 where
   pub there : place < length U
   pub id : entry U place .id ≡ clusterId n z origin
 
-module _ (G : Given) (a : Taken G) where
+module _ (G : Given) (a : Accepted G) where
   -- table z + 1
   pub parents : (z : ℕ) → minZ G ≤ z → z ≤ maxZ G → (i : ℕ) → i < length (tableAt G (suc z)) →
       Alone (tableAt G (suc z)) (tableAt G z) i ⊎ Under (points G) z (tableAt G (suc z)) (tableAt G z) i

@@ -5,10 +5,10 @@ use Prim.Native.Nat.{ℕ, _+_, _-_, _≤_}
 use native.Mathlib.Omega.{arith}
 use Rattle.kdslots.specs.All.{all-getD}
 use Rattle.supercluster.specs.Right.{Right, tables-right, tables-count}
-use Rattle.builds.specs.Given.{Given, Taken, points, minZ, maxZ, tablesBy}
+use Rattle.builds.specs.Given.{Given, Accepted, points, minZ, maxZ, tablesBy}
 use Rattle.builds.specs.Came.{tableAt}
 
-pub right-at : (G : Given) → Taken G → (z : ℕ) → minZ G ≤ z → z ≤ maxZ G + 1 → Right (points G) (tableAt G z)
+pub right-at : (G : Given) → Accepted G → (z : ℕ) → minZ G ≤ z → z ≤ maxZ G + 1 → Right (points G) (tableAt G z)
 unfolding tableAt
 right-at G a z h k =
     let l = tables-count (G .options) (G .xs) (G .ys) in all-getD (Right (points G)) (tablesBy G) (maxZ G + 1 - z) []

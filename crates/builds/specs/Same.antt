@@ -17,7 +17,7 @@ use Rattle.zoom.specs.Lamps.{Carried}
 use Rattle.zoom.specs.Near.{nearOf}
 use Rattle.groups.specs.Groups.{took}
 use Rattle.zooms.specs.Zooms.{indexOf, slotsOf, nearIn}
-use Rattle.builds.specs.Given.{Given, Taken, points, minZ, maxZ}
+use Rattle.builds.specs.Given.{Given, Accepted, points, minZ, maxZ}
 use Rattle.builds.specs.Came.{came, tableAt, table-last}
 use Rattle.builds.specs.GroupsOfBuild.{groupsBy, nearBy, groups-of-build}
 use Rattle.builds.specs.Places.{Went, Arose, went, arose}
@@ -63,7 +63,7 @@ near-alike size r s t w =
     let es : indexOf size (xsOf s) (ysOf s) ≡ indexOf size (xsOf t) (ysOf t) = ap₂ (indexOf size) ex ey in
     ap₂ (λ (n : ℕ) (k : Cols). nearOf size n (k .ids) (k .co) r) (w .long) es
 
-module _ (G : Given) (a : Taken G) where
+module _ (G : Given) (a : Accepted G) where
   -- where the place k of table z + 1 went
   pub went-by : (z : ℕ) → minZ G ≤ z → z ≤ maxZ G → (k : ℕ) → k < length (came G (suc z)) →
       Went (points G) z (came G (suc z)) (tableAt G (suc z)) (came G z) (groupsBy G z) k

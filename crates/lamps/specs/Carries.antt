@@ -15,7 +15,7 @@ use Rattle.groups.specs.Sums.{gate, one, below, sum, count, sum-ext, sum-keep, 
 use Rattle.groups.specs.Counts.{sum-permute}
 use Rattle.groups.specs.Groups.{Group, entryOf, from}
 use Rattle.groups.specs.OneZoom.{fits-carry}
-use Rattle.builds.specs.Given.{Given, Taken, points, minZ, maxZ}
+use Rattle.builds.specs.Given.{Given, Accepted, points, minZ, maxZ}
 use Rattle.builds.specs.Came.{came, tableAt, down}
 use Rattle.builds.specs.GroupsOfBuild.{groupsBy, nearBy}
 use Rattle.builds.specs.Places.{groupAt}
@@ -24,7 +24,7 @@ use Rattle.lamps.specs.Owner.{owner, lampsOf}
 use Rattle.lamps.specs.Gather.{sum-gather, sum-ones, range-length, range-below}
 use Rattle.lamps.specs.Owners.{lamps-first, lamps-next, first-same, place-came, group-same, group-fits, group-member, owns-none, lamps-owned, lamps-permute}
 
-module _ (G : Given) (a : Taken G) where
+module _ (G : Given) (a : Accepted G) where
   module _ (f : Entry → ℕ) (C : Carried f) where
     -- what the lamp l carries
     abbrev pub ofLamp : ℕ → ℕ

@@ -15,7 +15,7 @@ use Rattle.zoom.specs.Keeps.{all-at}
 use Rattle.groups.specs.Sums.{count}
 use Rattle.groups.specs.Groups.{Group, copied, joined, entryOf, from}
 use Rattle.groups.specs.OneZoom.{Fits}
-use Rattle.builds.specs.Given.{Given, Taken, points, minZ, maxZ, plan}
+use Rattle.builds.specs.Given.{Given, Accepted, points, minZ, maxZ, plan}
 use Rattle.builds.specs.Came.{came, tableAt}
 use Rattle.builds.specs.GroupsOfBuild.{groupsBy, nearBy, came-coming}
 use Rattle.builds.specs.Identities.{ids-distinct}
@@ -32,7 +32,7 @@ up-lone e h = ap (λ (b : Bool). cond b (e .id) (e .parent)) (eq-eqb (e .parent)
 up-under : (e : Entry) → e .parent < unset → up e ≡ e .parent
 up-under e h = ap (λ (b : Bool). cond b (e .id) (e .parent)) (ne-eqb (e .parent) unset (λ q. omega arith))
 
-module _ (G : Given) (a : Taken G) where
+module _ (G : Given) (a : Accepted G) where
   -- the entry of table z whose group has the place i of table z + 1
   pub place-up : (z : ℕ) → minZ G ≤ z → z ≤ maxZ G → (i : ℕ) → i < length (tableAt G (suc z)) →
       entry (tableAt G z) (placeIn (groupsBy G z) i) .id ≡ up (entry (tableAt G (suc z)) i)

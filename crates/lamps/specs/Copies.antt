@@ -19,7 +19,7 @@ use Rattle.groups.specs.Sums.{below, count}
 use Rattle.groups.specs.Groups.{Group, copied, joined, entryOf}
 use Rattle.groups.specs.OneZoom.{Copied, Joined, Fits}
 use Rattle.zooms.specs.Zooms.{nearIn}
-use Rattle.builds.specs.Given.{Given, Taken, points, minZ, maxZ}
+use Rattle.builds.specs.Given.{Given, Accepted, points, minZ, maxZ}
 use Rattle.builds.specs.Came.{came, tableAt, down}
 use Rattle.builds.specs.GroupsOfBuild.{groupsBy, nearBy}
 use Rattle.builds.specs.Identities.{Known, identities, ids-distinct, id-table-suc}
@@ -29,7 +29,7 @@ use Rattle.lamps.specs.Owner.{gather, lampsOf, answersAt, membersOf}
 use Rattle.lamps.specs.Owners.{lamps-first, lamps-joined, lamps-copied, first-long, first-id, group-same, group-id, group-fits}
 use Rattle.lamps.specs.Carries.{lamps-long}
 
-module _ (G : Given) (a : Taken G) where
+module _ (G : Given) (a : Accepted G) where
   high : maxZ G ≤ 30
   high = options-are (G .options) (a .options) .zoom-to
 

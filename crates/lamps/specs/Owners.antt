@@ -21,7 +21,7 @@ use Rattle.groups.specs.Counts.{count-distinct, count-below, permutes}
 use Rattle.groups.specs.Groups.{Group, copied, joined, entryOf, from, froms}
 use Rattle.groups.specs.Literal.{next-entry}
 use Rattle.groups.specs.OneZoom.{Fits}
-use Rattle.builds.specs.Given.{Given, Taken, points, minZ, maxZ, lampOf, lampsIn-length, lampsIn-at}
+use Rattle.builds.specs.Given.{Given, Accepted, points, minZ, maxZ, lampOf, lampsIn-length, lampsIn-at}
 use Rattle.builds.specs.Came.{came, came-first, tableAt, down}
 use Rattle.builds.specs.GroupsOfBuild.{groupsBy, nearBy, groups-of-build}
 use Rattle.builds.specs.Places.{groupAt}
@@ -82,7 +82,7 @@ module _ (G : Given) where
 
 -- ---- of a build that is accepted
 
-module _ (G : Given) (a : Taken G) where
+module _ (G : Given) (a : Accepted G) where
   low : minZ G ≤ maxZ G
   low = options-are (G .options) (a .options) .zooms
 
