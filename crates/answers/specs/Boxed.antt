@@ -28,7 +28,6 @@ use Rattle.kdslots.specs.Bounds.{and-both, countOk}
 use Rattle.kdslots.specs.Members.{In, Distinct}
 use Rattle.kdslots.specs.Query.{passesQ, queryOk}
 use Rattle.tables.specs.declared.Entry.{Entry}
-use Rattle.tables.specs.declared.Options.{Options}
 use Rattle.tables.specs.declared.State.{State}
 use Rattle.tables.specs.Bounds.{options-are}
 use Rattle.tables.specs.Entries.{Table, entry, none, xsOf, ysOf}
@@ -46,7 +45,7 @@ use Rattle.zooms.specs.Zooms.{slotsOf}
 use Rattle.zooms.specs.Running.{table-inside}
 use Rattle.supercluster.specs.Build.{Lent, need}
 use Rattle.supercluster.specs.Load.{Holds}
-use Rattle.supercluster.specs.Ready.{Accepted}
+use Rattle.builds.specs.Given.{Given, Accepted, points, minZ, maxZ}
 use Rattle.builds.specs.Came.{tableAt as built}
 use Rattle.zooms.specs.OwnPlace.{index-of}
 use Rattle.builds.specs.RightAt.{right-at}
@@ -150,15 +149,15 @@ rings-of x y r t m l h a =
 -- ---- the questions of a build
 
 -- a box and a ring, asked of the state that a build replies and the columns that it leaves
-abbrev pub boxBy : Options → List Float → List Float → Lent → ℕ → Float → Float → Float → Float → Asked
-boxBy o xs ys l zoom w s e n = boxAsked (stateBy o xs ys) (columnsBy o xs ys l .ids) (columnsBy o xs ys l .coords) zoom w s e n
+abbrev pub boxBy : Given → Lent → ℕ → Float → Float → Float → Float → Asked
+boxBy G l zoom w s e n = boxAsked (stateBy G) (columnsBy G l .ids) (columnsBy G l .coords) zoom w s e n
 
-abbrev pub ringBy : Options → List Float → List Float → Lent → ℕ → Float → Float → Float → Asked
-ringBy o xs ys l zoom x y radius = ringAsked (stateBy o xs ys) (columnsBy o xs ys l .ids) (columnsBy o xs ys l .coords) zoom x y radius
+abbrev pub ringBy : Given → Lent → ℕ → Float → Float → Float → Asked
+ringBy G l zoom x y radius = ringAsked (stateBy G) (columnsBy G l .ids) (columnsBy G l .coords) zoom x y radius
 
 -- the table of the zoom used
-abbrev pub usedBy : Options → List Float → List Float → ℕ → Table
-usedBy o xs ys zoom = built o xs ys (zoomUsed o zoom)
+abbrev pub usedBy : Given → ℕ → Table
+usedBy G zoom = built G (zoomUsed (G .options) zoom)
 
 -- an answer that is told whole is not 11
 pub fits-somehow : (k room : ℕ) → fitted k room ≡ Spoiled → ⊥
@@ -170,126 +169,141 @@ fits-somehow k room = go (leb k room)
 
 -- ---- of a build that is accepted
 
-module _ (o : Options) (xs ys : List Float) (a : Accepted o xs ys) where
+module _ (G : Given) (a : Accepted G) where
   abbrev size : ℕ
-  size = o .«node_size»
+  size = G .options .«node_size»
 
   -- the zoom used is one of a table that is built
-  pub between : (zoom : ℕ) → (o .«min_zoom» ≤ zoomUsed o zoom) × (zoomUsed o zoom ≤ o .«max_zoom» + 1)
-  between zoom = used-between o zoom (options-are o (a .options) .zooms)
+  pub between : (zoom : ℕ) → (minZ G ≤ zoomUsed (G .options) zoom) × (zoomUsed (G .options) zoom ≤ maxZ G + 1)
+  between zoom = used-between (G .options) zoom (options-are (G .options) (a .options) .zooms)
 
   -- the index of a table is one of its entries' coordinates
-  pub slots-index : (z : ℕ) → o .«min_zoom» ≤ z → z ≤ o .«max_zoom» + 1
-      → Index (o .«node_size») (xsOf (built o xs ys z)) (ysOf (built o xs ys z)) (blank (length (xsOf (built o xs ys z)))) (slotsOf (o .«node_size») (built o xs ys z))
+  pub slots-index : (z : ℕ) → minZ G ≤ z → z ≤ maxZ G + 1
+      →
+      Index (G .options .«node_size») (xsOf (built G z)) (ysOf (built G z)) (blank (length (xsOf (built G z))))
+      (slotsOf (G .options .«node_size») (built G z))
   unfolding slotsOf
   slots-index z h k =
-      let t = built o xs ys z in
-      let R = right-at o xs ys a z h k in
+      let t = built G z in
+      let R = right-at G a z h k in
       let some : 1 ≤ length (xsOf t) = omega (arith, R .some, length-map t (λ e. e .x)) in
-      index-of size (xsOf t) (ysOf t) (options-are o (a .options) .size-from) some (table-inside t (R .unit))
+      index-of size (xsOf t) (ysOf t) (options-are (G .options) (a .options) .size-from) some (table-inside t (R .unit))
 
   -- in columns that hold it
-  module _ (l : Lent) (r : Holds (need o (length xs)) l) where
+  module _ (l : Lent) (r : Holds (need (G .options) (points G)) l) where
     -- the state passes the check over the two columns of the index
-    pub index-sound : stateOk (stateBy o xs ys) (indexRoom (columnsBy o xs ys l .ids) (columnsBy o xs ys l .coords)) ≡ true
+    pub index-sound : stateOk (stateBy G) (indexRoom (columnsBy G l .ids) (columnsBy G l .coords)) ≡ true
     index-sound =
-        let c = columnsBy o xs ys l in
-        sound-more (stateBy o xs ys) (roomOf c) (indexRoom (c .ids) (c .coords)) (state-sound o xs ys a l r) (room-index c (roomOf c) (le-refl (roomOf c)))
+        let c = columnsBy G l in
+        sound-more (stateBy G) (roomOf c) (indexRoom (c .ids) (c .coords)) (state-sound G a l r)
+        (room-index c (roomOf c) (le-refl (roomOf c)))
 
     -- the table of each zoom stands in the columns with the index built from it
-    pub table-indexed : (z : ℕ) → o .«min_zoom» ≤ z → z ≤ o .«max_zoom» + 1
-        → Indexed (stateBy o xs ys) (columnsBy o xs ys l .ids) (columnsBy o xs ys l .coords) z (xsOf (built o xs ys z)) (ysOf (built o xs ys z))
+    pub table-indexed : (z : ℕ) → minZ G ≤ z → z ≤ maxZ G + 1
+        → Indexed (stateBy G) (columnsBy G l .ids) (columnsBy G l .coords) z (xsOf (built G z)) (ysOf (built G z))
     table-indexed z h k =
-        let t = built o xs ys z in
-        let e : slotsOf size t ≡ cols (idsAt (stateBy o xs ys) (columnsBy o xs ys l .ids) z) (coordsAt (stateBy o xs ys) (columnsBy o xs ys l .coords) z) =
-        ap₂ cols (sym (ids-are o xs ys a l r z h k)) (sym (coords-are o xs ys a l r z h k)) in
+        let t = built G z in
+        let e : slotsOf size t ≡ cols (idsAt (stateBy G) (columnsBy G l .ids) z) (coordsAt (stateBy G) (columnsBy G l .coords) z) =
+        ap₂ cols (sym (ids-are G a l r z h k)) (sym (coords-are G a l r z h k)) in
         record {
-          long = length-map t (λ e. e .x) ∙ sym (long-is o xs ys a z h k);
-          unit = table-inside t (right-at o xs ys a z h k .unit);
+          long = length-map t (λ e. e .x) ∙ sym (long-is G a z h k);
+          unit = table-inside t (right-at G a z h k .unit);
           lent = blank (length (xsOf t));
           index = subst (Index size (xsOf t) (ysOf t) (blank (length (xsOf t)))) e (slots-index z h k);
         }
 
     module _ (zoom : ℕ) where
-      indexed : Indexed (stateBy o xs ys) (columnsBy o xs ys l .ids) (columnsBy o xs ys l .coords) (zoomUsed o zoom) (xsOf (usedBy o xs ys zoom)) (ysOf (usedBy o xs ys zoom))
-      indexed = table-indexed (zoomUsed o zoom) (between zoom .0) (between zoom .1)
+      indexed : Indexed (stateBy G) (columnsBy G l .ids) (columnsBy G l .coords) (zoomUsed (G .options) zoom) (xsOf (usedBy G zoom))
+          (ysOf (usedBy G zoom))
+      indexed = table-indexed (zoomUsed (G .options) zoom) (between zoom .0) (between zoom .1)
 
-      long : lenOf (stateBy o xs ys) (zoomUsed o zoom) ≡ length (usedBy o xs ys zoom)
-      long = long-is o xs ys a (zoomUsed o zoom) (between zoom .0) (between zoom .1)
+      long : lenOf (stateBy G) (zoomUsed (G .options) zoom) ≡ length (usedBy G zoom)
+      long = long-is G a (zoomUsed (G .options) zoom) (between zoom .0) (between zoom .1)
 
       module _ (w s e n : Float) where
-        module _ (fine : boxOk (o .«coordinate_system») w s e n ≡ true) where
+        module _ (fine : boxOk (G .options .«coordinate_system») w s e n ≡ true) where
           -- Cartesian: exactly the entries between the normalised corners, each once
-          pub cartesian-listed : (d : DataRange) → o .«coordinate_system» ≡ Cartesian d
-              → (p : List ℕ) × (boxBy o xs ys l zoom w s e n ≡ told true p) × Boxes (normalized d w) (normalized d s) (normalized d e) (normalized d n) (usedBy o xs ys zoom) p
+          pub cartesian-listed : (d : DataRange) → G .options .«coordinate_system» ≡ Cartesian d
+              →
+              (p : List ℕ) × (boxBy G l zoom w s e n ≡ told true p) × Boxes (normalized d w) (normalized d s) (normalized d e)
+              (normalized d n) (usedBy G zoom) p
           cartesian-listed d c =
-              let t = usedBy o xs ys zoom in
-              let x = cartesian-box (stateBy o xs ys) (columnsBy o xs ys l .ids) (columnsBy o xs ys l .coords) zoom (xsOf t) (ysOf t) index-sound indexed w s e n fine d c in
+              let t = usedBy G zoom in
+              let x = cartesian-box (stateBy G) (columnsBy G l .ids) (columnsBy G l .coords) zoom (xsOf t)
+              (ysOf t) index-sound indexed w s e n fine d c in
               (x .0, x .1, boxes-of _ _ _ _ t _ (x .0) long (x .2))
 
           -- longitudes: exactly the entries between the edges after the rule, each once
-          pub longitude-listed : o .«coordinate_system» ≡ LatLng → ruled w e .split ≡ false
-              → (p : List ℕ) × (boxBy o xs ys l zoom w s e n ≡ told true p) × Boxes (mercatorX (ruled w e .w)) s (mercatorX (ruled w e .e)) n (usedBy o xs ys zoom) p
+          pub longitude-listed : G .options .«coordinate_system» ≡ LatLng → ruled w e .split ≡ false
+              →
+              (p : List ℕ) × (boxBy G l zoom w s e n ≡ told true p) × Boxes (mercatorX (ruled w e .w)) s (mercatorX (ruled w e .e)) n
+              (usedBy G zoom) p
           unfolding converted
           longitude-listed c f =
-              let t = usedBy o xs ys zoom in
-              let x = longitude-box (stateBy o xs ys) (columnsBy o xs ys l .ids) (columnsBy o xs ys l .coords) zoom (xsOf t) (ysOf t) index-sound indexed w s e n fine c f in
+              let t = usedBy G zoom in
+              let x = longitude-box (stateBy G) (columnsBy G l .ids) (columnsBy G l .coords) zoom (xsOf t)
+              (ysOf t) index-sound indexed w s e n fine c f in
               (x .0, x .1, boxes-of _ _ _ _ t _ (x .0) long (x .2))
 
           -- or, where it is split, those of (w, 180) and then those of (-180, e), each half put through the rule again; in a half each entry is listed once
-          pub split-listed : o .«coordinate_system» ≡ LatLng → ruled w e .split ≡ true
+          pub split-listed : G .options .«coordinate_system» ≡ LatLng → ruled w e .split ≡ true
               → let one = ruled (ruled w e .w) halfCircle in
               let two = ruled (neg halfCircle) (ruled w e .e) in
-              (p : List ℕ) × (q : List ℕ) × (boxBy o xs ys l zoom w s e n ≡ told true (p ++ q))
-              × Boxes (mercatorX (one .w)) s (mercatorX (one .e)) n (usedBy o xs ys zoom) p × Boxes (mercatorX (two .w)) s (mercatorX (two .e)) n (usedBy o xs ys zoom) q
+              (p : List ℕ) × (q : List ℕ) × (boxBy G l zoom w s e n ≡ told true (p ++ q))
+              × Boxes (mercatorX (one .w)) s (mercatorX (one .e)) n (usedBy G zoom) p × Boxes (mercatorX (two .w)) s (mercatorX (two .e)) n
+              (usedBy G zoom) q
           unfolding converted
           split-listed c f =
-              let t = usedBy o xs ys zoom in
-              let x = split-box (stateBy o xs ys) (columnsBy o xs ys l .ids) (columnsBy o xs ys l .coords) zoom (xsOf t) (ysOf t) index-sound indexed w s e n fine c f in
+              let t = usedBy G zoom in
+              let x = split-box (stateBy G) (columnsBy G l .ids) (columnsBy G l .coords) zoom (xsOf t)
+              (ysOf t) index-sound indexed w s e n fine c f in
               (x .0, x .1, x .2, boxes-of _ _ _ _ t _ (x .0) long (x .3), boxes-of _ _ _ _ t _ (x .1) long (x .4))
 
           -- so every box that is taken is answered whole
-          pub box-told : (p : List ℕ) × (boxBy o xs ys l zoom w s e n ≡ told true p)
-          box-told = by (o .«coordinate_system») refl
+          pub box-told : (p : List ℕ) × (boxBy G l zoom w s e n ≡ told true p)
+          box-told = by (G .options .«coordinate_system») refl
             where
-              split : (b : Bool) → ruled w e .split ≡ b → o .«coordinate_system» ≡ LatLng → (p : List ℕ) × (boxBy o xs ys l zoom w s e n ≡ told true p)
+              split : (b : Bool) → ruled w e .split ≡ b → G .options .«coordinate_system» ≡ LatLng →
+                  (p : List ℕ) × (boxBy G l zoom w s e n ≡ told true p)
               split true f c = let x = split-listed c f in (x .0 ++ x .1, x .2)
               split false f c = let x = longitude-listed c f in (x .0, x .1)
 
-              by : (c : CoordinateSystem) → o .«coordinate_system» ≡ c → (p : List ℕ) × (boxBy o xs ys l zoom w s e n ≡ told true p)
+              by : (c : CoordinateSystem) → G .options .«coordinate_system» ≡ c → (p : List ℕ) × (boxBy G l zoom w s e n ≡ told true p)
               by LatLng c = split (ruled w e .split) refl c
               by (Cartesian d) c = let x = cartesian-listed d c in (x .0, x .1)
 
         -- any other is 9
-        pub box-refused : boxOk (o .«coordinate_system») w s e n ≡ false → boxBy o xs ys l zoom w s e n ≡ refused Box
+        pub box-refused : boxOk (G .options .«coordinate_system») w s e n ≡ false → boxBy G l zoom w s e n ≡ refused Box
         unfolding boxAsked
         box-refused f = rw (index-sound, f)
 
         -- no box is refused 11
-        pub box-not-spoiled : (room : ℕ) → answerOf (boxBy o xs ys l zoom w s e n) room ≡ Spoiled → ⊥
-        box-not-spoiled room = by (boxOk (o .«coordinate_system») w s e n) refl
+        pub box-not-spoiled : (room : ℕ) → answerOf (boxBy G l zoom w s e n) room ≡ Spoiled → ⊥
+        box-not-spoiled room = by (boxOk (G .options .«coordinate_system») w s e n) refl
           where
-            by : (b : Bool) → boxOk (o .«coordinate_system») w s e n ≡ b → answerOf (boxBy o xs ys l zoom w s e n) room ≡ Spoiled → ⊥
+            by : (b : Bool) → boxOk (G .options .«coordinate_system») w s e n ≡ b → answerOf (boxBy G l zoom w s e n) room ≡ Spoiled → ⊥
             by true f h = let x = box-told f in fits-somehow (length (x .0)) room (sym (ap (λ (q : Asked). answerOf q room) (x .1)) ∙ h)
             by false f h = let x = sym (ap (λ (q : Asked). answerOf q room) (box-refused f)) ∙ h in omega (arith, ap answerNumber x)
 
       module _ (x y radius : Float) where
         -- a ring lists exactly the entries that pass the distance test, each once
-        pub ring-listed : queryOk (Within x y radius) ≡ true → (p : List ℕ) × (ringBy o xs ys l zoom x y radius ≡ told true p) × Rings x y radius (usedBy o xs ys zoom) p
+        pub ring-listed : queryOk (Within x y radius) ≡ true →
+            (p : List ℕ) × (ringBy G l zoom x y radius ≡ told true p) × Rings x y radius (usedBy G zoom) p
         ring-listed fine =
-            let t = usedBy o xs ys zoom in
-            let g = ring-exactly (stateBy o xs ys) (columnsBy o xs ys l .ids) (columnsBy o xs ys l .coords) zoom (xsOf t) (ysOf t) index-sound indexed x y radius fine in
+            let t = usedBy G zoom in
+            let g = ring-exactly (stateBy G) (columnsBy G l .ids) (columnsBy G l .coords) zoom (xsOf t)
+            (ysOf t) index-sound indexed x y radius fine in
             (g .0, g .1, rings-of x y radius t _ (g .0) long (g .2))
 
         -- any other is 9
-        pub ring-refused : queryOk (Within x y radius) ≡ false → ringBy o xs ys l zoom x y radius ≡ refused Box
+        pub ring-refused : queryOk (Within x y radius) ≡ false → ringBy G l zoom x y radius ≡ refused Box
         unfolding ringAsked
         ring-refused f = rw (index-sound, f)
 
         -- no ring is refused 11
-        pub ring-not-spoiled : (room : ℕ) → answerOf (ringBy o xs ys l zoom x y radius) room ≡ Spoiled → ⊥
+        pub ring-not-spoiled : (room : ℕ) → answerOf (ringBy G l zoom x y radius) room ≡ Spoiled → ⊥
         ring-not-spoiled room = by (queryOk (Within x y radius)) refl
           where
-            by : (b : Bool) → queryOk (Within x y radius) ≡ b → answerOf (ringBy o xs ys l zoom x y radius) room ≡ Spoiled → ⊥
+            by : (b : Bool) → queryOk (Within x y radius) ≡ b → answerOf (ringBy G l zoom x y radius) room ≡ Spoiled → ⊥
             by true f h = let g = ring-listed f in fits-somehow (length (g .0)) room (sym (ap (λ (q : Asked). answerOf q room) (g .1)) ∙ h)
             by false f h = let g = sym (ap (λ (q : Asked). answerOf q room) (ring-refused f)) ∙ h in omega (arith, ap answerNumber g)

@@ -17,7 +17,6 @@ use Rattle.kdslots.specs.Query.{queryOk}
 use Rattle.kdslots.specs.Keep.{keep}
 use Rattle.kdwalk.specs.Reply.{walk}
 use Rattle.kdbush.specs.Run.{places, sound, whole}
-use Rattle.tables.specs.declared.Options.{Options}
 use Rattle.tables.specs.declared.State.{State}
 use Rattle.tables.specs.Bounds.{options-are}
 use Rattle.tables.specs.Entries.{Table, entry}
@@ -33,8 +32,8 @@ use Rattle.zooms.specs.Zooms.{slotsOf}
 use Rattle.zooms.specs.Running.{slots-promised}
 use Rattle.supercluster.specs.Build.{Lent, need}
 use Rattle.supercluster.specs.Load.{Holds}
-use Rattle.supercluster.specs.Ready.{Accepted}
 use Rattle.supercluster.specs.Right.{Right}
+use Rattle.builds.specs.Given.{Given, Accepted, points, minZ, maxZ}
 use Rattle.builds.specs.Came.{tableAt as built}
 use Rattle.builds.specs.RightAt.{right-at}
 use Rattle.lamps.specs.Owner.{answersAt}
@@ -50,70 +49,70 @@ kids-keep t id (p ∷ ps) = go (eqb (entry t p .parent) id) refl (kids-keep t id
     go true e h = rw (e, kidsOf) (ap (λ (l : List ℕ). p ∷ l) h)
     go false e h = rw (e, kidsOf) h
 
-module _ (o : Options) (xs ys : List Float) (a : Accepted o xs ys) (l : Lent) (r : Holds (need o (length xs)) l) where
+module _ (G : Given) (a : Accepted G) (l : Lent) (r : Holds (need (G .options) (points G)) l) where
   abbrev S : State
-  S = stateBy o xs ys
+  S = stateBy G
 
   abbrev C : Columns
-  C = columnsBy o xs ys l
+  C = columnsBy G l
 
   -- around the place i of table t, a table above that of min_zoom
-  module _ (t i : ℕ) (h : o .«min_zoom» < t) (k : t ≤ o .«max_zoom» + 1) (q : i < length (built o xs ys t)) where
-    B : Table
-    B = built o xs ys t
+  module _ (t i : ℕ) (h : minZ G < t) (k : t ≤ maxZ G + 1) (q : i < length (built G t)) where
+    abbrev size : ℕ
+    size = G .options .«node_size»
 
-    size : ℕ
-    size = o .«node_size»
+    r-t : Right (points G) (built G t)
+    r-t = right-at G a t (omega arith) k
 
-    r-t : Right (length xs) (built o xs ys t)
-    r-t = right-at o xs ys a t (omega arith) k
-
-    promised : Promised (o .«node_size») (length (built o xs ys t)) (slotsOf (o .«node_size») (built o xs ys t) .ids) (slotsOf (o .«node_size») (built o xs ys t) .co)
+    promised : Promised size (length (built G t)) (slotsOf size (built G t) .ids) (slotsOf size (built G t) .co)
     promised =
-        let b = options-are o (a .options) in
-        slots-promised (o .«node_size») (built o xs ys t) (b .size-from) (b .size-to) (r-t .some) (omega (arith, r-t .few, a .few)) (r-t .unit)
+        let b = options-are (G .options) (a .options) in
+        slots-promised size (built G t) (b .size-from) (b .size-to) (r-t .some) (omega (arith, r-t .few, a .few)) (r-t .unit)
 
     abbrev R : Float
-    R = radiusAt (o .radius) (o .extent) (t - 1)
+    R = radiusAt (G .options .radius) (G .options .extent) (t - 1)
 
     abbrev Q : Query
-    Q = Within (entry (built o xs ys t) i .x) (entry (built o xs ys t) i .y) (radiusAt (o .radius) (o .extent) (t - 1))
+    Q = Within (entry (built G t) i .x) (entry (built G t) i .y) (radiusAt (G .options .radius) (G .options .extent) (t - 1))
 
     fine : queryOk Q ≡ true
     fine =
-        let b = options-are o (a .options) in
-        let w = all-at Body (built o xs ys t) i (r-t .unit) q in
-        query-fine (entry (built o xs ys t) i .x) (entry (built o xs ys t) i .y) R (In01-finite _ (w .0)) (In01-finite _ (w .1))
-        (radius-fine (o .radius) (o .extent) (t - 1) (omega (arith, b .zoom-to)) (b .radius-from) (b .radius-to) (b .extent-from) (b .extent-to))
+        let b = options-are (G .options) (a .options) in
+        let w = all-at Body (built G t) i (r-t .unit) q in
+        query-fine (entry (built G t) i .x) (entry (built G t) i .y) R (In01-finite _ (w .0)) (In01-finite _ (w .1))
+        (radius-fine (G .options .radius) (G .options .extent) (t - 1) (omega (arith, b .zoom-to)) (b .radius-from) (b .radius-to)
+        (b .extent-from) (b .extent-to))
 
     -- the places around it are those answered
-    around-is : placesAround (stateBy o xs ys) (columnsBy o xs ys l) t i ≡ answersAt o xs ys t i
+    around-is : placesAround (stateBy G) (columnsBy G l) t i ≡ answersAt G t i
     unfolding around-slots
     around-is =
-        let T = table-is o xs ys a l r t (omega arith) k in
-        let n = long-is o xs ys a t (omega arith) k in
-        let d = ids-are o xs ys a l r t (omega arith) k in
-        let c = coords-are o xs ys a l r t (omega arith) k in
-        ap (λ (v : Table). places (idsAt S (C .ids) t) (walk (Within (entry v i .x) (entry v i .y) R) (o .«node_size») (lenOf S t) (coordsAt S (C .coords) t))) T
-        ∙ ap (λ (v : List ℕ). places v (walk Q (o .«node_size») (lenOf S t) (coordsAt S (C .coords) t))) d
-        ∙ ap (λ (v : List Float). places (slotsOf (o .«node_size») (built o xs ys t) .ids) (walk Q (o .«node_size») (lenOf S t) v)) c
-        ∙ ap (λ (v : ℕ). places (slotsOf (o .«node_size») (built o xs ys t) .ids) (walk Q (o .«node_size») v (slotsOf (o .«node_size») (built o xs ys t) .co))) n
+        let T = table-is G a l r t (omega arith) k in
+        let n = long-is G a t (omega arith) k in
+        let d = ids-are G a l r t (omega arith) k in
+        let c = coords-are G a l r t (omega arith) k in
+        ap (λ (v : Table). places (idsAt S (C .ids) t) (walk (Within (entry v i .x) (entry v i .y) R) size (lenOf S t)
+        (coordsAt S (C .coords) t))) T
+        ∙ ap (λ (v : List ℕ). places v (walk Q size (lenOf S t) (coordsAt S (C .coords) t))) d
+        ∙ ap (λ (v : List Float). places (slotsOf size (built G t) .ids) (walk Q size (lenOf S t) v)) c
+        ∙ ap (λ (v : ℕ). places (slotsOf size (built G t) .ids) (walk Q size v (slotsOf size (built G t) .co))) n
         ∙ rw (promised .ok, fine)
 
-    pub around-below : AllBelow (length (built o xs ys t)) (answersAt o xs ys t i)
+    pub around-below : AllBelow (length (built G t)) (answersAt G t i)
     around-below = promised .below Q
 
     -- none is past the table
-    pub clean : cleanAt (stateBy o xs ys) (columnsBy o xs ys l) t i ≡ true
+    pub clean : cleanAt (stateBy G) (columnsBy G l) t i ≡ true
     unfolding cleanAt
     clean =
-        ap₂ (λ (n : ℕ) (p : List ℕ). whole n p) (long-is o xs ys a t (omega arith) k) around-is ∙ all-whole (length (built o xs ys t)) (answersAt o xs ys t i) around-below
+        ap₂ (λ (n : ℕ) (p : List ℕ). whole n p) (long-is G a t (omega arith) k) around-is
+        ∙ all-whole (length (built G t)) (answersAt G t i) around-below
 
     -- and the children of any id are those of them whose parent it is
-    pub kids-at : (id : ℕ) → kidsAt (stateBy o xs ys) (columnsBy o xs ys l) id t i ≡ keep (λ k. eqb (entry (built o xs ys t) k .parent) id) (answersAt o xs ys t i)
+    pub kids-at : (id : ℕ) → kidsAt (stateBy G) (columnsBy G l) id t i ≡ keep (λ k. eqb (entry (built G t) k .parent) id) (answersAt G t i)
     unfolding kidsAt
     kids-at id =
-        ap (λ (v : Table). kidsOf v id (sound (lenOf S t) (placesAround S C t i))) (table-is o xs ys a l r t (omega arith) k)
-        ∙ ap₂ (λ (n : ℕ) (p : List ℕ). kidsOf (built o xs ys t) id (sound n p)) (long-is o xs ys a t (omega arith) k) around-is
-        ∙ ap (kidsOf (built o xs ys t) id) (all-sound (length (built o xs ys t)) (answersAt o xs ys t i) around-below)
-        ∙ kids-keep (built o xs ys t) id (answersAt o xs ys t i)
+        ap (λ (v : Table). kidsOf v id (sound (lenOf S t) (placesAround S C t i))) (table-is G a l r t (omega arith) k)
+        ∙ ap₂ (λ (n : ℕ) (p : List ℕ). kidsOf (built G t) id (sound n p)) (long-is G a t (omega arith) k) around-is
+        ∙ ap (kidsOf (built G t) id) (all-sound (length (built G t)) (answersAt G t i) around-below)
+        ∙ kids-keep (built G t) id (answersAt G t i)

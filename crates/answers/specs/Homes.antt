@@ -4,19 +4,18 @@
 use mathlib.Core.Path.{_≡_, refl, sym, ap, _∙_, subst}
 use mathlib.Core.Bool.{Bool, true, false, cond, _&&_}
 use mathlib.Core.List.{List, [], _∷_, _++_, map}
-use Prim.Native.Nat.{ℕ, _+_, _^_, _≤_, _<_}
+use Prim.Native.Nat.{ℕ, _^_, _≤_, _<_}
 use lib.Dec.{eqb}
 use lib.ListN.{length, List·getD-eq-default}
-use lib.Ieee.{Float}
 use borrow.Author.Tests.{eqb-true, eq-eqb, lt-ltb, le-leb}
 use Rattle.floats.specs.Unit.{In01}
 use Rattle.kdslots.specs.Bounds.{and-both}
 use Rattle.tables.specs.declared.Entry.{Entry}
-use Rattle.tables.specs.declared.Options.{Options}
 use Rattle.tables.specs.Entries.{Table, entry, none}
 use Rattle.tables.specs.Options.{zoomUsed}
 use Rattle.zoom.specs.Keeps.{all-at}
 use Rattle.zoom.specs.Sound.{Body}
+use Rattle.zoom.specs.Zoom.{numOf}
 use Rattle.tiling.specs.declared.Item.{Item}
 use Rattle.tiling.specs.declared.Tally.the-variants.{Sum}
 use Rattle.tiling.specs.Floor.{homeOf, home-below}
@@ -28,11 +27,11 @@ use Rattle.tiling.specs.Tile.{isTile, here, itemOf}
 use Rattle.tiles.specs.Asked.{told}
 use Rattle.supercluster.specs.Build.{Lent, need}
 use Rattle.supercluster.specs.Load.{Holds}
-use Rattle.supercluster.specs.Ready.{Accepted}
+use Rattle.builds.specs.Given.{Given, Accepted, points}
 use Rattle.builds.specs.RightAt.{right-at}
 use Rattle.answers.specs.Boxed.{usedBy, between}
 use Rattle.answers.specs.Tiled.{tileBy, tallyBy, tile-every, tally-told}
-use Rattle.answers.specs.Sums.{sumTo, sum-same, sum-swap, sum-pick, lamps-sum, total-members}
+use Rattle.answers.specs.Sums.{sumTo, sum-same, sum-swap, sum-pick, sum-places, total-members}
 
 -- ---- one home for each entry
 
@@ -98,61 +97,61 @@ told-same e = cc
 
 -- ---- of a build that is accepted
 
-module _ (o : Options) (xs ys : List Float) (a : Accepted o xs ys) (l : Lent) (r : Holds (need o (length xs)) l) (z : ℕ) where
-  placed : (p : ℕ) → p < length (usedBy o xs ys z) → In01 (entry (usedBy o xs ys z) p .x) × In01 (entry (usedBy o xs ys z) p .y)
+module _ (G : Given) (a : Accepted G) (l : Lent) (r : Holds (need (G .options) (points G)) l) (z : ℕ) where
+  placed : (p : ℕ) → p < length (usedBy G z) → In01 (entry (usedBy G z) p .x) × In01 (entry (usedBy G z) p .y)
   placed p h =
-      let k = between o xs ys a z in
-      let b = all-at Body (usedBy o xs ys z) p (right-at o xs ys a (zoomUsed o z) (k .0) (k .1) .unit) h in
+      let k = between G a z in
+      let b = all-at Body (usedBy G z) p (right-at G a (zoomUsed (G .options) z) (k .0) (k .1) .unit) h in
       (b .0, b .1)
 
   module _ (x y : ℕ) (tile : isTile z x y ≡ true) where
     -- an entry is listed by its home tile
-    pub home-listed : (p : ℕ) → p < length (usedBy o xs ys z) → atHome z x y (entry (usedBy o xs ys z) p) ≡ true
-        → (i : List Item) × (tileBy o xs ys l z x y ≡ told true i) × Lists (itemOf (here o z x y) p (entry (usedBy o xs ys z) p)) i
+    pub home-listed : (p : ℕ) → p < length (usedBy G z) → atHome z x y (entry (usedBy G z) p) ≡ true
+        → (i : List Item) × (tileBy G l z x y ≡ told true i) × Lists (itemOf (here (G .options) z x y) p (entry (usedBy G z) p)) i
     home-listed p h e =
         let q = placed p h in
-        tile-every o xs ys a l r z x y tile p h (home-inside z x y (tile-is z x y tile) (entry (usedBy o xs ys z) p) (q .0) (q .1) e)
+        tile-every G a l r z x y tile p h (home-inside z x y (tile-is z x y tile) (entry (usedBy G z) p) (q .0) (q .1) e)
 
     -- so the tally is the sum of num over all entries at home in the tile
-    pub tally-homes : tallyBy o xs ys l z x y ≡ Sum (sumTo (length (usedBy o xs ys z)) (λ p. weightIn z x y (entry (usedBy o xs ys z) p)))
+    pub tally-homes : tallyBy G l z x y ≡ Sum (sumTo (length (usedBy G z)) (λ p. weightIn z x y (entry (usedBy G z) p)))
     tally-homes =
-        let t = usedBy o xs ys z in
-        let w = tally-told o xs ys a l r z x y tile in
+        let t = usedBy G z in
+        let w = tally-told G a l r z x y tile in
         let ps = map (λ j. j .place) (w .0) in
         w .2
         ∙ ap Sum (total-members t (weightIn z x y) (no-weight z x y t) (distinct [] ps) (distinct-once [] ps)
         ∙ sum-same (length t) _ (λ p. weightIn z x y (entry t p)) (λ p h. all-of p h (w .0) (w .1) (atHome z x y (entry t p)) refl))
       where
-        all-of : (p : ℕ) → p < length (usedBy o xs ys z) → (i : List Item) → tileBy o xs ys l z x y ≡ told true i → (b : Bool)
-            → atHome z x y (entry (usedBy o xs ys z) p) ≡ b
-            → cond (member p (distinct [] (map (λ j. j .place) i))) (weightIn z x y (entry (usedBy o xs ys z) p)) 0
-            ≡ weightIn z x y (entry (usedBy o xs ys z) p)
+        all-of : (p : ℕ) → p < length (usedBy G z) → (i : List Item) → tileBy G l z x y ≡ told true i → (b : Bool)
+            → atHome z x y (entry (usedBy G z) p) ≡ b
+            → cond (member p (distinct [] (map (λ j. j .place) i))) (weightIn z x y (entry (usedBy G z) p)) 0
+            ≡ weightIn z x y (entry (usedBy G z) p)
         all-of p h i e true q =
             let m = home-listed p h q in
             let f : m .0 ≡ i = told-same (sym (m .1) ∙ e) in
             let g : member p (map (λ j. j .place) i) ≡ true =
             subst (λ (k : List Item). member p (map (λ j. j .place) k) ≡ true) (sym (m .2 .2) ∙ f)
-            (member-at (m .2 .0) (itemOf (here o z x y) p (entry (usedBy o xs ys z) p)) (m .2 .1)) in
+            (member-at (m .2 .0) (itemOf (here (G .options) z x y) p (entry (usedBy G z) p)) (m .2 .1)) in
             let d : member p (distinct [] (map (λ j. j .place) i)) ≡ true = distinct-all p (map (λ j. j .place) i) ∙ g in
             rw d
         all-of p h i e false q = rw q (nothing (member p (distinct [] (map (λ j. j .place) i))))
 
   module _ (Z : z ≤ 31) where
     -- no tally of the zoom is refused
-    pub tallies-answered : (x y : ℕ) → x < 2 ^ z → y < 2 ^ z → tallyNumber (tallyBy o xs ys l z x y) ≡ 0
+    pub tallies-answered : (x y : ℕ) → x < 2 ^ z → y < 2 ^ z → tallyNumber (tallyBy G l z x y) ≡ 0
     tallies-answered x y h k = ap tallyNumber (tally-homes x y (is-tile z x y Z h k))
 
     -- and over all its tiles they sum to N
-    pub tallies-sum : sumTo (2 ^ z) (λ y. sumTo (2 ^ z) (λ x. tallyValue (tallyBy o xs ys l z x y))) ≡ length xs
+    pub tallies-sum : sumTo (2 ^ z) (λ y. sumTo (2 ^ z) (λ x. tallyValue (tallyBy G l z x y))) ≡ points G
     tallies-sum =
         let n = 2 ^ z in
-        let t = usedBy o xs ys z in
+        let t = usedBy G z in
         let N = length t in
-        let k = between o xs ys a z in
+        let k = between G a z in
         sum-same n _ (λ y. sumTo N (λ p. sumTo n (λ x. weightIn z x y (entry t p)))) (λ y h.
         sum-same n _ (λ x. sumTo N (λ p. weightIn z x y (entry t p))) (λ x q. ap tallyValue (tally-homes x y (is-tile z x y Z q h)))
         ∙ sum-swap n N (λ x p. weightIn z x y (entry t p)))
         ∙ sum-swap n N (λ y p. sumTo n (λ x. weightIn z x y (entry t p)))
         ∙ sum-same N _ (λ p. entry t p .num) (λ p h. weighs-once z (entry t p))
-        ∙ sym (lamps-sum t)
-        ∙ right-at o xs ys a (zoomUsed o z) (k .0) (k .1) .lamps
+        ∙ sym (sum-places numOf t)
+        ∙ right-at G a (zoomUsed (G .options) z) (k .0) (k .1) .lamps

@@ -1,6 +1,6 @@
 -- Of a build that is accepted, of each of its clusters: its leaves are its lamps after the first `offset`, as many as the limit, with limit 0 none. So a larger limit
 -- never changes what a smaller one listed. Assumes nothing.
-use mathlib.Core.Path.{_≡_, refl, ap, ap₂, sym, _∙_, subst}
+use mathlib.Core.Path.{_≡_, ap, ap₂, sym, _∙_, subst}
 use mathlib.Core.Bool.{Bool, true, false}
 use mathlib.Core.List.{List, [], _∷_, _++_, append-nil}
 use Prim.Native.Nat.{ℕ, zero, suc, _+_, _-_, _<_, _≤_}
@@ -9,8 +9,6 @@ use borrow.Author.Tests.{ne-eqb}
 use lib.Dec.{eqb}
 use lib.ListN.{length, take, drop, drop-of-length-le}
 use lib.Seq.{take-nil}
-use lib.Ieee.{Float}
-use Rattle.tables.specs.declared.Options.{Options}
 use Rattle.tables.specs.declared.State.{State}
 use Rattle.tables.specs.Entries.{entry}
 use Rattle.tables.specs.Ids.{originOf, tableOf}
@@ -22,10 +20,10 @@ use Rattle.walks.specs.Children.{atTarget}
 use Rattle.walks.specs.Leaves.{Trip, went, walk, lamps, listed, leavesAt, leavesOf}
 use Rattle.supercluster.specs.Build.{Lent, need}
 use Rattle.supercluster.specs.Load.{Holds}
-use Rattle.supercluster.specs.Ready.{Accepted}
+use Rattle.builds.specs.Given.{Given, Accepted, points, minZ, maxZ}
 use Rattle.builds.specs.Came.{tableAt as built}
 use Rattle.lamps.specs.Owner.{lampsOf, owner}
-use Rattle.lamps.specs.Owners.{lamps-long, num-owned}
+use Rattle.lamps.specs.Carries.{lamps-long, num-owned}
 use Rattle.answers.specs.Stored.{stateBy, columnsBy}
 use Rattle.answers.specs.Clusters.{target-is, no-spoiled-slot, not-childless}
 use Rattle.answers.specs.Page.{skippedBy, listedBy, paged, Going, listed-most, paged-none, paged-more, paged-full, paged-going}
@@ -87,58 +85,59 @@ ones-few p lo (suc n) = let a = ones-few p (suc lo) n in let b = few (p lo) in o
     few true = omega arith
     few false = omega arith
 
-module _ (o : Options) (xs ys : List Float) (a : Accepted o xs ys) (l : Lent) (r : Holds (need o (length xs)) l)
-    (z j : ℕ) (h : o .«min_zoom» ≤ z) (k : z ≤ o .«max_zoom» + 1) (q : j < length (built o xs ys z)) (b : length xs ≤ entry (built o xs ys z) j .id) where
+module _ (G : Given) (a : Accepted G) (l : Lent) (r : Holds (need (G .options) (points G)) l)
+    (z j : ℕ) (h : minZ G ≤ z) (k : z ≤ maxZ G + 1) (q : j < length (built G z)) (b : points G ≤ entry (built G z) j .id) where
   abbrev S : State
-  S = stateBy o xs ys
+  S = stateBy G
 
   abbrev C : Columns
-  C = columnsBy o xs ys l
+  C = columnsBy G l
 
   abbrev Id : ℕ
-  Id = entry (built o xs ys z) j .id
+  Id = entry (built G z) j .id
 
   abbrev Ls : List ℕ
-  Ls = lampsOf o xs ys z j
+  Ls = lampsOf G z j
 
   -- not more than there are lamps
-  few : 0 + length (lampsOf o xs ys z j) ≤ length xs
+  few : 0 + length (lampsOf G z j) ≤ points G
   few =
-      let e = lamps-long o xs ys a z h k j q in
-      let d = num-owned o xs ys a z h k j q in
-      let w = ones-few (λ i. eqb (owner o xs ys z i) j) 0 (length xs) in
+      let e = lamps-long G a z h k j q in
+      let d = num-owned G a z h k j q in
+      let w = ones-few (λ i. eqb (owner G z i) j) 0 (points G) in
       omega arith
 
-  deep : 32 ≤ 32 + tableOf (length xs) (entry (built o xs ys z) j .id)
+  deep : 32 ≤ 32 + tableOf (points G) (entry (built G z) j .id)
   deep = omega arith
 
   module _ (limit offset : ℕ) where
     abbrev walked : Trip (List ℕ)
-    walked = walk lamps (stateBy o xs ys) (columnsBy o xs ys l) limit offset 32 Id (tableOf (length xs) Id) (originOf (length xs) Id) 0 []
+    walked = walk lamps (stateBy G) (columnsBy G l) limit offset 32 Id (tableOf (points G) Id) (originOf (points G) Id) 0 []
 
-    leaves-by : (limit ≡ 0 → ⊥) → leavesOf (stateBy o xs ys) (columnsBy o xs ys l) (entry (built o xs ys z) j .id) limit offset ≡ listed walked
+    leaves-by : (limit ≡ 0 → ⊥) → leavesOf (stateBy G) (columnsBy G l) (entry (built G z) j .id) limit offset ≡ listed walked
     unfolding leavesOf leavesAt
     leaves-by m =
-        ap (λ (t : Target). atTarget t (λ u i. leavesAt S C Id limit offset u i)) (target-is o xs ys a l r z j h k q b)
-        ∙ rw (not-childless o xs ys a l r z j h k q b, ne-eqb limit 0 m)
+        ap (λ (t : Target). atTarget t (λ u i. leavesAt S C Id limit offset u i)) (target-is G a l r z j h k q b)
+        ∙ rw (not-childless G a l r z j h k q b, ne-eqb limit 0 m)
 
   -- limit 0: nothing
-  leaves-none : (offset : ℕ) → leavesOf (stateBy o xs ys) (columnsBy o xs ys l) (entry (built o xs ys z) j .id) 0 offset ≡ told true []
+  leaves-none : (offset : ℕ) → leavesOf (stateBy G) (columnsBy G l) (entry (built G z) j .id) 0 offset ≡ told true []
   unfolding leavesOf leavesAt
   leaves-none offset =
-      ap (λ (t : Target). atTarget t (λ u i. leavesAt S C Id 0 offset u i)) (target-is o xs ys a l r z j h k q b)
-      ∙ rw (not-childless o xs ys a l r z j h k q b) (ap (λ (c : Bool). told c []) (no-spoiled-slot o xs ys a l r z j h k q b))
+      ap (λ (t : Target). atTarget t (λ u i. leavesAt S C Id 0 offset u i)) (target-is G a l r z j h k q b)
+      ∙ rw (not-childless G a l r z j h k q b) (ap (λ (c : Bool). told c []) (no-spoiled-slot G a l r z j h k q b))
 
   leaves-some : (limit offset : ℕ) → 1 ≤ limit
-      → leavesOf (stateBy o xs ys) (columnsBy o xs ys l) (entry (built o xs ys z) j .id) limit offset ≡ told true (take limit (drop offset (lampsOf o xs ys z j)))
+      → leavesOf (stateBy G) (columnsBy G l) (entry (built G z) j .id) limit offset ≡ told true (take limit (drop offset (lampsOf G z j)))
   leaves-some limit offset m =
-      let w = walks o xs ys a l r limit offset (Going limit offset) (Pages limit offset) (page-rules limit offset) 32 z j h k q b deep 0 []
+      let w = walks G a l r limit offset (Going limit offset) (Pages limit offset) (page-rules limit offset) 32 z j h k q b deep 0 []
       (record { few = m; most = omega arith; begun = λ v. absurd (omega arith) }) few in
       let e : limit - 0 ≡ limit = omega arith in
       let d : offset - 0 ≡ offset = omega arith in
       leaves-by limit offset (λ n. omega arith) ∙ ap listed w ∙ ap (told true) (ap₂ (λ (x y : ℕ). take x (drop y Ls)) e d)
 
   -- every limit: after the first `offset`, up to the limit
-  pub leaves-page : (limit offset : ℕ) → leavesOf (stateBy o xs ys) (columnsBy o xs ys l) (entry (built o xs ys z) j .id) limit offset ≡ told true (take limit (drop offset (lampsOf o xs ys z j)))
+  pub leaves-page : (limit offset : ℕ) →
+      leavesOf (stateBy G) (columnsBy G l) (entry (built G z) j .id) limit offset ≡ told true (take limit (drop offset (lampsOf G z j)))
   leaves-page zero offset = leaves-none offset
   leaves-page (suc m) offset = leaves-some (suc m) offset (omega arith)

@@ -3,48 +3,52 @@
 use mathlib.Core.Path.{_≡_, refl, ap, ap₂, sym, _∙_, subst}
 use mathlib.Core.Logic.{⊎-elim}
 use mathlib.Core.Bool.{true}
-use mathlib.Core.List.{List, [], _∷_, _++_, append-assoc}
+use mathlib.Core.List.{List, [], _∷_, _++_, map, append-assoc}
 use Prim.Native.Nat.{ℕ, zero, suc, _+_, _-_, _*_, _/_, _<_, _≤_, min}
 use native.Mathlib.Omega.{arith}
 use borrow.Author.Tests.{le-leb, eq-eqb}
 use lib.ListN.{length, getD, take, drop, length-append, length-map}
 use lib.Seq.{drop-drop, drop-append-seam, take-append-seam}
 use lib.Ieee.{Float}
+use Rattle.kdbush.specs.declared.BuildReply.the-variants.{Done}
 use Rattle.kdslots.specs.All.{All, all-map}
-use Rattle.tables.specs.declared.Options.{Options}
+use Rattle.tables.specs.declared.Entry.{Entry}
 use Rattle.tables.specs.declared.State.{State}
 use Rattle.tables.specs.Bounds.{options-are}
 use Rattle.tables.specs.Columns.{part, heldAt}
-use Rattle.tables.specs.Entries.{Table, xsOf, ysOf, seenOf, idsOf, parentsOf, numsOf}
+use Rattle.tables.specs.Entries.{Table}
 use Rattle.tables.specs.Options.{tableCount}
 use Rattle.tables.specs.State.{startOf, lenOf}
 use Rattle.tables.specs.Sound.{packed, stateOk}
 use Rattle.zoom.specs.Keeps.{cluster-long}
 use Rattle.groups.specs.Sums.{below}
 use Rattle.asking.specs.Columns.{Columns, columns, roomOf, tableAt, idsAt, coordsAt}
-use Rattle.zooms.specs.Zooms.{Plan, planOf, run, slotsOf, zoomsOf, joined, joinedIds, joinedCo}
+use Rattle.zooms.specs.Zooms.{Plan, run, slotsOf, zoomsOf, joined, joinedIds, joinedCo, over}
 use Rattle.zooms.specs.Running.{slots-ids, slots-co}
-use Rattle.supercluster.specs.Build.{tablesOf, stateOf, Lent, written, need}
-use Rattle.supercluster.specs.Fill.{lamps, lamps-length}
+use Rattle.supercluster.specs.Build.{tablesOf, stateOf, Lent, Outcome, written, need, checked, byReply, loaded}
 use Rattle.supercluster.specs.Held.{Laid, held, built-laid, built-held}
-use Rattle.supercluster.specs.Load.{Holds, rowsIn}
+use Rattle.supercluster.specs.Load.{Holds, accepted, holds, replies, rowsIn}
 use Rattle.supercluster.specs.Over.{over-length}
-use Rattle.supercluster.specs.Ready.{Accepted}
 use Rattle.supercluster.specs.Right.{Right, tables-right, tables-count, tables-room}
+use Rattle.builds.specs.Given.{Given, Accepted, points, minZ, maxZ, plan, tablesBy, lampsIn, lampsIn-length}
 use Rattle.builds.specs.Came.{tableAt as built}
 
 -- ---- what a question is lent of a build
 
 -- the eight columns of the nine that a build leaves
 abbrev pub columnsOf : Lent → Columns
-columnsOf l = columns (l .x) (l .y) (l .seen) (l .id) (l .parent) (l .num) (l .ids) (l .coords)
+columnsOf l = columns (l .table) (l .ids) (l .coords)
 
 -- the state that a build replies, and the columns that it leaves
-abbrev pub stateBy : Options → List Float → List Float → State
-stateBy o xs ys = stateOf o (length xs) (tablesOf o xs ys)
+abbrev pub stateBy : Given → State
+stateBy G = stateOf (G .options) (points G) (tablesBy G)
 
-abbrev pub columnsBy : Options → List Float → List Float → Lent → Columns
-columnsBy o xs ys l = columnsOf (written (o .«node_size») (length xs) (tablesOf o xs ys) l)
+abbrev pub columnsBy : Given → Lent → Columns
+columnsBy G l = columnsOf (written (G .options .«node_size») (points G) (tablesBy G) l)
+
+-- what `load` replies and leaves
+abbrev pub loadedBy : Given → Lent → Outcome
+loadedBy G l = loaded (G .options) (G .xs) (G .ys) l
 
 -- ---- tables that are recorded one after the other
 
@@ -141,29 +145,39 @@ both m a b p q = omega arith
 half : (m h : ℕ) → m * 2 ≤ h → m ≤ h / 2
 half m h p = omega arith
 
-module _ (o : Options) (xs ys : List Float) (a : Accepted o xs ys) where
+module _ (G : Given) (a : Accepted G) where
   abbrev S : State
-  S = stateBy o xs ys
+  S = stateBy G
 
   abbrev Ts : List Table
-  Ts = tablesOf o xs ys
+  Ts = tablesBy G
 
   abbrev size : ℕ
-  size = o .«node_size»
+  size = G .options .«node_size»
+
+  -- what supercluster says of them
+  rights : All (Right (points G)) Ts
+  rights = tables-right (G .options) (G .xs) (G .ys) a
+
+  how-many : length Ts ≡ suc (zoomsOf (G .options))
+  how-many = tables-count (G .options) (G .xs) (G .ys)
+
+  recorded : Laid (S .starts) (S .lens) (minZ G) 0 Ts
+  recorded = built-laid (G .options) (G .xs) (G .ys) a
 
   -- the index of each table is as long as the table
   record Slots (t : Table) : Type 0 where
-    ids : length (slotsOf (o .«node_size») t .ids) ≡ length t
-    co : length (slotsOf (o .«node_size») t .co) ≡ 2 * length t
+    ids : length (slotsOf (G .options .«node_size») t .ids) ≡ length t
+    co : length (slotsOf (G .options .«node_size») t .co) ≡ 2 * length t
 
   slots-long : All Slots Ts
   slots-long =
-      let b = options-are o (a .options) in
-      all-map (Right (length xs)) Slots
+      let b = options-are (G .options) (a .options) in
+      all-map (Right (points G)) Slots
       (λ t r.
       let m : length t ≤ 1048576 = omega (arith, r .few, a .few) in
       record { ids = slots-ids size t (b .size-from) (b .size-to) (r .some) m (r .unit); co = slots-co size t (b .size-from) (b .size-to) (r .some) m (r .unit) ∙ (omega arith) })
-      Ts (tables-right o xs ys a)
+      Ts rights
 
   ids-joined : (ts : List Table) → All Slots ts → length (joinedIds size ts) ≡ length (joined ts)
   unfolding All joinedIds joined
@@ -183,103 +197,122 @@ module _ (o : Options) (xs ys : List Float) (a : Accepted o xs ys) where
   first-long p zero t = refl
   first-long p (suc k) t = cluster-long (p .count) (p .options .«min_points») (p .options .«min_zoom» + k) _ t
 
-  finest-long : length (built o xs ys (o .«max_zoom» + 1)) ≡ length xs
+  finest-long : length (built G (maxZ G + 1)) ≡ points G
   unfolding built tablesOf
   finest-long =
-      let c = o .«coordinate_system» in
-      let e : o .«max_zoom» + 1 - (o .«max_zoom» + 1) ≡ 0 = omega arith in
-      ap (λ (i : ℕ). length (getD Ts i [])) e ∙ first-long (planOf o (length xs)) (zoomsOf o) (lamps c xs ys) ∙ lamps-length c xs ys (a .same)
+      let e : maxZ G + 1 - (maxZ G + 1) ≡ 0 = omega arith in
+      ap (λ (i : ℕ). length (getD Ts i [])) e ∙ first-long (plan G) (zoomsOf (G .options)) (lampsIn G) ∙ lampsIn-length G a
 
   -- which of the tables is that of a zoom
-  place : (z : ℕ) → o .«min_zoom» ≤ z → z ≤ o .«max_zoom» + 1 → (z - o .«min_zoom» < length Ts) × (o .«min_zoom» + (z - o .«min_zoom») ≡ z)
-  place z h k = let n = tables-count o xs ys in let b = options-are o (a .options) .zooms in (omega arith, omega arith)
+  place : (z : ℕ) → minZ G ≤ z → z ≤ maxZ G + 1 → (z - minZ G < length Ts) × (minZ G + (z - minZ G) ≡ z)
+  place z h k = let n = how-many in let b = options-are (G .options) (a .options) .zooms in (omega arith, omega arith)
 
-  which : (z : ℕ) → o .«min_zoom» ≤ z → z ≤ o .«max_zoom» + 1 → getD Ts (length Ts - 1 - (z - o .«min_zoom»)) [] ≡ built o xs ys z
+  which : (z : ℕ) → minZ G ≤ z → z ≤ maxZ G + 1 → getD Ts (length Ts - 1 - (z - minZ G)) [] ≡ built G z
   unfolding built
   which z h k =
-      let n = tables-count o xs ys in
-      let b = options-are o (a .options) .zooms in
-      let e : length Ts - 1 - (z - o .«min_zoom») ≡ o .«max_zoom» + 1 - z = omega arith in
+      let n = how-many in
+      let b = options-are (G .options) (a .options) .zooms in
+      let e : length Ts - 1 - (z - minZ G) ≡ maxZ G + 1 - z = omega arith in
       ap (λ (i : ℕ). getD Ts i []) e
 
   -- the length that the state records of each table
-  pub long-is : (z : ℕ) → o .«min_zoom» ≤ z → z ≤ o .«max_zoom» + 1 → lenOf (stateBy o xs ys) z ≡ length (built o xs ys z)
+  pub long-is : (z : ℕ) → minZ G ≤ z → z ≤ maxZ G + 1 → lenOf (stateBy G) z ≡ length (built G z)
   long-is z h k =
       let p = place z h k in
       ap (λ (i : ℕ). lenOf S i) (sym (p .1))
-      ∙ laid-long (S .starts) (S .lens) (o .«min_zoom») Ts 0 (built-laid o xs ys a) (z - o .«min_zoom») (p .0)
+      ∙ laid-long (S .starts) (S .lens) (minZ G) Ts 0 recorded (z - minZ G) (p .0)
       ∙ ap length (which z h k)
 
   -- in columns that hold the build
-  module _ (l : Lent) (r : Holds (need o (length xs)) l) where
+  module _ (l : Lent) (r : Holds (need (G .options) (points G)) l) where
     abbrev C : Columns
-    C = columnsBy o xs ys l
+    C = columnsBy G l
 
-    fits : length (joined Ts) ≤ need o (length xs)
-    fits = tables-room o xs ys a
+    fits : length (joined Ts) ≤ need (G .options) (points G)
+    fits = tables-room (G .options) (G .xs) (G .ys) a
 
-    room : need o (length xs) ≤ roomOf (columnsBy o xs ys l)
+    -- a column of the tables, over one that holds them
+    wide : {A : Type 0} (f : Entry → A) (d : List A) → need (G .options) (points G) ≤ length d
+        → need (G .options) (points G) ≤ length (over (map f (joined Ts)) d)
+    wide f d h = omega (arith, over-length (map f (joined Ts)) d (omega (arith, fits, length-map (joined Ts) f, h)), h)
+
+    room : need (G .options) (points G) ≤ roomOf (columnsBy G l)
     unfolding written
     room =
-        let n = need o (length xs) in
-        let J = joined Ts in
+        let n = need (G .options) (points G) in
         let f = fits in
         let i = ids-joined Ts slots-long in
         let c = co-joined Ts slots-long in
-        let x : n ≤ length (C .x) = omega (arith, over-length (xsOf J) (l .x) (omega (arith, f, length-map J (λ e. e .x), r .hx)), r .hx) in
-        let y : n ≤ length (C .y) = omega (arith, over-length (ysOf J) (l .y) (omega (arith, f, length-map J (λ e. e .y), r .hy)), r .hy) in
-        let s : n ≤ length (C .seen) = omega (arith, over-length (seenOf J) (l .seen) (omega (arith, f, length-map J (λ e. e .seen), r .hs)), r .hs) in
-        let d : n ≤ length (C .id) = omega (arith, over-length (idsOf J) (l .id) (omega (arith, f, length-map J (λ e. e .id), r .hi)), r .hi) in
-        let p : n ≤ length (C .parent) = omega (arith, over-length (parentsOf J) (l .parent) (omega (arith, f, length-map J (λ e. e .parent), r .hp)), r .hp) in
-        let m : n ≤ length (C .num) = omega (arith, over-length (numsOf J) (l .num) (omega (arith, f, length-map J (λ e. e .num), r .hn)), r .hn) in
         let k : n ≤ length (C .ids) = omega (arith, over-length (joinedIds size Ts) (l .ids) (omega (arith, f, i, r .hd)), r .hd) in
         let t : n * 2 ≤ length (C .coords) = omega (arith, over-length (joinedCo size Ts) (l .coords) (omega (arith, f, c, r .hc)), r .hc) in
-        both n _ _ (both n _ _ (both n _ _ x y) (both n _ _ s d)) (both n _ _ (both n _ _ p m) (both n _ _ k (half n (length (C .coords)) t)))
+        let c = l .table in
+        both n _ _ (both n _ _ (both n _ _ (wide (λ e. e .x) (c .x) (r .hx)) (wide (λ e. e .y) (c .y) (r .hy)))
+        (both n _ _ (wide (λ e. e .seen) (c .seen) (r .hs)) (wide (λ e. e .id) (c .id) (r .hi))))
+        (both n _ _ (both n _ _ (wide (λ e. e .parent) (c .parent) (r .hp)) (wide (λ e. e .num) (c .num) (r .hn)))
+        (both n _ _ k (half n (length (C .coords)) t)))
 
     -- the state passes its check
-    pub state-sound : stateOk (stateBy o xs ys) (roomOf (columnsBy o xs ys l)) ≡ true
+    pub state-sound : stateOk (stateBy G) (roomOf (columnsBy G l)) ≡ true
     unfolding stateOk
     state-sound =
-        let b = options-are o (a .options) in
+        let b = options-are (G .options) (a .options) in
         let cap = roomOf C in
-        let n : tableCount o ≡ length Ts = omega (arith, b .zooms, tables-count o xs ys) in
-        let f : lenOf S (o .«max_zoom» + 1) ≡ length xs = long-is (o .«max_zoom» + 1) (omega (arith, b .zooms)) (omega arith) ∙ finest-long in
-        let p : packed S cap (tableCount o) 0 ≡ true =
-        ap (λ (k : ℕ). packed S cap k 0) n ∙ laid-packed S cap Ts 0 (built-laid o xs ys a) (tables-right o xs ys a) (omega (arith, fits, room)) in
-        rw (a .options, le-leb 1 (length xs) (a .some), le-leb (length xs) 1048576 (a .few), eq-eqb _ _ f, p)
+        let n : tableCount (G .options) ≡ length Ts = omega (arith, b .zooms, how-many) in
+        let f : lenOf S (maxZ G + 1) ≡ points G = long-is (maxZ G + 1) (omega (arith, b .zooms)) (omega arith) ∙ finest-long in
+        let p : packed S cap (tableCount (G .options)) 0 ≡ true =
+        ap (λ (k : ℕ). packed S cap k 0) n ∙ laid-packed S cap Ts 0 recorded rights (omega (arith, fits, room)) in
+        rw (a .options, le-leb 1 (points G) (a .some), le-leb (points G) 1048576 (a .few), eq-eqb _ _ f, p)
 
     -- the table of each zoom
-    pub table-is : (z : ℕ) → o .«min_zoom» ≤ z → z ≤ o .«max_zoom» + 1 → tableAt (stateBy o xs ys) (columnsBy o xs ys l) z ≡ built o xs ys z
+    pub table-is : (z : ℕ) → minZ G ≤ z → z ≤ maxZ G + 1 → tableAt (stateBy G) (columnsBy G l) z ≡ built G z
     table-is z h k =
-        let b = options-are o (a .options) .zooms in
-        let m = o .«max_zoom» + 2 - o .«min_zoom» in
-        let i = o .«max_zoom» + 1 - z in
-        let e : o .«min_zoom» + (m - 1 - i) ≡ z = omega arith in
-        ap (heldAt (S .starts) (S .lens) R) (sym e) ∙ sym (held-at (S .starts) (S .lens) R (o .«min_zoom») m i (omega arith)) ∙ ap (λ (ts : List Table). getD ts i []) (built-held o xs ys a l) ∙ of
+        let b = options-are (G .options) (a .options) .zooms in
+        let m = maxZ G + 2 - minZ G in
+        let i = maxZ G + 1 - z in
+        let e : minZ G + (m - 1 - i) ≡ z = omega arith in
+        ap (heldAt (S .starts) (S .lens) R) (sym e) ∙ sym (held-at (S .starts) (S .lens) R (minZ G) m i (omega arith))
+        ∙ ap (λ (ts : List Table). getD ts i []) (built-held (G .options) (G .xs) (G .ys) a l) ∙ of
       where
         R : Table
-        R = rowsIn (written (o .«node_size») (length xs) (tablesOf o xs ys) l)
+        R = rowsIn (written (G .options .«node_size») (points G) (tablesBy G) l)
 
-        of : getD (tablesOf o xs ys) (o .«max_zoom» + 1 - z) [] ≡ built o xs ys z
+        of : getD (tablesBy G) (maxZ G + 1 - z) [] ≡ built G z
         of = unfold built in refl
 
     -- and its index
-    pub ids-are : (z : ℕ) → o .«min_zoom» ≤ z → z ≤ o .«max_zoom» + 1 → idsAt (stateBy o xs ys) (columnsBy o xs ys l .ids) z ≡ slotsOf (o .«node_size») (built o xs ys z) .ids
+    pub ids-are : (z : ℕ) → minZ G ≤ z → z ≤ maxZ G + 1 →
+        idsAt (stateBy G) (columnsBy G l .ids) z ≡ slotsOf (G .options .«node_size») (built G z) .ids
     unfolding written
     ids-are z h k =
         let p = place z h k in
         let rest = drop (length (joinedIds size Ts)) (l .ids) in
         ap (idsAt S (C .ids)) (sym (p .1))
-        ∙ laid-piece (S .starts) (S .lens) (o .«min_zoom») (λ t. slotsOf size t .ids) (λ n. n) (λ a b. refl) Ts 0 (C .ids) rest (built-laid o xs ys a)
-        (all-map Slots (λ t. length (slotsOf size t .ids) ≡ length t) (λ t w. w .ids) Ts slots-long) (ap (λ (q : List ℕ). q ++ rest) (ids-pieces size Ts)) (z - o .«min_zoom») (p .0)
+        ∙ laid-piece (S .starts) (S .lens) (minZ G) (λ t. slotsOf size t .ids) (λ n. n) (λ a b. refl) Ts 0 (C .ids) rest recorded
+        (all-map Slots (λ t. length (slotsOf size t .ids) ≡ length t) (λ t w. w .ids) Ts slots-long)
+        (ap (λ (q : List ℕ). q ++ rest) (ids-pieces size Ts)) (z - minZ G) (p .0)
         ∙ ap (λ (t : Table). slotsOf size t .ids) (which z h k)
 
-    pub coords-are : (z : ℕ) → o .«min_zoom» ≤ z → z ≤ o .«max_zoom» + 1 → coordsAt (stateBy o xs ys) (columnsBy o xs ys l .coords) z ≡ slotsOf (o .«node_size») (built o xs ys z) .co
+    pub coords-are : (z : ℕ) → minZ G ≤ z → z ≤ maxZ G + 1 →
+        coordsAt (stateBy G) (columnsBy G l .coords) z ≡ slotsOf (G .options .«node_size») (built G z) .co
     unfolding written
     coords-are z h k =
         let p = place z h k in
         let rest = drop (length (joinedCo size Ts)) (l .coords) in
         ap (coordsAt S (C .coords)) (sym (p .1))
-        ∙ laid-piece (S .starts) (S .lens) (o .«min_zoom») (λ t. slotsOf size t .co) (λ n. 2 * n) (λ a b. omega arith) Ts 0 (C .coords) rest (built-laid o xs ys a)
-        (all-map Slots (λ t. length (slotsOf size t .co) ≡ 2 * length t) (λ t w. w .co) Ts slots-long) (ap (λ (q : List Float). q ++ rest) (co-pieces size Ts)) (z - o .«min_zoom») (p .0)
+        ∙ laid-piece (S .starts) (S .lens) (minZ G) (λ t. slotsOf size t .co) (λ n. 2 * n) (λ a b. omega arith) Ts 0 (C .coords) rest
+        recorded
+        (all-map Slots (λ t. length (slotsOf size t .co) ≡ 2 * length t) (λ t w. w .co) Ts slots-long)
+        (ap (λ (q : List Float). q ++ rest) (co-pieces size Ts)) (z - minZ G) (p .0)
         ∙ ap (λ (t : Table). slotsOf size t .co) (which z h k)
+
+-- what holds of every build that is accepted, in columns that hold it, holds of what `load` replies and leaves where it refuses nothing
+pub of-load : (P : State → Columns → Type 0) (G : Given) (l : Lent)
+    → (Accepted G → Holds (need (G .options) (points G)) l → P (stateBy G) (columnsBy G l))
+    → loadedBy G l .reply .reply ≡ Done → P (loadedBy G l .reply .state) (columnsOf (loadedBy G l .columns))
+unfolding loaded
+of-load P G l f e =
+    let o = G .options in
+    let d = sym (replies o (G .xs) (G .ys) l (checked o (G .xs) (G .ys) l)) ∙ e in
+    let a = accepted o (G .xs) (G .ys) l d in
+    subst (λ (x : Outcome). P (x .reply .state) (columnsOf (x .columns))) (sym (ap (byReply o (G .xs) (G .ys) l) d))
+    (f (a .0) (holds (need o (points G)) l (a .1)))

@@ -12,7 +12,7 @@ use borrow.Author.Tests.{eqb-true, eq-eqb, ltb-true, ltb-false}
 use Rattle.kdslots.specs.Members.{NotIn, Distinct}
 use Rattle.tables.specs.declared.Entry.{Entry}
 use Rattle.tables.specs.Entries.{Table, entry}
-use Rattle.zoom.specs.Lamps.{total as lampsOf}
+use Rattle.zoom.specs.Lamps.{sumOf}
 use Rattle.tiling.specs.Tally.{member, total}
 
 -- f 0 + f 1 + .. + f (n - 1)
@@ -82,11 +82,11 @@ sum-off n f b u = sum-none n _ (λ k h. go k h (b k) refl)
 
 -- ---- a table
 
--- the lamps of a table, by place
-pub lamps-sum : (t : Table) → lampsOf t ≡ sumTo (length t) (λ p. entry t p .num)
-unfolding lampsOf sumTo
-lamps-sum [] = refl
-lamps-sum (e ∷ t) = ap (λ (k : ℕ). e .num + k) (lamps-sum t)
+-- what its entries carry, by place
+pub sum-places : (f : Entry → ℕ) (t : Table) → sumOf f t ≡ sumTo (length t) (λ p. f (entry t p))
+unfolding sumOf sumTo
+sum-places f [] = refl
+sum-places f (e ∷ t) = ap (λ (k : ℕ). f e + k) (sum-places f t)
 
 not-member : (q : ℕ) (l : List ℕ) → NotIn q l → member q l ≡ false
 unfolding member

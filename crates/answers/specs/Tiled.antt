@@ -54,7 +54,7 @@ use Rattle.zooms.specs.Zooms.{slotsOf}
 use Rattle.zooms.specs.Running.{table-inside}
 use Rattle.supercluster.specs.Build.{Lent, need}
 use Rattle.supercluster.specs.Load.{Holds}
-use Rattle.supercluster.specs.Ready.{Accepted}
+use Rattle.builds.specs.Given.{Given, Accepted, points}
 use Rattle.builds.specs.RightAt.{right-at}
 use Rattle.answers.specs.Stored.{stateBy, columnsBy, state-sound, table-is, ids-are, coords-are}
 use Rattle.answers.specs.Boxed.{Lies, Boxes, lies, boxes-of, usedBy, slots-index, between, fits-somehow}
@@ -62,11 +62,11 @@ use Rattle.answers.specs.Boxed.{Lies, Boxes, lies, boxes-of, usedBy, slo
 -- ---- what is said
 
 -- a tile and its tally, asked of the state that a build replies and the columns that it leaves
-abbrev pub tileBy : Options → List Float → List Float → Lent → ℕ → ℕ → ℕ → Asked
-tileBy o xs ys l z x y = asked (stateBy o xs ys) (columnsBy o xs ys l) z x y
+abbrev pub tileBy : Given → Lent → ℕ → ℕ → ℕ → Asked
+tileBy G l z x y = asked (stateBy G) (columnsBy G l) z x y
 
-abbrev pub tallyBy : Options → List Float → List Float → Lent → ℕ → ℕ → ℕ → Tally
-tallyBy o xs ys l z x y = tallied (stateBy o xs ys) (columnsBy o xs ys l) z x y
+abbrev pub tallyBy : Given → Lent → ℕ → ℕ → ℕ → Tally
+tallyBy G l z x y = tallied (stateBy G) (columnsBy G l) z x y
 
 -- the items of places of a table, by a search
 abbrev pub itemsBy : Table → Search → List ℕ → List Item
@@ -210,139 +210,157 @@ some-somehow (suc k) room e = fits-somehow (suc k) room e
 
 -- ---- of a build that is accepted
 
-module _ (o : Options) (xs ys : List Float) (a : Accepted o xs ys) (l : Lent) (r : Holds (need o (length xs)) l) (z x y : ℕ) where
+module _ (G : Given) (a : Accepted G) (l : Lent) (r : Holds (need (G .options) (points G)) l) (z x y : ℕ) where
   abbrev t : Table
-  t = usedBy o xs ys z
+  t = usedBy G z
 
   abbrev S : Cols
-  S = slotsOf (o .«node_size») (usedBy o xs ys z)
+  S = slotsOf (G .options .«node_size») (usedBy G z)
 
   abbrev old : Cols
-  old = blank (length (xsOf (usedBy o xs ys z)))
+  old = blank (length (xsOf (usedBy G z)))
 
-  index : Index (o .«node_size») (xsOf (usedBy o xs ys z)) (ysOf (usedBy o xs ys z)) (blank (length (xsOf (usedBy o xs ys z)))) (slotsOf (o .«node_size») (usedBy o xs ys z))
-  index = let k = between o xs ys a z in slots-index o xs ys a (zoomUsed o z) (k .0) (k .1)
+  index : Index (G .options .«node_size») (xsOf (usedBy G z)) (ysOf (usedBy G z)) (blank (length (xsOf (usedBy G z))))
+      (slotsOf (G .options .«node_size») (usedBy G z))
+  index = let k = between G a z in slots-index G a (zoomUsed (G .options) z) (k .0) (k .1)
 
-  body : All Body (usedBy o xs ys z)
-  body = let k = between o xs ys a z in right-at o xs ys a (zoomUsed o z) (k .0) (k .1) .unit
+  body : All Body (usedBy G z)
+  body = let k = between G a z in right-at G a (zoomUsed (G .options) z) (k .0) (k .1) .unit
 
-  placed : (p : ℕ) → p < length (usedBy o xs ys z) → In01 (entry (usedBy o xs ys z) p .x) × In01 (entry (usedBy o xs ys z) p .y)
+  placed : (p : ℕ) → p < length (usedBy G z) → In01 (entry (usedBy G z) p .x) × In01 (entry (usedBy G z) p .y)
   placed p h = let b = all-at Body t p body h in (b .0, b .1)
 
   -- what is found, all of which can be listed
   abbrev finds : List Visit
-  finds = visited o z x y t (S .ids) (S .co)
+  finds = visited (G .options) z x y t (S .ids) (S .co)
 
   all-whole : whole t finds ≡ true
-  all-whole = tile-whole t placed o old S index z x y
+  all-whole = tile-whole t placed (G .options) old S index z x y
 
   all-listed : listed t finds ≡ finds
   all-listed = listed-whole t finds all-whole
 
   -- what goes by the table and the index where they stand goes by those of the build
-  moved : {A : Type 0} (G : Table → List ℕ → List Float → A) → let s = stateBy o xs ys in let c = columnsBy o xs ys l in let u = zoomUsed o z in
-      G (tableAt s c u) (idsAt s (c .ids) u) (coordsAt s (c .coords) u) ≡ G t (S .ids) (S .co)
-  moved G =
-      let k = between o xs ys a z in
-      let u = zoomUsed o z in
-      let s = stateBy o xs ys in
-      let c = columnsBy o xs ys l in
-      ap (λ (q : Table). G q (idsAt s (c .ids) u) (coordsAt s (c .coords) u)) (table-is o xs ys a l r u (k .0) (k .1))
-      ∙ ap (λ (q : List ℕ). G t q (coordsAt s (c .coords) u)) (ids-are o xs ys a l r u (k .0) (k .1))
-      ∙ ap (G t (S .ids)) (coords-are o xs ys a l r u (k .0) (k .1))
+  moved : {A : Type 0} (f : Table → List ℕ → List Float → A) →
+      let s = stateBy G in let c = columnsBy G l in let u = zoomUsed (G .options) z in
+      f (tableAt s c u) (idsAt s (c .ids) u) (coordsAt s (c .coords) u) ≡ f t (S .ids) (S .co)
+  moved f =
+      let k = between G a z in
+      let u = zoomUsed (G .options) z in
+      let s = stateBy G in
+      let c = columnsBy G l in
+      ap (λ (q : Table). f q (idsAt s (c .ids) u) (coordsAt s (c .coords) u)) (table-is G a l r u (k .0) (k .1))
+      ∙ ap (λ (q : List ℕ). f t q (coordsAt s (c .coords) u)) (ids-are G a l r u (k .0) (k .1))
+      ∙ ap (f t (S .ids)) (coords-are G a l r u (k .0) (k .1))
 
-  three : Tiles o z x y t (items t (visited o z x y t (S .ids) (S .co)))
+  three : Tiles (G .options) z x y t (items t (visited (G .options) z x y t (S .ids) (S .co)))
   unfolding visited here east west
   three =
-      let f : Float → Float → Float → Float → List ℕ = λ w s e n. found (Range w s e n) (o .«node_size») (length t) (S .ids) (S .co) in
-      let A = f (least o z x) (least o z y) (greatest o z x) (greatest o z y) in
-      let B = when (wraps o && eqb x 0) (f (sub binary64 one (edge o z)) (least o z y) one (greatest o z y)) in
-      let C = when (wraps o && eqb (x + 1) (2 ^ z)) (f zero (least o z y) (edge o z) (greatest o z y)) in
-      let g = here o z x y in
-      let h = east o z x y in
-      let k = west o z x y in
+      let f : Float → Float → Float → Float → List ℕ = λ w s e n. found (Range w s e n) (G .options .«node_size») (length t) (S .ids)
+      (S .co) in
+      let A = f (least (G .options) z x) (least (G .options) z y) (greatest (G .options) z x) (greatest (G .options) z y) in
+      let B = when (wraps (G .options) && eqb x 0) (f (sub binary64 one (edge (G .options) z)) (least (G .options) z y) one
+      (greatest (G .options) z y)) in
+      let C = when (wraps (G .options) && eqb (x + 1) (2 ^ z))
+      (f zero (least (G .options) z y) (edge (G .options) z) (greatest (G .options) z y)) in
+      let g = here (G .options) z x y in
+      let h = east (G .options) z x y in
+      let k = west (G .options) z x y in
       record {
         a = A;
         b = B;
         c = C;
         is = items-append t (visitsOf g A) (visitsOf h B ++ visitsOf k C)
             ∙ ap₂ (λ (p q : List Item). p ++ q) (items-by t g A) (items-append t (visitsOf h B) (visitsOf k C) ∙ ap₂ (λ (p q : List Item). p ++ q) (items-by t h B) (items-by t k C));
-        own = range-boxes (o .«node_size») t old S index body _ _ _ _;
-        eastern = strip-of (o .«node_size») t old S index body _ _ _ _ (wraps o && eqb x 0);
-        western = strip-of (o .«node_size») t old S index body _ _ _ _ (wraps o && eqb (x + 1) (2 ^ z));
+        own = range-boxes (G .options .«node_size») t old S index body _ _ _ _;
+        eastern = strip-of (G .options .«node_size») t old S index body _ _ _ _ (wraps (G .options) && eqb x 0);
+        western = strip-of (G .options .«node_size») t old S index body _ _ _ _ (wraps (G .options) && eqb (x + 1) (2 ^ z));
       }
 
   -- no such tile is 7
-  pub tile-refused : isTile z x y ≡ false → tileBy o xs ys l z x y ≡ refused Tile
+  pub tile-refused : isTile z x y ≡ false → tileBy G l z x y ≡ refused Tile
   unfolding asked
-  tile-refused f = rw (state-sound o xs ys a l r, f)
+  tile-refused f = rw (state-sound G a l r, f)
 
   module _ (tile : isTile z x y ≡ true) where
-    told-items : tileBy o xs ys l z x y ≡ told true (items t finds)
+    told-items : tileBy G l z x y ≡ told true (items t finds)
     told-items =
-        asked-is (stateBy o xs ys) (columnsBy o xs ys l) z x y (state-sound o xs ys a l r) tile
-        ∙ moved (λ q ids co. let v = visited o z x y q ids co in told (whole q v) (items q (listed q v)))
+        asked-is (stateBy G) (columnsBy G l) z x y (state-sound G a l r) tile
+        ∙ moved (λ q ids co. let v = visited (G .options) z x y q ids co in told (whole q v) (items q (listed q v)))
         ∙ ap₂ (λ (k : Bool) (v : List Visit). told k (items t v)) all-whole all-listed
 
     -- the items of the entries in the tile's own range, then those of its strips
-    pub tile-listed : (i : List Item) × (tileBy o xs ys l z x y ≡ told true i) × Tiles o z x y (usedBy o xs ys z) i
+    pub tile-listed : (i : List Item) × (tileBy G l z x y ≡ told true i) × Tiles (G .options) z x y (usedBy G z) i
     tile-listed = (items t finds, told-items, three)
 
     -- where strips do not run, the tile is the first range alone: the items of exactly the entries between its edges, none listed twice
-    pub tile-alone : wraps o ≡ false
-        → (ps : List ℕ) × (tileBy o xs ys l z x y ≡ told true (itemsBy (usedBy o xs ys z) (here o z x y) ps))
-        × Boxes (least o z x) (least o z y) (greatest o z x) (greatest o z y) (usedBy o xs ys z) ps
+    pub tile-alone : wraps (G .options) ≡ false
+        → (ps : List ℕ) × (tileBy G l z x y ≡ told true (itemsBy (usedBy G z) (here (G .options) z x y) ps))
+        × Boxes (least (G .options) z x) (least (G .options) z y) (greatest (G .options) z x) (greatest (G .options) z y) (usedBy G z) ps
     tile-alone e =
         let q = three in
         let f : q .b ≡ [] =
-        subst (λ (w : Bool). Strip (w && eqb x 0) (sub binary64 one (edge o z)) (least o z y) one (greatest o z y) t (q .b)) e (q .eastern) in
+        subst (λ (w : Bool). Strip (w && eqb x 0) (sub binary64 one (edge (G .options) z)) (least (G .options) z y) one
+        (greatest (G .options) z y) t (q .b)) e (q .eastern) in
         let g : q .c ≡ [] =
-        subst (λ (w : Bool). Strip (w && eqb (x + 1) (2 ^ z)) zero (least o z y) (edge o z) (greatest o z y) t (q .c)) e (q .western) in (
+        subst (λ (w : Bool). Strip (w && eqb (x + 1) (2 ^ z)) zero (least (G .options) z y) (edge (G .options) z)
+        (greatest (G .options) z y) t (q .c)) e (q .western) in (
           q .a,
           told-items ∙ ap (told true) (q .is
-              ∙ ap₂ (λ (v w : List ℕ). itemsBy t (here o z x y) (q .a) ++ (itemsBy t (east o z x y) v ++ itemsBy t (west o z x y) w)) f g
-              ∙ append-nil (itemsBy t (here o z x y) (q .a))),
+              ∙ ap₂ (λ (v w : List ℕ). itemsBy t (here (G .options) z x y) (q .a)
+              ++ (itemsBy t (east (G .options) z x y) v ++ itemsBy t (west (G .options) z x y) w)) f g
+              ∙ append-nil (itemsBy t (here (G .options) z x y) (q .a))),
           q .own,
         )
 
     -- so on a plan with the option on; no entry is listed twice
-    pub tile-on-plan : (d : DataRange) → o .«longitude_strips_only» ≡ true → o .«coordinate_system» ≡ Cartesian d
-        → (i : List Item) × (tileBy o xs ys l z x y ≡ told true i) × Distinct (map (λ j. j .place) i)
+    pub tile-on-plan : (d : DataRange) → G .options .«longitude_strips_only» ≡ true → G .options .«coordinate_system» ≡ Cartesian d
+        → (i : List Item) × (tileBy G l z x y ≡ told true i) × Distinct (map (λ j. j .place) i)
     tile-on-plan d e c =
-        let w = tile-alone (plan-wraps o d e c) in
-        (itemsBy t (here o z x y) (w .0), w .1, subst Distinct (sym (places-by t (here o z x y) (w .0))) (w .2 .single))
+        let w = tile-alone (plan-wraps (G .options) d e c) in (
+          itemsBy t (here (G .options) z x y) (w .0),
+          w .1,
+          subst Distinct (sym (places-by t (here (G .options) z x y) (w .0)))
+              (w .2 .single),
+        )
 
     -- each entry whose place lies in the tile is listed, at its place in the tile
-    pub tile-every : (p : ℕ) → p < length (usedBy o xs ys z) → InTile z x y (entry (usedBy o xs ys z) p .x) (entry (usedBy o xs ys z) p .y)
-        → (i : List Item) × (tileBy o xs ys l z x y ≡ told true i) × Lists (itemOf (here o z x y) p (entry (usedBy o xs ys z) p)) i
+    pub tile-every : (p : ℕ) → p < length (usedBy G z) → InTile z x y (entry (usedBy G z) p .x) (entry (usedBy G z) p .y)
+        → (i : List Item) × (tileBy G l z x y ≡ told true i) × Lists (itemOf (here (G .options) z x y) p (entry (usedBy G z) p)) i
     tile-every p h i =
         let w = tile-listed in
         let q = w .2 in
-        let n = inside-passes o z x y (options-are o (a .options)) (tile-is z x y tile) (entry t p .x) (entry t p .y) i in
-        let m : In p (q .a) = q .own .every p h (own-lies (entry t p) n) in
-        (w .0, w .1, subst (λ (k : List Item). Lists (itemOf (here o z x y) p (entry t p)) k) (sym (q .is)) (by-in t (here o z x y) p (q .a) _ m))
+        let n = inside-passes (G .options) z x y (options-are (G .options) (a .options)) (tile-is z x y tile) (entry t p .x)
+        (entry t p .y) i in
+        let m : In p (q .a) = q .own .every p h (own-lies (entry t p) n) in (
+          w .0,
+          w .1,
+          subst (λ (k : List Item). Lists (itemOf (here (G .options) z x y) p (entry t p)) k) (sym (q .is))
+              (by-in t (here (G .options) z x y) p (q .a) _ m),
+        )
       where
-        own-lies : (e : Entry) → passesQ (here o z x y .query) (e .x) (e .y) ≡ true → Lies (least o z x) (least o z y) (greatest o z x) (greatest o z y) e
+        own-lies : (e : Entry) → passesQ (here (G .options) z x y .query) (e .x) (e .y) ≡ true →
+            Lies (least (G .options) z x) (least (G .options) z y) (greatest (G .options) z x) (greatest (G .options) z y) e
         own-lies e n = lies _ _ _ _ e (unfold here in n)
 
     -- and nothing else is: each item is that of an entry in the tile's own range or in one of its strips
-    pub tile-only : (i : List Item) → tileBy o xs ys l z x y ≡ told true i → (j : Item) → Lists j i → Why o z x y (usedBy o xs ys z) j
+    pub tile-only : (i : List Item) → tileBy G l z x y ≡ told true i → (j : Item) → Lists j i → Why (G .options) z x y (usedBy G z) j
     tile-only i e j m =
         let w = tile-listed in
-        let q = whys o z x y t (w .0) (w .2) in
+        let q = whys (G .options) z x y t (w .0) (w .2) in
         let f : w .0 ≡ i = told-same (sym (w .1) ∙ e) in
-        lists-all (Why o z x y t) j (m .0) (m .1) (subst (All (Why o z x y t)) (f ∙ m .2) q)
+        lists-all (Why (G .options) z x y t) j (m .0) (m .1) (subst (All (Why (G .options) z x y t)) (f ∙ m .2) q)
 
-    tally-is : tallyBy o xs ys l z x y ≡ Sum (total (weightIn z x y) t (distinct [] (map (λ w. w .place) finds)))
+    tally-is : tallyBy G l z x y ≡ Sum (total (weightIn z x y) t (distinct [] (map (λ w. w .place) finds)))
     unfolding tallied tallyOf
     tally-is =
-        rw (state-sound o xs ys a l r, tile)
-        (moved (λ q ids co. let v = visited o z x y q ids co in sumOf (whole q v) (tallyOf (weightIn z x y) q v))
+        rw (state-sound G a l r, tile)
+        (moved (λ q ids co. let v = visited (G .options) z x y q ids co in sumOf (whole q v) (tallyOf (weightIn z x y) q v))
         ∙ ap₂ (λ (k : Bool) (v : List Visit). sumOf k (total (weightIn z x y) t (distinct [] (map (λ w. w .place) v)))) all-whole all-listed)
 
     -- the tally is the sum, over the distinct places of the items that the tile lists, of the num of those entries whose centre the tile holds; 0 where there is none
-    pub tally-told : (i : List Item) × (tileBy o xs ys l z x y ≡ told true i)
-        × (tallyBy o xs ys l z x y ≡ Sum (total (weightIn z x y) (usedBy o xs ys z) (distinct [] (map (λ j. j .place) i))))
+    pub tally-told : (i : List Item) × (tileBy G l z x y ≡ told true i)
+        × (tallyBy G l z x y ≡ Sum (total (weightIn z x y) (usedBy G z) (distinct [] (map (λ j. j .place) i))))
     tally-told = (
       items t finds,
       told-items,
@@ -350,25 +368,25 @@ module _ (o : Options) (xs ys : List Float) (a : Accepted o xs ys) (l : Lent) (r
     )
 
   -- nor has it a tally
-  pub tally-refused : isTile z x y ≡ false → tallyBy o xs ys l z x y ≡ Tally·Tile
+  pub tally-refused : isTile z x y ≡ false → tallyBy G l z x y ≡ Tally·Tile
   unfolding tallied
-  tally-refused f = rw (state-sound o xs ys a l r, f)
+  tally-refused f = rw (state-sound G a l r, f)
 
   -- no tile is refused 11
-  pub tile-not-spoiled : (room : ℕ) → answerOf (tileBy o xs ys l z x y) room ≡ Spoiled → ⊥
+  pub tile-not-spoiled : (room : ℕ) → answerOf (tileBy G l z x y) room ≡ Spoiled → ⊥
   tile-not-spoiled room = by (isTile z x y) refl
     where
-      by : (b : Bool) → isTile z x y ≡ b → answerOf (tileBy o xs ys l z x y) room ≡ Spoiled → ⊥
+      by : (b : Bool) → isTile z x y ≡ b → answerOf (tileBy G l z x y) room ≡ Spoiled → ⊥
       by true f h = let w = tile-listed f in some-somehow (length (w .0)) room (sym (ap (λ (q : Asked). answerOf q room) (w .1)) ∙ h)
       by false f h = let w = sym (ap (λ (q : Asked). answerOf q room) (tile-refused f)) ∙ h in omega (arith, ap answerNumber w)
 
   -- nor its tally
-  pub tally-not-spoiled : tallyBy o xs ys l z x y ≡ Tally·Spoiled → ⊥
+  pub tally-not-spoiled : tallyBy G l z x y ≡ Tally·Spoiled → ⊥
   tally-not-spoiled = by (isTile z x y) refl
     where
       of : (sum : ℕ) → Sum sum ≡ Tally·Spoiled → ⊥
       of sum e = omega (arith, ap tallyNumber e)
 
-      by : (b : Bool) → isTile z x y ≡ b → tallyBy o xs ys l z x y ≡ Tally·Spoiled → ⊥
+      by : (b : Bool) → isTile z x y ≡ b → tallyBy G l z x y ≡ Tally·Spoiled → ⊥
       by true f h = of (total (weightIn z x y) t (distinct [] (map (λ w. w .place) finds))) (sym (tally-is f) ∙ h)
       by false f h = let w = sym (tally-refused f) ∙ h in omega (arith, ap tallyNumber w)

@@ -4,15 +4,13 @@ use mathlib.Core.Path.{_≡_, refl, ap, sym, _∙_, subst}
 use mathlib.Core.Logic.{_⊎_, inl, inr, ⊎-elim}
 use mathlib.Core.Bool.{Bool, true, false, cond, not, _&&_}
 use mathlib.Core.List.{List, [], _∷_}
-use Prim.Native.Nat.{ℕ, zero, suc, _+_, _-_, _<_, _≤_}
+use Prim.Native.Nat.{ℕ, suc, _+_, _-_, _<_, _≤_}
 use native.Mathlib.Omega.{arith}
 use borrow.Author.Tests.{ltb-false, leb-true, leb-false, eqb-true, eqb-false}
 use lib.Dec.{leb, ltb, eqb}
 use lib.ListN.{length, take, drop}
-use lib.Ieee.{Float}
 use Rattle.kdslots.specs.All.{All, AllBelow}
 use Rattle.kdslots.specs.Keep.{keep}
-use Rattle.tables.specs.declared.Options.{Options}
 use Rattle.tables.specs.declared.State.{State}
 use Rattle.tables.specs.Entries.{entry, unset}
 use Rattle.tables.specs.Ids.{originOf, tableOf}
@@ -33,7 +31,7 @@ use Rattle.walks.specs.declared.Expansion.{Expansion}
 use Rattle.walks.specs.declared.Expansion.the-variants.{At as Expands·At, NoTree as Expands·NoTree, NoCluster as Expands·NoCluster, Spoiled as Expands·Spoiled}
 use Rattle.supercluster.specs.Build.{Lent, need}
 use Rattle.supercluster.specs.Load.{Holds}
-use Rattle.supercluster.specs.Ready.{Accepted}
+use Rattle.builds.specs.Given.{Given, Accepted, points, minZ, maxZ}
 use Rattle.builds.specs.Came.{tableAt as built}
 use Rattle.builds.specs.Parents.{Alone, Under, parents}
 use Rattle.builds.specs.RightAt.{right-at}
@@ -111,67 +109,73 @@ module _ (s : State) (cap id : ℕ) (good : stateOk s cap ≡ true) (P : Target 
 
 -- ---- an id that leads to a place of a build
 
-module _ (o : Options) (xs ys : List Float) (a : Accepted o xs ys) (l : Lent) (r : Holds (need o (length xs)) l) where
+module _ (G : Given) (a : Accepted G) (l : Lent) (r : Holds (need (G .options) (points G)) l) where
   abbrev S : State
-  S = stateBy o xs ys
+  S = stateBy G
 
   abbrev C : Columns
-  C = columnsBy o xs ys l
+  C = columnsBy G l
 
   -- a cluster of the build with this id, in table z
   abbrev Made : ℕ → ℕ → Type 0
-  Made z id = (j : ℕ) × (j < length (built o xs ys z)) × (entry (built o xs ys z) j .id ≡ id)
+  Made z id = (j : ℕ) × (j < length (built G z)) × (entry (built G z) j .id ≡ id)
 
   -- the parent of an entry of table z + 1 is unset, or a cluster of table z
-  parent-made : (z i id : ℕ) → o .«min_zoom» ≤ z → z ≤ o .«max_zoom» → i < length (built o xs ys (suc z)) → entry (built o xs ys (suc z)) i .parent ≡ id → (id ≡ unset → ⊥) → Made z id
-  parent-made z i id h k q e u = by (parents o xs ys a z h k i q)
+  parent-made : (z i id : ℕ) → minZ G ≤ z → z ≤ maxZ G → i < length (built G (suc z)) → entry (built G (suc z)) i .parent ≡ id →
+      (id ≡ unset → ⊥) → Made z id
+  parent-made z i id h k q e u = by (parents G a z h k i q)
     where
-      by : Alone (built o xs ys (suc z)) (built o xs ys z) i ⊎ Under (length xs) z (built o xs ys (suc z)) (built o xs ys z) i → Made z id
+      by : Alone (built G (suc z)) (built G z) i ⊎ Under (points G) z (built G (suc z)) (built G z) i → Made z id
       by (inl w) = absurd (u (sym e ∙ w .parent))
       by (inr w) = (w .place, w .there, w .id ∙ sym (w .parent) ∙ e)
 
-  module _ (id : ℕ) (n : length xs ≤ id) (h : o .«min_zoom» < tableOf (length xs) id) (k : tableOf (length xs) id ≤ o .«max_zoom» + 1) (i : originOf (length xs) id < lenOf (stateBy o xs ys) (tableOf (length xs) id)) where
+  module _ (id : ℕ) (n : points G ≤ id) (h : minZ G < tableOf (points G) id) (k : tableOf (points G) id ≤ maxZ G + 1)
+      (i : originOf (points G) id < lenOf (stateBy G) (tableOf (points G) id)) where
     abbrev T : ℕ
-    T = tableOf (length xs) id
+    T = tableOf (points G) id
 
     abbrev I : ℕ
-    I = originOf (length xs) id
+    I = originOf (points G) id
 
-    inside : originOf (length xs) id < length (built o xs ys (tableOf (length xs) id))
-    inside = let e = long-is o xs ys a T (omega arith) k in omega arith
+    inside : originOf (points G) id < length (built G (tableOf (points G) id))
+    inside = let e = long-is G a T (omega arith) k in omega arith
 
     -- the origin is no place of a table
     not-unset : id ≡ unset → ⊥
-    not-unset e = let w = inside in let d = right-at o xs ys a T (omega arith) k .few in let m = a .few in omega arith
+    not-unset e = let w = inside in let d = right-at G a T (omega arith) k .few in let m = a .few in omega arith
 
     abbrev kids : List ℕ
-    kids = keep (λ m. eqb (entry (built o xs ys (tableOf (length xs) id)) m .parent) id) (answersAt o xs ys (tableOf (length xs) id) (originOf (length xs) id))
+    kids =
+        keep (λ m. eqb (entry (built G (tableOf (points G) id)) m .parent) id)
+        (answersAt G (tableOf (points G) id) (originOf (points G) id))
 
     -- it has no children, or it is a cluster of the table before
-    made-or-none : (kidsAt (stateBy o xs ys) (columnsBy o xs ys l) id T I ≡ []) ⊎ Made (T - 1) id
+    made-or-none : (kidsAt (stateBy G) (columnsBy G l) id T I ≡ []) ⊎ Made (T - 1) id
     made-or-none =
-        by kids (kids-at o xs ys a l r T I h k inside id) (all-keep (λ (m : ℕ). m < length (built o xs ys T)) _ _ (around-below o xs ys a l r T I h k inside))
-        (keep-passes (λ m. eqb (entry (built o xs ys T) m .parent) id) (answersAt o xs ys T I))
+        by kids (kids-at G a l r T I h k inside id) (all-keep (λ (m : ℕ). m < length (built G T)) _ _ (around-below G a l r T I h k inside))
+        (keep-passes (λ m. eqb (entry (built G T) m .parent) id) (answersAt G T I))
       where
-        by : (ks : List ℕ) → kidsAt S C id T I ≡ ks → AllBelow (length (built o xs ys T)) ks → All (λ m. eqb (entry (built o xs ys T) m .parent) id ≡ true) ks → (kidsAt S C id T I ≡ []) ⊎ Made (T - 1) id
+        by : (ks : List ℕ) → kidsAt S C id T I ≡ ks → AllBelow (length (built G T)) ks →
+            All (λ m. eqb (entry (built G T) m .parent) id ≡ true) ks → (kidsAt S C id T I ≡ []) ⊎ Made (T - 1) id
         by [] e w v = inl e
         by (m ∷ ks) e w v =
             let t : T ≡ suc (T - 1) = omega arith in
             inr (first m (suc (T - 1)) t (unfold All in w .0) (eqb-true _ _ (unfold All in v .0)))
           where
-            first : (m u : ℕ) → T ≡ u → m < length (built o xs ys T) → entry (built o xs ys T) m .parent ≡ id → Made (T - 1) id
+            first : (m u : ℕ) → T ≡ u → m < length (built G T) → entry (built G T) m .parent ≡ id → Made (T - 1) id
             first m u t q p =
                 let t : T ≡ suc (T - 1) = omega arith in
-                parent-made (T - 1) m id (omega arith) (omega arith) (subst (λ (v : ℕ). m < length (built o xs ys v)) t q) (subst (λ (v : ℕ). entry (built o xs ys v) m .parent ≡ id) t p) not-unset
+                parent-made (T - 1) m id (omega arith) (omega arith) (subst (λ (v : ℕ). m < length (built G v)) t q)
+                (subst (λ (v : ℕ). entry (built G v) m .parent ≡ id) t p) not-unset
 
-    no-spoiled : cleanAt (stateBy o xs ys) (columnsBy o xs ys l) T I ≡ true
-    no-spoiled = clean o xs ys a l r T I h k inside
+    no-spoiled : cleanAt (stateBy G) (columnsBy G l) T I ≡ true
+    no-spoiled = clean G a l r T I h k inside
 
-    none-childless : kidsAt (stateBy o xs ys) (columnsBy o xs ys l) id T I ≡ [] → childless (stateBy o xs ys) (columnsBy o xs ys l) id T I ≡ true
+    none-childless : kidsAt (stateBy G) (columnsBy G l) id T I ≡ [] → childless (stateBy G) (columnsBy G l) id T I ≡ true
     none-childless e = rw (no-spoiled, e)
 
     -- asked for its children, at its place
-    children-fine : Fine (childrenAt (stateBy o xs ys) (columnsBy o xs ys l) id T I)
+    children-fine : Fine (childrenAt (stateBy G) (columnsBy G l) id T I)
     unfolding childrenAt
     children-fine = by (childless S C id T I)
       where
@@ -179,68 +183,78 @@ module _ (o : Options) (xs ys : List Float) (a : Accepted o xs ys) (l : Lent) (r
         by true = fine-none
         by false = subst (λ (c : Bool). Fine (told c (kidsAt S C id T I))) (sym no-spoiled) (fine-told (kidsAt S C id T I))
 
-    made-fine : (limit offset : ℕ) → Made (T - 1) id → Fine (leavesOf (stateBy o xs ys) (columnsBy o xs ys l) id limit offset)
+    made-fine : (limit offset : ℕ) → Made (T - 1) id → Fine (leavesOf (stateBy G) (columnsBy G l) id limit offset)
     made-fine limit offset (j, q, e) =
         subst (λ (v : ℕ). Fine (leavesOf S C v limit offset)) e
-        (subst Fine (sym (leaves-page o xs ys a l r (T - 1) j low top q above limit offset)) (fine-told (take limit (drop offset (lampsOf o xs ys (T - 1) j)))))
+        (subst Fine (sym (leaves-page G a l r (T - 1) j low top q above limit offset))
+        (fine-told (take limit (drop offset (lampsOf G (T - 1) j)))))
       where
-        low : o .«min_zoom» ≤ T - 1
+        low : minZ G ≤ T - 1
         low = omega arith
 
-        top : T - 1 ≤ o .«max_zoom» + 1
+        top : T - 1 ≤ maxZ G + 1
         top = omega arith
 
-        above : length xs ≤ entry (built o xs ys (T - 1)) j .id
+        above : points G ≤ entry (built G (T - 1)) j .id
         above = omega arith
 
-    leaves-fine : (limit offset : ℕ) → Fine (leavesOf (stateBy o xs ys) (columnsBy o xs ys l) id limit offset) ⊎ Fine (leavesAt (stateBy o xs ys) (columnsBy o xs ys l) id limit offset T I)
+    leaves-fine : (limit offset : ℕ) →
+        Fine (leavesOf (stateBy G) (columnsBy G l) id limit offset) ⊎ Fine (leavesAt (stateBy G) (columnsBy G l) id limit offset T I)
     unfolding leavesAt
     leaves-fine limit offset = ⊎-elim (λ e. inr (rw (none-childless e) fine-none)) (λ w. inl (made-fine limit offset w)) made-or-none
 
     -- ---- its expansion zoom
 
-    made-grows : Made (T - 1) id → Grows (zoomOf (stateBy o xs ys) (columnsBy o xs ys l) id)
+    made-grows : Made (T - 1) id → Grows (zoomOf (stateBy G) (columnsBy G l) id)
     made-grows (j, q, e) w =
-        let b : length xs ≤ entry (built o xs ys (T - 1)) j .id = omega arith in
-        grows-at (tableOf (length xs) (entry (built o xs ys (T - 1)) j .id))
-        (sym (expansion-is o xs ys a l r (T - 1) j (omega arith) (omega arith) q b) ∙ ap (zoomOf S C) e ∙ w)
+        let b : points G ≤ entry (built G (T - 1)) j .id = omega arith in
+        grows-at (tableOf (points G) (entry (built G (T - 1)) j .id))
+        (sym (expansion-is G a l r (T - 1) j (omega arith) (omega arith) q b) ∙ ap (zoomOf S C) e ∙ w)
 
-    none-grows : kidsAt (stateBy o xs ys) (columnsBy o xs ys l) id T I ≡ [] → Grows (expand (stateBy o xs ys) (columnsBy o xs ys l) (o .«max_zoom» + 1 - (T - 1)) (At T I) id (T - 1) true)
+    none-grows : kidsAt (stateBy G) (columnsBy G l) id T I ≡ [] →
+        Grows (expand (stateBy G) (columnsBy G l) (maxZ G + 1 - (T - 1)) (At T I) id (T - 1) true)
     unfolding expand fetchedAt
     none-grows e =
-        let m : suc (o .«max_zoom» + 1 - T) ≡ o .«max_zoom» + 1 - (T - 1) = omega arith in
+        let m : suc (maxZ G + 1 - T) ≡ maxZ G + 1 - (T - 1) = omega arith in
         subst (λ (v : ℕ). Grows (expand S C v (At T I) id (T - 1) true)) m (rw (no-spoiled, e) grows-none)
 
-    zoom-grows : Grows (zoomOf (stateBy o xs ys) (columnsBy o xs ys l) id) ⊎ Grows (expand (stateBy o xs ys) (columnsBy o xs ys l) (o .«max_zoom» + 1 - (T - 1)) (At T I) id (T - 1) true)
+    zoom-grows : Grows (zoomOf (stateBy G) (columnsBy G l) id) ⊎ Grows
+        (expand (stateBy G) (columnsBy G l) (maxZ G + 1 - (T - 1)) (At T I) id (T - 1) true)
     zoom-grows = ⊎-elim (λ e. inr (none-grows e)) (λ w. inl (made-grows w)) made-or-none
 
   -- ---- for every id
 
   -- no question for children is refused 11
-  pub children-not-spoiled : (id room : ℕ) → answerOf (childrenOf (stateBy o xs ys) (columnsBy o xs ys l) id) room ≡ Spoiled → ⊥
+  pub children-not-spoiled : (id room : ℕ) → answerOf (childrenOf (stateBy G) (columnsBy G l) id) room ≡ Spoiled → ⊥
   unfolding childrenOf
   children-not-spoiled id =
-      by-target S (roomOf C) id (state-sound o xs ys a l r) (λ t. Fine (atTarget t (λ z i. childrenAt S C id z i))) fine-none fine-tree (λ n h k i. children-fine id n h k i)
+      by-target S (roomOf C) id (state-sound G a l r) (λ t. Fine (atTarget t (λ z i. childrenAt S C id z i))) fine-none fine-tree
+      (λ n h k i. children-fine id n h k i)
 
   -- nor one for leaves
-  pub leaves-not-spoiled : (id limit offset room : ℕ) → answerOf (leavesOf (stateBy o xs ys) (columnsBy o xs ys l) id limit offset) room ≡ Spoiled → ⊥
+  pub leaves-not-spoiled : (id limit offset room : ℕ) → answerOf (leavesOf (stateBy G) (columnsBy G l) id limit offset) room ≡ Spoiled → ⊥
   leaves-not-spoiled id limit offset = ⊎-elim (λ w. w) (λ w. opened w) found
     where
       found : Fine (leavesOf S C id limit offset) ⊎ Fine (atTarget (targetOf S (roomOf C) id) (λ z i. leavesAt S C id limit offset z i))
-      found = by-target S (roomOf C) id (state-sound o xs ys a l r) (λ t. Fine (leavesOf S C id limit offset) ⊎ Fine (atTarget t (λ z i. leavesAt S C id limit offset z i))) (inr fine-none) (inr fine-tree)
+      found =
+          by-target S (roomOf C) id (state-sound G a l r) (λ t. Fine (leavesOf S C id limit offset) ⊎ Fine
+          (atTarget t (λ z i. leavesAt S C id limit offset z i))) (inr fine-none) (inr fine-tree)
           (λ n h k i. leaves-fine id n h k i limit offset)
 
       opened : Fine (atTarget (targetOf S (roomOf C) id) (λ z i. leavesAt S C id limit offset z i)) → Fine (leavesOf S C id limit offset)
       opened w = unfold leavesOf in w
 
   -- nor one for an expansion zoom
-  pub expansion-not-spoiled : (id : ℕ) → zoomOf (stateBy o xs ys) (columnsBy o xs ys l) id ≡ Expands·Spoiled → ⊥
+  pub expansion-not-spoiled : (id : ℕ) → zoomOf (stateBy G) (columnsBy G l) id ≡ Expands·Spoiled → ⊥
   expansion-not-spoiled id = ⊎-elim (λ w. w) (λ w. opened w) found
     where
-      found : Grows (zoomOf S C id) ⊎ Grows (zoomAt (targetOf S (roomOf C) id) (λ t i. expand S C (o .«max_zoom» + 1 - (t - 1)) (At t i) id (t - 1) true))
-      found = by-target S (roomOf C) id (state-sound o xs ys a l r)
-          (λ t. Grows (zoomOf S C id) ⊎ Grows (zoomAt t (λ t i. expand S C (o .«max_zoom» + 1 - (t - 1)) (At t i) id (t - 1) true))) (inr grows-none) (inr grows-tree)
+      found : Grows (zoomOf S C id) ⊎ Grows (zoomAt (targetOf S (roomOf C) id)
+          (λ t i. expand S C (maxZ G + 1 - (t - 1)) (At t i) id (t - 1) true))
+      found = by-target S (roomOf C) id (state-sound G a l r)
+          (λ t. Grows (zoomOf S C id) ⊎ Grows (zoomAt t (λ t i. expand S C (maxZ G + 1 - (t - 1)) (At t i) id (t - 1) true)))
+          (inr grows-none) (inr grows-tree)
           (λ n h k i. zoom-grows id n h k i)
 
-      opened : Grows (zoomAt (targetOf S (roomOf C) id) (λ t i. expand S C (o .«max_zoom» + 1 - (t - 1)) (At t i) id (t - 1) true)) → Grows (zoomOf S C id)
+      opened : Grows (zoomAt (targetOf S (roomOf C) id) (λ t i. expand S C (maxZ G + 1 - (t - 1)) (At t i) id (t - 1) true)) →
+          Grows (zoomOf S C id)
       opened w = unfold zoomOf in w

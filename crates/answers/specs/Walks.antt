@@ -9,11 +9,9 @@ use native.Mathlib.Omega.{arith}
 use borrow.Author.Tests.{lt-ltb, le-ltb, le-leb, lt-leb, ne-eqb, eqb-true, eqb-false}
 use lib.Dec.{eqb}
 use lib.ListN.{length, length-append}
-use lib.Ieee.{Float}
 use Rattle.kdslots.specs.All.{All, AllBelow}
 use Rattle.kdslots.specs.Keep.{put, keep}
 use Rattle.tables.specs.declared.Entry.{Entry}
-use Rattle.tables.specs.declared.Options.{Options}
 use Rattle.tables.specs.declared.State.{State}
 use Rattle.tables.specs.Bounds.{options-are}
 use Rattle.tables.specs.Entries.{Table, entry}
@@ -27,12 +25,12 @@ use Rattle.kids.specs.Kids.{kidsAt}
 use Rattle.walks.specs.Leaves.{Trip, went, enter, visit, after, steps, walk, lamps}
 use Rattle.supercluster.specs.Build.{Lent, need}
 use Rattle.supercluster.specs.Load.{Holds}
-use Rattle.supercluster.specs.Ready.{Accepted}
+use Rattle.builds.specs.Given.{Given, Accepted, points, minZ, maxZ}
 use Rattle.builds.specs.Came.{tableAt as built}
 use Rattle.builds.specs.Identities.{Known, identities}
 use Rattle.builds.specs.RightAt.{right-at}
 use Rattle.lamps.specs.Owner.{gather, lampsOf, membersOf}
-use Rattle.lamps.specs.Owners.{lamps-long}
+use Rattle.lamps.specs.Carries.{lamps-long}
 use Rattle.lamps.specs.Copies.{clustered, lamps-of-lamp}
 use Rattle.answers.specs.Stored.{stateBy, columnsBy, table-is}
 use Rattle.answers.specs.Children.{around-below}
@@ -57,108 +55,117 @@ keep-passes p (k ∷ ks) = go (p k) refl (keep-passes p ks)
     go true e v = (e, v)
     go false e v = v
 
--- what is said of a walk that has skipped n lamps and listed out, may go on where G says, and comes to t after the lamps ls: R n out ls t
-pub record Rules (limit offset : ℕ) (G : ℕ → List ℕ → Type 0) (R : ℕ → List ℕ → List ℕ → Trip (List ℕ) → Type 0) : Type 0 where
+-- what is said of a walk that has skipped n lamps and listed out, may go on where May says, and comes to t after the lamps ls: R n out ls t
+pub record Rules (limit offset : ℕ) (May : ℕ → List ℕ → Type 0) (R : ℕ → List ℕ → List ℕ → Trip (List ℕ) → Type 0) : Type 0 where
   -- it does not break
   pub whole : (n : ℕ) (out ls : List ℕ) (t : Trip (List ℕ)) → R n out ls t → (m : ℕ) × (p : List ℕ) × (t ≡ went m p)
   -- no lamps, lamps that are skipped, one that is listed
-  pub none : (n : ℕ) (out : List ℕ) → G n out → R n out [] (went n out)
-  pub skip : (n : ℕ) (out ls : List ℕ) → G n out → 1 ≤ length ls → n + length ls ≤ offset → R n out ls (went (n + length ls) out)
-  pub list : (n : ℕ) (out : List ℕ) (id : ℕ) → G n out → offset ≤ n → R n out (id ∷ []) (went n (out ++ (id ∷ [])))
+  pub none : (n : ℕ) (out : List ℕ) → May n out → R n out [] (went n out)
+  pub skip : (n : ℕ) (out ls : List ℕ) → May n out → 1 ≤ length ls → n + length ls ≤ offset → R n out ls (went (n + length ls) out)
+  pub list : (n : ℕ) (out : List ℕ) (id : ℕ) → May n out → offset ≤ n → R n out (id ∷ []) (went n (out ++ (id ∷ [])))
   -- some, and then more: the walk stops where the limit is reached, otherwise it goes on
-  pub stop : (n : ℕ) (out ls ms : List ℕ) (m : ℕ) (p : List ℕ) → G n out → 1 ≤ length ls → R n out ls (went m p) → length p ≡ limit → R n out (ls ++ ms) (went m p)
-  pub go : (n : ℕ) (out ls : List ℕ) (m : ℕ) (p : List ℕ) → G n out → 1 ≤ length ls → R n out ls (went m p) → (length p ≡ limit → ⊥) → G m p × (length p ≤ length out + length ls)
-  pub more : (n : ℕ) (out ls ms : List ℕ) (m : ℕ) (p : List ℕ) (t : Trip (List ℕ)) → G n out → 1 ≤ length ls → R n out ls (went m p) → (length p ≡ limit → ⊥) → R m p ms t → R n out (ls ++ ms) t
+  pub stop : (n : ℕ) (out ls ms : List ℕ) (m : ℕ) (p : List ℕ) → May n out → 1 ≤ length ls → R n out ls (went m p) → length p ≡ limit →
+      R n out (ls ++ ms) (went m p)
+  pub go : (n : ℕ) (out ls : List ℕ) (m : ℕ) (p : List ℕ) → May n out → 1 ≤ length ls → R n out ls (went m p) → (length p ≡ limit → ⊥) →
+      May m p × (length p ≤ length out + length ls)
+  pub more : (n : ℕ) (out ls ms : List ℕ) (m : ℕ) (p : List ℕ) (t : Trip (List ℕ)) → May n out → 1 ≤ length ls → R n out ls (went m p) →
+      (length p ≡ limit → ⊥) → R m p ms t → R n out (ls ++ ms) t
 
-module _ (o : Options) (xs ys : List Float) (a : Accepted o xs ys) (l : Lent) (r : Holds (need o (length xs)) l) (limit offset : ℕ)
-    (G : ℕ → List ℕ → Type 0) (R : ℕ → List ℕ → List ℕ → Trip (List ℕ) → Type 0) (rules : Rules limit offset G R) where
+module _ (G : Given) (a : Accepted G) (l : Lent) (r : Holds (need (G .options) (points G)) l) (limit offset : ℕ)
+    (May : ℕ → List ℕ → Type 0) (R : ℕ → List ℕ → List ℕ → Trip (List ℕ) → Type 0) (rules : Rules limit offset May R) where
   abbrev S : State
-  S = stateBy o xs ys
+  S = stateBy G
 
   abbrev C : Columns
-  C = columnsBy o xs ys l
+  C = columnsBy G l
 
   -- a walk into the cluster at j of table z, in a definition that may go g tables on
   abbrev walkInto : ℕ → ℕ → ℕ → ℕ → List ℕ → Trip (List ℕ)
   walkInto g z j n out =
-      let id = entry (built o xs ys z) j .id in
-      walk lamps (stateBy o xs ys) (columnsBy o xs ys l) limit offset g id (tableOf (length xs) id) (originOf (length xs) id) n out
+      let id = entry (built G z) j .id in
+      walk lamps (stateBy G) (columnsBy G l) limit offset g id (tableOf (points G) id) (originOf (points G) id) n out
 
   abbrev Walks : ℕ → Type 0
   Walks g =
-      (z j : ℕ) → o .«min_zoom» ≤ z → z ≤ o .«max_zoom» + 1 → j < length (built o xs ys z) → length xs ≤ entry (built o xs ys z) j .id → 32 ≤ g + tableOf (length xs) (entry (built o xs ys z) j .id) →
-      (n : ℕ) (out : List ℕ) → G n out → length out + length (lampsOf o xs ys z j) ≤ length xs → R n out (lampsOf o xs ys z j) (walkInto g z j n out)
+      (z j : ℕ) → minZ G ≤ z → z ≤ maxZ G + 1 → j < length (built G z) → points G ≤ entry (built G z) j .id →
+      32 ≤ g + tableOf (points G) (entry (built G z) j .id) →
+      (n : ℕ) (out : List ℕ) → May n out → length out + length (lampsOf G z j) ≤ points G → R n out (lampsOf G z j) (walkInto g z j n out)
 
   -- ---- one child: the entry at j of table z
 
-  module _ (g z j : ℕ) (ih : Walks g) (h : o .«min_zoom» ≤ z) (k : z ≤ o .«max_zoom» + 1) (q : j < length (built o xs ys z)) (deep : 32 ≤ g + suc z) (n : ℕ) (out : List ℕ) (ok : G n out)
-      (room : length out + length (lampsOf o xs ys z j) ≤ length xs) where
+  module _ (g z j : ℕ) (ih : Walks g) (h : minZ G ≤ z) (k : z ≤ maxZ G + 1) (q : j < length (built G z)) (deep : 32 ≤ g + suc z) (n : ℕ)
+      (out : List ℕ) (ok : May n out) (room : length out + length (lampsOf G z j) ≤ points G) where
     abbrev E : Entry
-    E = entry (built o xs ys z) j
+    E = entry (built G z) j
 
     abbrev visited : Trip (List ℕ)
-    visited = visit lamps (stateBy o xs ys) (columnsBy o xs ys l) limit offset (walk lamps (stateBy o xs ys) (columnsBy o xs ys l) limit offset g) z (entry (built o xs ys z) j) n out
+    visited =
+        visit lamps (stateBy G) (columnsBy G l) limit offset (walk lamps (stateBy G) (columnsBy G l) limit offset g) z
+        (entry (built G z) j) n out
 
     abbrev Visits : Type 0
-    Visits = R n out (lampsOf o xs ys z j) visited
+    Visits = R n out (lampsOf G z j) visited
 
-    long : entry (built o xs ys z) j .num ≡ length (lampsOf o xs ys z j)
-    long = lamps-long o xs ys a z h k j q
+    long : entry (built G z) j .num ≡ length (lampsOf G z j)
+    long = lamps-long G a z h k j q
 
-    by-trip : (t : Trip (List ℕ)) (ls : List ℕ) → visited ≡ t → lampsOf o xs ys z j ≡ ls → R n out ls t → Visits
-    by-trip t ls e d w = subst (λ (x : Trip (List ℕ)). R n out (lampsOf o xs ys z j) x) (sym e) (subst (λ (x : List ℕ). R n out x t) (sym d) w)
+    by-trip : (t : Trip (List ℕ)) (ls : List ℕ) → visited ≡ t → lampsOf G z j ≡ ls → R n out ls t → Visits
+    by-trip t ls e d w = subst (λ (x : Trip (List ℕ)). R n out (lampsOf G z j) x) (sym e) (subst (λ (x : List ℕ). R n out x t) (sym d) w)
 
-    lamp-visit : entry (built o xs ys z) j .id < length xs → entry (built o xs ys z) j .num ≡ 1 → Visits
+    lamp-visit : entry (built G z) j .id < points G → entry (built G z) j .num ≡ 1 → Visits
     unfolding visit
     lamp-visit b one = ⊎-elim skipped there (below n offset)
       where
-        is : lampsOf o xs ys z j ≡ entry (built o xs ys z) j .id ∷ []
-        is = lamps-of-lamp o xs ys a z h k j q b
+        is : lampsOf G z j ≡ entry (built G z) j .id ∷ []
+        is = lamps-of-lamp G a z h k j q b
 
         skipped : n < offset → Visits
         skipped w = by-trip (went (n + 1) out) (E .id ∷ []) (rw (one, lt-ltb n offset w)) is (rules .skip n out (E .id ∷ []) ok (omega arith) (omega arith))
 
         there : offset ≤ n → Visits
         there w =
-            let lr : length out < length xs = (let m = ap length is in omega arith) in
-            by-trip (went n (out ++ (E .id ∷ []))) (E .id ∷ []) (rw (one, le-ltb n offset w, lt-ltb (length out) (length xs) lr)) is (rules .list n out (E .id) ok w)
+            let lr : length out < points G = (let m = ap length is in omega arith) in
+            by-trip (went n (out ++ (E .id ∷ []))) (E .id ∷ []) (rw (one, le-ltb n offset w, lt-ltb (length out) (points G) lr)) is
+            (rules .list n out (E .id) ok w)
 
-    cluster-visit : length xs ≤ entry (built o xs ys z) j .id → 2 ≤ entry (built o xs ys z) j .num → Visits
+    cluster-visit : points G ≤ entry (built G z) j .id → 2 ≤ entry (built G z) j .num → Visits
     unfolding visit
     cluster-visit b many = ⊎-elim (λ w. entered w) (λ w. skipped w) (below offset (n + E .num))
       where
-        skipped : n + entry (built o xs ys z) j .num ≤ offset → Visits
+        skipped : n + entry (built G z) j .num ≤ offset → Visits
         skipped w =
-            by-trip (went (n + length (lampsOf o xs ys z j)) out) (lampsOf o xs ys z j)
+            by-trip (went (n + length (lampsOf G z j)) out) (lampsOf G z j)
             (rw (lt-ltb 1 (E .num) (omega arith), le-leb (n + E .num) offset w) (ap (λ (m : ℕ). went (n + m) out) long))
-            refl (let e = long in rules .skip n out (lampsOf o xs ys z j) ok (omega arith) (omega arith))
+            refl (let e = long in rules .skip n out (lampsOf G z j) ok (omega arith) (omega arith))
 
-        entered : offset < n + entry (built o xs ys z) j .num → Visits
+        entered : offset < n + entry (built G z) j .num → Visits
         entered w =
-            by-trip (walkInto g z j n out) (lampsOf o xs ys z j)
+            by-trip (walkInto g z j n out) (lampsOf G z j)
             (rw (lt-ltb 1 (E .num) (omega arith), lt-leb (n + E .num) offset w)
-            (ap (λ (t : Target). enter (walk lamps S C limit offset g) t (E .id) n out) (onward-is o xs ys a l r z j h k q b z (omega arith))))
-            refl (ih z j h k q b (let t = above o xs ys a l r z j h k q b in omega arith) n out ok room)
+            (ap (λ (t : Target). enter (walk lamps S C limit offset g) t (E .id) n out) (onward-is G a l r z j h k q b z (omega arith))))
+            refl (ih z j h k q b (let t = above G a l r z j h k q b in omega arith) n out ok room)
 
     visit-is : Visits
-    visit-is = by (identities o xs ys a z h k j q)
+    visit-is = by (identities G a z h k j q)
       where
-        by : Known o xs ys z (entry (built o xs ys z) j) → Visits
+        by : Known G z (entry (built G z) j) → Visits
         by (inl w) = lamp-visit (w .below) (w .num)
         by (inr w) = cluster-visit (w .above) (w .many)
 
     -- it has a lamp
-    some : 1 ≤ length (lampsOf o xs ys z j)
-    some = let e = long in let w = all-at Body (built o xs ys z) j (right-at o xs ys a z h k .unit) q .2 in omega arith
+    some : 1 ≤ length (lampsOf G z j)
+    some = let e = long in let w = all-at Body (built G z) j (right-at G a z h k .unit) q .2 in omega arith
 
   -- ---- the children of a cluster one after the other
 
   abbrev stepsOver : ℕ → ℕ → List ℕ → ℕ → List ℕ → Trip (List ℕ)
   stepsOver g t ks n out =
-      steps lamps (stateBy o xs ys) (columnsBy o xs ys l) limit offset (walk lamps (stateBy o xs ys) (columnsBy o xs ys l) limit offset g) t true (map (entry (built o xs ys t)) ks) n out
+      steps lamps (stateBy G) (columnsBy G l) limit offset (walk lamps (stateBy G) (columnsBy G l) limit offset g) t true
+      (map (entry (built G t)) ks) n out
 
-  steps-are : (g t : ℕ) → Walks g → o .«min_zoom» ≤ t → t ≤ o .«max_zoom» + 1 → 32 ≤ g + suc t → (ks : List ℕ) → AllBelow (length (built o xs ys t)) ks → (n : ℕ) (out : List ℕ) → G n out →
-      length out + length (gather (λ k. lampsOf o xs ys t k) ks) ≤ length xs → R n out (gather (λ k. lampsOf o xs ys t k) ks) (stepsOver g t ks n out)
+  steps-are : (g t : ℕ) → Walks g → minZ G ≤ t → t ≤ maxZ G + 1 → 32 ≤ g + suc t → (ks : List ℕ) → AllBelow (length (built G t)) ks →
+      (n : ℕ) (out : List ℕ) → May n out →
+      length out + length (gather (λ k. lampsOf G t k) ks) ≤ points G → R n out (gather (λ k. lampsOf G t k) ks) (stepsOver g t ks n out)
   unfolding steps All
   steps-are g t ih h k deep [] w n out ok room = rules .none n out ok
   steps-are g t ih h k deep (j ∷ ks) w n out ok room =
@@ -170,15 +177,16 @@ module _ (o : Options) (xs ys : List Float) (a : Accepted o xs ys) (l : Lent) (r
       (on (x .0) (x .1) s (subst (λ (y : Trip (List ℕ)). R n out L y) (x .2) v) (eqb (length (x .1)) limit) refl (λ c e. steps-are g t ih h k deep ks (w .1) (x .0) (x .1) c e))
     where
       L : List ℕ
-      L = lampsOf o xs ys t j
+      L = lampsOf G t j
 
       M : List ℕ
-      M = gather (λ k. lampsOf o xs ys t k) ks
+      M = gather (λ k. lampsOf G t k) ks
 
       X : Trip (List ℕ)
-      X = visit lamps S C limit offset (walk lamps S C limit offset g) t (entry (built o xs ys t) j) n out
+      X = visit lamps S C limit offset (walk lamps S C limit offset g) t (entry (built G t) j) n out
 
-      on : (m : ℕ) (p : List ℕ) → 1 ≤ length L → R n out L (went m p) → (b : Bool) → eqb (length p) limit ≡ b → (G m p → length p + length M ≤ length xs → R m p M (stepsOver g t ks m p))
+      on : (m : ℕ) (p : List ℕ) → 1 ≤ length L → R n out L (went m p) → (b : Bool) → eqb (length p) limit ≡ b →
+          (May m p → length p + length M ≤ points G → R m p M (stepsOver g t ks m p))
           → R n out (L ++ M) (cond b (went m p) (stepsOver g t ks m p))
       on m p s v true e rec = rules .stop n out L M m p ok s v (eqb-true _ _ e)
       on m p s v false e rec =
@@ -190,37 +198,41 @@ module _ (o : Options) (xs ys : List Float) (a : Accepted o xs ys) (l : Lent) (r
 
   pub walks : (g : ℕ) → Walks g
   unfolding walk
-  walks zero z j h k q b deep n out ok room = absurd (let t = top o xs ys a l r z j h k q b in let m = options-are o (a .options) .zoom-to in omega arith)
+  walks zero z j h k q b deep n out ok room =
+      absurd (let t = top G a l r z j h k q b in let m = options-are (G .options) (a .options) .zoom-to in omega arith)
   walks (suc g) z j h k q b deep n out ok room =
-      subst (λ (x : Trip (List ℕ)). R n out (lampsOf o xs ys z j) x) (sym opened)
-      (subst (λ (x : List ℕ). R n out x (stepsOver g T (membersOf o xs ys Id) n out)) (sym is)
-      (steps-are g T (walks g) low up (omega arith) (membersOf o xs ys Id) within n out ok (let e = ap length is in omega arith)))
+      subst (λ (x : Trip (List ℕ)). R n out (lampsOf G z j) x) (sym opened)
+      (subst (λ (x : List ℕ). R n out x (stepsOver g T (membersOf G Id) n out)) (sym is)
+      (steps-are g T (walks g) low up (omega arith) (membersOf G Id) within n out ok (let e = ap length is in omega arith)))
     where
       Id : ℕ
-      Id = entry (built o xs ys z) j .id
+      Id = entry (built G z) j .id
 
       T : ℕ
-      T = tableOf (length xs) Id
+      T = tableOf (points G) Id
 
       I : ℕ
-      I = originOf (length xs) Id
+      I = originOf (points G) Id
 
-      low : o .«min_zoom» ≤ T
-      low = let t = above o xs ys a l r z j h k q b in omega arith
+      low : minZ G ≤ T
+      low = let t = above G a l r z j h k q b in omega arith
 
-      up : T ≤ o .«max_zoom» + 1
-      up = top o xs ys a l r z j h k q b
+      up : T ≤ maxZ G + 1
+      up = top G a l r z j h k q b
 
-      is : lampsOf o xs ys z j ≡ gather (λ i. lampsOf o xs ys T i) (membersOf o xs ys Id)
-      is = clustered o xs ys a z h k j q b .lamps
+      is : lampsOf G z j ≡ gather (λ i. lampsOf G T i) (membersOf G Id)
+      is = clustered G a z h k j q b .lamps
 
-      within : AllBelow (length (built o xs ys T)) (membersOf o xs ys Id)
+      within : AllBelow (length (built G T)) (membersOf G Id)
       within =
-          all-keep (λ (i : ℕ). i < length (built o xs ys T)) _ _
-          (around-below o xs ys a l r T I (let t = above o xs ys a l r z j h k q b in omega arith) up (inside o xs ys a l r z j h k q b))
+          all-keep (λ (i : ℕ). i < length (built G T)) _ _
+          (around-below G a l r T I (let t = above G a l r z j h k q b in omega arith) up (inside G a l r z j h k q b))
 
-      opened : walkInto (suc g) z j n out ≡ stepsOver g T (membersOf o xs ys Id) n out
+      opened : walkInto (suc g) z j n out ≡ stepsOver g T (membersOf G Id) n out
       opened =
-          rw (ne-eqb (length (kidsAt S C Id T I)) 0 (λ e. let w = two-members o xs ys a l r z j h k q b in let v = ap length (kids-are o xs ys a l r z j h k q b) in omega arith))
-          (ap (λ (c : Bool). steps lamps S C limit offset (walk lamps S C limit offset g) T c (map (entry (tableAt S C T)) (kidsAt S C Id T I)) n out) (no-spoiled-slot o xs ys a l r z j h k q b)
-          ∙ ap₂ (λ (t : Table) (ks : List ℕ). steps lamps S C limit offset (walk lamps S C limit offset g) T true (map (entry t) ks) n out) (table-is o xs ys a l r T low up) (kids-are o xs ys a l r z j h k q b))
+          rw (ne-eqb (length (kidsAt S C Id T I)) 0 (λ e. let w =
+          two-members G a l r z j h k q b in let v = ap length (kids-are G a l r z j h k q b) in omega arith))
+          (ap (λ (c : Bool). steps lamps S C limit offset (walk lamps S C limit offset g) T c
+          (map (entry (tableAt S C T)) (kidsAt S C Id T I)) n out) (no-spoiled-slot G a l r z j h k q b)
+          ∙ ap₂ (λ (t : Table) (ks : List ℕ). steps lamps S C limit offset (walk lamps S C limit offset g) T true (map (entry t) ks) n out)
+          (table-is G a l r T low up) (kids-are G a l r z j h k q b))

@@ -1,6 +1,6 @@
 -- The eight lent columns of a question, and the parts of them that hold the table of one zoom. Of a table that stands in them the parts are as long as the
 -- table, and what is lent of the columns from its start to its end is the table. Assumes nothing.
-use mathlib.Core.Path.{_≡_, refl, ap, sym, _∙_}
+use mathlib.Core.Path.{_≡_, refl, ap, sym, _∙_, subst}
 use mathlib.Core.List.{List}
 use Prim.Native.Nat.{ℕ, _+_, _-_, _*_, _/_, _<_, _≤_, min}
 use native.Mathlib.Omega.{arith}
@@ -11,22 +11,17 @@ use Rattle.tables.specs.declared.State.{State}
 use Rattle.tables.specs.State.{startOf, lenOf}
 use Rattle.tables.specs.Sound.{Stands}
 use Rattle.tables.specs.Entries.{Table}
-use Rattle.tables.specs.Rows.{rows, rows-length, Even}
-use Rattle.tables.specs.Columns.{part, heldAt, part-long, rows-take, rows-drop}
+use Rattle.tables.specs.Rows.{Cols, rows, rows-length, Even, each, each-same}
+use Rattle.tables.specs.Columns.{part, heldAt, part-long, rows-part}
 
--- six columns of entries, and two of the index
+-- the columns of entries, and two of the index
 pub record Columns : Type 0 where
-  pub x : List Float
-  pub y : List Float
-  pub seen : List ℕ
-  pub id : List ℕ
-  pub parent : List ℕ
-  pub num : List ℕ
+  pub table : Cols
   pub ids : List ℕ
   pub coords : List Float
 
-abbrev pub columns : List Float → List Float → List ℕ → List ℕ → List ℕ → List ℕ → List ℕ → List Float → Columns
-columns x y seen id parent num ids coords = record { x = x; y = y; seen = seen; id = id; parent = parent; num = num; ids = ids; coords = coords }
+abbrev pub columns : Cols → List ℕ → List Float → Columns
+columns c ids coords = record { table = c; ids = ids; coords = coords }
 
 -- how many entries the index holds: a place and two coordinates each
 abbrev pub indexRoom : List ℕ → List Float → ℕ
@@ -35,12 +30,12 @@ indexRoom ids coords = min (length ids) (length coords / 2)
 -- how many entries each of the columns holds
 abbrev pub roomOf : Columns → ℕ
 roomOf c =
-    min (min (min (length (c .x)) (length (c .y))) (min (length (c .seen)) (length (c .id))))
-    (min (min (length (c .parent)) (length (c .num))) (indexRoom (c .ids) (c .coords)))
+    min (min (min (length (c .table .x)) (length (c .table .y))) (min (length (c .table .seen)) (length (c .table .id))))
+    (min (min (length (c .table .parent)) (length (c .table .num))) (indexRoom (c .ids) (c .coords)))
 
 -- the table of zoom z, and its index: the places of the slots, and their coordinates
 abbrev pub tableAt : State → Columns → ℕ → Table
-tableAt s c z = heldAt (s .starts) (s .lens) (rows (c .x) (c .y) (c .seen) (c .id) (c .parent) (c .num)) z
+tableAt s c z = heldAt (s .starts) (s .lens) (rows (c .table)) z
 
 abbrev pub idsAt : State → List ℕ → ℕ → List ℕ
 idsAt s ids z = part (startOf s z) (lenOf s z) ids
@@ -50,14 +45,14 @@ coordsAt s coords z = part (2 * startOf s z) (2 * lenOf s z) coords
 
 -- ---- what the room says of each column
 
--- the six columns hold n entries
-pub record Held (n : ℕ) (xs ys : List Float) (ss is ps ns : List ℕ) : Type 0 where
-  pub hx : n ≤ length xs
-  pub hy : n ≤ length ys
-  pub hs : n ≤ length ss
-  pub hi : n ≤ length is
-  pub hp : n ≤ length ps
-  pub hn : n ≤ length ns
+-- the columns hold n entries
+pub record Held (n : ℕ) (c : Cols) : Type 0 where
+  pub hx : n ≤ length (c .x)
+  pub hy : n ≤ length (c .y)
+  pub hs : n ≤ length (c .seen)
+  pub hi : n ≤ length (c .id)
+  pub hp : n ≤ length (c .parent)
+  pub hn : n ≤ length (c .num)
 
 low : (a b n : ℕ) → n ≤ min a b → n ≤ a
 low a b n h = omega arith
@@ -65,7 +60,7 @@ low a b n h = omega arith
 high : (a b n : ℕ) → n ≤ min a b → n ≤ b
 high a b n h = omega arith
 
-pub held : (c : Columns) (n : ℕ) → n ≤ roomOf c → Held n (c .x) (c .y) (c .seen) (c .id) (c .parent) (c .num)
+pub held : (c : Columns) (n : ℕ) → n ≤ roomOf c → Held n (c .table)
 held c n h =
     let a = low _ _ n h in
     let xy = low _ _ n a in
@@ -73,7 +68,7 @@ held c n h =
     let pn = low _ _ n (high _ _ n h) in
     record { hx = low _ _ n xy; hy = high _ _ n xy; hs = low _ _ n si; hi = high _ _ n si; hp = low _ _ n pn; hn = high _ _ n pn }
 
-pub held-fewer : {xs ys : List Float} {ss is ps ns : List ℕ} (m n : ℕ) → m ≤ n → Held n xs ys ss is ps ns → Held m xs ys ss is ps ns
+pub held-fewer : {c : Cols} (m n : ℕ) → m ≤ n → Held n c → Held m c
 held-fewer m n l h =
     record { hx = omega arith; hy = omega arith; hs = omega arith; hi = omega arith; hp = omega arith; hn = omega arith }
 
@@ -90,21 +85,15 @@ index-held ids coords n h =
 pub part-getD : {A : Type 0} (a n : ℕ) (l : List A) (i : ℕ) (d : A) → i < n → getD (part a n l) i d ≡ getD l (a + i) d
 part-getD a n l i d h = getD-take n (drop a l) i d h ∙ getD-drop a l i d
 
-pub rows-part : (a n : ℕ) (xs ys : List Float) (ss is ps ns : List ℕ)
-    → rows (part a n xs) (part a n ys) (part a n ss) (part a n is) (part a n ps) (part a n ns) ≡ part a n (rows xs ys ss is ps ns)
-rows-part a n xs ys ss is ps ns =
-    rows-take n (drop a xs) (drop a ys) (drop a ss) (drop a is) (drop a ps) (drop a ns) ∙ ap (take n) (rows-drop a xs ys ss is ps ns)
-
-pub even-part : (a n : ℕ) (xs ys : List Float) (ss is ps ns : List ℕ) → Held (a + n) xs ys ss is ps ns
-    → Even (part a n xs) (part a n ys) (part a n ss) (part a n is) (part a n ps) (part a n ns)
-even-part a n xs ys ss is ps ns h =
-    let e = sym (part-long a n xs (h .hx)) in
+pub even-part : (a n : ℕ) (c : Cols) → Held (a + n) c → Even (each (λ A l. part a n l) c)
+even-part a n c h =
+    let e = sym (part-long a n (c .x) (h .hx)) in
     record {
-      ey = part-long a n ys (h .hy) ∙ e;
-      es = part-long a n ss (h .hs) ∙ e;
-      ei = part-long a n is (h .hi) ∙ e;
-      ep = part-long a n ps (h .hp) ∙ e;
-      en = part-long a n ns (h .hn) ∙ e;
+      ey = part-long a n (c .y) (h .hy) ∙ e;
+      es = part-long a n (c .seen) (h .hs) ∙ e;
+      ei = part-long a n (c .id) (h .hi) ∙ e;
+      ep = part-long a n (c .parent) (h .hp) ∙ e;
+      en = part-long a n (c .num) (h .hn) ∙ e;
     }
 
 -- ---- a column as it is lent, from a up to e
@@ -117,26 +106,25 @@ lent-part a n l =
     let k : a + n - a ≡ n = omega arith in
     ap (λ (m : ℕ). take m (drop a l)) k
 
-pub lent-rows : (a n : ℕ) (xs ys : List Float) (ss is ps ns : List ℕ)
-    → rows (lent a (a + n) xs) (lent a (a + n) ys) (lent a (a + n) ss) (lent a (a + n) is) (lent a (a + n) ps) (lent a (a + n) ns) ≡ part a n (rows xs ys ss is ps ns)
-lent-rows a n xs ys ss is ps ns =
-    rw (lent-part a n xs, lent-part a n ys, lent-part a n ss, lent-part a n is, lent-part a n ps, lent-part a n ns) (rows-part a n xs ys ss is ps ns)
+lent-each : (a n : ℕ) (c : Cols) → each (λ A l. lent a (a + n) l) c ≡ each (λ A l. part a n l) c
+lent-each a n c = each-same (λ A l. lent a (a + n) l) (λ A l. part a n l) c (λ A l. lent-part a n l)
 
-pub lent-even : (a n : ℕ) (xs ys : List Float) (ss is ps ns : List ℕ) → Held (a + n) xs ys ss is ps ns
-    → Even (lent a (a + n) xs) (lent a (a + n) ys) (lent a (a + n) ss) (lent a (a + n) is) (lent a (a + n) ps) (lent a (a + n) ns)
-lent-even a n xs ys ss is ps ns h =
-    rw (lent-part a n xs, lent-part a n ys, lent-part a n ss, lent-part a n is, lent-part a n ps, lent-part a n ns) (even-part a n xs ys ss is ps ns h)
+pub lent-rows : (a n : ℕ) (c : Cols) → rows (each (λ A l. lent a (a + n) l) c) ≡ part a n (rows c)
+lent-rows a n c = ap rows (lent-each a n c) ∙ rows-part a n c
+
+pub lent-even : (a n : ℕ) (c : Cols) → Held (a + n) c → Even (each (λ A l. lent a (a + n) l) c)
+lent-even a n c h = subst (λ (q : Cols). Even q) (sym (lent-each a n c)) (even-part a n c h)
 
 -- ---- of a table that stands
 
 module _ (s : State) (c : Columns) (z : ℕ) (w : Stands s (roomOf c) z) where
   pub table-length : length (tableAt s c z) ≡ lenOf s z
   table-length =
-      part-long (startOf s z) (lenOf s z) (rows (c .x) (c .y) (c .seen) (c .id) (c .parent) (c .num))
-      (rw (rows-length (c .x) (c .y) (c .seen) (c .id) (c .parent) (c .num)) (held c (startOf s z + lenOf s z) (w .ends) .hx))
+      part-long (startOf s z) (lenOf s z) (rows (c .table))
+      (rw (rows-length (c .table)) (held c (startOf s z + lenOf s z) (w .ends) .hx))
 
-  -- the six columns reach over it
-  pub table-held : Held (startOf s z + lenOf s z) (c .x) (c .y) (c .seen) (c .id) (c .parent) (c .num)
+  -- the columns reach over it
+  pub table-held : Held (startOf s z + lenOf s z) (c .table)
   table-held = held c (startOf s z + lenOf s z) (w .ends)
 
 module _ (s : State) (ids : List ℕ) (coords : List Float) (z : ℕ) (w : Stands s (indexRoom ids coords) z) where

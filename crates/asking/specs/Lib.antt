@@ -3,6 +3,7 @@ pub mod Answers
 pub mod Asked
 pub mod Filled
 pub mod Columns
+pub mod Lent
 pub mod Ids
 pub mod Reached
 pub mod Around

@@ -12,11 +12,14 @@ ghost use Rattle.kdwalk.specs.declared.Step.the-variants.{Done};
 ghost use Rattle.kdwalk.specs.Reply.{nextStep};
 ghost use Rattle.kdwalk.specs.Pages.{tailOf};
 ghost use Rattle.tables.specs.Entries.{entry};
+ghost use Rattle.lent.specs.Lent.{old, new};
 ghost use Rattle.tables.specs.Rows.{rows};
+ghost use Rattle.tables.specs.Lent.{given, lentCols};
 ghost use Rattle.tables.specs.Columns.{part};
 ghost use Rattle.tables.specs.State.{startOf, lenOf};
 ghost use Rattle.asking.specs.Answers.{answerNumber, answerCarried, fitted};
-ghost use Rattle.asking.specs.Columns.{columns, roomOf, indexRoom, Held};
+ghost use Rattle.asking.specs.Columns.{roomOf, indexRoom, Held};
+ghost use Rattle.asking.specs.Lent.{lentColumns};
 ghost use Rattle.asking.specs.Ids.{isBuilt, targetOf, onward};
 ghost use Rattle.asking.specs.Reached.{Reached};
 ghost use Rattle.asking.specs.Around.{ringOf, InRing, aheadIn};
@@ -79,7 +82,7 @@ pub fn fit(k: usize, room: usize) -> Answer
 
 // Stores p at k, if the column reaches so far.
 pub fn put_at(out: &mut [u32], k: usize, p: u32)
-    ensures { λ _. ⌜ now (out .exit) ≡ set (now (out .entry)) k p ⌝ }
+    ensures { λ _. ⌜ new out ≡ set (old out) k p ⌝ }
 {
     if k < out.len() {
         out[k] = p;
@@ -98,7 +101,7 @@ pub fn less(a: usize, b: usize) -> usize
 
 // How many entries the columns of the index hold.
 pub fn index_room(ids: &[u32], coords: &[f64]) -> usize
-    ensures { λ r. ⌜ r ≡ indexRoom (now (ids .entry)) (now (coords .entry)) ⌝ }
+    ensures { λ r. ⌜ r ≡ indexRoom (old ids) (old coords) ⌝ }
 {
     less(ids.len(), coords.len() / 2)
 }
@@ -114,7 +117,7 @@ pub fn room(
     ids: &[u32],
     coords: &[f64],
 ) -> usize
-    ensures { λ r. ⌜ r ≡ roomOf (columns (now (x .entry)) (now (y .entry)) (now (seen .entry)) (now (id .entry)) (now (parent .entry)) (now (num .entry)) (now (ids .entry)) (now (coords .entry))) ⌝ }
+    ensures { λ r. ⌜ r ≡ roomOf (lentColumns x y seen id parent num ids coords) ⌝ }
 {
     let a = less(x.len(), y.len());
     let b = less(seen.len(), id.len());
@@ -136,9 +139,8 @@ pub fn entry_in(
     num: &[u32],
     p: usize,
 ) -> Entry
-    requires { ⌜ Held (start + len) (now x) (now y) (now seen) (now id) (now parent) (now num) ⌝ }
-    requires { ⌜ p < len ⌝ }
-    ensures { λ r. ⌜ r ≡ entry (part start len (rows (now (x .entry)) (now (y .entry)) (now (seen .entry)) (now (id .entry)) (now (parent .entry)) (now (num .entry)))) p ⌝ }
+    requires { ⌜ Held (start + len) (given x y seen id parent num) × (p < len) ⌝ }
+    ensures { λ r. let c = lentCols x y seen id parent num in ⌜ r ≡ entry (part start len (rows (c .entry))) p ⌝ }
 {
     let end = start + len;
     tables::entry_at(
@@ -244,8 +246,10 @@ pub fn ring_of(
     num: &[u32],
 ) -> Ring
     requires { ⌜ Reached s cap table origin ⌝ }
-    requires { ⌜ Held cap (now x) (now y) (now seen) (now id) (now parent) (now num) ⌝ }
-    ensures { λ r. ⌜ r ≡ ringOf s (part (startOf s table) (lenOf s table) (rows (now (x .entry)) (now (y .entry)) (now (seen .entry)) (now (id .entry)) (now (parent .entry)) (now (num .entry)))) table origin ⌝ }
+    requires { ⌜ Held cap (given x y seen id parent num) ⌝ }
+    ensures { λ r.
+        let c = lentCols x y seen id parent num in
+        ⌜ r ≡ ringOf s (part (startOf s table) (lenOf s table) (rows (c .entry))) table origin ⌝ }
 {
     let o = s.options;
     let start = s.start_of(table);
@@ -265,8 +269,8 @@ pub fn ring_of(
 // The next slot of a walk over a ring that is read a page at a time. Around a place nothing is gained by looking at places ahead, so it is lent none.
 pub fn next_in(g: Ring, coords: &[f64], page: &mut [usize], p: Pages) -> Turned
     requires { ⌜ InRing g (now coords) ⌝ }
-    ensures { λ r. ⌜ r .step ≡ nextStep Done (aheadIn g (now (coords .entry)) (now (page .entry)) p) ⌝ }
-    ensures { λ r. ⌜ aheadIn g (now (coords .entry)) (now (page .exit)) (r .pages) ≡ tailOf (aheadIn g (now (coords .entry)) (now (page .entry)) p) ⌝ }
+    ensures { λ r. ⌜ r .step ≡ nextStep Done (aheadIn g (old coords) (old page) p) ⌝ }
+    ensures { λ r. ⌜ aheadIn g (old coords) (new page) (r .pages) ≡ tailOf (aheadIn g (old coords) (old page) p) ⌝ }
 {
     let from = 2 * g.start;
     let to = from + 2 * g.len;

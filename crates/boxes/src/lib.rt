@@ -9,6 +9,7 @@ ghost use mathlib.Core.Path.{_≡_};
 ghost use mathlib.Core.Bool.{true};
 ghost use Prim.Native.Nat.{_+_, _*_, _≤_};
 ghost use lib.ListN.{length};
+ghost use Rattle.lent.specs.Lent.{old, new};
 ghost use Rattle.kdslots.specs.Query.{queryOk};
 ghost use Rattle.kdbush.specs.Run.{sound, whole, filled};
 ghost use Rattle.kdbush.specs.Reply.{found, indexOk};
@@ -49,8 +50,9 @@ fn list_one(
     out: &mut [u32],
 ) -> Part
     requires { ⌜ indexOk «node_size» n (now ids) (now coords) ≡ true ⌝ }
-    ensures { λ r. ⌜ r ≡ partOf (whole n (found q «node_size» n (now (ids .entry)) (now (coords .entry)))) (length (found q «node_size» n (now (ids .entry)) (now (coords .entry)))) ⌝ }
-    ensures { λ _. ⌜ now (out .exit) ≡ filled (sound n (found q «node_size» n (now (ids .entry)) (now (coords .entry)))) (now (out .entry)) ⌝ }
+    ensures { λ r.
+        let l = found q «node_size» n (old ids) (old coords) in
+        ⌜ (r ≡ partOf (whole n l) (length l)) × (new out ≡ filled (sound n l) (old out)) ⌝ }
 {
     match kdbush::search(q, node_size, n, ids, coords, out) {
         SearchReply::Found(k) => Part::All(k),
@@ -70,8 +72,9 @@ fn list_plan(
     out: &mut [u32],
 ) -> Answer
     requires { ⌜ indexOk «node_size» n (now ids) (now coords) ≡ true ⌝ }
-    ensures { λ r. ⌜ r ≡ answerOf (walked n (planned p «node_size» n (now (ids .entry)) (now (coords .entry)))) (length (now (out .entry))) ⌝ }
-    ensures { λ _. ⌜ now (out .exit) ≡ columnOf (walked n (planned p «node_size» n (now (ids .entry)) (now (coords .entry)))) (now (out .entry)) ⌝ }
+    ensures { λ r.
+        let a = walked n (planned p «node_size» n (old ids) (old coords)) in
+        ⌜ (r ≡ answerOf a (length (old out))) × (new out ≡ columnOf a (old out)) ⌝ }
 {
     let q = p.first;
     let Part::All(k) = list_one(q, node_size, n, ids, coords, out) else {
@@ -100,8 +103,9 @@ fn list_at(
 ) -> Answer
     requires { ⌜ (start + n ≤ length (now ids)) × (2 * (start + n) ≤ length (now coords)) ⌝ }
     requires { ⌜ indexOk «node_size» n (part start n (now ids)) (part (2 * start) (2 * n) (now coords)) ≡ true ⌝ }
-    ensures { λ r. ⌜ r ≡ answerOf (walked n (planned p «node_size» n (part start n (now (ids .entry))) (part (2 * start) (2 * n) (now (coords .entry))))) (length (now (out .entry))) ⌝ }
-    ensures { λ _. ⌜ now (out .exit) ≡ columnOf (walked n (planned p «node_size» n (part start n (now (ids .entry))) (part (2 * start) (2 * n) (now (coords .entry))))) (now (out .entry)) ⌝ }
+    ensures { λ r.
+        let a = walked n (planned p «node_size» n (part start n (old ids)) (part (2 * start) (2 * n) (old coords))) in
+        ⌜ (r ≡ answerOf a (length (old out))) × (new out ≡ columnOf a (old out)) ⌝ }
 {
     let end = start + n;
     let from = 2 * start;
@@ -112,8 +116,9 @@ fn list_at(
 // The same in the table of the zoom used.
 fn list_used(p: Plan, s: State, ids: &[u32], coords: &[f64], zoom: u8, out: &mut [u32]) -> Answer
     requires { ⌜ stateOk s (indexRoom (now ids) (now coords)) ≡ true ⌝ }
-    ensures { λ r. ⌜ r ≡ answerOf (listedAt s (now (ids .entry)) (now (coords .entry)) (zoomUsed (s .options) zoom) p) (length (now (out .entry))) ⌝ }
-    ensures { λ _. ⌜ now (out .exit) ≡ columnOf (listedAt s (now (ids .entry)) (now (coords .entry)) (zoomUsed (s .options) zoom) p) (now (out .entry)) ⌝ }
+    ensures { λ r.
+        let a = listedAt s (old ids) (old coords) (zoomUsed (s .options) zoom) p in
+        ⌜ (r ≡ answerOf a (length (old out))) × (new out ≡ columnOf a (old out)) ⌝ }
 {
     let o = s.options;
     let z = o.zoom_used(zoom) as usize;
@@ -138,8 +143,9 @@ pub fn list_ring(
     radius: f64,
     out: &mut [u32],
 ) -> Answer
-    ensures { λ r. ⌜ r ≡ answerOf (ringAsked s (now (ids .entry)) (now (coords .entry)) zoom x y radius) (length (now (out .entry))) ⌝ }
-    ensures { λ _. ⌜ now (out .exit) ≡ columnOf (ringAsked s (now (ids .entry)) (now (coords .entry)) zoom x y radius) (now (out .entry)) ⌝ }
+    ensures { λ r.
+        let a = ringAsked s (old ids) (old coords) zoom x y radius in
+        ⌜ (r ≡ answerOf a (length (old out))) × (new out ≡ columnOf a (old out)) ⌝ }
 {
     if !s.is_sound(asking::index_room(ids, coords)) {
         return Answer::Spoiled;
@@ -172,8 +178,9 @@ pub fn list_box(
     n: f64,
     out: &mut [u32],
 ) -> Answer
-    ensures { λ r. ⌜ r ≡ answerOf (boxAsked s (now (ids .entry)) (now (coords .entry)) zoom w south e n) (length (now (out .entry))) ⌝ }
-    ensures { λ _. ⌜ now (out .exit) ≡ columnOf (boxAsked s (now (ids .entry)) (now (coords .entry)) zoom w south e n) (now (out .entry)) ⌝ }
+    ensures { λ r.
+        let a = boxAsked s (old ids) (old coords) zoom w south e n in
+        ⌜ (r ≡ answerOf a (length (old out))) × (new out ≡ columnOf a (old out)) ⌝ }
 {
     if !s.is_sound(asking::index_room(ids, coords)) {
         return Answer::Spoiled;

@@ -1,17 +1,15 @@
 -- The tables of a build by their numbers, from max_zoom + 1, the finest, down to min_zoom: table z as it came, before a zoom marked it, and as the build has it.
 -- Each comes of the one before by one zoom, and the build's is what that zoom left of it; the last is as it came. Assumes nothing.
 use mathlib.Core.Path.{_≡_, refl, sym, ap, ap₂, _∙_, subst}
-use mathlib.Core.List.{List, []}
+use mathlib.Core.List.{[]}
 use Prim.Native.Nat.{ℕ, zero, suc, _+_, _-_, _<_, _≤_}
 use native.Mathlib.Omega.{arith}
 use native.Mathlib.Nat.{add-suc}
-use lib.ListN.{length, getD}
-use lib.Ieee.{Float}
-use Rattle.tables.specs.declared.Options.{Options}
+use lib.ListN.{getD}
 use Rattle.tables.specs.Entries.{Table}
-use Rattle.zooms.specs.Zooms.{Plan, planOf, zoomed, run, zoomsOf}
+use Rattle.zooms.specs.Zooms.{Plan, zoomed, run, zoomsOf}
 use Rattle.supercluster.specs.Build.{tablesOf}
-use Rattle.supercluster.specs.Fill.{lamps}
+use Rattle.builds.specs.Given.{Given, minZ, maxZ, plan, tablesBy, lampsIn}
 
 -- the table that comes after j zooms, the first of them top - 1
 unfoldable pub comes : Plan → ℕ → Table → ℕ → Table
@@ -19,12 +17,12 @@ comes p top t zero = t
 comes p top t (suc j) = zoomed p (top - suc j) (comes p top t j) .next
 
 -- table z of a build as it came
-unfoldable pub came : Options → List Float → List Float → ℕ → Table
-came o xs ys z = comes (planOf o (length xs)) (o .«max_zoom» + 1) (lamps (o .«coordinate_system») xs ys) (o .«max_zoom» + 1 - z)
+unfoldable pub came : Given → ℕ → Table
+came G z = comes (plan G) (maxZ G + 1) (lampsIn G) (maxZ G + 1 - z)
 
 -- table z of a build
-unfoldable pub tableAt : Options → List Float → List Float → ℕ → Table
-tableAt o xs ys z = getD (tablesOf o xs ys) (o .«max_zoom» + 1 - z) []
+unfoldable pub tableAt : Given → ℕ → Table
+tableAt G z = getD (tablesBy G) (maxZ G + 1 - z) []
 
 -- ---- what `run` makes
 
@@ -56,47 +54,47 @@ run-last p (suc k) t =
 
 -- ---- of a build
 
-module _ (o : Options) (xs ys : List Float) where
+module _ (G : Given) where
   -- the finest came as the lamps
-  pub came-first : came o xs ys (o .«max_zoom» + 1) ≡ lamps (o .«coordinate_system») xs ys
+  pub came-first : came G (maxZ G + 1) ≡ lampsIn G
   unfolding came comes
   came-first =
-      let e : o .«max_zoom» + 1 - (o .«max_zoom» + 1) ≡ 0 = omega arith in
-      ap (comes (planOf o (length xs)) (o .«max_zoom» + 1) (lamps (o .«coordinate_system») xs ys)) e
+      let e : maxZ G + 1 - (maxZ G + 1) ≡ 0 = omega arith in
+      ap (comes (plan G) (maxZ G + 1) (lampsIn G)) e
 
   -- table z is what the zoom z made of table z + 1
-  pub came-next : (z : ℕ) → z ≤ o .«max_zoom» → came o xs ys z ≡ zoomed (planOf o (length xs)) z (came o xs ys (suc z)) .next
+  pub came-next : (z : ℕ) → z ≤ maxZ G → came G z ≡ zoomed (plan G) z (came G (suc z)) .next
   unfolding came comes
   came-next z h =
-      let p = planOf o (length xs) in
-      let top = o .«max_zoom» + 1 in
-      let F = lamps (o .«coordinate_system») xs ys in
+      let p = plan G in
+      let top = maxZ G + 1 in
+      let F = lampsIn G in
       let e : top - z ≡ suc (top - suc z) = omega arith in
       let f : top - suc (top - suc z) ≡ z = omega arith in
       ap (comes p top F) e ∙ ap (λ (w : ℕ). zoomed p w (comes p top F (top - suc z)) .next) f
 
-  module _ (w : o .«min_zoom» ≤ o .«max_zoom») where
-    top-is : o .«min_zoom» + zoomsOf o ≡ o .«max_zoom» + 1
+  module _ (w : minZ G ≤ maxZ G) where
+    top-is : minZ G + zoomsOf (G .options) ≡ maxZ G + 1
     top-is = omega arith
 
     -- table z + 1 of the build is what the zoom z left of it
-    pub table-left : (z : ℕ) → o .«min_zoom» ≤ z → z ≤ o .«max_zoom» → tableAt o xs ys (suc z) ≡ zoomed (planOf o (length xs)) z (came o xs ys (suc z)) .table
+    pub table-left : (z : ℕ) → minZ G ≤ z → z ≤ maxZ G → tableAt G (suc z) ≡ zoomed (plan G) z (came G (suc z)) .table
     unfolding tableAt tablesOf came
     table-left z h k =
-        let p = planOf o (length xs) in
-        let F = lamps (o .«coordinate_system») xs ys in
-        let j = o .«max_zoom» + 1 - suc z in
-        let e : o .«min_zoom» + zoomsOf o - suc j ≡ z = omega arith in
-        run-at p (zoomsOf o) F j (omega arith)
+        let p = plan G in
+        let F = lampsIn G in
+        let j = maxZ G + 1 - suc z in
+        let e : minZ G + zoomsOf (G .options) - suc j ≡ z = omega arith in
+        run-at p (zoomsOf (G .options)) F j (omega arith)
         ∙ ap₂ (λ (v : ℕ) (q : Table). zoomed p v q .table) e (ap (λ (v : ℕ). comes p v F j) top-is)
 
     -- the last table of the build is as it came
-    pub table-last : tableAt o xs ys (o .«min_zoom») ≡ came o xs ys (o .«min_zoom»)
+    pub table-last : tableAt G (minZ G) ≡ came G (minZ G)
     unfolding tableAt tablesOf came
     table-last =
-        let p = planOf o (length xs) in
-        let F = lamps (o .«coordinate_system») xs ys in
-        run-last p (zoomsOf o) F ∙ ap (λ (v : ℕ). comes p v F (zoomsOf o)) top-is
+        let p = plan G in
+        let F = lampsIn G in
+        run-last p (zoomsOf (G .options)) F ∙ ap (λ (v : ℕ). comes p v F (zoomsOf (G .options))) top-is
 
 -- ---- what holds of the finest, and of a table where it holds of the one before, holds of each
 

@@ -2,98 +2,100 @@
 -- cluster new. As a table came, its new entries are marked by none, and the others by the zoom that made it. Assumes nothing.
 use mathlib.Core.Path.{_≡_, sym, ap, _∙_, subst}
 use mathlib.Core.Logic.{_⊎_, inl, inr}
-use mathlib.Core.List.{List}
 use Prim.Native.Nat.{ℕ, suc, _≤_, _<_}
 use native.Mathlib.Omega.{arith}
 use native.Mathlib.Nat.{le-refl}
 use lib.ListN.{length}
-use lib.Ieee.{Float}
 use Rattle.tables.specs.Bounds.{options-are}
 use Rattle.tables.specs.declared.Entry.{Entry}
-use Rattle.tables.specs.declared.Options.{Options}
 use Rattle.tables.specs.Entries.{Table, entry, never}
 use Rattle.tables.specs.Ids.{tableOf, id-apart}
-use Rattle.supercluster.specs.Ready.{Accepted}
+use Rattle.builds.specs.Given.{Given, Accepted, points, minZ, maxZ}
 use Rattle.builds.specs.Came.{came, tableAt, table-last}
 use Rattle.builds.specs.Identities.{Known, identities, ids-distinct, id-table-suc}
 use Rattle.builds.specs.Marks.{Carried, New, marks-came}
-use Rattle.builds.specs.Same.{Same, table-same}
+use Rattle.builds.specs.Same.{Same, idOf, table-same}
 
 -- by its id, the entry is a cluster that was made in table z, in a build of n points
 abbrev pub MadeAt : ℕ → ℕ → Entry → Type 0
 MadeAt n z e = (n ≤ e .id) × (tableOf n (e .id) ≡ suc z)
 
 made-like : (n z : ℕ) (a b : Entry) → Same a b → MadeAt n z b → MadeAt n z a
-made-like n z a b s m = subst (λ (i : ℕ). (n ≤ i) × (tableOf n i ≡ suc z)) (sym (s .id)) m
+made-like n z a b s m = subst (λ (i : ℕ). (n ≤ i) × (tableOf n i ≡ suc z)) (sym (ap idOf s)) m
 
-module _ (o : Options) (xs ys : List Float) (a : Accepted o xs ys) where
+module _ (G : Given) (a : Accepted G) where
   -- what the zoom z made was made in table z
-  pub new-made : (z : ℕ) → z ≤ o .«max_zoom» → (j : ℕ) → New (length xs) z (tableAt o xs ys (suc z)) (came o xs ys z) j → MadeAt (length xs) z (entry (came o xs ys z) j)
+  pub new-made : (z : ℕ) → z ≤ maxZ G → (j : ℕ) → New (points G) z (tableAt G (suc z)) (came G z) j →
+      MadeAt (points G) z (entry (came G z) j)
   new-made z l j w =
       let e = w .id in
-      let m = options-are o (a .options) .zoom-to in
-      (omega arith, ap (tableOf (length xs)) e ∙ id-table-suc (length xs) z (w .origin) (omega arith))
+      let m = options-are (G .options) (a .options) .zoom-to in
+      (omega arith, ap (tableOf (points G)) e ∙ id-table-suc (points G) z (w .origin) (omega arith))
 
   -- what it carried was not
-  pub carried-not : (z : ℕ) → o .«min_zoom» ≤ z → z ≤ o .«max_zoom» → (j : ℕ) → Carried z (tableAt o xs ys (suc z)) (came o xs ys z) j → MadeAt (length xs) z (entry (came o xs ys z) j) → ⊥
-  carried-not z h l j c m = by (identities o xs ys a (suc z) (omega arith) (omega arith) (c .source) (c .place))
+  pub carried-not : (z : ℕ) → minZ G ≤ z → z ≤ maxZ G → (j : ℕ) → Carried z (tableAt G (suc z)) (came G z) j →
+      MadeAt (points G) z (entry (came G z) j) → ⊥
+  carried-not z h l j c m = by (identities G a (suc z) (omega arith) (omega arith) (c .source) (c .place))
     where
-      same : entry (came o xs ys z) j .id ≡ entry (tableAt o xs ys (suc z)) (c .source) .id
-      same = c .same .id
+      same : entry (came G z) j .id ≡ entry (tableAt G (suc z)) (c .source) .id
+      same = ap idOf (c .same)
 
-      by : Known o xs ys (suc z) (entry (tableAt o xs ys (suc z)) (c .source)) → ⊥
+      by : Known G (suc z) (entry (tableAt G (suc z)) (c .source)) → ⊥
       by (inl w) = let b = w .below in let e = same in let d = m .0 in omega arith
-      by (inr w) = let b = w .table-from in let e = ap (tableOf (length xs)) same in let d = m .1 in omega arith
+      by (inr w) = let b = w .table-from in let e = ap (tableOf (points G)) same in let d = m .1 in omega arith
 
   -- table z as it came: new and marked by none, or not new and marked z
-  pub marks-exact : (z : ℕ) → o .«min_zoom» ≤ z → z ≤ o .«max_zoom» → (j : ℕ) → j < length (came o xs ys z) →
-      (MadeAt (length xs) z (entry (came o xs ys z) j) × (entry (came o xs ys z) j .seen ≡ never))
-      ⊎ ((MadeAt (length xs) z (entry (came o xs ys z) j) → ⊥) × (entry (came o xs ys z) j .seen ≡ z))
-  marks-exact z h l j k = by (marks-came o xs ys a z h l j k)
+  pub marks-exact : (z : ℕ) → minZ G ≤ z → z ≤ maxZ G → (j : ℕ) → j < length (came G z) →
+      (MadeAt (points G) z (entry (came G z) j) × (entry (came G z) j .seen ≡ never))
+      ⊎ ((MadeAt (points G) z (entry (came G z) j) → ⊥) × (entry (came G z) j .seen ≡ z))
+  marks-exact z h l j k = by (marks-came G a z h l j k)
     where
-      by : Carried z (tableAt o xs ys (suc z)) (came o xs ys z) j ⊎ New (length xs) z (tableAt o xs ys (suc z)) (came o xs ys z) j →
-          (MadeAt (length xs) z (entry (came o xs ys z) j) × (entry (came o xs ys z) j .seen ≡ never))
-          ⊎ ((MadeAt (length xs) z (entry (came o xs ys z) j) → ⊥) × (entry (came o xs ys z) j .seen ≡ z))
+      by : Carried z (tableAt G (suc z)) (came G z) j ⊎ New (points G) z (tableAt G (suc z)) (came G z) j →
+          (MadeAt (points G) z (entry (came G z) j) × (entry (came G z) j .seen ≡ never))
+          ⊎ ((MadeAt (points G) z (entry (came G z) j) → ⊥) × (entry (came G z) j .seen ≡ z))
       by (inl c) = inr (carried-not z h l j c, c .seen)
       by (inr c) = inl (new-made z l j c, c .seen)
 
   -- so in the last table of the build
-  pub marks-last-exact : (j : ℕ) → j < length (tableAt o xs ys (o .«min_zoom»)) →
-      (MadeAt (length xs) (o .«min_zoom») (entry (tableAt o xs ys (o .«min_zoom»)) j) × (entry (tableAt o xs ys (o .«min_zoom»)) j .seen ≡ never))
-      ⊎ ((MadeAt (length xs) (o .«min_zoom») (entry (tableAt o xs ys (o .«min_zoom»)) j) → ⊥) × (entry (tableAt o xs ys (o .«min_zoom»)) j .seen ≡ o .«min_zoom»))
+  pub marks-last-exact : (j : ℕ) → j < length (tableAt G (minZ G)) →
+      (MadeAt (points G) (minZ G) (entry (tableAt G (minZ G)) j) × (entry (tableAt G (minZ G)) j .seen ≡ never))
+      ⊎ ((MadeAt (points G) (minZ G) (entry (tableAt G (minZ G)) j) → ⊥) × (entry (tableAt G (minZ G)) j .seen ≡ minZ G))
   marks-last-exact j k =
-      let m = o .«min_zoom» in
-      let w = options-are o (a .options) .zooms in
-      let e = table-last o xs ys w in
+      let m = minZ G in
+      let w = options-are (G .options) (a .options) .zooms in
+      let e = table-last G w in
       let v = ap length e in
-      subst (λ (t : Table). (MadeAt (length xs) m (entry t j) × (entry t j .seen ≡ never)) ⊎ ((MadeAt (length xs) m (entry t j) → ⊥) × (entry t j .seen ≡ m))) (sym e)
-      (marks-exact m (le-refl m) w j (omega arith))
+      subst (λ (t : Table). (MadeAt (points G) m (entry t j) × (entry t j .seen ≡ never)) ⊎ ((MadeAt (points G) m (entry t j) → ⊥)
+      × (entry t j .seen ≡ m))) (sym e) (marks-exact m (le-refl m) w j (omega arith))
 
   -- a cluster is new at one place of one table
-  pub made-once : (z w : ℕ) → o .«min_zoom» ≤ z → z ≤ o .«max_zoom» → w ≤ o .«max_zoom» → (j l : ℕ) → j < length (tableAt o xs ys z) → l < length (tableAt o xs ys w) →
-      MadeAt (length xs) z (entry (tableAt o xs ys z) j) → MadeAt (length xs) w (entry (tableAt o xs ys w) l) → entry (tableAt o xs ys z) j .id ≡ entry (tableAt o xs ys w) l .id →
+  pub made-once : (z w : ℕ) → minZ G ≤ z → z ≤ maxZ G → w ≤ maxZ G → (j l : ℕ) → j < length (tableAt G z) → l < length (tableAt G w) →
+      MadeAt (points G) z (entry (tableAt G z) j) → MadeAt (points G) w (entry (tableAt G w) l) →
+      entry (tableAt G z) j .id ≡ entry (tableAt G w) l .id →
       (z ≡ w) × (j ≡ l)
-  made-once z w h k m j l p q s t e = (same, ids-distinct o xs ys a z h (omega arith) j l p there at)
+  made-once z w h k m j l p q s t e = (same, ids-distinct G a z h (omega arith) j l p there at)
     where
       same : z ≡ w
-      same = let b = s .1 in let c = t .1 in let d = ap (tableOf (length xs)) e in omega arith
+      same = let b = s .1 in let c = t .1 in let d = ap (tableOf (points G)) e in omega arith
 
-      there : l < length (tableAt o xs ys z)
-      there = subst (λ (v : ℕ). l < length (tableAt o xs ys v)) (sym same) q
+      there : l < length (tableAt G z)
+      there = subst (λ (v : ℕ). l < length (tableAt G v)) (sym same) q
 
-      at : entry (tableAt o xs ys z) j .id ≡ entry (tableAt o xs ys z) l .id
-      at = e ∙ ap (λ (v : ℕ). entry (tableAt o xs ys v) l .id) (sym same)
+      at : entry (tableAt G z) j .id ≡ entry (tableAt G z) l .id
+      at = e ∙ ap (λ (v : ℕ). entry (tableAt G v) l .id) (sym same)
 
   -- the same of what two zooms made: with the same id, they are the same zoom, the same place of the next table, and the same origin
-  pub new-once : (z w : ℕ) → o .«min_zoom» ≤ z → z ≤ o .«max_zoom» → o .«min_zoom» ≤ w → w ≤ o .«max_zoom» → (j l : ℕ) → j < length (came o xs ys z) → l < length (came o xs ys w) →
-      (p : New (length xs) z (tableAt o xs ys (suc z)) (came o xs ys z) j) → (q : New (length xs) w (tableAt o xs ys (suc w)) (came o xs ys w) l) →
-      entry (came o xs ys z) j .id ≡ entry (came o xs ys w) l .id → (z ≡ w) × (j ≡ l) × (p .origin ≡ q .origin)
+  pub new-once : (z w : ℕ) → minZ G ≤ z → z ≤ maxZ G → minZ G ≤ w → w ≤ maxZ G → (j l : ℕ) → j < length (came G z) → l < length (came G w) →
+      (p : New (points G) z (tableAt G (suc z)) (came G z) j) → (q : New (points G) w (tableAt G (suc w)) (came G w) l) →
+      entry (came G z) j .id ≡ entry (came G w) l .id → (z ≡ w) × (j ≡ l) × (p .origin ≡ q .origin)
   new-once z w h k h' k' j l m n p q e =
-      let s = table-same o xs ys a z h (omega arith) in
-      let t = table-same o xs ys a w h' (omega arith) in
+      let s = table-same G a z h (omega arith) in
+      let t = table-same G a w h' (omega arith) in
       let u = s .long in
       let v = t .long in
-      let top = options-are o (a .options) .zoom-to in
-      let x = made-once z w h k k' j l (omega arith) (omega arith) (made-like (length xs) z _ _ (s .each j m) (new-made z k j p)) (made-like (length xs) w _ _ (t .each l n) (new-made w k' l q))
-      (s .each j m .id ∙ e ∙ sym (t .each l n .id)) in
-      (x .0, x .1, id-apart (length xs) z w (p .origin) (q .origin) (omega arith) (omega arith) (sym (p .id) ∙ e ∙ q .id) .0)
+      let top = options-are (G .options) (a .options) .zoom-to in
+      let x = made-once z w h k k' j l (omega arith) (omega arith)
+      (made-like (points G) z (entry (tableAt G z) j) (entry (came G z) j) (s .each j m) (new-made z k j p))
+      (made-like (points G) w (entry (tableAt G w) l) (entry (came G w) l) (t .each l n) (new-made w k' l q))
+      (ap idOf (s .each j m) ∙ e ∙ sym (ap idOf (t .each l n))) in
+      (x .0, x .1, id-apart (points G) z w (p .origin) (q .origin) (omega arith) (omega arith) (sym (p .id) ∙ e ∙ q .id) .0)

@@ -9,8 +9,7 @@ use native.Mathlib.Nat.{le-trans}
 use borrow.Author.Tests.{lt-ltb}
 use lib.Dec.{lit≤}
 use lib.ListN.{length}
-use lib.Ieee.{Float, binary64}
-use Rattle.floats.specs.Numbers.{float}
+use lib.Ieee.{Float}
 use Rattle.kdslots.specs.declared.Query.the-variants.{Within}
 use Rattle.kdslots.specs.All.{All, all-map}
 use Rattle.kdslots.specs.Members.{In, Distinct}

@@ -2,6 +2,7 @@
 use kdslots::Query;
 use kdwalk::Step;
 ghost use mathlib.Core.Path.{_≡_};
+ghost use Rattle.lent.specs.Lent.{old};
 ghost use Rattle.counting.specs.Counted.{countedOf};
 
 // How many slots are answered, or the refusal of the search.
@@ -13,7 +14,7 @@ pub enum Counted {
 
 // How many slots a query answers over any lent coordinates.
 pub fn count(q: Query, node_size: usize, n: usize, coords: &[f64]) -> Counted
-    ensures { λ r. ⌜ r ≡ countedOf q «node_size» n (now (coords .entry)) ⌝ }
+    ensures { λ r. ⌜ r ≡ countedOf q «node_size» n (old coords) ⌝ }
 {
     let mut k = 0;
     let mut cur = kdwalk::first(q, node_size, n, coords);

@@ -3,21 +3,20 @@
 -- that it holds. Definitions only.
 use mathlib.Core.Path.{_≡_}
 use mathlib.Core.Bool.{true, false}
-use mathlib.Core.List.{List}
 use Prim.Native.Nat.{ℕ}
 use lib.Ieee.{Float}
 use Rattle.range.specs.declared.CoordinateSystem.{CoordinateSystem}
 use Rattle.kdbush.specs.declared.BuildReply.the-variants.{Done}
-use Rattle.tables.specs.declared.Options.{Options}
 use Rattle.tables.specs.declared.State.{State}
 use Rattle.asking.specs.Columns.{Columns}
 use Rattle.boxplan.specs.Rule.{boxOk}
-use Rattle.supercluster.specs.Build.{Lent, loaded}
-use Rattle.answers.specs.Stored.{columnsOf}
+use Rattle.supercluster.specs.Build.{Lent}
+use Rattle.answers.specs.Stored.{columnsOf, loadedBy}
 use Rattle.spending.specs.declared.EffortReply.the-variants.{Box, Spoiled}
 use Rattle.spending.specs.Reply.{effortOf, fitted}
 use Rattle.efforts.specs.Effort.{Sought, refused, replyOf, effortAsked}
 use Rattle.efforts.specs.StatedEffort.{testsOf}
+use Rattle.builds.specs.Given.{Given}
 
 -- of one box, in a coordinate system
 pub record Answered (c : CoordinateSystem) (w s e n : Float) (x : Sought) : Type 0 where
@@ -32,6 +31,6 @@ effortAt st c zoom w s e n = effortAsked st (c .ids) (c .coords) zoom w s e n
 -- of the state that `load` replies and the columns that it leaves, where it refuses nothing; at every zoom, built or not, for every box
 abbrev pub EffortOfBuild : Type 0
 EffortOfBuild =
-    (o : Options) (xs ys : List Float) (l : Lent) → loaded o xs ys l .reply .reply ≡ Done → (zoom : ℕ) (w s e n : Float)
-    → Answered (o .«coordinate_system») w s e n
-    (effortAt (loaded o xs ys l .reply .state) (columnsOf (loaded o xs ys l .columns)) zoom w s e n)
+    (G : Given) (l : Lent) → loadedBy G l .reply .reply ≡ Done → (zoom : ℕ) (w s e n : Float)
+    → Answered (G .options .«coordinate_system») w s e n
+    (effortAt (loadedBy G l .reply .state) (columnsOf (loadedBy G l .columns)) zoom w s e n)

@@ -1,8 +1,8 @@
 -- #102 holds of every build that `load` accepts: `effort-of-build`. The box without an effort is answered whole there, and what an
 -- allowance finds begins what it lists. Assumes nothing.
-use mathlib.Core.Path.{_≡_, refl, sym, ap, _∙_, subst}
+use mathlib.Core.Path.{_≡_, refl, sym, ap, _∙_}
 use mathlib.Core.Bool.{Bool, true, false, cond}
-use mathlib.Core.List.{List, [], _++_}
+use mathlib.Core.List.{List, []}
 use Prim.Native.Nat.{ℕ}
 use native.Mathlib.Omega.{arith}
 use lib.Dec.{leb}
@@ -10,7 +10,6 @@ use lib.ListN.{length}
 use lib.Ieee.{Float}
 use Rattle.kdslots.specs.Bounds.{yes}
 use Rattle.kdbush.specs.Run.{whole}
-use Rattle.tables.specs.declared.Options.{Options}
 use Rattle.tables.specs.declared.State.{State}
 use Rattle.tables.specs.Options.{zoomUsed}
 use Rattle.tables.specs.State.{lenOf}
@@ -20,19 +19,19 @@ use Rattle.asking.specs.Columns.{indexRoom}
 use Rattle.boxplan.specs.Rule.{planOf, boxOk}
 use Rattle.boxes.specs.Lists.{walked, boxAsked}
 use Rattle.boxes.specs.Joined.{first-past}
-use Rattle.supercluster.specs.Build.{Lent, Outcome, need, checked, byReply, loaded}
-use Rattle.supercluster.specs.Load.{Holds, accepted, holds, replies}
-use Rattle.supercluster.specs.Ready.{Accepted}
-use Rattle.answers.specs.Stored.{columnsOf, stateBy, columnsBy}
+use Rattle.supercluster.specs.Build.{Lent, need}
+use Rattle.supercluster.specs.Load.{Holds}
+use Rattle.answers.specs.Stored.{stateBy, columnsBy, of-load}
 use Rattle.answers.specs.Boxed.{fits-somehow, index-sound, box-told}
 use Rattle.spending.specs.declared.Effort.{Effort}
 use Rattle.spending.specs.declared.EffortReply.the-variants.{Found, Box, NoRoom, Spoiled}
 use Rattle.spending.specs.Trials.{Mark, hits, items}
 use Rattle.spending.specs.Reply.{effortNumber, effortOf, fitted, answer}
 use Rattle.spending.specs.Promise.{items-of-all}
-use Rattle.efforts.specs.Effort.{Sought, refused, sought, replyOf, effortAsked}
+use Rattle.efforts.specs.Effort.{Sought, refused, replyOf, effortAsked}
 use Rattle.efforts.specs.StatedEffort.{testsOf}
 use Rattle.efforts.specs.Proved.{testsAt, unlimited-box}
+use Rattle.builds.specs.Given.{Given, Accepted, points}
 use Rattle.effort_answers.specs.OfBuild.{Answered, effortAt, EffortOfBuild}
 
 -- ---- of any tests, where all that they find is walked to its end
@@ -94,18 +93,14 @@ module _ (st : State) (ids : List ℕ) (co : List Float) (zoom : ℕ) (w s e n :
 
 -- ---- of every build that `load` accepts
 
-module _ (o : Options) (xs ys : List Float) (acc : Accepted o xs ys) (l : Lent) (h : Holds (need o (length xs)) l) (zoom : ℕ)
+module _ (G : Given) (acc : Accepted G) (l : Lent) (h : Holds (need (G .options) (points G)) l) (zoom : ℕ)
     (w s e n : Float) where
-  build-answered : Answered (o .«coordinate_system») w s e n (effortAt (stateBy o xs ys) (columnsBy o xs ys l) zoom w s e n)
+  build-answered : Answered (G .options .«coordinate_system») w s e n (effortAt (stateBy G) (columnsBy G l) zoom w s e n)
   build-answered =
-      answered (stateBy o xs ys) (columnsBy o xs ys l .ids) (columnsBy o xs ys l .coords) zoom w s e n (index-sound o xs ys acc l h)
-      (box-told o xs ys acc l h zoom w s e n)
+      answered (stateBy G) (columnsBy G l .ids) (columnsBy G l .coords) zoom w s e n (index-sound G acc l h)
+      (box-told G acc l h zoom w s e n)
 
 pub effort-of-build : EffortOfBuild
-unfolding loaded
-effort-of-build o xs ys l e zoom w s ea n =
-    let f = sym (replies o xs ys l (checked o xs ys l)) ∙ e in
-    let a = accepted o xs ys l f in
-    subst (λ (x : Outcome). Answered (o .«coordinate_system») w s ea n
-    (effortAt (x .reply .state) (columnsOf (x .columns)) zoom w s ea n)) (sym (ap (byReply o xs ys l) f))
-    (build-answered o xs ys (a .0) l (holds (need o (length xs)) l (a .1)) zoom w s ea n)
+effort-of-build G l d zoom w s e n =
+    of-load (λ st c. Answered (G .options .«coordinate_system») w s e n (effortAt st c zoom w s e n)) G l
+    (λ a h. build-answered G a l h zoom w s e n) d

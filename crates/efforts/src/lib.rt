@@ -8,6 +8,7 @@ ghost use mathlib.Core.Path.{_≡_};
 ghost use mathlib.Core.Bool.{true};
 ghost use Prim.Native.Nat.{_+_, _*_, _≤_};
 ghost use lib.ListN.{length};
+ghost use Rattle.lent.specs.Lent.{old, new};
 ghost use Rattle.kdbush.specs.Reply.{indexOk};
 ghost use Rattle.tables.specs.Options.{zoomUsed};
 ghost use Rattle.tables.specs.Columns.{part};
@@ -30,12 +31,9 @@ fn effort_at(
 ) -> EffortReply
     requires { ⌜ (start + n ≤ length (now ids)) × (2 * (start + n) ≤ length (now coords)) ⌝ }
     requires { ⌜ indexOk «node_size» n (part start n (now ids)) (part (2 * start) (2 * n) (now coords)) ≡ true ⌝ }
-    ensures { λ r. ⌜ r
-        ≡ answer n (trials p «node_size» n (part start n (now (ids .entry))) (part (2 * start) (2 * n) (now (coords .entry)))) allowance
-        (length (now (out .entry))) ⌝ }
-    ensures { λ _. ⌜ now (out .exit)
-        ≡ column n (trials p «node_size» n (part start n (now (ids .entry))) (part (2 * start) (2 * n) (now (coords .entry)))) allowance
-        (now (out .entry)) ⌝ }
+    ensures { λ r.
+        let t = trials p «node_size» n (part start n (old ids)) (part (2 * start) (2 * n) (old coords)) in
+        ⌜ (r ≡ answer n t allowance (length (old out))) × (new out ≡ column n t allowance (old out)) ⌝ }
 {
     let end = start + n;
     let from = 2 * start;
@@ -62,11 +60,9 @@ fn effort_used(
     out: &mut [u32],
 ) -> EffortReply
     requires { ⌜ stateOk s (indexRoom (now ids) (now coords)) ≡ true ⌝ }
-    ensures { λ r. ⌜ r
-        ≡ replyOf (soughtAt s (now (ids .entry)) (now (coords .entry)) (zoomUsed (s .options) zoom) p) allowance
-        (length (now (out .entry))) ⌝ }
-    ensures { λ _. ⌜ now (out .exit)
-        ≡ columnOf (soughtAt s (now (ids .entry)) (now (coords .entry)) (zoomUsed (s .options) zoom) p) allowance (now (out .entry)) ⌝ }
+    ensures { λ r.
+        let a = soughtAt s (old ids) (old coords) (zoomUsed (s .options) zoom) p in
+        ⌜ (r ≡ replyOf a allowance (length (old out))) × (new out ≡ columnOf a allowance (old out)) ⌝ }
 {
     let o = s.options;
     let z = o.zoom_used(zoom) as usize;
@@ -96,10 +92,9 @@ pub fn effort_box(
     allowance: usize,
     out: &mut [u32],
 ) -> EffortReply
-    ensures { λ r. ⌜ r
-        ≡ replyOf (effortAsked s (now (ids .entry)) (now (coords .entry)) zoom w south e n) allowance (length (now (out .entry))) ⌝ }
-    ensures { λ _. ⌜ now (out .exit)
-        ≡ columnOf (effortAsked s (now (ids .entry)) (now (coords .entry)) zoom w south e n) allowance (now (out .entry)) ⌝ }
+    ensures { λ r.
+        let a = effortAsked s (old ids) (old coords) zoom w south e n in
+        ⌜ (r ≡ replyOf a allowance (length (old out))) × (new out ≡ columnOf a allowance (old out)) ⌝ }
 {
     if !s.is_sound(asking::index_room(ids, coords)) {
         return EffortReply::Spoiled;

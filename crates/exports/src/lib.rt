@@ -16,10 +16,12 @@ ghost use Rattle.exports.specs.Given.{given};
 ghost use Rattle.exports.specs.Told.{said, zoomSaid, tallySaid, told, toldOf, effortTold, effortToldOf, tileTold, tileOf};
 ghost use Rattle.exports.specs.Laid.{replied, repliedOf, laid, laidOf};
 ghost use Rattle.kdbush.specs.Run.{filled};
-ghost use Rattle.supercluster.specs.Build.{lent, loaded};
+ghost use Rattle.supercluster.specs.Build.{loaded};
+ghost use Rattle.supercluster.specs.Lent.{lentAll};
 ghost use Rattle.kdsort.specs.Cols.{cols};
 ghost use Rattle.tables.specs.State.{stateOf};
-ghost use Rattle.asking.specs.Columns.{columns};
+ghost use Rattle.asking.specs.Lent.{lentColumns};
+ghost use Rattle.lent.specs.Lent.{old, new};
 ghost use Rattle.boxes.specs.Lists.{boxAsked, ringAsked};
 ghost use Rattle.efforts.specs.Effort.{effortAsked};
 ghost use Rattle.walks.specs.Children.{childrenOf};
@@ -85,9 +87,9 @@ pub extern "C" fn kdbush_build(
     coords: &mut [f64],
     carried: &mut usize,
 ) -> u32
-    ensures { λ r. ⌜ r ≡ buildNumber (checked «node_size» (now (xs .entry)) (now (ys .entry)) (cols (now (ids .entry)) (now (coords .entry)))) ⌝ }
-    ensures { λ _. ⌜ now (carried .exit) ≡ buildCarried (checked «node_size» (now (xs .entry)) (now (ys .entry)) (cols (now (ids .entry)) (now (coords .entry)))) ⌝ }
-    ensures { λ _. ⌜ cols (now (ids .exit)) (now (coords .exit)) ≡ built «node_size» (now (xs .entry)) (now (ys .entry)) (cols (now (ids .entry)) (now (coords .entry))) ⌝ }
+    ensures { λ r. ⌜ r ≡ buildNumber (checked «node_size» (old xs) (old ys) (cols (old ids) (old coords))) ⌝ }
+    ensures { λ _. ⌜ new carried ≡ buildCarried (checked «node_size» (old xs) (old ys) (cols (old ids) (old coords))) ⌝ }
+    ensures { λ _. ⌜ cols (new ids) (new coords) ≡ built «node_size» (old xs) (old ys) (cols (old ids) (old coords)) ⌝ }
 {
     let r = kdbush::build(node_size, xs, ys, ids, coords);
     *carried = r.carried();
@@ -107,9 +109,15 @@ pub extern "C" fn kdbush_range(
     out: &mut [u32],
     carried: &mut usize,
 ) -> u32
-    ensures { λ r. ⌜ r ≡ searchNumber (searched (Query.Range «min_x» «min_y» «max_x» «max_y») «node_size» n (now (ids .entry)) (now (coords .entry)) (length (now (out .entry)))) ⌝ }
-    ensures { λ _. ⌜ now (carried .exit) ≡ searchCarried (searched (Query.Range «min_x» «min_y» «max_x» «max_y») «node_size» n (now (ids .entry)) (now (coords .entry)) (length (now (out .entry)))) ⌝ }
-    ensures { λ _. ⌜ now (out .exit) ≡ columnAfter (Query.Range «min_x» «min_y» «max_x» «max_y») «node_size» n (now (ids .entry)) (now (coords .entry)) (now (out .entry)) ⌝ }
+    ensures { λ r.
+        let q = Query.Range «min_x» «min_y» «max_x» «max_y» in
+        ⌜ r ≡ searchNumber (searched q «node_size» n (old ids) (old coords) (length (old out))) ⌝ }
+    ensures { λ _.
+        let q = Query.Range «min_x» «min_y» «max_x» «max_y» in
+        ⌜ new carried ≡ searchCarried (searched q «node_size» n (old ids) (old coords) (length (old out))) ⌝ }
+    ensures { λ _.
+        let q = Query.Range «min_x» «min_y» «max_x» «max_y» in
+        ⌜ new out ≡ columnAfter q «node_size» n (old ids) (old coords) (old out) ⌝ }
 {
     let r = kdbush::range(node_size, n, ids, coords, min_x, min_y, max_x, max_y, out);
     *carried = search_carried(r);
@@ -128,9 +136,11 @@ pub extern "C" fn kdbush_within(
     out: &mut [u32],
     carried: &mut usize,
 ) -> u32
-    ensures { λ r. ⌜ r ≡ searchNumber (searched (Query.Within qx qy radius) «node_size» n (now (ids .entry)) (now (coords .entry)) (length (now (out .entry)))) ⌝ }
-    ensures { λ _. ⌜ now (carried .exit) ≡ searchCarried (searched (Query.Within qx qy radius) «node_size» n (now (ids .entry)) (now (coords .entry)) (length (now (out .entry)))) ⌝ }
-    ensures { λ _. ⌜ now (out .exit) ≡ columnAfter (Query.Within qx qy radius) «node_size» n (now (ids .entry)) (now (coords .entry)) (now (out .entry)) ⌝ }
+    ensures { λ r. ⌜ r ≡ searchNumber (searched (Query.Within qx qy radius) «node_size» n (old ids) (old coords) (length (old out))) ⌝ }
+    ensures { λ _.
+        let q = Query.Within qx qy radius in
+        ⌜ new carried ≡ searchCarried (searched q «node_size» n (old ids) (old coords) (length (old out))) ⌝ }
+    ensures { λ _. ⌜ new out ≡ columnAfter (Query.Within qx qy radius) «node_size» n (old ids) (old coords) (old out) ⌝ }
 {
     let r = kdbush::within(node_size, n, ids, coords, qx, qy, radius, out);
     *carried = search_carried(r);
@@ -148,8 +158,12 @@ pub extern "C" fn kdbush_range_first(
     max_y: f64,
     slot: &mut usize,
 ) -> u32
-    ensures { λ r. ⌜ r ≡ stepNumber (firstStep (Query.Range «min_x» «min_y» «max_x» «max_y») «node_size» n (now (coords .entry))) ⌝ }
-    ensures { λ _. ⌜ now (slot .exit) ≡ slotOf (firstStep (Query.Range «min_x» «min_y» «max_x» «max_y») «node_size» n (now (coords .entry))) ⌝ }
+    ensures { λ r.
+        let q = Query.Range «min_x» «min_y» «max_x» «max_y» in
+        ⌜ r ≡ stepNumber (firstStep q «node_size» n (old coords)) ⌝ }
+    ensures { λ _.
+        let q = Query.Range «min_x» «min_y» «max_x» «max_y» in
+        ⌜ new slot ≡ slotOf (firstStep q «node_size» n (old coords)) ⌝ }
 {
     let q = Query::Range {
         min_x,
@@ -174,8 +188,12 @@ pub extern "C" fn kdbush_range_after(
     slot: usize,
     next: &mut usize,
 ) -> u32
-    ensures { λ r. ⌜ r ≡ stepNumber (afterStep (Query.Range «min_x» «min_y» «max_x» «max_y») «node_size» n (now (coords .entry)) slot) ⌝ }
-    ensures { λ _. ⌜ now (next .exit) ≡ slotOf (afterStep (Query.Range «min_x» «min_y» «max_x» «max_y») «node_size» n (now (coords .entry)) slot) ⌝ }
+    ensures { λ r.
+        let q = Query.Range «min_x» «min_y» «max_x» «max_y» in
+        ⌜ r ≡ stepNumber (afterStep q «node_size» n (old coords) slot) ⌝ }
+    ensures { λ _.
+        let q = Query.Range «min_x» «min_y» «max_x» «max_y» in
+        ⌜ new next ≡ slotOf (afterStep q «node_size» n (old coords) slot) ⌝ }
 {
     let q = Query::Range {
         min_x,
@@ -198,8 +216,8 @@ pub extern "C" fn kdbush_within_first(
     radius: f64,
     slot: &mut usize,
 ) -> u32
-    ensures { λ r. ⌜ r ≡ stepNumber (firstStep (Query.Within qx qy radius) «node_size» n (now (coords .entry))) ⌝ }
-    ensures { λ _. ⌜ now (slot .exit) ≡ slotOf (firstStep (Query.Within qx qy radius) «node_size» n (now (coords .entry))) ⌝ }
+    ensures { λ r. ⌜ r ≡ stepNumber (firstStep (Query.Within qx qy radius) «node_size» n (old coords)) ⌝ }
+    ensures { λ _. ⌜ new slot ≡ slotOf (firstStep (Query.Within qx qy radius) «node_size» n (old coords)) ⌝ }
 {
     let s = kdwalk::first(Query::Within { qx, qy, radius }, node_size, n, coords);
     *slot = step_slot(s);
@@ -217,8 +235,8 @@ pub extern "C" fn kdbush_within_after(
     slot: usize,
     next: &mut usize,
 ) -> u32
-    ensures { λ r. ⌜ r ≡ stepNumber (afterStep (Query.Within qx qy radius) «node_size» n (now (coords .entry)) slot) ⌝ }
-    ensures { λ _. ⌜ now (next .exit) ≡ slotOf (afterStep (Query.Within qx qy radius) «node_size» n (now (coords .entry)) slot) ⌝ }
+    ensures { λ r. ⌜ r ≡ stepNumber (afterStep (Query.Within qx qy radius) «node_size» n (old coords) slot) ⌝ }
+    ensures { λ _. ⌜ new next ≡ slotOf (afterStep (Query.Within qx qy radius) «node_size» n (old coords) slot) ⌝ }
 {
     let s = kdwalk::after(Query::Within { qx, qy, radius }, node_size, n, coords, slot);
     *next = step_slot(s);
@@ -269,7 +287,7 @@ fn options(
 
 // The state of a build.
 fn state(options: Options, count: u32, starts: &[u32; 32], lens: &[u32; 32]) -> State
-    ensures { λ r. ⌜ r ≡ stateOf options count (now (starts .entry)) (now (lens .entry)) ⌝ }
+    ensures { λ r. ⌜ r ≡ stateOf options count (old starts) (old lens) ⌝ }
 {
     State {
         options,
@@ -281,7 +299,7 @@ fn state(options: Options, count: u32, starts: &[u32; 32], lens: &[u32; 32]) -> 
 
 // Writes the 32 numbers of a state, as many as fit.
 fn store(values: [u32; 32], out: &mut [u32])
-    ensures { λ _. ⌜ now (out .exit) ≡ filled values (now (out .entry)) ⌝ }
+    ensures { λ _. ⌜ new out ≡ filled values (old out) ⌝ }
 {
     let mut i = 0;
     while i < out.len() {
@@ -295,7 +313,7 @@ fn store(values: [u32; 32], out: &mut [u32])
 
 // The reply of a build, as numbers: 01's number is the answer, the rest goes behind pointers.
 fn tell(loaded: Loaded, starts: &mut [u32], lens: &mut [u32], carried: &mut usize) -> u32
-    ensures { λ r. ⌜ replied r (now (carried .exit)) (now (starts .exit)) (now (lens .exit)) ≡ repliedOf loaded (now (starts .entry)) (now (lens .entry)) ⌝ }
+    ensures { λ r. ⌜ replied r (new carried) (new starts) (new lens) ≡ repliedOf loaded (old starts) (old lens) ⌝ }
 {
     let state = loaded.state;
     let first = state.starts;
@@ -340,8 +358,12 @@ pub extern "C" fn supercluster_load(
     lens: &mut [u32],
     carried: &mut usize,
 ) -> u32
-    ensures { λ r. ⌜ laid (replied r (now (carried .exit)) (now (starts .exit)) (now (lens .exit))) (lent (now (x .exit)) (now (y .exit)) (now (seen .exit)) (now (id .exit)) (now (parent .exit)) (now (num .exit)) (now (ids .exit)) (now (coords .exit)) (now (near .exit)))
-        ≡ laidOf (loaded (given «min_zoom» «max_zoom» «min_points» radius extent «node_size» cartesian «min_x» «min_y» «max_x» «max_y» «offset_given» offset «scale_given» scale «longitude_strips_only») (now (xs .entry)) (now (ys .entry)) (lent (now (x .entry)) (now (y .entry)) (now (seen .entry)) (now (id .entry)) (now (parent .entry)) (now (num .entry)) (now (ids .entry)) (now (coords .entry)) (now (near .entry)))) (now (starts .entry)) (now (lens .entry)) ⌝ }
+    ensures { λ r.
+        let o = given «min_zoom» «max_zoom» «min_points» radius extent «node_size» cartesian «min_x» «min_y» «max_x» «max_y»
+        «offset_given» offset «scale_given» scale «longitude_strips_only» in
+        let l = lentAll x y seen id parent num ids coords near in
+        ⌜ laid (replied r (new carried) (new starts) (new lens)) (l .exit)
+        ≡ laidOf (loaded o (old xs) (old ys) (l .entry)) (old starts) (old lens) ⌝ }
 {
     let o = options(
         min_zoom,
@@ -397,10 +419,11 @@ pub extern "C" fn supercluster_box(
     out: &mut [u32],
     carried: &mut usize,
 ) -> u32
-    ensures { λ r. ⌜ told r (now (carried .exit)) (now (out .exit))
-        ≡ toldOf (boxAsked (stateOf (given «min_zoom» «max_zoom» «min_points» radius extent «node_size» cartesian «min_x» «min_y» «max_x» «max_y» «offset_given» offset «scale_given» scale «longitude_strips_only»)
-        count (now (starts .entry)) (now (lens .entry)))
-        (now (ids .entry)) (now (coords .entry)) zoom w south e n) (now (out .entry)) ⌝ }
+    ensures { λ r.
+        let o = given «min_zoom» «max_zoom» «min_points» radius extent «node_size» cartesian «min_x» «min_y» «max_x» «max_y»
+        «offset_given» offset «scale_given» scale «longitude_strips_only» in
+        let s = stateOf o count (old starts) (old lens) in
+        ⌜ told r (new carried) (new out) ≡ toldOf (boxAsked s (old ids) (old coords) zoom w south e n) (old out) ⌝ }
 {
     let o = options(
         min_zoom,
@@ -462,10 +485,12 @@ pub extern "C" fn supercluster_box_effort(
     stopped: &mut bool,
     carried: &mut usize,
 ) -> u32
-    ensures { λ r. ⌜ effortTold r (now (carried .exit)) (now (tested .exit)) (now (stopped .exit)) (now (out .exit))
-        ≡ effortToldOf (effortAsked (stateOf (given «min_zoom» «max_zoom» «min_points» radius extent «node_size» cartesian «min_x» «min_y» «max_x» «max_y» «offset_given» offset «scale_given» scale «longitude_strips_only»)
-        count (now (starts .entry)) (now (lens .entry)))
-        (now (ids .entry)) (now (coords .entry)) zoom w south e n) allowance (now (out .entry)) ⌝ }
+    ensures { λ r.
+        let o = given «min_zoom» «max_zoom» «min_points» radius extent «node_size» cartesian «min_x» «min_y» «max_x» «max_y»
+        «offset_given» offset «scale_given» scale «longitude_strips_only» in
+        let s = stateOf o count (old starts) (old lens) in
+        ⌜ effortTold r (new carried) (new tested) (new stopped) (new out)
+        ≡ effortToldOf (effortAsked s (old ids) (old coords) zoom w south e n) allowance (old out) ⌝ }
 {
     let o = options(
         min_zoom,
@@ -525,10 +550,11 @@ pub extern "C" fn supercluster_ring(
     out: &mut [u32],
     carried: &mut usize,
 ) -> u32
-    ensures { λ r. ⌜ told r (now (carried .exit)) (now (out .exit))
-        ≡ toldOf (ringAsked (stateOf (given «min_zoom» «max_zoom» «min_points» radius extent «node_size» cartesian «min_x» «min_y» «max_x» «max_y» «offset_given» offset «scale_given» scale «longitude_strips_only»)
-        count (now (starts .entry)) (now (lens .entry)))
-        (now (ids .entry)) (now (coords .entry)) zoom «ring_x» «ring_y» «ring_radius») (now (out .entry)) ⌝ }
+    ensures { λ r.
+        let o = given «min_zoom» «max_zoom» «min_points» radius extent «node_size» cartesian «min_x» «min_y» «max_x» «max_y»
+        «offset_given» offset «scale_given» scale «longitude_strips_only» in
+        let s = stateOf o count (old starts) (old lens) in
+        ⌜ told r (new carried) (new out) ≡ toldOf (ringAsked s (old ids) (old coords) zoom «ring_x» «ring_y» «ring_radius») (old out) ⌝ }
 {
     let o = options(
         min_zoom,
@@ -588,11 +614,12 @@ pub extern "C" fn supercluster_children(
     out: &mut [u32],
     carried: &mut usize,
 ) -> u32
-    ensures { λ r. ⌜ told r (now (carried .exit)) (now (out .exit))
-        ≡ toldOf (childrenOf (stateOf (given «min_zoom» «max_zoom» «min_points» radius extent «node_size» cartesian «min_x» «min_y» «max_x» «max_y» «offset_given» offset «scale_given» scale «longitude_strips_only»)
-        count (now (starts .entry)) (now (lens .entry)))
-        (columns (now (x .entry)) (now (y .entry)) (now (seen .entry)) (now (id .entry)) (now (parent .entry)) (now (num .entry)) (now (ids .entry)) (now (coords .entry)))
-        cid) (now (out .entry)) ⌝ }
+    ensures { λ r.
+        let o = given «min_zoom» «max_zoom» «min_points» radius extent «node_size» cartesian «min_x» «min_y» «max_x» «max_y»
+        «offset_given» offset «scale_given» scale «longitude_strips_only» in
+        let s = stateOf o count (old starts) (old lens) in
+        let c = lentColumns x y seen id parent num ids coords in
+        ⌜ told r (new carried) (new out) ≡ toldOf (childrenOf s c cid) (old out) ⌝ }
 {
     let o = options(
         min_zoom,
@@ -654,11 +681,12 @@ pub extern "C" fn supercluster_leaves(
     out: &mut [u32],
     carried: &mut usize,
 ) -> u32
-    ensures { λ r. ⌜ told r (now (carried .exit)) (now (out .exit))
-        ≡ toldOf (leavesOf (stateOf (given «min_zoom» «max_zoom» «min_points» radius extent «node_size» cartesian «min_x» «min_y» «max_x» «max_y» «offset_given» offset «scale_given» scale «longitude_strips_only»)
-        count (now (starts .entry)) (now (lens .entry)))
-        (columns (now (x .entry)) (now (y .entry)) (now (seen .entry)) (now (id .entry)) (now (parent .entry)) (now (num .entry)) (now (ids .entry)) (now (coords .entry)))
-        cid limit skip) (now (out .entry)) ⌝ }
+    ensures { λ r.
+        let o = given «min_zoom» «max_zoom» «min_points» radius extent «node_size» cartesian «min_x» «min_y» «max_x» «max_y»
+        «offset_given» offset «scale_given» scale «longitude_strips_only» in
+        let s = stateOf o count (old starts) (old lens) in
+        let c = lentColumns x y seen id parent num ids coords in
+        ⌜ told r (new carried) (new out) ≡ toldOf (leavesOf s c cid limit skip) (old out) ⌝ }
 {
     let o = options(
         min_zoom,
@@ -731,11 +759,12 @@ pub extern "C" fn supercluster_expansion_zoom(
     cid: u32,
     carried: &mut usize,
 ) -> u32
-    ensures { λ r. ⌜ said r (now (carried .exit))
-        ≡ zoomSaid (zoomOf (stateOf (given «min_zoom» «max_zoom» «min_points» radius extent «node_size» cartesian «min_x» «min_y» «max_x» «max_y» «offset_given» offset «scale_given» scale «longitude_strips_only»)
-        count (now (starts .entry)) (now (lens .entry)))
-        (columns (now (x .entry)) (now (y .entry)) (now (seen .entry)) (now (id .entry)) (now (parent .entry)) (now (num .entry)) (now (ids .entry)) (now (coords .entry)))
-        cid) ⌝ }
+    ensures { λ r.
+        let o = given «min_zoom» «max_zoom» «min_points» radius extent «node_size» cartesian «min_x» «min_y» «max_x» «max_y»
+        «offset_given» offset «scale_given» scale «longitude_strips_only» in
+        let s = stateOf o count (old starts) (old lens) in
+        let c = lentColumns x y seen id parent num ids coords in
+        ⌜ said r (new carried) ≡ zoomSaid (zoomOf s c cid) ⌝ }
 {
     let o = options(
         min_zoom,
@@ -799,11 +828,13 @@ pub extern "C" fn supercluster_tile(
     py: &mut [i64],
     carried: &mut usize,
 ) -> u32
-    ensures { λ r. ⌜ tileTold r (now (carried .exit)) (now (places .exit)) (now (px .exit)) (now (py .exit))
-        ≡ tileOf (tiled (stateOf (given «min_zoom» «max_zoom» «min_points» radius extent «node_size» cartesian «min_x» «min_y» «max_x» «max_y» «offset_given» offset «scale_given» scale «longitude_strips_only»)
-        count (now (starts .entry)) (now (lens .entry)))
-        (columns (now (x .entry)) (now (y .entry)) (now (seen .entry)) (now (id .entry)) (now (parent .entry)) (now (num .entry)) (now (ids .entry)) (now (coords .entry)))
-        z «tile_x» «tile_y» (now (places .entry)) (now (px .entry)) (now (py .entry))) ⌝ }
+    ensures { λ r.
+        let o = given «min_zoom» «max_zoom» «min_points» radius extent «node_size» cartesian «min_x» «min_y» «max_x» «max_y»
+        «offset_given» offset «scale_given» scale «longitude_strips_only» in
+        let s = stateOf o count (old starts) (old lens) in
+        let c = lentColumns x y seen id parent num ids coords in
+        ⌜ tileTold r (new carried) (new places) (new px) (new py)
+        ≡ tileOf (tiled s c z «tile_x» «tile_y» (old places) (old px) (old py)) ⌝ }
 {
     let o = options(
         min_zoom,
@@ -882,11 +913,12 @@ pub extern "C" fn supercluster_tally(
     tile_y: u32,
     carried: &mut usize,
 ) -> u32
-    ensures { λ r. ⌜ said r (now (carried .exit))
-        ≡ tallySaid (tallied (stateOf (given «min_zoom» «max_zoom» «min_points» radius extent «node_size» cartesian «min_x» «min_y» «max_x» «max_y» «offset_given» offset «scale_given» scale «longitude_strips_only»)
-        count (now (starts .entry)) (now (lens .entry)))
-        (columns (now (x .entry)) (now (y .entry)) (now (seen .entry)) (now (id .entry)) (now (parent .entry)) (now (num .entry)) (now (ids .entry)) (now (coords .entry)))
-        z «tile_x» «tile_y») ⌝ }
+    ensures { λ r.
+        let o = given «min_zoom» «max_zoom» «min_points» radius extent «node_size» cartesian «min_x» «min_y» «max_x» «max_y»
+        «offset_given» offset «scale_given» scale «longitude_strips_only» in
+        let s = stateOf o count (old starts) (old lens) in
+        let c = lentColumns x y seen id parent num ids coords in
+        ⌜ said r (new carried) ≡ tallySaid (tallied s c z «tile_x» «tile_y») ⌝ }
 {
     let o = options(
         min_zoom,

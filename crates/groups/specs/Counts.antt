@@ -2,13 +2,13 @@
 -- with the same counts are each other in another order. Assumes nothing.
 use mathlib.Core.Path.{_≡_, refl, sym, ap, _∙_, subst}
 use mathlib.Core.Logic.{inr, ⊎-elim}
-use mathlib.Core.List.{List, [], _∷_, _++_, map, List·Permᴰ, List·Permᴰ·nil, List·Permᴰ·cons, List·Permᴰ·trans, Permᴰ·symm, Permᴰ·middle}
+use mathlib.Core.List.{List, [], _∷_, _++_, map, List·Permᴰ, List·Permᴰ·nil, List·Permᴰ·cons, List·Permᴰ·swap, List·Permᴰ·trans, Permᴰ·symm, Permᴰ·middle}
 use Prim.Native.Nat.{ℕ, _≤_, _<_}
 use native.Mathlib.Omega.{arith}
 use lib.Dec.{eqb}
 use Rattle.kdslots.specs.All.{All, AllBelow}
 use Rattle.kdslots.specs.Members.{In, NotIn, Distinct}
-use Rattle.groups.specs.Sums.{one, hit, below, count, count-head, sum-append, range, range-in, range-out}
+use Rattle.groups.specs.Sums.{one, hit, below, sum, count, count-head, sum-append, range, range-in, range-out}
 
 -- ---- from kdslots' words to counts
 
@@ -72,7 +72,7 @@ all-counted P g (k ∷ ks) h = (h k (count-head k ks), all-counted P g ks (λ j 
 
 -- ---- the same counts are the same places in another order
 
-same-counts : (xs ys : List ℕ) → ((k : ℕ) → count k xs ≡ count k ys) → List·Permᴰ xs ys
+pub same-counts : (xs ys : List ℕ) → ((k : ℕ) → count k xs ≡ count k ys) → List·Permᴰ xs ys
 same-counts [] [] h = List·Permᴰ·nil
 same-counts [] (y ∷ ys) h = absurd (let a = h y in let b = count-head y ys in omega arith)
 same-counts (x ∷ xs) ys h = List·Permᴰ·trans (List·Permᴰ·cons refl (same-counts xs (there .0 ++ there .1) fewer)) back
@@ -90,6 +90,13 @@ same-counts (x ∷ xs) ys h = List·Permᴰ·trans (List·Permᴰ·cons refl (sa
 
     back : List·Permᴰ (x ∷ (there .0 ++ there .1)) ys
     back = subst (λ (m : List ℕ). List·Permᴰ (x ∷ (there .0 ++ there .1)) m) (sym (there .2)) (Permᴰ·symm (Permᴰ·middle x (there .0) (there .1)))
+
+-- and they add up to the same
+pub sum-permute : (f : ℕ → ℕ) {xs ys : List ℕ} → List·Permᴰ xs ys → sum f xs ≡ sum f ys
+sum-permute f List·Permᴰ·nil = refl
+sum-permute f (List·Permᴰ·cons e d) = let a = ap f e in let b = sum-permute f d in omega arith
+sum-permute f (List·Permᴰ·swap e d) = let a = ap f e in let b = ap f d in omega arith
+sum-permute f (List·Permᴰ·trans d e) = sum-permute f d ∙ sum-permute f e
 
 -- a list with each place below n once, and no other, is the places from 0 up to n in another order
 pub permutes : (n : ℕ) (l : List ℕ) → ((k : ℕ) → k < n → count k l ≡ 1) → ((k : ℕ) → n ≤ k → count k l ≡ 0) → List·Permᴰ l (range 0 n)

@@ -18,14 +18,15 @@ use Rattle.kdslots.specs.Keep.{keep}
 use Rattle.tables.specs.declared.Entry.{Entry}
 use Rattle.tables.specs.Entries.{Table, entry, none, unset, unseen, marked}
 use Rattle.tables.specs.Ids.{clusterId, id-small}
+use Rattle.zoom.specs.Lamps.{Carried}
 use Rattle.zoom.specs.Zoom.{Scan, cluster}
 use Rattle.groups.specs.Sums.{pick, not-both, one, eqb-same, below, sum, count, count-head, sum-ext, keep-ext, keep-in, range, range-in, range-out}
-use Rattle.groups.specs.Groups.{Group, copied, unseenAt, turn, weighed, without, meanOf, others, members, total, joins, groupsAt, after, around, groupsOf}
+use Rattle.groups.specs.Groups.{Group, copied, unseenAt, turn, weighed, without, meanOf, others, members, total, joins, centreAt, groupsAt, after, around, groupsOf}
 use Rattle.groups.specs.Counts.{all-counted}
 use Rattle.groups.specs.Sweeps.{inside, seen-alike}
 use Rattle.groups.specs.Run.{Run, stop, pass, acts, run, Answers, members-here, members-unseen, others-are, after-in, after-out, after-done, after-seen, members-split, length-after, run-length, frame}
 use Rattle.groups.specs.Walks.{weighed-ext}
-use Rattle.groups.specs.Literal.{answers, cluster-groups}
+use Rattle.groups.specs.Literal.{answers, centre-carries, cluster-groups}
 use Rattle.groups.specs.Once.{groups-once, groups-none}
 use Rattle.groups.specs.OneZoom.{Copied, Fits, OneZoom}
 
@@ -86,10 +87,11 @@ module _ (n least z : ℕ) (near : ℕ → List ℕ) (T : Table) (A : Answers (l
     member-as : (k : ℕ) → 0 < count k (members z near d i) → entry d k ≡ entry T k
     member-as k c = h .asT k (members-unseen z near d i k c)
 
-    nums : total z near d i ≡ sum (λ k. entry T k .num) (members z near d i)
-    nums =
-        sym (members-split n least z (length T) near A (λ k. entry d k .num) d i (h .long) u)
-        ∙ sum-ext (λ k. entry d k .num) (λ k. entry T k .num) (members z near d i) (λ k c. ap (λ (x : Entry). x .num) (member-as k c))
+    carried : (f : Entry → ℕ) → Carried f → f (centreAt n z near d i) ≡ sum (λ k. f (entry T k)) (members z near d i)
+    carried f C =
+        centre-carries n least z (length T) near A d i (h .long) u f C
+        ∙ sym (members-split n least z (length T) near A (λ k. f (entry d k)) d i (h .long) u)
+        ∙ sum-ext (λ k. f (entry d k)) (λ k. f (entry T k)) (members z near d i) (λ k c. ap f (member-as k c))
 
     lots : joins least z near d i ≡ true → (entry T i .num < total z near d i) × (least ≤ total z near d i)
     lots m =
@@ -135,7 +137,7 @@ module _ (n least z : ℕ) (near : ℕ → List ℕ) (T : Table) (A : Answers (l
         has = members-here z near d i i u ∙ A .self i at-T;
         member = member-in;
         made-id = refl;
-        made-num = nums;
+        carries = carried;
         made-x = mean (λ e. e .x);
         made-y = mean (λ e. e .y);
         made-seen = refl;

@@ -11,7 +11,7 @@ use Rattle.kdslots.specs.Keep.{keep}
 use Rattle.tables.specs.declared.Entry.{Entry}
 use Rattle.tables.specs.Entries.{Table, entry, unseen, marked, under}
 use Rattle.tables.specs.Ids.{clusterId}
-use Rattle.zoom.specs.Zoom.{absorbed, centre, enough}
+use Rattle.zoom.specs.Zoom.{numOf, absorbed, centre, enough}
 use Rattle.groups.specs.Sums.{sum, range}
 
 -- ---- groups
@@ -88,9 +88,13 @@ others z near d i = keep (unseenAt z (markedAt z i d)) (near i)
 abbrev pub members : ℕ → (ℕ → List ℕ) → Table → ℕ → List ℕ
 members z near d i = keep (unseenAt z d) (near i)
 
--- its num, and those of the others
+-- what f is of it, and of the others
+abbrev pub sumAt : (Entry → ℕ) → ℕ → (ℕ → List ℕ) → Table → ℕ → ℕ
+sumAt f z near d i = f (entry d i) + sum (λ k. f (entry d k)) (others z near d i)
+
+-- the total of their nums
 abbrev pub total : ℕ → (ℕ → List ℕ) → Table → ℕ → ℕ
-total z near d i = entry d i .num + sum (λ k. entry d k .num) (others z near d i)
+total z near d i = sumAt numOf z near d i
 
 -- a cluster is made
 abbrev pub joins : ℕ → ℕ → (ℕ → List ℕ) → Table → ℕ → Bool

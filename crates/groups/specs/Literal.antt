@@ -4,7 +4,7 @@ use mathlib.Core.Path.{_≡_, refl, sym, ap, ap₂, _∙_, subst}
 use mathlib.Core.Logic.{⊎-elim}
 use mathlib.Core.List.{List, [], _∷_, _++_, map, append-assoc, append-nil}
 use mathlib.Core.Bool.{Bool, true, false}
-use Prim.Native.Nat.{ℕ, zero, suc, _<_}
+use Prim.Native.Nat.{ℕ, zero, suc, _+_, _<_}
 use native.Mathlib.Omega.{arith}
 use native.Mathlib.Nat.{le-refl}
 use borrow.Author.Tests.{ltb-true, ltb-false, le-ltb}
@@ -17,10 +17,11 @@ use Rattle.tables.specs.declared.Entry.{Entry}
 use Rattle.tables.specs.Entries.{Table, entry, none, marked, under}
 use Rattle.tables.specs.Ids.{clusterId}
 use Rattle.zoom.specs.Steps.{totalOf, visit-made, visit-left, scan-seen, scan-visit}
-use Rattle.zoom.specs.Zoom.{absorbed, absorb, started, centre, Scan, made, enough, visit, scanOne, scanFrom, cluster}
-use Rattle.groups.specs.Sums.{hit, sum, sum-ext, range}
-use Rattle.groups.specs.Counts.{distinct-count, in-count}
-use Rattle.groups.specs.Groups.{Group, copied, entryOf, unseenAt, markedAt, took, turn, change, sweep, others, total, joins, weighed, groupsAt, after, turning, groupsFrom, around, groupsOf}
+use Rattle.zoom.specs.Lamps.{Carried}
+use Rattle.zoom.specs.Zoom.{numOf, moreOf, Absorbed, absorbed, absorb, started, centre, Scan, made, enough, visit, scanOne, scanFrom, cluster}
+use Rattle.groups.specs.Sums.{hit, sum-ext, range}
+use Rattle.groups.specs.Counts.{distinct-count, in-count, count-distinct}
+use Rattle.groups.specs.Groups.{Group, copied, entryOf, unseenAt, markedAt, took, turn, change, sweep, others, sumAt, total, joins, weighed, centreAt, groupsAt, after, turning, groupsFrom, around, groupsOf}
 use Rattle.groups.specs.Sweeps.{inside, seen-alike, turn-seen, length-sweep, sweep-seen, sweep-local, sweep-field}
 use Rattle.groups.specs.Run.{Answers, length-after}
 use Rattle.groups.specs.Walks.{map-ext, more-is, absorb-table, weighed-ext, absorb-sums, copiesOf, copy-is}
@@ -104,13 +105,19 @@ module _ (n least z len : ℕ) (near : ℕ → List ℕ) (A : Answers len near) 
   own : entry (markedAt z i d) i ≡ marked z (entry d i)
   own = getD-set-same d i (marked z (entry d i)) none at-i
 
-  total-is : totalOf z (near i) i (markedAt z i d) ≡ total z near d i
-  total-is =
-      let a = more-is z (markedAt z i d) (near i) in
-      let b : entry (markedAt z i d) i .num ≡ entry d i .num = ap (λ (e : Entry). e .num) own in
-      let c : sum (λ k. entry (markedAt z i d) k .num) (others z near d i) ≡ sum (λ k. entry d k .num) (others z near d i) =
-      sum-ext (λ k. entry (markedAt z i d) k .num) (λ k. entry d k .num) (others z near d i) (λ k w. ap (λ (e : Entry). e .num) (marked-like z i d k at-i)) in
+  -- a number that a mark leaves, of the place and of its unseen answers
+  more-at : (f : Entry → ℕ) → ((e : Entry) (q : ℕ) → f (marked q e) ≡ f e) →
+      f (entry (markedAt z i d) i) + moreOf f z (markedAt z i d) (near i) ≡ sumAt f z near d i
+  more-at f same =
+      let like : (k : ℕ) → f (entry (markedAt z i d) k) ≡ f (entry d k) =
+      λ k. sym (same (entry (markedAt z i d) k) z) ∙ ap f (marked-like z i d k at-i) ∙ same (entry d k) z in
+      let a = more-is f z (markedAt z i d) (near i) in
+      let b = like i in
+      let c = sum-ext (λ k. f (entry (markedAt z i d) k)) (λ k. f (entry d k)) (others z near d i) (λ k w. like k) in
       omega arith
+
+  total-is : totalOf z (near i) i (markedAt z i d) ≡ total z near d i
+  total-is = more-at numOf (λ e q. refl)
 
   parent-last : set (sweep z (took z (clusterId n z i)) (near i) (markedAt z i d)) i (under (clusterId n z i) (entry (sweep z (took z (clusterId n z i)) (near i) (markedAt z i d)) i))
       ≡ after n z near true d i
@@ -121,15 +128,33 @@ module _ (n least z len : ℕ) (near : ℕ → List ℕ) (A : Answers len near) 
       weighed-ext c (markedAt z i d) d (others z near d i) w
       (λ k h. (sym (same (entry (markedAt z i d) k)) ∙ ap c (marked-like z i d k at-i) ∙ same (entry d k), ap (λ (e : Entry). e .num) (marked-like z i d k at-i)))
 
-  made-is : (nx : Table) → made i (absorb z (clusterId n z i) (started (markedAt z i d) (marked z (entry d i))) (near i)) nx (clusterId n z i) (total z near d i)
-      ≡ scanAfter n z near true d i nx
-  made-is nx =
+  -- what the answers are absorbed to, and the entry of the cluster
+  abbrev grown : Absorbed
+  grown = absorb z (clusterId n z i) (started (markedAt z i d) (marked z (entry d i))) (near i)
+
+  centre-is : centre grown (clusterId n z i) (total z near d i) ≡ centreAt n z near d i
+  centre-is =
       let p = clusterId n z i in
       let s = started (markedAt z i d) (marked z (entry d i)) in
       let a = absorb-sums z p s (near i) (λ j. A .single i j i<len) in
+      ap₂ (λ (a b : Float). centre (absorbed d a b) p (total z near d i)) (a .0 ∙ sum-is (λ e. e .x) (λ e. refl) (s .sx))
+      (a .1 ∙ sum-is (λ e. e .y) (λ e. refl) (s .sy))
+
+  -- what the cluster carries: the sum of what the place and the others do
+  pub centre-carries : (f : Entry → ℕ) → Carried f → f (centreAt n z near d i) ≡ sumAt f z near d i
+  centre-carries f C =
+      let p = clusterId n z i in
+      let M = markedAt z i d in
+      let whole : centre (absorb z p (started M (entry M i)) (near i)) p (totalOf z (near i) i M) ≡ centreAt n z near d i =
+      ap₂ (λ (w : Entry) (t : ℕ). centre (absorb z p (started M w) (near i)) p t) own total-is ∙ centre-is in
+      sym (ap f whole) ∙ C .sums z p i (near i) M (count-distinct (near i) (λ j. A .single i j i<len)) ∙ more-at f (C .marks)
+
+  made-is : (nx : Table) → made i grown nx (clusterId n z i) (total z near d i) ≡ scanAfter n z near true d i nx
+  made-is nx =
+      let p = clusterId n z i in
+      let s = started (markedAt z i d) (marked z (entry d i)) in
       ap₂ (λ (a : Table) (e : Entry). record { table = a; next = nx ++ (e ∷ []) })
-      (ap (λ (w : Table). set w i (under p (entry w i))) (absorb-table z p s (near i)) ∙ parent-last)
-      (ap₂ (λ (a b : Float). centre (absorbed d a b) p (total z near d i)) (a .0 ∙ sum-is (λ e. e .x) (λ e. refl) (s .sx)) (a .1 ∙ sum-is (λ e. e .y) (λ e. refl) (s .sy)))
+      (ap (λ (w : Table). set w i (under p (entry w i))) (absorb-table z p s (near i)) ∙ parent-last) centre-is
 
   left-is : (nx : Table) → copiesOf z (record { table = markedAt z i d; next = nx ++ (marked z (entry d i) ∷ []) }) (near i) ≡ scanAfter n z near false d i nx
   left-is nx =

@@ -13,9 +13,10 @@ use Rattle.kdslots.specs.Keep.{keep}
 use Rattle.tables.specs.declared.Entry.{Entry}
 use Rattle.tables.specs.Entries.{Table, entry, never, unset, marked}
 use Rattle.tables.specs.Ids.{clusterId}
+use Rattle.zoom.specs.Lamps.{Carried}
 use Rattle.groups.specs.Sums.{one, below, sum, count, sum-append, range}
 use Rattle.groups.specs.Counts.{count-distinct, count-below, permutes}
-use Rattle.groups.specs.Groups.{Group, copied, joined, from, froms, took, without, meanOf}
+use Rattle.groups.specs.Groups.{Group, copied, joined, entryOf, from, froms, took, without, meanOf}
 
 -- ---- what the groups are. n is the number of points, least is min_points, z the zoom, `near i` the places answered around i, T the table, T' the table afterwards
 
@@ -34,7 +35,8 @@ module _ (n least z : ℕ) (near : ℕ → List ℕ) (T : Table) where
     pub member : (k : ℕ) → 0 < count k ks → k < length T
     -- the fields of the entry
     pub made-id : e .id ≡ clusterId n z i
-    pub made-num : e .num ≡ sum (λ k. entry T k .num) ks
+    -- what entries carry is added up over the members, so its num is the sum of theirs
+    pub carries : (f : Entry → ℕ) → Carried f → f e ≡ sum (λ k. f (entry T k)) ks
     pub made-x : e .x ≡ meanOf (λ e. e .x) T i (without i ks) (e .num)
     pub made-y : e .y ≡ meanOf (λ e. e .y) T i (without i ks) (e .num)
     pub made-seen : e .seen ≡ never
@@ -58,6 +60,12 @@ module _ (n least z : ℕ) (near : ℕ → List ℕ) (T : Table) where
     pub once : (k : ℕ) → k < length T → count k (froms gs) ≡ 1
     pub none : (k : ℕ) → length T ≤ k → count k (froms gs) ≡ 0
     pub fit : All (Fits T') gs
+
+-- what the entry of a group carries is the sum of what the places that it stands for do
+pub fits-carry : (n least z : ℕ) (near : ℕ → List ℕ) (T T' : Table) (f : Entry → ℕ) → Carried f → (g : Group) → Fits n least z near T T' g
+    → f (entryOf g) ≡ sum (λ k. f (entry T k)) (from g)
+fits-carry n least z near T T' f C (copied k e) w = let a = ap f (w .same) in let b = C .marks (entry T k) z in omega arith
+fits-carry n least z near T T' f C (joined i ks e) w = w .carries f C
 
 -- the ids of the clusters that were made
 abbrev pub madeIds : List Group → List ℕ

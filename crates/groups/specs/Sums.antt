@@ -19,15 +19,14 @@ pick false = inr refl
 pub not-both : (b : Bool) → b ≡ true → b ≡ false → ⊥
 not-both b p q = let z : _≡_ {A = ℕ} 0 1 = cc in omega arith
 
--- 1 where a test is true
-abbrev pub one : Bool → ℕ
-one true = 1
-one false = 0
-
 -- n where a test is true
 abbrev pub gate : Bool → ℕ → ℕ
 gate true n = n
 gate false n = 0
+
+-- 1 where a test is true
+abbrev pub one : Bool → ℕ
+one b = gate b 1
 
 pub eqb-same : (n : ℕ) → eqb n n ≡ true
 eqb-same n = eq-eqb n n refl
@@ -82,6 +81,11 @@ sum-put : (f : ℕ → ℕ) (b : Bool) (x : ℕ) (r : List ℕ) → sum f (put b
 sum-put f true x r = refl
 sum-put f false x r = omega arith
 
+-- f of those that pass, added up
+pub sum-keep : (f : ℕ → ℕ) (p : ℕ → Bool) (xs : List ℕ) → sum f (keep p xs) ≡ sum (λ x. gate (p x) (f x)) xs
+sum-keep f p [] = refl
+sum-keep f p (x ∷ xs) = let a = sum-put f (p x) x (keep p xs) in let b = sum-keep f p xs in omega arith
+
 gate-hit : (p : ℕ → Bool) (k x : ℕ) → gate (p x) (one (eqb k x)) ≡ gate (p k) (one (eqb k x))
 gate-hit p k x = go (hit k x)
   where
@@ -99,7 +103,7 @@ gate-add : (b : Bool) (m n : ℕ) → gate b m + gate b n ≡ gate b (m + n)
 gate-add true m n = refl
 gate-add false m n = refl
 
-gate-zero : (b : Bool) → gate b 0 ≡ 0
+pub gate-zero : (b : Bool) → gate b 0 ≡ 0
 gate-zero true = refl
 gate-zero false = refl
 

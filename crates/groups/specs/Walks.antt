@@ -12,7 +12,8 @@ use Rattle.floats.specs.Numbers.{float}
 use Rattle.kdslots.specs.Keep.{put, keep}
 use Rattle.tables.specs.declared.Entry.{Entry}
 use Rattle.tables.specs.Entries.{Table, entry, none, marked}
-use Rattle.zoom.specs.Zoom.{more, Absorbed, absorbed, absorbOne, absorb, Scan, copyOne, copyAll}
+use Rattle.zoom.specs.Steps.{joined, copiedOne}
+use Rattle.zoom.specs.Zoom.{moreOf, Absorbed, absorbOne, absorb, Scan, copyOne, copyAll}
 use Rattle.groups.specs.Sums.{one, eqb-same, sum, count, count-head, keep-ext, keep-in}
 use Rattle.groups.specs.Groups.{unseenAt, took, change, sweep, weighed}
 
@@ -32,14 +33,15 @@ pub map-ext : {A : Type 0} (f g : ℕ → A) (ks : List ℕ) → ((k : ℕ) → 
 map-ext f g [] h = refl
 map-ext {A} f g (k ∷ ks) h = ap₂ (λ (a : A) (l : List A). a ∷ l) (h k (count-head k ks)) (map-ext f g ks (λ j l. h j (omega arith)))
 
--- ---- the total
+-- ---- what the unseen carry
 
-pub more-is : (z : ℕ) (d : Table) (ks : List ℕ) → more z d ks ≡ sum (λ k. entry d k .num) (keep (unseenAt z d) ks)
-unfolding more
-more-is z d [] = refl
-more-is z d (k ∷ ks) = go (unseenAt z d k) (more-is z d ks)
+pub more-is : (f : Entry → ℕ) (z : ℕ) (d : Table) (ks : List ℕ) → moreOf f z d ks ≡ sum (λ k. f (entry d k)) (keep (unseenAt z d) ks)
+unfolding moreOf
+more-is f z d [] = refl
+more-is f z d (k ∷ ks) = go (unseenAt z d k) (more-is f z d ks)
   where
-    go : (b : Bool) → more z d ks ≡ sum (λ k. entry d k .num) (keep (unseenAt z d) ks) → cond b (entry d k .num) 0 + more z d ks ≡ sum (λ k. entry d k .num) (put b k (keep (unseenAt z d) ks))
+    go : (b : Bool) → moreOf f z d ks ≡ sum (λ k. f (entry d k)) (keep (unseenAt z d) ks)
+        → cond b (f (entry d k)) 0 + moreOf f z d ks ≡ sum (λ k. f (entry d k)) (put b k (keep (unseenAt z d) ks))
     go true h = omega arith
     go false h = omega arith
 
@@ -47,11 +49,7 @@ more-is z d (k ∷ ks) = go (unseenAt z d k) (more-is z d ks)
 
 -- one neighbour, where b says whether it is unseen
 abbrev absorbBy : Bool → ℕ → ℕ → Absorbed → ℕ → Absorbed
-absorbBy b z p s k =
-    cond b
-    (absorbed (set (s .table) k (took z p (entry (s .table) k))) (add binary64 (s .sx) (mul binary64 (entry (s .table) k .x) (float (entry (s .table) k .num))))
-    (add binary64 (s .sy) (mul binary64 (entry (s .table) k .y) (float (entry (s .table) k .num)))))
-    s
+absorbBy b z p s k = cond b (joined z p s k) s
 
 pub absorb-table : (z p : ℕ) (s : Absorbed) (ks : List ℕ) → absorb z p s ks .table ≡ sweep z (took z p) ks (s .table)
 unfolding absorb absorbOne
@@ -104,7 +102,7 @@ absorb-sums z p s (k ∷ ks) h = go (λ u. absorb-sums z p u ks (λ j. let a = h
 
 -- one neighbour, where b says whether it is unseen
 abbrev copyBy : Bool → ℕ → Scan → ℕ → Scan
-copyBy b z s k = cond b (record { table = set (s .table) k (marked z (entry (s .table) k)); next = s .next ++ (marked z (entry (s .table) k) ∷ []) }) s
+copyBy b z s k = cond b (copiedOne z s k) s
 
 -- the unseen in order, marked in the table, and their copies at the end of the next one
 abbrev pub copiesOf : ℕ → Scan → List ℕ → Scan

@@ -5,6 +5,7 @@ ghost use mathlib.Core.Path.{_≡_};
 ghost use mathlib.Core.List.{[], _∷_};
 ghost use Prim.Native.Nat.{_+_, _-_, _*_, _^_, _≤_, _<_};
 ghost use lib.ListN.{length};
+ghost use Rattle.lent.specs.Lent.{old, new};
 ghost use Rattle.kdsort.specs.Cols.{cols};
 ghost use Rattle.kdsort.specs.Shape.{shape};
 ghost use Rattle.kdslots.specs.Slots.{over, when, scanned, slots};
@@ -85,7 +86,7 @@ fn put(
     out: &mut [u32],
 ) -> Found
     requires { ⌜ (2 * i + 1 < length (now coords)) × (i < length (now ids)) × (at + 1 < 2 ^ 64) ⌝ }
-    ensures { λ r. ⌜ ran r (now (out .exit)) ≡ run n at (places (now (ids .entry)) (when (over q (now (coords .entry)) .test i) (i ∷ []))) (now (out .entry)) ⌝ }
+    ensures { λ r. ⌜ ran r (new out) ≡ run n at (places (old ids) (when (over q (old coords) .test i) (i ∷ []))) (old out) ⌝ }
 {
     if !kdslots::test_at(q, coords, i) {
         return Found::All(at);
@@ -113,7 +114,7 @@ fn scan(
     out: &mut [u32],
 ) -> Found
     requires { ⌜ (2 * hi ≤ length (now coords)) × (hi ≤ length (now ids)) × (at + (hi - lo) < 2 ^ 64) ⌝ }
-    ensures { λ r. ⌜ ran r (now (out .exit)) ≡ run n at (places (now (ids .entry)) (scanned (over q (now (coords .entry))) lo (hi - lo))) (now (out .entry)) ⌝ }
+    ensures { λ r. ⌜ ran r (new out) ≡ run n at (places (old ids) (scanned (over q (old coords)) lo (hi - lo))) (old out) ⌝ }
 {
     let mut k = at;
     let mut i = lo;
@@ -141,7 +142,7 @@ fn part(
     out: &mut [u32],
 ) -> Found
     requires { ⌜ (2 * hi ≤ length (now coords)) × (hi ≤ length (now ids)) × (lo ≤ hi) × (axis < 2) × (at + (hi - lo) < 2 ^ 64) ⌝ }
-    ensures { λ r. ⌜ ran r (now (out .exit)) ≡ run n at (places (now (ids .entry)) (slots (over q (now (coords .entry))) axis (shape most lo hi))) (now (out .entry)) ⌝ }
+    ensures { λ r. ⌜ ran r (new out) ≡ run n at (places (old ids) (slots (over q (old coords)) axis (shape most lo hi))) (old out) ⌝ }
 {
     if hi - lo <= most {
         return scan(q, ids, coords, n, lo, hi, at, out);
@@ -167,7 +168,7 @@ fn part(
 // The first point outside [0,1] or no number.
 fn first_outside(xs: &[f64], ys: &[f64]) -> Outside
     requires { ⌜ length (now ys) ≡ length (now xs) ⌝ }
-    ensures { λ r. ⌜ r ≡ firstOutside (now (xs .entry)) (now (ys .entry)) 0 ⌝ }
+    ensures { λ r. ⌜ r ≡ firstOutside (old xs) (old ys) 0 ⌝ }
 {
     let mut i = 0;
     while i < xs.len() {
@@ -190,8 +191,8 @@ pub fn build(
     ids: &mut [u32],
     coords: &mut [f64],
 ) -> BuildReply
-    ensures { λ r. ⌜ r ≡ checked «node_size» (now (xs .entry)) (now (ys .entry)) (cols (now (ids .entry)) (now (coords .entry))) ⌝ }
-    ensures { λ _. ⌜ cols (now (ids .exit)) (now (coords .exit)) ≡ built «node_size» (now (xs .entry)) (now (ys .entry)) (cols (now (ids .entry)) (now (coords .entry))) ⌝ }
+    ensures { λ r. ⌜ r ≡ checked «node_size» (old xs) (old ys) (cols (old ids) (old coords)) ⌝ }
+    ensures { λ _. ⌜ cols (new ids) (new coords) ≡ built «node_size» (old xs) (old ys) (cols (old ids) (old coords)) ⌝ }
 {
     if !kdslots::node_size_ok(node_size) {
         return BuildReply::Options;
@@ -225,8 +226,8 @@ pub fn search(
     coords: &[f64],
     out: &mut [u32],
 ) -> SearchReply
-    ensures { λ r. ⌜ r ≡ listed q «node_size» n (now (ids .entry)) (now (coords .entry)) (length (now (out .entry))) ⌝ }
-    ensures { λ _. ⌜ now (out .exit) ≡ listedColumn q «node_size» n (now (ids .entry)) (now (coords .entry)) (now (out .entry)) ⌝ }
+    ensures { λ r. ⌜ r ≡ listed q «node_size» n (old ids) (old coords) (length (old out)) ⌝ }
+    ensures { λ _. ⌜ new out ≡ listedColumn q «node_size» n (old ids) (old coords) (old out) ⌝ }
 {
     if !kdslots::coords_ok(node_size, n, coords.len()) {
         return SearchReply::Spoiled;
@@ -253,8 +254,8 @@ fn search_finite(
     coords: &[f64],
     out: &mut [u32],
 ) -> SearchReply
-    ensures { λ r. ⌜ r ≡ searched q «node_size» n (now (ids .entry)) (now (coords .entry)) (length (now (out .entry))) ⌝ }
-    ensures { λ _. ⌜ now (out .exit) ≡ columnAfter q «node_size» n (now (ids .entry)) (now (coords .entry)) (now (out .entry)) ⌝ }
+    ensures { λ r. ⌜ r ≡ searched q «node_size» n (old ids) (old coords) (length (old out)) ⌝ }
+    ensures { λ _. ⌜ new out ≡ columnAfter q «node_size» n (old ids) (old coords) (old out) ⌝ }
 {
     if kdslots::query_ok(q) {
         return search(q, node_size, n, ids, coords, out);
@@ -280,8 +281,8 @@ pub fn range(
     max_y: f64,
     out: &mut [u32],
 ) -> SearchReply
-    ensures { λ r. ⌜ r ≡ searched (Query.Range «min_x» «min_y» «max_x» «max_y») «node_size» n (now (ids .entry)) (now (coords .entry)) (length (now (out .entry))) ⌝ }
-    ensures { λ _. ⌜ now (out .exit) ≡ columnAfter (Query.Range «min_x» «min_y» «max_x» «max_y») «node_size» n (now (ids .entry)) (now (coords .entry)) (now (out .entry)) ⌝ }
+    ensures { λ r. ⌜ r ≡ searched (Query.Range «min_x» «min_y» «max_x» «max_y») «node_size» n (old ids) (old coords) (length (old out)) ⌝ }
+    ensures { λ _. ⌜ new out ≡ columnAfter (Query.Range «min_x» «min_y» «max_x» «max_y») «node_size» n (old ids) (old coords) (old out) ⌝ }
 {
     let q = Query::Range {
         min_x,
@@ -303,8 +304,8 @@ pub fn within(
     radius: f64,
     out: &mut [u32],
 ) -> SearchReply
-    ensures { λ r. ⌜ r ≡ searched (Query.Within qx qy radius) «node_size» n (now (ids .entry)) (now (coords .entry)) (length (now (out .entry))) ⌝ }
-    ensures { λ _. ⌜ now (out .exit) ≡ columnAfter (Query.Within qx qy radius) «node_size» n (now (ids .entry)) (now (coords .entry)) (now (out .entry)) ⌝ }
+    ensures { λ r. ⌜ r ≡ searched (Query.Within qx qy radius) «node_size» n (old ids) (old coords) (length (old out)) ⌝ }
+    ensures { λ _. ⌜ new out ≡ columnAfter (Query.Within qx qy radius) «node_size» n (old ids) (old coords) (old out) ⌝ }
 {
     let q = Query::Within { qx, qy, radius };
     search_finite(q, node_size, n, ids, coords, out)

@@ -3,6 +3,7 @@
 ghost use mathlib.Core.Path.{_≡_};
 ghost use Prim.Native.Nat.{_+_, _*_, _≤_, _<_};
 ghost use lib.ListN.{length};
+ghost use Rattle.lent.specs.Lent.{old};
 ghost use Rattle.kdsort.specs.Shape.{shape};
 ghost use Rattle.kdslots.specs.Query.{passesQ, queryOk};
 ghost use Rattle.kdslots.specs.Slots.{over, slots};
@@ -53,7 +54,7 @@ fn passes(q: Query, x: f64, y: f64) -> bool
 // Whether the slot i is answered.
 pub fn test_at(q: Query, coords: &[f64], i: usize) -> bool
     requires { ⌜ 2 * i + 1 < length (now coords) ⌝ }
-    ensures { λ r. ⌜ r ≡ over q (now (coords .entry)) .test i ⌝ }
+    ensures { λ r. ⌜ r ≡ over q (old coords) .test i ⌝ }
 {
     passes(q, coords[2 * i], coords[2 * i + 1])
 }
@@ -61,7 +62,7 @@ pub fn test_at(q: Query, coords: &[f64], i: usize) -> bool
 // Whether the part left of the median m is searched.
 pub fn left_at(q: Query, coords: &[f64], axis: usize, m: usize) -> bool
     requires { ⌜ (2 * m + 1 < length (now coords)) × (axis < 2) ⌝ }
-    ensures { λ r. ⌜ r ≡ over q (now (coords .entry)) .left axis m ⌝ }
+    ensures { λ r. ⌜ r ≡ over q (old coords) .left axis m ⌝ }
 {
     let v = coords[2 * m + axis];
     match q {
@@ -86,7 +87,7 @@ pub fn left_at(q: Query, coords: &[f64], axis: usize, m: usize) -> bool
 // Whether the part right of the median m is searched.
 pub fn right_at(q: Query, coords: &[f64], axis: usize, m: usize) -> bool
     requires { ⌜ (2 * m + 1 < length (now coords)) × (axis < 2) ⌝ }
-    ensures { λ r. ⌜ r ≡ over q (now (coords .entry)) .right axis m ⌝ }
+    ensures { λ r. ⌜ r ≡ over q (old coords) .right axis m ⌝ }
 {
     let v = coords[2 * m + axis];
     match q {
@@ -111,7 +112,7 @@ pub fn right_at(q: Query, coords: &[f64], axis: usize, m: usize) -> bool
 // An interval that answers what v answers: while it has more than `stop` slots and only one side is searched, the rest is left out. No median is answered there.
 fn narrow_to(q: Query, coords: &[f64], stop: usize, v: Interval) -> Interval
     requires { ⌜ (2 * v .hi ≤ length (now coords)) × (v .lo ≤ v .hi) × (v .axis < 2) ⌝ }
-    ensures { λ r. ⌜ Alike (over q (now (coords .entry))) stop (r .axis) (r .lo) (r .hi) (v .axis) (v .lo) (v .hi) ⌝ }
+    ensures { λ r. ⌜ Alike (over q (old coords)) stop (r .axis) (r .lo) (r .hi) (v .axis) (v .lo) (v .hi) ⌝ }
     ensures { λ r. ⌜ (r .lo ≤ r .hi) × (r .hi ≤ v .hi) × (r .axis < 2) ⌝ }
 {
     let mut lo = v.lo;
@@ -286,7 +287,7 @@ fn look_ahead(
 // An interval that has all that is answered of the slots below n.
 pub fn narrow(q: Query, coords: &[f64], most: usize, n: usize) -> Interval
     requires { ⌜ 2 * n ≤ length (now coords) ⌝ }
-    ensures { λ r. ⌜ slots (over q (now (coords .entry))) (r .axis) (shape most (r .lo) (r .hi)) ≡ slots (over q (now (coords .entry))) 0 (shape most 0 n) ⌝ }
+    ensures { λ r. ⌜ slots (over q (old coords)) (r .axis) (shape most (r .lo) (r .hi)) ≡ slots (over q (old coords)) 0 (shape most 0 n) ⌝ }
     ensures { λ r. ⌜ (r .lo ≤ r .hi) × (r .hi ≤ n) × (r .axis < 2) ⌝ }
 {
     let all = Interval {
@@ -302,7 +303,7 @@ pub fn narrow(q: Query, coords: &[f64], most: usize, n: usize) -> Interval
 // narrowed, which changes no answer; and no slot of a built index has no number.
 pub fn narrow_ahead(q: Query, ids: &[u32], coords: &[f64], most: usize, n: usize) -> Interval
     requires { ⌜ 2 * n ≤ length (now coords) ⌝ }
-    ensures { λ r. ⌜ slots (over q (now (coords .entry))) (r .axis) (shape most (r .lo) (r .hi)) ≡ slots (over q (now (coords .entry))) 0 (shape most 0 n) ⌝ }
+    ensures { λ r. ⌜ slots (over q (old coords)) (r .axis) (shape most (r .lo) (r .hi)) ≡ slots (over q (old coords)) 0 (shape most 0 n) ⌝ }
     ensures { λ r. ⌜ (r .lo ≤ r .hi) × (r .hi ≤ n) × (r .axis < 2) ⌝ }
 {
     if n <= 131072 {

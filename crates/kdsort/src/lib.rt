@@ -4,6 +4,7 @@
 ghost use mathlib.Core.Path.{_≡_};
 ghost use Prim.Native.Nat.{_+_, _-_, _*_, _≤_, _<_};
 ghost use lib.ListN.{length};
+ghost use Rattle.lent.specs.Lent.{old, new};
 ghost use Rattle.kdsort.specs.Cols.{cols, swapItem};
 ghost use Rattle.kdsort.specs.Shape.{shape};
 ghost use Rattle.kdsort.specs.Select.{cut, parted, selected};
@@ -14,7 +15,7 @@ ghost use Rattle.kdsort.specs.Batches.{entry, Ups, Downs, Slots, exchang
 // Exchanges the slots i and j.
 fn swap_item(ids: &mut [u32], coords: &mut [f64], i: usize, j: usize)
     requires { ⌜ (i < length (now ids)) × (j < length (now ids)) × (2 * i + 1 < length (now coords)) × (2 * j + 1 < length (now coords)) ⌝ }
-    ensures { λ _. ⌜ cols (now (ids .exit)) (now (coords .exit)) ≡ swapItem (cols (now (ids .entry)) (now (coords .entry))) i j ⌝ }
+    ensures { λ _. ⌜ cols (new ids) (new coords) ≡ swapItem (cols (old ids) (old coords)) i j ⌝ }
 {
     let a = ids[i];
     ids[i] = ids[j];
@@ -48,7 +49,7 @@ fn stops_up(
     t: f64,
 ) -> usize
     requires { ⌜ (2 * (from + len) ≤ length (now coords)) × (len < length (now found)) × (axis < 2) ⌝ }
-    ensures { λ r. ⌜ Ups axis t (now (coords .entry)) from (from + len) (entry (now (found .exit))) r ⌝ }
+    ensures { λ r. ⌜ Ups axis t (old coords) from (from + len) (entry (new found)) r ⌝ }
 {
     let end = from + len;
     let mut n = 0;
@@ -72,7 +73,7 @@ fn stops_down(
     t: f64,
 ) -> usize
     requires { ⌜ (2 * from + 1 < length (now coords)) × (len ≤ from) × (len < length (now found)) × (axis < 2) ⌝ }
-    ensures { λ r. ⌜ Downs axis t (now (coords .entry)) from (from - len) (entry (now (found .exit))) r ⌝ }
+    ensures { λ r. ⌜ Downs axis t (old coords) from (from - len) (entry (new found)) r ⌝ }
 {
     let end = from - len;
     let mut n = 0;
@@ -89,7 +90,7 @@ fn stops_down(
 // Exchanges the slots of two lists, the first with the first, the second with the second, and so on.
 fn exchange(ids: &mut [u32], coords: &mut [f64], ups: &[usize], downs: &[usize], count: usize)
     requires { ⌜ (count ≤ length (now ups)) × (count ≤ length (now downs)) × Slots (entry (now ups)) (entry (now downs)) count (length (now ids)) (length (now coords)) ⌝ }
-    ensures { λ _. ⌜ cols (now (ids .exit)) (now (coords .exit)) ≡ exchanged (cols (now (ids .entry)) (now (coords .entry))) (entry (now (ups .entry))) (entry (now (downs .entry))) count ⌝ }
+    ensures { λ _. ⌜ cols (new ids) (new coords) ≡ exchanged (cols (old ids) (old coords)) (entry (old ups)) (entry (old downs)) count ⌝ }
 {
     let mut k = 0;
     while k < count {
@@ -112,7 +113,7 @@ fn lesser(m: usize, n: usize) -> usize
 // written down first and then exchanged in pairs. Answers where the scans go on.
 fn batch(ids: &mut [u32], coords: &mut [f64], i: usize, j: usize, axis: usize, t: f64) -> Ends
     requires { ⌜ (i ≤ j + 1) × (j < length (now ids)) × (2 * j + 1 < length (now coords)) × (axis < 2) ⌝ }
-    ensures { λ r. ⌜ Nearer axis t (cols (now (ids .entry)) (now (coords .entry))) (cols (now (ids .exit)) (now (coords .exit))) i j (r .up) (r .down) ⌝ }
+    ensures { λ r. ⌜ Nearer axis t (cols (old ids) (old coords)) (cols (new ids) (new coords)) i j (r .up) (r .down) ⌝ }
 {
     if j < i + 32 {
         return Ends { up: i, down: j };
@@ -140,7 +141,7 @@ fn partition(
     axis: usize,
 ) -> usize
     requires { ⌜ Here k left right axis (length (now ids)) (length (now coords)) ⌝ }
-    ensures { λ r. ⌜ cut (cols (now (ids .exit)) (now (coords .exit))) r ≡ parted axis k (cols (now (ids .entry)) (now (coords .entry))) left right ⌝ }
+    ensures { λ r. ⌜ cut (cols (new ids) (new coords)) r ≡ parted axis k (cols (old ids) (old coords)) left right ⌝ }
     ensures { λ r. ⌜ (left ≤ r) × (r ≤ right) ⌝ }
 {
     let t = coords[2 * k + axis];
@@ -182,7 +183,7 @@ fn partition(
 fn select(ids: &mut [u32], coords: &mut [f64], k: usize, first: usize, last: usize, axis: usize)
     requires { ⌜ Room (cols (now ids) (now coords)) first last axis ⌝ }
     requires { ⌜ (first ≤ k) × (k ≤ last) × (1 ≤ k) ⌝ }
-    ensures { λ _. ⌜ cols (now (ids .exit)) (now (coords .exit)) ≡ selected axis k (cols (now (ids .entry)) (now (coords .entry))) first last ⌝ }
+    ensures { λ _. ⌜ cols (new ids) (new coords) ≡ selected axis k (cols (old ids) (old coords)) first last ⌝ }
 {
     let mut left = first;
     let mut right = last;
@@ -200,7 +201,7 @@ fn select(ids: &mut [u32], coords: &mut [f64], k: usize, first: usize, last: usi
 // Sorts the slots from lo up to hi into the order of the tree: an interval of more than `most` slots is split at its middle, and each side on the other axis.
 fn sort(ids: &mut [u32], coords: &mut [f64], most: usize, lo: usize, hi: usize, axis: usize)
     requires { ⌜ (lo ≤ hi) × (hi ≤ length (now ids)) × (2 * hi ≤ length (now coords)) × (axis < 2) × (2 ≤ most) ⌝ }
-    ensures { λ _. ⌜ cols (now (ids .exit)) (now (coords .exit)) ≡ sorted axis lo hi (shape most lo hi) (cols (now (ids .entry)) (now (coords .entry))) ⌝ }
+    ensures { λ _. ⌜ cols (new ids) (new coords) ≡ sorted axis lo hi (shape most lo hi) (cols (old ids) (old coords)) ⌝ }
 {
     if hi - lo <= most {
         return;
@@ -215,7 +216,7 @@ fn sort(ids: &mut [u32], coords: &mut [f64], most: usize, lo: usize, hi: usize, 
 pub fn build_index(node_size: usize, xs: &[f64], ys: &[f64], ids: &mut [u32], coords: &mut [f64])
     requires { ⌜ (1 ≤ length (now xs)) × (length (now xs) ≤ 1048576) × (length (now ys) ≡ length (now xs)) ⌝ }
     requires { ⌜ (length (now xs) ≤ length (now ids)) × (2 * length (now xs) ≤ length (now coords)) × (1 ≤ «node_size») × («node_size» ≤ 65535) ⌝ }
-    ensures { λ _. ⌜ cols (now (ids .exit)) (now (coords .exit)) ≡ indexed «node_size» (now (xs .entry)) (now (ys .entry)) (cols (now (ids .entry)) (now (coords .entry))) ⌝ }
+    ensures { λ _. ⌜ cols (new ids) (new coords) ≡ indexed «node_size» (old xs) (old ys) (cols (old ids) (old coords)) ⌝ }
 {
     let n = xs.len();
     let mut i = 0;

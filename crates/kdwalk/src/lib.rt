@@ -4,6 +4,7 @@ use kdslots::Query;
 ghost use mathlib.Core.Path.{_≡_};
 ghost use Prim.Native.Nat.{_+_, _-_, _*_, _≤_, _<_};
 ghost use lib.ListN.{length};
+ghost use Rattle.lent.specs.Lent.{old, new};
 ghost use Rattle.kdsort.specs.Shape.{shape};
 ghost use Rattle.kdslots.specs.Slots.{over, when, scanned, slots, below};
 ghost use Rattle.kdwalk.specs.Cursor.{headOf, rest, leafEnd};
@@ -49,7 +50,7 @@ enum Next {
 // The first slot from `from` up to hi that is answered.
 fn first_from(q: Query, coords: &[f64], from: usize, hi: usize) -> Next
     requires { ⌜ 2 * hi ≤ length (now coords) ⌝ }
-    ensures { λ r. ⌜ r ≡ headOf (scanned (over q (now (coords .entry))) from (hi - from)) ⌝ }
+    ensures { λ r. ⌜ r ≡ headOf (scanned (over q (old coords)) from (hi - from)) ⌝ }
 {
     let mut i = from;
     while i < hi {
@@ -64,7 +65,7 @@ fn first_from(q: Query, coords: &[f64], from: usize, hi: usize) -> Next
 // The first slot that is answered from lo up to hi.
 fn first_in(q: Query, coords: &[f64], most: usize, lo: usize, hi: usize, axis: usize) -> Next
     requires { ⌜ (2 * hi ≤ length (now coords)) × (lo ≤ hi) × (axis < 2) ⌝ }
-    ensures { λ r. ⌜ r ≡ headOf (slots (over q (now (coords .entry))) axis (shape most lo hi)) ⌝ }
+    ensures { λ r. ⌜ r ≡ headOf (slots (over q (old coords)) axis (shape most lo hi)) ⌝ }
 {
     if hi - lo <= most {
         return first_from(q, coords, lo, hi);
@@ -79,7 +80,7 @@ fn first_in(q: Query, coords: &[f64], most: usize, lo: usize, hi: usize, axis: u
 // The first slot that is answered in the parts of an interval that is split: the right part, then the left.
 fn first_below(q: Query, coords: &[f64], most: usize, lo: usize, hi: usize, axis: usize) -> Next
     requires { ⌜ (2 * hi ≤ length (now coords)) × (lo < hi) × (axis < 2) ⌝ }
-    ensures { λ r. ⌜ r ≡ headOf (below (over q (now (coords .entry))) axis most lo hi) ⌝ }
+    ensures { λ r. ⌜ r ≡ headOf (below (over q (old coords)) axis most lo hi) ⌝ }
 {
     let m = lo + (hi - lo - 1) / 2;
     if kdslots::right_at(q, coords, axis, m) {
@@ -93,7 +94,7 @@ fn first_below(q: Query, coords: &[f64], most: usize, lo: usize, hi: usize, axis
 // The first slot that is answered in the part left of the median m.
 fn first_left(q: Query, coords: &[f64], most: usize, lo: usize, m: usize, axis: usize) -> Next
     requires { ⌜ (2 * m + 1 < length (now coords)) × (lo ≤ m) × (axis < 2) ⌝ }
-    ensures { λ r. ⌜ r ≡ headOf (when (over q (now (coords .entry)) .left axis m) (slots (over q (now (coords .entry))) (1 - axis) (shape most lo m))) ⌝ }
+    ensures { λ r. ⌜ r ≡ headOf (when (over q (old coords) .left axis m) (slots (over q (old coords)) (1 - axis) (shape most lo m))) ⌝ }
 {
     if kdslots::left_at(q, coords, axis, m) {
         return first_in(q, coords, most, lo, m, 1 - axis);
@@ -133,7 +134,7 @@ fn next_in(
     c: usize,
 ) -> Next
     requires { ⌜ (2 * hi ≤ length (now coords)) × (lo ≤ c) × (c < hi) × (axis < 2) ⌝ }
-    ensures { λ r. ⌜ r ≡ headOf (rest (over q (now (coords .entry))) axis (shape most lo hi) c) ⌝ }
+    ensures { λ r. ⌜ r ≡ headOf (rest (over q (old coords)) axis (shape most lo hi) c) ⌝ }
 {
     if hi - lo <= most {
         return first_from(q, coords, c + 1, hi);
@@ -153,7 +154,7 @@ fn next_in(
 
 // The first slot that a query answers.
 pub fn first(q: Query, node_size: usize, n: usize, coords: &[f64]) -> Step
-    ensures { λ r. ⌜ r ≡ firstStep q «node_size» n (now (coords .entry)) ⌝ }
+    ensures { λ r. ⌜ r ≡ firstStep q «node_size» n (old coords) ⌝ }
 {
     if !kdslots::coords_ok(node_size, n, coords.len()) {
         return Step::Spoiled;
@@ -170,7 +171,7 @@ pub fn first(q: Query, node_size: usize, n: usize, coords: &[f64]) -> Step
 
 // The slot that a query answers after the slot c.
 pub fn after(q: Query, node_size: usize, n: usize, coords: &[f64], c: usize) -> Step
-    ensures { λ r. ⌜ r ≡ afterStep q «node_size» n (now (coords .entry)) c ⌝ }
+    ensures { λ r. ⌜ r ≡ afterStep q «node_size» n (old coords) c ⌝ }
 {
     if !kdslots::coords_ok(node_size, n, coords.len()) {
         return Step::Spoiled;
@@ -230,7 +231,7 @@ fn stepped(s: Step) -> Turned
 
 // The next slot of a walk whose page is read, by the cursor.
 fn lone(q: Query, node_size: usize, n: usize, coords: &[f64], from: Onward, last: usize) -> Turned
-    ensures { λ r. ⌜ r ≡ loneOf (onwardOf q «node_size» n (now (coords .entry)) from last) ⌝ }
+    ensures { λ r. ⌜ r ≡ loneOf (onwardOf q «node_size» n (old coords) from last) ⌝ }
 {
     match from {
         Onward::Start => stepped(first(q, node_size, n, coords)),
@@ -249,7 +250,7 @@ fn fill_from(
     page: &mut [usize],
 ) -> usize
     requires { ⌜ 2 * hi ≤ length (now coords) ⌝ }
-    ensures { λ r. ⌜ stored r (now (page .exit)) ≡ store at (scanned (over q (now (coords .entry))) from (hi - from)) (now (page .entry)) ⌝ }
+    ensures { λ r. ⌜ stored r (new page) ≡ store at (scanned (over q (old coords)) from (hi - from)) (old page) ⌝ }
 {
     let mut k = at;
     let mut i = from;
@@ -280,7 +281,7 @@ fn fill_in(
     page: &mut [usize],
 ) -> usize
     requires { ⌜ (2 * hi ≤ length (now coords)) × (lo ≤ hi) × (axis < 2) ⌝ }
-    ensures { λ r. ⌜ stored r (now (page .exit)) ≡ store at (slots (over q (now (coords .entry))) axis (shape most lo hi)) (now (page .entry)) ⌝ }
+    ensures { λ r. ⌜ stored r (new page) ≡ store at (slots (over q (old coords)) axis (shape most lo hi)) (old page) ⌝ }
 {
     if page.len() <= at {
         return at;
@@ -308,7 +309,7 @@ fn fill_below(
     page: &mut [usize],
 ) -> usize
     requires { ⌜ (2 * hi ≤ length (now coords)) × (lo < hi) × (axis < 2) ⌝ }
-    ensures { λ r. ⌜ stored r (now (page .exit)) ≡ store at (below (over q (now (coords .entry))) axis most lo hi) (now (page .entry)) ⌝ }
+    ensures { λ r. ⌜ stored r (new page) ≡ store at (below (over q (old coords)) axis most lo hi) (old page) ⌝ }
 {
     let m = lo + (hi - lo - 1) / 2;
     if kdslots::right_at(q, coords, axis, m) {
@@ -330,7 +331,7 @@ fn fill_left(
     page: &mut [usize],
 ) -> usize
     requires { ⌜ (2 * m + 1 < length (now coords)) × (lo ≤ m) × (axis < 2) ⌝ }
-    ensures { λ r. ⌜ stored r (now (page .exit)) ≡ store at (when (over q (now (coords .entry)) .left axis m) (slots (over q (now (coords .entry))) (1 - axis) (shape most lo m))) (now (page .entry)) ⌝ }
+    ensures { λ r. ⌜ stored r (new page) ≡ store at (when (over q (old coords) .left axis m) (slots (over q (old coords)) (1 - axis) (shape most lo m))) (old page) ⌝ }
 {
     if kdslots::left_at(q, coords, axis, m) {
         return fill_in(q, coords, most, lo, m, 1 - axis, at, page);
@@ -350,7 +351,7 @@ fn fill_rest(
     page: &mut [usize],
 ) -> usize
     requires { ⌜ (2 * hi ≤ length (now coords)) × (lo ≤ c) × (c < hi) × (axis < 2) ⌝ }
-    ensures { λ r. ⌜ stored r (now (page .exit)) ≡ store 0 (rest (over q (now (coords .entry))) axis (shape most lo hi) c) (now (page .entry)) ⌝ }
+    ensures { λ r. ⌜ stored r (new page) ≡ store 0 (rest (over q (old coords)) axis (shape most lo hi) c) (old page) ⌝ }
 {
     if hi - lo <= most {
         return fill_from(q, coords, c + 1, hi, 0, page);
@@ -377,7 +378,7 @@ fn fill_page(
     last: usize,
     page: &mut [usize],
 ) -> usize
-    ensures { λ r. ⌜ stored r (now (page .exit)) ≡ store 0 (onwardOf q «node_size» n (now (coords .entry)) from last) (now (page .entry)) ⌝ }
+    ensures { λ r. ⌜ stored r (new page) ≡ store 0 (onwardOf q «node_size» n (old coords) from last) (old page) ⌝ }
 {
     if !kdslots::coords_ok(node_size, n, coords.len()) {
         return 0;
@@ -414,8 +415,8 @@ fn turn(
     from: Onward,
     last: usize,
 ) -> Turned
-    ensures { λ r. ⌜ r .step ≡ nextStep Step.Done (onwardOf q «node_size» n (now (coords .entry)) from last) ⌝ }
-    ensures { λ r. ⌜ aheadOf q «node_size» n (now (coords .entry)) (now (page .exit)) (r .pages) ≡ tailOf (onwardOf q «node_size» n (now (coords .entry)) from last) ⌝ }
+    ensures { λ r. ⌜ r .step ≡ nextStep Step.Done (onwardOf q «node_size» n (old coords) from last) ⌝ }
+    ensures { λ r. ⌜ aheadOf q «node_size» n (old coords) (new page) (r .pages) ≡ tailOf (onwardOf q «node_size» n (old coords) from last) ⌝ }
 {
     if let Onward::Nothing = from {
         return stepped(Step::Done);
@@ -462,8 +463,8 @@ pub fn next_slot(
     page: &mut [usize],
     p: Pages,
 ) -> Turned
-    ensures { λ r. ⌜ r .step ≡ nextStep Step.Done (aheadOf q «node_size» n (now (coords .entry)) (now (page .entry)) p) ⌝ }
-    ensures { λ r. ⌜ aheadOf q «node_size» n (now (coords .entry)) (now (page .exit)) (r .pages) ≡ tailOf (aheadOf q «node_size» n (now (coords .entry)) (now (page .entry)) p) ⌝ }
+    ensures { λ r. ⌜ r .step ≡ nextStep Step.Done (aheadOf q «node_size» n (old coords) (old page) p) ⌝ }
+    ensures { λ r. ⌜ aheadOf q «node_size» n (old coords) (new page) (r .pages) ≡ tailOf (aheadOf q «node_size» n (old coords) (old page) p) ⌝ }
 {
     let at = p.at;
     let onward = p.onward;

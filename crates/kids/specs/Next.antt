@@ -1,8 +1,10 @@
--- The children of a cluster one at a time: what is ahead of a walk is searched for the next child, and after it lie the children that follow. Assumes nothing.
+-- The children of a cluster one at a time: what is ahead of a walk is searched for the next child, and after it lie the children that
+-- follow. Assumes nothing.
 use mathlib.Core.Bool.{Bool, true, false}
 use mathlib.Core.Path.{_≡_, refl, sym, ap, subst, _∙_}
 use mathlib.Core.List.{List, [], _∷_}
 use Prim.Native.Nat.{ℕ, _+_, _*_, _<_, _≤_}
+use native.Mathlib.Nat.{le-trans}
 use native.Mathlib.Omega.{arith}
 use borrow.Author.Tests.{lt-ltb, le-ltb, eq-eqb, ne-eqb, ltb-true}
 use lib.Dec.{ltb, eqb}
@@ -14,12 +16,11 @@ use Rattle.kdbush.specs.Run.{places, sound, whole, filled}
 use Rattle.kdslots.specs.Members.{no-nil}
 use Rattle.tables.specs.declared.Entry.{Entry}
 use Rattle.tables.specs.declared.State.{State}
-use Rattle.tables.specs.State.{startOf, lenOf}
 use Rattle.tables.specs.Entries.{Table, entry}
 use Rattle.tables.specs.Rows.{rows}
 use Rattle.tables.specs.Columns.{part}
 use Rattle.asking.specs.declared.Ring.{Ring}
-use Rattle.asking.specs.Columns.{Columns, roomOf, tableAt, Held, held, held-fewer, room-index, index-held}
+use Rattle.asking.specs.Columns.{Columns, roomOf, tableAt, room-index, index-held}
 use Rattle.asking.specs.Reached.{Reached, near}
 use Rattle.asking.specs.Around.{ringOf, slotsOf, aheadIn}
 use Rattle.kids.specs.declared.Child.{Child}
@@ -30,32 +31,21 @@ use Rattle.kids.specs.Kids.{kidsOf, kidsAt, cleanAt, kidsReply}
 
 -- ---- the columns that a walk is lent
 
--- the columns hold n entries, and so does the index
-pub record Lent (n : ℕ) (c : Columns) : Type 0 where
-  pub entries : Held n (c .x) (c .y) (c .seen) (c .id) (c .parent) (c .num)
-  pub places : n ≤ length (c .ids)
-  pub coords : 2 * n ≤ length (c .coords)
-
-pub lent : (c : Columns) (n : ℕ) → n ≤ roomOf c → Lent n c
-lent c n h =
-    let i = index-held (c .ids) (c .coords) n (room-index c n h) in
-    record { entries = held c n h; places = i .0; coords = i .1 }
-
-pub lent-fewer : {c : Columns} (m n : ℕ) → m ≤ n → Lent n c → Lent m c
-lent-fewer m n h l = record { entries = held-fewer m n h (l .entries); places = omega (arith, l .places); coords = omega (arith, l .coords) }
+-- the index holds as many entries as there is room for
+pub index-room : (c : Columns) (n : ℕ) → n ≤ roomOf c → (n ≤ length (c .ids)) × (2 * n ≤ length (c .coords))
+index-room c n h = index-held (c .ids) (c .coords) n (room-index c n h)
 
 -- they reach over the table of a place that was reached
-pub lent-ring : (s : State) (c : Columns) (cap z o : ℕ) (g : Ring) → Reached s cap z o → Lent cap c → g ≡ ringOf s (tableAt s c z) z o → Lent (g .start + g .len) c
-lent-ring s c cap z o g r l e =
-    let m : startOf s z + lenOf s z ≤ cap = near r .ends in
-    let w : Lent (startOf s z + lenOf s z) c = lent-fewer _ cap m l in
-    subst (λ (h : Ring). Lent (h .start + h .len) c) (sym e) w
+pub ring-room : (s : State) (c : Columns) (cap z o : ℕ) (g : Ring) → Reached s cap z o → cap ≤ roomOf c → g ≡ ringOf s (tableAt s c z) z o
+    → g .start + g .len ≤ roomOf c
+ring-room s c cap z o g r h e =
+    subst (λ (q : Ring). q .start + q .len ≤ roomOf c) (sym e) (le-trans (near r .ends) h)
 
 -- ---- a ring's table, and its children
 
 -- the table of a ring, and the places of its slots
 abbrev pub tableIn : Ring → Columns → Table
-tableIn g c = part (g .start) (g .len) (rows (c .x) (c .y) (c .seen) (c .id) (c .parent) (c .num))
+tableIn g c = part (g .start) (g .len) (rows (c .table))
 
 abbrev pub idsIn : Ring → Columns → List ℕ
 idsIn g c = part (g .start) (g .len) (c .ids)
@@ -67,6 +57,12 @@ kidsIn g c id is = kidsOf (tableIn g c) id (sound (g .len) (places (idsIn g c) i
 abbrev pub cleanIn : Ring → Columns → List ℕ → Bool
 cleanIn g c is = whole (g .len) (places (idsIn g c) is)
 
+-- all children of the ring are listed: the reply is r, and where out was stands out'
+abbrev pub Listed : Ring → Columns → ℕ → List ℕ → Kids → List ℕ → Type 0
+Listed g c id out r out' =
+    let l = slotsOf g (c .coords) in
+    (r ≡ kidsReply (cleanIn g c l) (length (kidsIn g c id l))) × (out' ≡ filled (kidsIn g c id l) out)
+
 -- those of the ring around an entry are the children around it
 module _ (s : State) (c : Columns) (z o : ℕ) (g : Ring) (e : g ≡ ringOf s (tableAt s c z) z o) where
   pub kids-around : (id : ℕ) → kidsIn g c id (slotsOf g (c .coords)) ≡ kidsAt s c id z o
@@ -77,15 +73,11 @@ module _ (s : State) (c : Columns) (z o : ℕ) (g : Ring) (e : g ≡ ringOf s (t
   unfolding cleanAt
   clean-around = ap (λ (h : Ring). cleanIn h c (slotsOf h (c .coords))) e
 
-  -- a reply on the ring is one on them, and so is the column
-  pub reply-around : (id : ℕ) (r : Kids) → r ≡ kidsReply (cleanIn g c (slotsOf g (c .coords))) (length (kidsIn g c id (slotsOf g (c .coords))))
-      → r ≡ kidsReply (cleanAt s c z o) (length (kidsAt s c id z o))
-  reply-around id r w =
-      w ∙ ap (λ (b : Bool). kidsReply b (length (kidsIn g c id (slotsOf g (c .coords))))) clean-around
-      ∙ ap (λ (l : List ℕ). kidsReply (cleanAt s c z o) (length l)) (kids-around id)
-
-  pub column-around : (id : ℕ) (out out' : List ℕ) → out' ≡ filled (kidsIn g c id (slotsOf g (c .coords))) out → out' ≡ filled (kidsAt s c id z o) out
-  column-around id out out' f = f ∙ ap (λ (l : List ℕ). filled l out) (kids-around id)
+  -- and what is listed of the ring is listed of them
+  pub listed-around : (id : ℕ) (out : List ℕ) (r : Kids) (out' : List ℕ) → Listed g c id out r out'
+      → (r ≡ kidsReply (cleanAt s c z o) (length (kidsAt s c id z o))) × (out' ≡ filled (kidsAt s c id z o) out)
+  unfolding kidsAt cleanAt
+  listed-around id out r out' = subst (λ (h : Ring). Listed h c id out r out') e
 
 -- a child is a place of the table
 pub kids-below : (t : Table) (id n : ℕ) (ps : List ℕ) (p : ℕ) (l : List ℕ) → kidsOf t id (sound n ps) ≡ p ∷ l → p < n
@@ -110,8 +102,8 @@ pub spoiled-is : (b : Bool) (n : ℕ) → Kids·Spoiled ≡ kidsReply b n → b 
 spoiled-is true n e = let z : _≡_ {A = ℕ} 0 1 = cc in absurd (omega arith)
 spoiled-is false n e = refl
 
--- what a search among slots for the next child comes to: the child's place and entry, with the slots after it; or there is none; or a slot that names a place
--- past the table comes before it
+-- what a search among slots for the next child comes to: the child's place and entry, with the slots after it; or there is none; or a slot
+-- that names a place past the table comes before it
 pub data Next : Type 0 where
   child : ℕ → Entry → List ℕ → Next
   none : Next
@@ -136,43 +128,42 @@ childIn g coords page Child·Done = none
 childIn g coords page Child·Spoiled = past
 
 module _ (t : Table) (ids : List ℕ) (n id : ℕ) where
-  pub next-none : nextOf t ids n id [] ≡ none
-  unfolding nextOf
-  next-none = refl
-
-  module _ (i : ℕ) (is : List ℕ) (p : ℕ) (e : p ≡ getD ids i 0) where
-    pub next-past : n ≤ p → nextOf t ids n id (i ∷ is) ≡ past
-    unfolding nextOf
-    next-past h = rw (le-ltb (getD ids i 0) n (rw e at h), nextOf)
-
-    module _ (y : Entry) (q : y ≡ entry t p) (h : p < n) where
-      pub next-kid : y .parent ≡ id → nextOf t ids n id (i ∷ is) ≡ child p y is
-      unfolding nextOf
-      next-kid k =
-          let w : y ≡ entry t (getD ids i 0) = q ∙ ap (entry t) e in
-          let m : entry t (getD ids i 0) .parent ≡ id = ap (λ (z : Entry). z .parent) (sym w) ∙ k in
-          rw (lt-ltb (getD ids i 0) n (rw e at h), eq-eqb (entry t (getD ids i 0) .parent) id m, nextOf) (rw (sym w, sym e))
-
-      pub next-other : (y .parent ≡ id → ⊥) → nextOf t ids n id (i ∷ is) ≡ nextOf t ids n id is
-      unfolding nextOf
-      next-other k =
-          let w : y ≡ entry t (getD ids i 0) = q ∙ ap (entry t) e in
-          rw (lt-ltb (getD ids i 0) n (rw e at h), ne-eqb (entry t (getD ids i 0) .parent) id (λ m. k (ap (λ (z : Entry). z .parent) w ∙ m)), nextOf)
-
   abbrev K : List ℕ → List ℕ
   K is = kidsOf t id (sound n (places ids is))
 
   abbrev C : List ℕ → Bool
   C is = whole n (places ids is)
 
-  -- a slot that names no child
-  pub other-by : (i : ℕ) (is : List ℕ) (p : ℕ) → p ≡ getD ids i 0 → (y : Entry) → y ≡ entry t p → p < n → (y .parent ≡ id → ⊥) → (K (i ∷ is) ≡ K is) × (C (i ∷ is) ≡ C is)
-  unfolding kidsOf sound whole places
-  other-by i is p e y q h k =
-      let w : y ≡ entry t (getD ids i 0) = q ∙ ap (entry t) e in
-      let a : ltb (getD ids i 0) n ≡ true = lt-ltb (getD ids i 0) n (rw e at h) in
-      let b : eqb (entry t (getD ids i 0) .parent) id ≡ false = ne-eqb (entry t (getD ids i 0) .parent) id (λ m. k (ap (λ (z : Entry). z .parent) w ∙ m)) in
-      (rw (a, sound, b, kidsOf), rw (a, whole))
+  pub next-none : nextOf t ids n id [] ≡ none
+  unfolding nextOf
+  next-none = refl
+
+  -- the slot i names the place p
+  module _ (i : ℕ) (is : List ℕ) (p : ℕ) (e : p ≡ getD ids i 0) where
+    pub next-past : n ≤ p → nextOf t ids n id (i ∷ is) ≡ past
+    unfolding nextOf
+    next-past h = rw (le-ltb (getD ids i 0) n (rw e at h), nextOf)
+
+    -- where its entry is y
+    module _ (y : Entry) (q : y ≡ entry t p) (h : p < n) where
+      there : y ≡ entry t (getD ids i 0)
+      there = q ∙ ap (entry t) e
+
+      low : ltb (getD ids i 0) n ≡ true
+      low = lt-ltb (getD ids i 0) n (rw e at h)
+
+      pub next-kid : y .parent ≡ id → nextOf t ids n id (i ∷ is) ≡ child p y is
+      unfolding nextOf
+      next-kid k =
+          let b = eq-eqb (entry t (getD ids i 0) .parent) id (ap (λ (z : Entry). z .parent) (sym there) ∙ k) in
+          rw (low, b, nextOf) (rw (sym there, sym e))
+
+      pub next-other : (y .parent ≡ id → ⊥)
+          → (nextOf t ids n id (i ∷ is) ≡ nextOf t ids n id is) × (K (i ∷ is) ≡ K is) × (C (i ∷ is) ≡ C is)
+      unfolding nextOf kidsOf sound whole places
+      next-other k =
+          let b = ne-eqb (entry t (getD ids i 0) .parent) id (λ m. k (ap (λ (z : Entry). z .parent) there ∙ m)) in
+          (rw (low, b, nextOf), rw (low, sound, b, kidsOf), rw (low, whole))
 
   -- the child p, whose entry is e, comes first among slots, and the children after it are those of the slots l
   pub record Follows (is : List ℕ) (p : ℕ) (e : Entry) (l : List ℕ) : Type 0 where
@@ -217,6 +208,12 @@ module _ (t : Table) (ids : List ℕ) (n id : ℕ) where
           let c : C (i ∷ is) ≡ C is = rw (e, whole) in
           subst (λ (x : Next). Told x (i ∷ is)) r (lift i is k c (nextOf t ids n id is) w)
 
+-- what an answer to slots of a ring says of them
+pub next-told : (g : Ring) (c : Columns) (id : ℕ) (l : List ℕ) (r : Next) → nextIn g c id l ≡ r
+    → Told (tableIn g c) (idsIn g c) (g .len) id r l
+next-told g c id l r e =
+    subst (λ (q : Next). Told (tableIn g c) (idsIn g c) (g .len) id q l) e (told (tableIn g c) (idsIn g c) (g .len) id l)
+
 -- ---- a walk over them that is read a page at a time
 
 -- the child p, whose entry is e, is the first among slots of a ring, and the children after it are those of the slots l'
@@ -226,8 +223,7 @@ Further g c id l p e l' = Follows (tableIn g c) (idsIn g c) (g .len) id l p e l'
 -- what a reply says of the slots l, which were ahead, and of those that are ahead with the page that it leaves
 module _ (g : Ring) (c : Columns) (id : ℕ) (l page : List ℕ) (r : Child) (w : childIn g (c .coords) page r ≡ nextIn g c id l) where
   said : (x : Child) → r ≡ x → Told (tableIn g c) (idsIn g c) (g .len) id (childIn g (c .coords) page x) l
-  said x e =
-      subst (λ (q : Next). Told (tableIn g c) (idsIn g c) (g .len) id q l) (sym w ∙ ap (childIn g (c .coords) page) e) (told (tableIn g c) (idsIn g c) (g .len) id l)
+  said x e = next-told g c id l (childIn g (c .coords) page x) (sym w ∙ ap (childIn g (c .coords) page) e)
 
   pub kid-next : (to : Pages) (p : ℕ) (y : Entry) → r ≡ At to p y → Further g c id l p y (aheadIn g (c .coords) page to)
   kid-next to p y e = said (At to p y) e

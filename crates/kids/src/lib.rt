@@ -4,17 +4,16 @@ use kdwalk::Pages;
 use kdwalk::Step;
 use tables::Entry;
 ghost use mathlib.Core.Path.{_≡_};
-ghost use Prim.Native.Nat.{_+_};
-ghost use lib.ListN.{length};
+ghost use Prim.Native.Nat.{_+_, _≤_};
+ghost use Rattle.lent.specs.Lent.{old, new};
 ghost use Rattle.kdslots.specs.All.{AllBelow};
-ghost use Rattle.kdbush.specs.Run.{filled};
-ghost use Rattle.asking.specs.Columns.{columns};
-ghost use Rattle.asking.specs.Around.{slotsOf, aheadIn};
-ghost use Rattle.kids.specs.Kids.{kidsReply};
-ghost use Rattle.kids.specs.Next.{Lent, kidsIn, cleanIn, nextIn, childIn};
+ghost use Rattle.asking.specs.Columns.{roomOf};
+ghost use Rattle.asking.specs.Lent.{givenColumns, lentColumns};
+ghost use Rattle.asking.specs.Around.{aheadIn};
+ghost use Rattle.kids.specs.Next.{Listed, nextIn, childIn};
 
-// The next child of a cluster: where the walk stands after it, its place and its entry; or none is left; or a slot that names a place past the table comes
-// before it.
+// The next child of a cluster: where the walk stands after it, its place and its entry; or none is left; or a slot that names a place past the
+// table comes before it.
 pub enum Child {
     At {
         pages: Pages,
@@ -46,9 +45,11 @@ pub fn next_child(
     page: &mut [usize],
     from: Pages,
 ) -> Child
-    requires { ⌜ Lent (g .start + g .len) (columns (now x) (now y) (now seen) (now id) (now parent) (now num) (now ids) (now coords)) ⌝ }
+    requires { let c = givenColumns x y seen id parent num ids coords in ⌜ g .start + g .len ≤ roomOf c ⌝ }
     requires { ⌜ AllBelow (g .len) (aheadIn g (now coords) (now page) from) ⌝ }
-    ensures { λ r. ⌜ childIn g (now (coords .entry)) (now (page .exit)) r ≡ nextIn g (columns (now (x .entry)) (now (y .entry)) (now (seen .entry)) (now (id .entry)) (now (parent .entry)) (now (num .entry)) (now (ids .entry)) (now (coords .entry))) cid (aheadIn g (now (coords .entry)) (now (page .entry)) from) ⌝ }
+    ensures { λ r.
+        let c = lentColumns x y seen id parent num ids coords in
+        ⌜ childIn g (old coords) (new page) r ≡ nextIn g c cid (aheadIn g (old coords) (old page) from) ⌝ }
 {
     let start = g.start;
     let len = g.len;
@@ -91,10 +92,10 @@ pub fn list_kids(
     cid: u32,
     out: &mut [u32],
 ) -> Kids
-    requires { ⌜ Lent (g .start + g .len) (columns (now x) (now y) (now seen) (now id) (now parent) (now num) (now ids) (now coords)) ⌝ }
-    ensures { λ r. ⌜ (r ≡ kidsReply (cleanIn g (columns (now (x .entry)) (now (y .entry)) (now (seen .entry)) (now (id .entry)) (now (parent .entry)) (now (num .entry)) (now (ids .entry)) (now (coords .entry))) (slotsOf g (now (coords .entry))))
-        (length (kidsIn g (columns (now (x .entry)) (now (y .entry)) (now (seen .entry)) (now (id .entry)) (now (parent .entry)) (now (num .entry)) (now (ids .entry)) (now (coords .entry))) cid (slotsOf g (now (coords .entry))))))
-        × (now (out .exit) ≡ filled (kidsIn g (columns (now (x .entry)) (now (y .entry)) (now (seen .entry)) (now (id .entry)) (now (parent .entry)) (now (num .entry)) (now (ids .entry)) (now (coords .entry))) cid (slotsOf g (now (coords .entry)))) (now (out .entry))) ⌝ }
+    requires { let c = givenColumns x y seen id parent num ids coords in ⌜ g .start + g .len ≤ roomOf c ⌝ }
+    ensures { λ r.
+        let c = lentColumns x y seen id parent num ids coords in
+        ⌜ Listed g c cid (old out) r (new out) ⌝ }
 {
     let start = g.start;
     let n = g.len;

@@ -3,23 +3,19 @@
 use mathlib.Core.Path.{_≡_, sym, ap, _∙_}
 use mathlib.Core.Logic.{_↔_}
 use mathlib.Core.Bool.{Bool, cond}
-use mathlib.Core.List.{List}
 use Prim.Native.Nat.{ℕ, suc, _≤_, _<_}
 use native.Mathlib.Omega.{arith}
 use borrow.Author.Tests.{eq-eqb, ne-eqb}
 use lib.ListN.{length}
-use lib.Ieee.{Float}
 use Rattle.tables.specs.Bounds.{options-are}
 use Rattle.tables.specs.declared.Entry.{Entry}
-use Rattle.tables.specs.declared.Options.{Options}
 use Rattle.tables.specs.Entries.{entry, unset}
 use Rattle.tables.specs.Ids.{clusterId, id-small}
 use Rattle.zoom.specs.Keeps.{all-at}
 use Rattle.groups.specs.Sums.{count}
 use Rattle.groups.specs.Groups.{Group, copied, joined, entryOf, from}
 use Rattle.groups.specs.OneZoom.{Fits}
-use Rattle.zooms.specs.Zooms.{planOf}
-use Rattle.supercluster.specs.Ready.{Accepted}
+use Rattle.builds.specs.Given.{Given, Accepted, points, minZ, maxZ, plan}
 use Rattle.builds.specs.Came.{came, tableAt}
 use Rattle.builds.specs.GroupsOfBuild.{groupsBy, nearBy, came-coming}
 use Rattle.builds.specs.Identities.{ids-distinct}
@@ -36,56 +32,58 @@ up-lone e h = ap (λ (b : Bool). cond b (e .id) (e .parent)) (eq-eqb (e .parent)
 up-under : (e : Entry) → e .parent < unset → up e ≡ e .parent
 up-under e h = ap (λ (b : Bool). cond b (e .id) (e .parent)) (ne-eqb (e .parent) unset (λ q. omega arith))
 
-module _ (o : Options) (xs ys : List Float) (a : Accepted o xs ys) where
+module _ (G : Given) (a : Accepted G) where
   -- the entry of table z whose group has the place i of table z + 1
-  pub place-up : (z : ℕ) → o .«min_zoom» ≤ z → z ≤ o .«max_zoom» → (i : ℕ) → i < length (tableAt o xs ys (suc z)) →
-      entry (tableAt o xs ys z) (placeIn (groupsBy o xs ys z) i) .id ≡ up (entry (tableAt o xs ys (suc z)) i)
-  place-up z h k i l = group-id o xs ys a z h k j there ∙ by (groupAt (groupsBy o xs ys z) j) (group-fits o xs ys a z h k j there) has
+  pub place-up : (z : ℕ) → minZ G ≤ z → z ≤ maxZ G → (i : ℕ) → i < length (tableAt G (suc z)) →
+      entry (tableAt G z) (placeIn (groupsBy G z) i) .id ≡ up (entry (tableAt G (suc z)) i)
+  place-up z h k i l = group-id G a z h k j there ∙ by (groupAt (groupsBy G z) j) (group-fits G a z h k j there) has
     where
       j : ℕ
-      j = placeIn (groupsBy o xs ys z) i
+      j = placeIn (groupsBy G z) i
 
-      there : placeIn (groupsBy o xs ys z) i < length (tableAt o xs ys z)
+      there : placeIn (groupsBy G z) i < length (tableAt G z)
       there =
-          let n = groups-long o xs ys a z h k in
-          let p = place-in i (groupsBy o xs ys z) (place-once o xs ys a z h k i l) in
+          let n = groups-long G a z h k in
+          let p = place-in i (groupsBy G z) (place-once G a z h k i l) in
           omega arith
 
-      has : count i (from (groupAt (groupsBy o xs ys z) (placeIn (groupsBy o xs ys z) i))) ≡ 1
-      has = place-has i (groupsBy o xs ys z) (place-once o xs ys a z h k i l)
+      has : count i (from (groupAt (groupsBy G z) (placeIn (groupsBy G z) i))) ≡ 1
+      has = place-has i (groupsBy G z) (place-once G a z h k i l)
 
-      c : Coming (planOf o (length xs)) (suc z) (came o xs ys (suc z))
-      c = came-coming o xs ys a (suc z) (omega arith) (omega arith)
+      c : Coming (plan G) (suc z) (came G (suc z))
+      c = came-coming G a (suc z) (omega arith) (omega arith)
 
-      by : (g : Group) → Fits (length xs) (o .«min_points») z (nearBy o xs ys z) (came o xs ys (suc z)) (tableAt o xs ys (suc z)) g → count i (from g) ≡ 1 →
-          entryOf g .id ≡ up (entry (tableAt o xs ys (suc z)) i)
+      by : (g : Group) → Fits (points G) (G .options .«min_points») z (nearBy G z) (came G (suc z)) (tableAt G (suc z)) g →
+          count i (from g) ≡ 1 →
+          entryOf g .id ≡ up (entry (tableAt G (suc z)) i)
       by (copied m e) w q =
-          let T = tableAt o xs ys (suc z) in
+          let T = tableAt G (suc z) in
           let s : i ≡ m = copy-is i m (omega arith) in
-          let p : entry T m .parent ≡ unset = ap (λ (x : Entry). x .parent) (w .finer) ∙ all-at Lone (came o xs ys (suc z)) m (c .lone) (w .place) in
+          let p : entry T m .parent ≡ unset = ap (λ (x : Entry). x .parent) (w .finer)
+          ∙ all-at Lone (came G (suc z)) m (c .lone) (w .place) in
           let d : e .id ≡ entry T m .id = ap (λ (x : Entry). x .id) (w .same ∙ sym (w .finer)) in
           d ∙ sym (up-lone (entry T m) p) ∙ ap (λ (x : ℕ). up (entry T x)) (sym s)
       by (joined x ks e) w q =
-          let T = tableAt o xs ys (suc z) in
-          let p : entry T i .parent ≡ clusterId (length xs) z x = ap (λ (x : Entry). x .parent) (w .finer i (omega arith)) in
+          let T = tableAt G (suc z) in
+          let p : entry T i .parent ≡ clusterId (points G) z x = ap (λ (x : Entry). x .parent) (w .finer i (omega arith)) in
           let few = c .few in
           let most = a .few in
           let r = w .place in
-          let top = options-are o (a .options) .zoom-to in
-          let u = id-small (length xs) z x (omega arith) most (omega arith) in
+          let top = options-are (G .options) (a .options) .zoom-to in
+          let u = id-small (points G) z x (omega arith) most (omega arith) in
           w .made-id ∙ sym p ∙ sym (up-under (entry T i) (omega arith))
 
   -- the owner one table up
-  pub owner-up : (z : ℕ) → o .«min_zoom» ≤ z → z ≤ o .«max_zoom» → (l : ℕ) → l < length xs →
-      entry (tableAt o xs ys z) (owner o xs ys z l) .id ≡ up (entry (tableAt o xs ys (suc z)) (owner o xs ys (suc z) l))
+  pub owner-up : (z : ℕ) → minZ G ≤ z → z ≤ maxZ G → (l : ℕ) → l < points G →
+      entry (tableAt G z) (owner G z l) .id ≡ up (entry (tableAt G (suc z)) (owner G (suc z) l))
   owner-up z h k l w =
-      ap (λ (j : ℕ). entry (tableAt o xs ys z) j .id) (owner-next o xs ys z k l)
-      ∙ place-up z h k (owner o xs ys (suc z) l) (owner-in o xs ys a (suc z) (omega arith) (omega arith) l w)
+      ap (λ (j : ℕ). entry (tableAt G z) j .id) (owner-next G z k l)
+      ∙ place-up z h k (owner G (suc z) l) (owner-in G a (suc z) (omega arith) (omega arith) l w)
 
   -- the entry with that id is the owner, and no other
-  pub owner-climbs : (z : ℕ) → o .«min_zoom» ≤ z → z ≤ o .«max_zoom» → (l : ℕ) → l < length xs → (q : ℕ) → q < length (tableAt o xs ys z) →
-      (entry (tableAt o xs ys z) q .id ≡ up (entry (tableAt o xs ys (suc z)) (owner o xs ys (suc z) l))) ↔ (q ≡ owner o xs ys z l)
+  pub owner-climbs : (z : ℕ) → minZ G ≤ z → z ≤ maxZ G → (l : ℕ) → l < points G → (q : ℕ) → q < length (tableAt G z) →
+      (entry (tableAt G z) q .id ≡ up (entry (tableAt G (suc z)) (owner G (suc z) l))) ↔ (q ≡ owner G z l)
   owner-climbs z h k l w q m = (
-    (λ e. ids-distinct o xs ys a z h (omega arith) q (owner o xs ys z l) m (owner-in o xs ys a z h (omega arith) l w) (e ∙ sym (owner-up z h k l w))),
-    (λ e. ap (λ (j : ℕ). entry (tableAt o xs ys z) j .id) e ∙ owner-up z h k l w),
+    (λ e. ids-distinct G a z h (omega arith) q (owner G z l) m (owner-in G a z h (omega arith) l w) (e ∙ sym (owner-up z h k l w))),
+    (λ e. ap (λ (j : ℕ). entry (tableAt G z) j .id) e ∙ owner-up z h k l w),
   )

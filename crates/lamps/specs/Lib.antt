@@ -1,8 +1,9 @@
 -- Each lamp's owner in each table of an accepted build, and the lamps of each entry. Definitions that callers cite: Owner, and `From` of Copies. The theorems are
--- the laws on a build, in Owners, Climb and Copies. All else is laws, in the order in which they rest on each other.
+-- the laws on a build, in Owners, Carries, Climb and Copies. All else is laws, in the order in which they rest on each other.
 pub mod Owner
 pub mod Gather
 pub mod PlaceIn
 pub mod Owners
+pub mod Carries
 pub mod Climb
 pub mod Copies

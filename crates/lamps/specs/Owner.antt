@@ -4,17 +4,15 @@ use mathlib.Core.Bool.{cond}
 use mathlib.Core.List.{List, [], _∷_, _++_}
 use Prim.Native.Nat.{ℕ, zero, suc, _+_, _-_}
 use lib.Dec.{ltb, eqb}
-use lib.ListN.{length}
-use lib.Ieee.{Float}
 use Rattle.kdslots.specs.Keep.{keep}
 use Rattle.tables.specs.declared.Entry.{Entry}
-use Rattle.tables.specs.declared.Options.{Options}
 use Rattle.tables.specs.Entries.{entry, unset}
 use Rattle.tables.specs.Ids.{originOf, tableOf}
 use Rattle.tables.specs.Radius.{radiusAt}
 use Rattle.groups.specs.Sums.{count}
 use Rattle.groups.specs.Groups.{Group, from, around}
 use Rattle.zooms.specs.Zooms.{nearIn}
+use Rattle.builds.specs.Given.{Given, points, maxZ}
 use Rattle.builds.specs.Came.{tableAt}
 use Rattle.builds.specs.GroupsOfBuild.{groupsBy}
 use Rattle.builds.specs.Places.{groupAt}
@@ -34,29 +32,30 @@ gather f [] = []
 gather f (k ∷ ks) = f k ++ gather f ks
 
 -- lamp l's owner after d zooms: itself before the first, then the place of the group that has the owner before
-unfoldable pub ownerAt : Options → List Float → List Float → ℕ → ℕ → ℕ
-ownerAt o xs ys zero l = l
-ownerAt o xs ys (suc d) l = placeIn (groupsBy o xs ys (o .«max_zoom» - d)) (ownerAt o xs ys d l)
+unfoldable pub ownerAt : Given → ℕ → ℕ → ℕ
+ownerAt G zero l = l
+ownerAt G (suc d) l = placeIn (groupsBy G (maxZ G - d)) (ownerAt G d l)
 
 -- lamp l's owner, as a place of table z
-unfoldable pub owner : Options → List Float → List Float → ℕ → ℕ → ℕ
-owner o xs ys z l = ownerAt o xs ys (o .«max_zoom» + 1 - z) l
+unfoldable pub owner : Given → ℕ → ℕ → ℕ
+owner G z l = ownerAt G (maxZ G + 1 - z) l
 
 -- the lamps of the place j after d zooms: itself before the first, then those of the members of its group, in the order of the group
-unfoldable pub lampsAt : Options → List Float → List Float → ℕ → ℕ → List ℕ
-lampsAt o xs ys zero j = j ∷ []
-lampsAt o xs ys (suc d) j = gather (λ k. lampsAt o xs ys d k) (from (groupAt (groupsBy o xs ys (o .«max_zoom» - d)) j))
+unfoldable pub lampsAt : Given → ℕ → ℕ → List ℕ
+lampsAt G zero j = j ∷ []
+lampsAt G (suc d) j = gather (λ k. lampsAt G d k) (from (groupAt (groupsBy G (maxZ G - d)) j))
 
 -- the lamps of the entry at j of table z
-unfoldable pub lampsOf : Options → List Float → List Float → ℕ → ℕ → List ℕ
-lampsOf o xs ys z j = lampsAt o xs ys (o .«max_zoom» + 1 - z) j
+unfoldable pub lampsOf : Given → ℕ → ℕ → List ℕ
+lampsOf G z j = lampsAt G (maxZ G + 1 - z) j
 
 -- the places answered around the place i of table t of a build, at the radius of the zoom below it
-abbrev pub answersAt : Options → List Float → List Float → ℕ → ℕ → List ℕ
-answersAt o xs ys t = around (nearIn (o .«node_size») (radiusAt (o .radius) (o .extent) (t - 1)) (tableAt o xs ys t)) (tableAt o xs ys t)
+abbrev pub answersAt : Given → ℕ → ℕ → List ℕ
+answersAt G t =
+    around (nearIn (G .options .«node_size») (radiusAt (G .options .radius) (G .options .extent) (t - 1)) (tableAt G t)) (tableAt G t)
 
 -- the members of the cluster id: of those answered around its origin, in the table that the id names, those whose parent it is
-abbrev pub membersOf : Options → List Float → List Float → ℕ → List ℕ
-membersOf o xs ys id =
-    let t = tableOf (length xs) id in
-    keep (λ k. eqb (entry (tableAt o xs ys t) k .parent) id) (answersAt o xs ys t (originOf (length xs) id))
+abbrev pub membersOf : Given → ℕ → List ℕ
+membersOf G id =
+    let t = tableOf (points G) id in
+    keep (λ k. eqb (entry (tableAt G t) k .parent) id) (answersAt G t (originOf (points G) id))

@@ -1,6 +1,6 @@
--- Of every accepted build: each lamp's owner is a place of each table, and the lamp is among the lamps of this entry
--- once, and of no other. So the lamps of a table's entries are all lamps, in another order. An entry's num is the length of the list of its lamps, and the number
--- of lamps that it owns. Lamps that share an owner share one in each coarser table. Assumes nothing.
+-- Of every accepted build: each lamp's owner is a place of each table, and the lamp is among the lamps of this entry once, and of no other.
+-- So the lamps of an entry are those that it owns, and the lamps of a table's entries are all lamps, in another order. Lamps that share an
+-- owner share one in each coarser table. Assumes nothing.
 use mathlib.Core.Path.{_≡_, sym, ap, _∙_}
 use mathlib.Core.Logic.{⊎-elim}
 use mathlib.Core.List.{List, [], _∷_, append-nil, List·Permᴰ}
@@ -10,268 +10,237 @@ use native.Mathlib.Nat.{le-refl}
 use borrow.Author.Tests.{ne-eqb}
 use lib.Dec.{eqb}
 use lib.ListN.{length, length-map}
-use lib.Ieee.{Float}
 use Rattle.kdslots.specs.All.{AllBelow, all-getD}
 use Rattle.kdslots.specs.Members.{Distinct}
+use Rattle.kdslots.specs.Keep.{keep}
 use Rattle.tables.specs.Bounds.{options-are}
 use Rattle.tables.specs.declared.Entry.{Entry}
-use Rattle.tables.specs.declared.Options.{Options}
 use Rattle.tables.specs.Entries.{Table, entry, none}
-use Rattle.groups.specs.Sums.{one, hit, below, sum, count, sum-ext, range, range-in}
+use Rattle.groups.specs.Sums.{one, hit, below, count, sum-ext, range, range-in}
 use Rattle.groups.specs.Counts.{count-distinct, count-below, permutes}
 use Rattle.groups.specs.Groups.{Group, copied, joined, entryOf, from, froms}
 use Rattle.groups.specs.Literal.{next-entry}
 use Rattle.groups.specs.OneZoom.{Fits}
-use Rattle.supercluster.specs.Fill.{lamps-length, lamps-at}
-use Rattle.supercluster.specs.Ready.{Accepted}
+use Rattle.builds.specs.Given.{Given, Accepted, points, minZ, maxZ, lampOf, lampsIn-length, lampsIn-at}
 use Rattle.builds.specs.Came.{came, came-first, tableAt, down}
 use Rattle.builds.specs.GroupsOfBuild.{groupsBy, nearBy, groups-of-build}
 use Rattle.builds.specs.Places.{groupAt}
-use Rattle.builds.specs.Same.{table-same}
+use Rattle.builds.specs.Same.{plain, Same, idOf, table-same}
 use Rattle.lamps.specs.Owner.{placeIn, gather, owner, ownerAt, lampsOf, lampsAt}
-use Rattle.lamps.specs.Gather.{sum-none, sum-gather, length-gather, range-below, length-by-counts}
+use Rattle.lamps.specs.Gather.{sum-none, sum-gather, range-below, permutes-kept}
 use Rattle.lamps.specs.PlaceIn.{place-at, place-in, member-in}
 
 -- ---- by table number, of any build
 
-module _ (o : Options) (xs ys : List Float) where
-  top-zero : o .«max_zoom» + 1 - (o .«max_zoom» + 1) ≡ 0
+module _ (G : Given) where
+  top-zero : maxZ G + 1 - (maxZ G + 1) ≡ 0
   top-zero = omega arith
 
   -- in the finest table a lamp is its own owner
-  pub owner-first : (l : ℕ) → owner o xs ys (o .«max_zoom» + 1) l ≡ l
+  pub owner-first : (l : ℕ) → owner G (maxZ G + 1) l ≡ l
   unfolding owner ownerAt
-  owner-first l = ap (λ (d : ℕ). ownerAt o xs ys d l) top-zero
+  owner-first l = ap (λ (d : ℕ). ownerAt G d l) top-zero
 
   -- in the next it is the place of the group that has the owner
-  pub owner-next : (z : ℕ) → z ≤ o .«max_zoom» → (l : ℕ) → owner o xs ys z l ≡ placeIn (groupsBy o xs ys z) (owner o xs ys (suc z) l)
+  pub owner-next : (z : ℕ) → z ≤ maxZ G → (l : ℕ) → owner G z l ≡ placeIn (groupsBy G z) (owner G (suc z) l)
   unfolding owner ownerAt
   owner-next z h l =
-      let d = o .«max_zoom» + 1 - suc z in
-      let e : o .«max_zoom» + 1 - z ≡ suc (o .«max_zoom» + 1 - suc z) = omega arith in
-      let f : o .«max_zoom» - (o .«max_zoom» + 1 - suc z) ≡ z = omega arith in
-      ap (λ (d : ℕ). ownerAt o xs ys d l) e ∙ ap (λ (w : ℕ). placeIn (groupsBy o xs ys w) (ownerAt o xs ys d l)) f
+      let d = maxZ G + 1 - suc z in
+      let e : maxZ G + 1 - z ≡ suc (maxZ G + 1 - suc z) = omega arith in
+      let f : maxZ G - (maxZ G + 1 - suc z) ≡ z = omega arith in
+      ap (λ (d : ℕ). ownerAt G d l) e ∙ ap (λ (w : ℕ). placeIn (groupsBy G w) (ownerAt G d l)) f
 
   -- the lamps of an entry of the finest table: itself
-  pub lamps-first : (j : ℕ) → lampsOf o xs ys (o .«max_zoom» + 1) j ≡ j ∷ []
+  pub lamps-first : (j : ℕ) → lampsOf G (maxZ G + 1) j ≡ j ∷ []
   unfolding lampsOf lampsAt
-  lamps-first j = ap (λ (d : ℕ). lampsAt o xs ys d j) top-zero
+  lamps-first j = ap (λ (d : ℕ). lampsAt G d j) top-zero
 
   -- in the next: those of the members, one after the other
-  pub lamps-next : (z : ℕ) → z ≤ o .«max_zoom» → (j : ℕ) → lampsOf o xs ys z j ≡ gather (λ k. lampsOf o xs ys (suc z) k) (from (groupAt (groupsBy o xs ys z) j))
+  pub lamps-next : (z : ℕ) → z ≤ maxZ G → (j : ℕ) → lampsOf G z j ≡ gather (λ k. lampsOf G (suc z) k) (from (groupAt (groupsBy G z) j))
   unfolding lampsOf lampsAt
   lamps-next z h j =
-      let d = o .«max_zoom» + 1 - suc z in
-      let e : o .«max_zoom» + 1 - z ≡ suc (o .«max_zoom» + 1 - suc z) = omega arith in
-      let f : o .«max_zoom» - (o .«max_zoom» + 1 - suc z) ≡ z = omega arith in
-      ap (λ (d : ℕ). lampsAt o xs ys d j) e ∙ ap (λ (w : ℕ). gather (λ k. lampsAt o xs ys d k) (from (groupAt (groupsBy o xs ys w) j))) f
+      let d = maxZ G + 1 - suc z in
+      let e : maxZ G + 1 - z ≡ suc (maxZ G + 1 - suc z) = omega arith in
+      let f : maxZ G - (maxZ G + 1 - suc z) ≡ z = omega arith in
+      ap (λ (d : ℕ). lampsAt G d j) e ∙ ap (λ (w : ℕ). gather (λ k. lampsAt G d k) (from (groupAt (groupsBy G w) j))) f
 
   -- the lamps of a cluster that the zoom z made of ks, and those of a copy
-  pub lamps-joined : (z : ℕ) → z ≤ o .«max_zoom» → (j i : ℕ) (ks : List ℕ) (e : Entry) → groupAt (groupsBy o xs ys z) j ≡ joined i ks e →
-      lampsOf o xs ys z j ≡ gather (λ k. lampsOf o xs ys (suc z) k) ks
-  lamps-joined z h j i ks e q = lamps-next z h j ∙ ap (λ (g : Group). gather (λ k. lampsOf o xs ys (suc z) k) (from g)) q
+  pub lamps-joined : (z : ℕ) → z ≤ maxZ G → (j i : ℕ) (ks : List ℕ) (e : Entry) → groupAt (groupsBy G z) j ≡ joined i ks e →
+      lampsOf G z j ≡ gather (λ k. lampsOf G (suc z) k) ks
+  lamps-joined z h j i ks e q = lamps-next z h j ∙ ap (λ (g : Group). gather (λ k. lampsOf G (suc z) k) (from g)) q
 
-  pub lamps-copied : (z : ℕ) → z ≤ o .«max_zoom» → (j k : ℕ) (e : Entry) → groupAt (groupsBy o xs ys z) j ≡ copied k e → lampsOf o xs ys z j ≡ lampsOf o xs ys (suc z) k
-  lamps-copied z h j k e q = lamps-next z h j ∙ ap (λ (g : Group). gather (λ k. lampsOf o xs ys (suc z) k) (from g)) q ∙ append-nil (lampsOf o xs ys (suc z) k)
+  pub lamps-copied : (z : ℕ) → z ≤ maxZ G → (j k : ℕ) (e : Entry) → groupAt (groupsBy G z) j ≡ copied k e →
+      lampsOf G z j ≡ lampsOf G (suc z) k
+  lamps-copied z h j k e q =
+      lamps-next z h j ∙ ap (λ (g : Group). gather (λ k. lampsOf G (suc z) k) (from g)) q ∙ append-nil (lampsOf G (suc z) k)
 
   -- lamps that share an owner share one in each coarser table
-  pub owners-share : (z w : ℕ) → z ≤ o .«max_zoom» + 1 → w ≤ z → (l m : ℕ) → owner o xs ys z l ≡ owner o xs ys z m → owner o xs ys w l ≡ owner o xs ys w m
+  pub owners-share : (z w : ℕ) → z ≤ maxZ G + 1 → w ≤ z → (l m : ℕ) → owner G z l ≡ owner G z m → owner G w l ≡ owner G w m
   owners-share z w h k l m e =
-      down (λ v. owner o xs ys v l ≡ owner o xs ys v m) 0 z e
-      (λ v p q s. owner-next v (omega arith) l ∙ ap (placeIn (groupsBy o xs ys v)) s ∙ sym (owner-next v (omega arith) m)) w (omega arith) k
+      down (λ v. owner G v l ≡ owner G v m) 0 z e
+      (λ v p q s. owner-next v (omega arith) l ∙ ap (placeIn (groupsBy G v)) s ∙ sym (owner-next v (omega arith) m)) w (omega arith) k
 
 -- ---- of a build that is accepted
 
-module _ (o : Options) (xs ys : List Float) (a : Accepted o xs ys) where
-  low : o .«min_zoom» ≤ o .«max_zoom»
-  low = options-are o (a .options) .zooms
+module _ (G : Given) (a : Accepted G) where
+  low : minZ G ≤ maxZ G
+  low = options-are (G .options) (a .options) .zooms
 
   -- the finest table has the lamps, at their places
-  pub first-long : length (tableAt o xs ys (o .«max_zoom» + 1)) ≡ length xs
+  pub first-long : length (tableAt G (maxZ G + 1)) ≡ points G
   first-long =
       let w = low in
-      table-same o xs ys a (o .«max_zoom» + 1) (omega arith) (le-refl (o .«max_zoom» + 1)) .long
-      ∙ ap length (came-first o xs ys) ∙ lamps-length (o .«coordinate_system») xs ys (a .same)
+      table-same G a (maxZ G + 1) (omega arith) (le-refl (maxZ G + 1)) .long
+      ∙ ap length (came-first G) ∙ lampsIn-length G a
 
-  first-at : (j : ℕ) → j < length (tableAt o xs ys (o .«max_zoom» + 1)) →
-      (entry (tableAt o xs ys (o .«max_zoom» + 1)) j .id ≡ j) × (entry (tableAt o xs ys (o .«max_zoom» + 1)) j .num ≡ 1)
-  first-at j h =
+  -- each with its point
+  pub first-same : (j : ℕ) → j < points G →
+      Same (entry (tableAt G (maxZ G + 1)) j) (lampOf G j)
+  first-same j h =
       let w = low in
-      let c = o .«coordinate_system» in
-      let s = table-same o xs ys a (o .«max_zoom» + 1) (omega arith) (le-refl (o .«max_zoom» + 1)) in
+      let s = table-same G a (maxZ G + 1) (omega arith) (le-refl (maxZ G + 1)) in
       let t = s .long in
       let n = first-long in
-      let e = s .each j (omega arith) in
-      let d = ap (λ (t : Table). entry t j) (came-first o xs ys) ∙ lamps-at c xs ys (a .same) j (omega arith) in
-      (e .id ∙ ap (λ (q : Entry). q .id) d, e .num ∙ ap (λ (q : Entry). q .num) d)
+      s .each j (omega arith) ∙ ap (λ (t : Table). plain (entry t j)) (came-first G) ∙ ap plain (lampsIn-at G a j h)
 
-  pub first-id : (j : ℕ) → j < length (tableAt o xs ys (o .«max_zoom» + 1)) → entry (tableAt o xs ys (o .«max_zoom» + 1)) j .id ≡ j
-  first-id j h = first-at j h .0
+  pub first-id : (j : ℕ) → j < length (tableAt G (maxZ G + 1)) → entry (tableAt G (maxZ G + 1)) j .id ≡ j
+  first-id j h = ap idOf (first-same j (let n = first-long in omega arith))
 
   -- ---- the zoom z: from table z + 1 to table z
 
-  module _ (z : ℕ) (h : o .«min_zoom» ≤ z) (k : z ≤ o .«max_zoom») where
+  module _ (z : ℕ) (h : minZ G ≤ z) (k : z ≤ maxZ G) where
     -- a place of table z + 1 as it came
-    pub place-came : (i : ℕ) → i < length (tableAt o xs ys (suc z)) → i < length (came o xs ys (suc z))
-    place-came i l = let w = table-same o xs ys a (suc z) (omega arith) (omega arith) .long in omega arith
+    pub place-came : (i : ℕ) → i < length (tableAt G (suc z)) → i < length (came G (suc z))
+    place-came i l = let w = table-same G a (suc z) (omega arith) (omega arith) .long in omega arith
 
     -- table z has an entry for each group
-    pub groups-long : length (tableAt o xs ys z) ≡ length (groupsBy o xs ys z)
+    pub groups-long : length (tableAt G z) ≡ length (groupsBy G z)
     groups-long =
-        let g = groups-of-build o xs ys a z h k in
-        table-same o xs ys a z h (omega arith) .long ∙ ap length (g .next) ∙ length-map (groupsBy o xs ys z) entryOf
+        let g = groups-of-build G a z h k in
+        table-same G a z h (omega arith) .long ∙ ap length (g .next) ∙ length-map (groupsBy G z) entryOf
 
-    -- with its id and its num
-    entry-is : (j : ℕ) → j < length (tableAt o xs ys z) →
-        (entry (tableAt o xs ys z) j .id ≡ entryOf (groupAt (groupsBy o xs ys z) j) .id) × (entry (tableAt o xs ys z) j .num ≡ entryOf (groupAt (groupsBy o xs ys z) j) .num)
-    entry-is j l =
-        let g = groups-of-build o xs ys a z h k in
-        let s = table-same o xs ys a z h (omega arith) in
+    -- which is the group's, but for seen and parent
+    pub group-same : (j : ℕ) → j < length (tableAt G z) → Same (entry (tableAt G z) j) (entryOf (groupAt (groupsBy G z) j))
+    group-same j l =
+        let g = groups-of-build G a z h k in
+        let s = table-same G a z h (omega arith) in
         let n = s .long in
         let m = groups-long in
-        let e = s .each j (omega arith) in
-        let d = ap (λ (t : Table). entry t j) (g .next) ∙ next-entry (groupsBy o xs ys z) (copied 0 none) j (omega arith) in
-        (e .id ∙ ap (λ (q : Entry). q .id) d, e .num ∙ ap (λ (q : Entry). q .num) d)
+        s .each j (omega arith) ∙ ap (λ (t : Table). plain (entry t j)) (g .next)
+        ∙ ap plain (next-entry (groupsBy G z) (copied 0 none) j (omega arith))
 
-    pub group-id : (j : ℕ) → j < length (tableAt o xs ys z) → entry (tableAt o xs ys z) j .id ≡ entryOf (groupAt (groupsBy o xs ys z) j) .id
-    group-id j l = entry-is j l .0
-
-    pub group-num : (j : ℕ) → j < length (tableAt o xs ys z) → entry (tableAt o xs ys z) j .num ≡ entryOf (groupAt (groupsBy o xs ys z) j) .num
-    group-num j l = entry-is j l .1
+    pub group-id : (j : ℕ) → j < length (tableAt G z) → entry (tableAt G z) j .id ≡ entryOf (groupAt (groupsBy G z) j) .id
+    group-id j l = ap idOf (group-same j l)
 
     -- what the group is
-    pub group-fits : (j : ℕ) → j < length (tableAt o xs ys z) →
-        Fits (length xs) (o .«min_points») z (nearBy o xs ys z) (came o xs ys (suc z)) (tableAt o xs ys (suc z)) (groupAt (groupsBy o xs ys z) j)
+    pub group-fits : (j : ℕ) → j < length (tableAt G z) →
+        Fits (points G) (G .options .«min_points») z (nearBy G z) (came G (suc z)) (tableAt G (suc z)) (groupAt (groupsBy G z) j)
     group-fits j l =
         let m = groups-long in
-        all-getD (Fits (length xs) (o .«min_points») z (nearBy o xs ys z) (came o xs ys (suc z)) (tableAt o xs ys (suc z))) (groupsBy o xs ys z) j (copied 0 none)
-        (groups-of-build o xs ys a z h k .groups .fit) (omega arith)
+        all-getD (Fits (points G) (G .options .«min_points») z (nearBy G z) (came G (suc z)) (tableAt G (suc z))) (groupsBy G z) j
+        (copied 0 none)
+        (groups-of-build G a z h k .groups .fit) (omega arith)
 
     -- its members are places of table z + 1
-    pub group-member : (j : ℕ) → j < length (tableAt o xs ys z) → (i : ℕ) → 0 < count i (from (groupAt (groupsBy o xs ys z) j)) → i < length (tableAt o xs ys (suc z))
+    pub group-member : (j : ℕ) → j < length (tableAt G z) → (i : ℕ) → 0 < count i (from (groupAt (groupsBy G z) j)) →
+        i < length (tableAt G (suc z))
     group-member j l i c =
-        let w = table-same o xs ys a (suc z) (omega arith) (omega arith) .long in
-        let m = member-in (length xs) (o .«min_points») z (nearBy o xs ys z) (came o xs ys (suc z)) (tableAt o xs ys (suc z)) (groupAt (groupsBy o xs ys z) j) (group-fits j l) i c in
+        let w = table-same G a (suc z) (omega arith) (omega arith) .long in
+        let m = member-in (points G) (G .options .«min_points») z (nearBy G z) (came G (suc z)) (tableAt G (suc z))
+        (groupAt (groupsBy G z) j) (group-fits j l) i c in
         omega arith
 
     -- a place of table z + 1 is in the groups once
-    pub place-once : (i : ℕ) → i < length (tableAt o xs ys (suc z)) → count i (froms (groupsBy o xs ys z)) ≡ 1
-    place-once i l = groups-of-build o xs ys a z h k .groups .once i (place-came i l)
+    pub place-once : (i : ℕ) → i < length (tableAt G (suc z)) → count i (froms (groupsBy G z)) ≡ 1
+    place-once i l = groups-of-build G a z h k .groups .once i (place-came i l)
 
   -- ---- owners
 
   -- the owner is a place of its table
-  pub owner-in : (z : ℕ) → o .«min_zoom» ≤ z → z ≤ o .«max_zoom» + 1 → (l : ℕ) → l < length xs → owner o xs ys z l < length (tableAt o xs ys z)
+  pub owner-in : (z : ℕ) → minZ G ≤ z → z ≤ maxZ G + 1 → (l : ℕ) → l < points G → owner G z l < length (tableAt G z)
   owner-in =
-      down (λ z. (l : ℕ) → l < length xs → owner o xs ys z l < length (tableAt o xs ys z)) (o .«min_zoom») (o .«max_zoom» + 1)
-      (λ l h. let e = owner-first o xs ys l in let n = first-long in omega arith)
+      down (λ z. (l : ℕ) → l < points G → owner G z l < length (tableAt G z)) (minZ G) (maxZ G + 1)
+      (λ l h. let e = owner-first G l in let n = first-long in omega arith)
       (λ z h k ih l w.
-      let e = owner-next o xs ys z (omega arith) l in
+      let e = owner-next G z (omega arith) l in
       let n = groups-long z h (omega arith) in
-      let p = place-in (owner o xs ys (suc z) l) (groupsBy o xs ys z) (place-once z h (omega arith) (owner o xs ys (suc z) l) (ih l w)) in
+      let p = place-in (owner G (suc z) l) (groupsBy G z) (place-once z h (omega arith) (owner G (suc z) l) (ih l w)) in
       omega arith)
 
   -- a lamp is among the lamps of its owner once, and of no other entry
-  pub owns : (z : ℕ) → o .«min_zoom» ≤ z → z ≤ o .«max_zoom» + 1 → (l : ℕ) → l < length xs → (j : ℕ) → j < length (tableAt o xs ys z) →
-      count l (lampsOf o xs ys z j) ≡ one (eqb (owner o xs ys z l) j)
-  owns =
-      down (λ z. (l : ℕ) → l < length xs → (j : ℕ) → j < length (tableAt o xs ys z) → count l (lampsOf o xs ys z j) ≡ one (eqb (owner o xs ys z l) j)) (o .«min_zoom») (o .«max_zoom» + 1)
-      first next
+  abbrev Owns : ℕ → Type 0
+  Owns z = (l : ℕ) → l < points G → (j : ℕ) → j < length (tableAt G z) → count l (lampsOf G z j) ≡ one (eqb (owner G z l) j)
+
+  pub owns : (z : ℕ) → minZ G ≤ z → z ≤ maxZ G + 1 → Owns z
+  owns = down Owns (minZ G) (maxZ G + 1) first next
     where
-      first : (l : ℕ) → l < length xs → (j : ℕ) → j < length (tableAt o xs ys (o .«max_zoom» + 1)) →
-          count l (lampsOf o xs ys (o .«max_zoom» + 1) j) ≡ one (eqb (owner o xs ys (o .«max_zoom» + 1) l) j)
+      first : Owns (maxZ G + 1)
       first l h j w =
           let e : one (eqb l j) + 0 ≡ one (eqb l j) = omega arith in
-          ap (λ (q : List ℕ). count l q) (lamps-first o xs ys j) ∙ e ∙ ap (λ (v : ℕ). one (eqb v j)) (sym (owner-first o xs ys l))
+          ap (λ (q : List ℕ). count l q) (lamps-first G j) ∙ e ∙ ap (λ (v : ℕ). one (eqb v j)) (sym (owner-first G l))
 
-      next : (z : ℕ) → o .«min_zoom» ≤ z → z < o .«max_zoom» + 1 →
-          ((l : ℕ) → l < length xs → (j : ℕ) → j < length (tableAt o xs ys (suc z)) → count l (lampsOf o xs ys (suc z) j) ≡ one (eqb (owner o xs ys (suc z) l) j)) →
-          (l : ℕ) → l < length xs → (j : ℕ) → j < length (tableAt o xs ys z) → count l (lampsOf o xs ys z j) ≡ one (eqb (owner o xs ys z l) j)
+      next : (z : ℕ) → minZ G ≤ z → z < maxZ G + 1 → Owns (suc z) → Owns z
       next z h k ih l w j q =
-          let m : z ≤ o .«max_zoom» = omega arith in
-          let ks : List ℕ = from (groupAt (groupsBy o xs ys z) j) in
-          let p = owner o xs ys (suc z) l in
+          let m : z ≤ maxZ G = omega arith in
+          let ks : List ℕ = from (groupAt (groupsBy G z) j) in
+          let p = owner G (suc z) l in
           let n = groups-long z h m in
-          ap (λ (r : List ℕ). count l r) (lamps-next o xs ys z m j)
-          ∙ sum-gather (λ x. one (eqb l x)) (λ i. lampsOf o xs ys (suc z) i) ks
-          ∙ sum-ext (λ i. count l (lampsOf o xs ys (suc z) i)) (λ i. one (eqb p i)) ks (λ i c. ih l w i (group-member z h m j q i c))
-          ∙ place-at p (groupsBy o xs ys z) (place-once z h m p (owner-in (suc z) (omega arith) (omega arith) l w)) j (omega arith)
-          ∙ ap (λ (v : ℕ). one (eqb v j)) (sym (owner-next o xs ys z m l))
+          ap (λ (r : List ℕ). count l r) (lamps-next G z m j)
+          ∙ sum-gather (λ x. one (eqb l x)) (λ i. lampsOf G (suc z) i) ks
+          ∙ sum-ext (λ i. count l (lampsOf G (suc z) i)) (λ i. one (eqb p i)) ks (λ i c. ih l w i (group-member z h m j q i c))
+          ∙ place-at p (groupsBy G z) (place-once z h m p (owner-in (suc z) (omega arith) (omega arith) l w)) j (omega arith)
+          ∙ ap (λ (v : ℕ). one (eqb v j)) (sym (owner-next G z m l))
 
   -- no other number is among them
-  pub owns-none : (z : ℕ) → o .«min_zoom» ≤ z → z ≤ o .«max_zoom» + 1 → (l : ℕ) → length xs ≤ l → (j : ℕ) → j < length (tableAt o xs ys z) → count l (lampsOf o xs ys z j) ≡ 0
+  pub owns-none : (z : ℕ) → minZ G ≤ z → z ≤ maxZ G + 1 → (l : ℕ) → points G ≤ l → (j : ℕ) → j < length (tableAt G z) →
+      count l (lampsOf G z j) ≡ 0
   owns-none =
-      down (λ z. (l : ℕ) → length xs ≤ l → (j : ℕ) → j < length (tableAt o xs ys z) → count l (lampsOf o xs ys z j) ≡ 0) (o .«min_zoom») (o .«max_zoom» + 1)
+      down (λ z. (l : ℕ) → points G ≤ l → (j : ℕ) → j < length (tableAt G z) → count l (lampsOf G z j) ≡ 0) (minZ G) (maxZ G + 1)
       (λ l h j w.
       let n = first-long in
       let e : one (eqb l j) ≡ 0 = ap one (ne-eqb l j (λ e. omega arith)) in
       let d : one (eqb l j) + 0 ≡ 0 = omega arith in
-      ap (λ (q : List ℕ). count l q) (lamps-first o xs ys j) ∙ d)
+      ap (λ (q : List ℕ). count l q) (lamps-first G j) ∙ d)
       (λ z h k ih l w j q.
-      let m : z ≤ o .«max_zoom» = omega arith in
-      let ks : List ℕ = from (groupAt (groupsBy o xs ys z) j) in
-      ap (λ (r : List ℕ). count l r) (lamps-next o xs ys z m j)
-      ∙ sum-gather (λ x. one (eqb l x)) (λ i. lampsOf o xs ys (suc z) i) ks
-      ∙ sum-none (λ i. count l (lampsOf o xs ys (suc z) i)) ks (λ i c. ih l w i (group-member z h m j q i c)))
-
-  -- ---- nums
-
-  long-step : (z : ℕ) → (h : o .«min_zoom» ≤ z) → (k : z ≤ o .«max_zoom») →
-      ((j : ℕ) → j < length (tableAt o xs ys (suc z)) → entry (tableAt o xs ys (suc z)) j .num ≡ length (lampsOf o xs ys (suc z) j)) →
-      (j : ℕ) → j < length (tableAt o xs ys z) → entry (tableAt o xs ys z) j .num ≡ length (lampsOf o xs ys z j)
-  long-step z h k ih j q =
-      group-num z h k j q ∙ by (groupAt (groupsBy o xs ys z) j) (group-fits z h k j q) ∙ ap length (sym (lamps-next o xs ys z k j))
-    where
-      num-came : (i : ℕ) → i < length (came o xs ys (suc z)) → entry (came o xs ys (suc z)) i .num ≡ length (lampsOf o xs ys (suc z) i)
-      num-came i l = let s = table-same o xs ys a (suc z) (omega arith) (omega arith) in let w = s .long in sym (s .each i l .num) ∙ ih i (omega arith)
-
-      by : (g : Group) → Fits (length xs) (o .«min_points») z (nearBy o xs ys z) (came o xs ys (suc z)) (tableAt o xs ys (suc z)) g →
-          entryOf g .num ≡ length (gather (λ k. lampsOf o xs ys (suc z) k) (from g))
-      by (copied i e) w = ap (λ (q : Entry). q .num) (w .same) ∙ num-came i (w .place) ∙ ap length (sym (append-nil (lampsOf o xs ys (suc z) i)))
-      by (joined i ks e) w =
-          w .made-num
-          ∙ sum-ext (λ k. entry (came o xs ys (suc z)) k .num) (λ k. length (lampsOf o xs ys (suc z) k)) ks (λ k c. num-came k (w .member k c))
-          ∙ sym (length-gather (λ k. lampsOf o xs ys (suc z) k) ks)
-
-  -- an entry's num is the length of the list of its lamps
-  pub lamps-long : (z : ℕ) → o .«min_zoom» ≤ z → z ≤ o .«max_zoom» + 1 → (j : ℕ) → j < length (tableAt o xs ys z) → entry (tableAt o xs ys z) j .num ≡ length (lampsOf o xs ys z j)
-  lamps-long =
-      down (λ z. (j : ℕ) → j < length (tableAt o xs ys z) → entry (tableAt o xs ys z) j .num ≡ length (lampsOf o xs ys z j)) (o .«min_zoom») (o .«max_zoom» + 1)
-      (λ j h. first-at j h .1 ∙ ap length (sym (lamps-first o xs ys j))) (λ z h k ih j q. long-step z h (omega arith) ih j q)
-
-  -- and the number of the lamps that it owns
-  pub num-owned : (z : ℕ) → o .«min_zoom» ≤ z → z ≤ o .«max_zoom» + 1 → (j : ℕ) → j < length (tableAt o xs ys z) →
-      entry (tableAt o xs ys z) j .num ≡ sum (λ l. one (eqb (owner o xs ys z l) j)) (range 0 (length xs))
-  num-owned z h k j q =
-      lamps-long z h k j q
-      ∙ length-by-counts (length xs) (lampsOf o xs ys z j) (λ l w. owns-none z h k l w j q)
-      ∙ sum-ext (λ l. count l (lampsOf o xs ys z j)) (λ l. one (eqb (owner o xs ys z l) j)) (range 0 (length xs)) (λ l c. owns z h k l (range-below (length xs) l c) j q)
+      let m : z ≤ maxZ G = omega arith in
+      let ks : List ℕ = from (groupAt (groupsBy G z) j) in
+      ap (λ (r : List ℕ). count l r) (lamps-next G z m j)
+      ∙ sum-gather (λ x. one (eqb l x)) (λ i. lampsOf G (suc z) i) ks
+      ∙ sum-none (λ i. count l (lampsOf G (suc z) i)) ks (λ i c. ih l w i (group-member z h m j q i c)))
 
   -- ---- each lamp once
 
   -- no lamp is twice among the lamps of an entry, and each is below N
-  pub lamps-distinct : (z : ℕ) → o .«min_zoom» ≤ z → z ≤ o .«max_zoom» + 1 → (j : ℕ) → j < length (tableAt o xs ys z) → Distinct (lampsOf o xs ys z j)
-  lamps-distinct z h k j q = count-distinct (lampsOf o xs ys z j) (λ l. ⊎-elim (inside l) (λ w. let e = owns-none z h k l w j q in omega arith) (below l (length xs)))
+  pub lamps-distinct : (z : ℕ) → minZ G ≤ z → z ≤ maxZ G + 1 → (j : ℕ) → j < length (tableAt G z) → Distinct (lampsOf G z j)
+  lamps-distinct z h k j q =
+      count-distinct (lampsOf G z j) (λ l. ⊎-elim (inside l) (λ w. let e = owns-none z h k l w j q in omega arith) (below l (points G)))
     where
-      inside : (l : ℕ) → l < length xs → count l (lampsOf o xs ys z j) ≤ 1
-      inside l w = let e = owns z h k l w j q in ⊎-elim (λ d. let t = d .1 in omega arith) (λ d. let t = d .1 in omega arith) (hit (owner o xs ys z l) j)
+      inside : (l : ℕ) → l < points G → count l (lampsOf G z j) ≤ 1
+      inside l w =
+          let e = owns z h k l w j q in ⊎-elim (λ d. let t = d .1 in omega arith) (λ d. let t = d .1 in omega arith) (hit (owner G z l) j)
 
-  pub lamps-below : (z : ℕ) → o .«min_zoom» ≤ z → z ≤ o .«max_zoom» + 1 → (j : ℕ) → j < length (tableAt o xs ys z) → AllBelow (length xs) (lampsOf o xs ys z j)
-  lamps-below z h k j q = count-below (length xs) (lampsOf o xs ys z j) (λ l w. owns-none z h k l w j q)
+  pub lamps-below : (z : ℕ) → minZ G ≤ z → z ≤ maxZ G + 1 → (j : ℕ) → j < length (tableAt G z) → AllBelow (points G) (lampsOf G z j)
+  lamps-below z h k j q = count-below (points G) (lampsOf G z j) (λ l w. owns-none z h k l w j q)
+
+  -- they are the lamps that it owns, in another order
+  pub lamps-owned : (z : ℕ) → minZ G ≤ z → z ≤ maxZ G + 1 → (j : ℕ) → j < length (tableAt G z) →
+      List·Permᴰ (lampsOf G z j) (keep (λ l. eqb (owner G z l) j) (range 0 (points G)))
+  lamps-owned z h k j q =
+      permutes-kept (points G) (λ l. eqb (owner G z l) j) (lampsOf G z j) (λ l w. owns z h k l w j q) (λ l w. owns-none z h k l w j q)
 
   -- the lamps of the entries of a table, one entry after the other, are all lamps in another order
-  pub lamps-permute : (z : ℕ) → o .«min_zoom» ≤ z → z ≤ o .«max_zoom» + 1 →
-      List·Permᴰ (gather (λ j. lampsOf o xs ys z j) (range 0 (length (tableAt o xs ys z)))) (range 0 (length xs))
+  pub lamps-permute : (z : ℕ) → minZ G ≤ z → z ≤ maxZ G + 1 →
+      List·Permᴰ (gather (λ j. lampsOf G z j) (range 0 (length (tableAt G z)))) (range 0 (points G))
   lamps-permute z h k =
-      permutes (length xs) (gather (λ j. lampsOf o xs ys z j) (range 0 n))
+      permutes (points G) (gather (λ j. lampsOf G z j) (range 0 n))
       (λ l w.
       let i = owner-in z h k l w in
-      sum-gather (λ x. one (eqb l x)) (λ j. lampsOf o xs ys z j) (range 0 n)
-      ∙ sum-ext (λ j. count l (lampsOf o xs ys z j)) (λ j. one (eqb (owner o xs ys z l) j)) (range 0 n) (λ j c. owns z h k l w j (range-below n j c))
-      ∙ range-in 0 n (owner o xs ys z l) (omega arith) (omega arith))
+      sum-gather (λ x. one (eqb l x)) (λ j. lampsOf G z j) (range 0 n)
+      ∙ sum-ext (λ j. count l (lampsOf G z j)) (λ j. one (eqb (owner G z l) j)) (range 0 n) (λ j c. owns z h k l w j (range-below n j c))
+      ∙ range-in 0 n (owner G z l) (omega arith) (omega arith))
       (λ l w.
-      sum-gather (λ x. one (eqb l x)) (λ j. lampsOf o xs ys z j) (range 0 n)
-      ∙ sum-none (λ j. count l (lampsOf o xs ys z j)) (range 0 n) (λ j c. owns-none z h k l w j (range-below n j c)))
+      sum-gather (λ x. one (eqb l x)) (λ j. lampsOf G z j) (range 0 n)
+      ∙ sum-none (λ j. count l (lampsOf G z j)) (range 0 n) (λ j c. owns-none z h k l w j (range-below n j c)))
     where
       n : ℕ
-      n = length (tableAt o xs ys z)
+      n = length (tableAt G z)

@@ -8,7 +8,7 @@ use Rattle.tables.specs.declared.Options.{Options}
 use Rattle.listing.specs.declared.Head.{Head}
 use Rattle.listing.specs.declared.Parsed.{Parsed}
 use Rattle.listing.specs.Values.{coordOf, optionsOf}
-use Rattle.listing.specs.Text.{Parsing}
+use Rattle.listing.specs.Text.{PointCols, Parsing}
 use Rattle.listing.specs.Whole.{parsing-one}
 
 pub coordinate-replies : (k : ℕ) (r t : Float) → r ≡ coordOf k → t ≡ coordOf k → r ≡ t
@@ -17,6 +17,6 @@ coordinate-replies k r t = same-reply
 pub options-replies : (h : Head) (r t : Options) → r ≡ optionsOf h → t ≡ optionsOf h → r ≡ t
 options-replies h r t = same-reply
 
-pub parse-replies : (s : List ℕ) (xs ys : List Float) (r q : Parsed) (xs′ ys′ xs″ ys″ : List Float) → Parsing s xs ys r xs′ ys′ → Parsing s xs ys q xs″ ys″
-    → (r ≡ q) × ((xs′ ≡ xs″) × (ys′ ≡ ys″))
+pub parse-replies : (s : List ℕ) (c : PointCols) (r q : Parsed) (c′ c″ : PointCols) → Parsing s c r c′ → Parsing s c q c″
+    → (r ≡ q) × (c′ ≡ c″)
 parse-replies = parsing-one

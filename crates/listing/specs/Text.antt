@@ -2,7 +2,7 @@
 use mathlib.Core.List.{List, [], _∷_, _++_, map}
 use mathlib.Core.Path.{_≡_}
 use Prim.Native.Nat.{ℕ, _+_, _≤_}
-use lib.ListN.{length}
+use lib.ListN.{length, take}
 use lib.Seq.{sets}
 use lib.Ieee.{Float}
 use Rattle.listing.specs.declared.Head.{Head}
@@ -61,9 +61,13 @@ pub record Input : Type 0 where
   pub nodeSize : ℕ
   pub points : List Place
 
+-- the lines of a point, and then t
+abbrev pub pointText : Place → List ℕ → List ℕ
+pointText p t = line xKey (p .x) ++ (line yKey (p .y) ++ t)
+
 unfoldable pub pointsText : List Place → List ℕ
 pointsText [] = []
-pointsText (p ∷ ps) = line xKey (p .x) ++ (line yKey (p .y) ++ pointsText ps)
+pointsText (p ∷ ps) = pointText p (pointsText ps)
 
 -- the first seven lines, and then t
 abbrev pub headText : ℕ → ℕ → ℕ → ℕ → ℕ → ℕ → ℕ → List ℕ → List ℕ
@@ -75,7 +79,7 @@ abbrev pub text : Input → List ℕ
 text i =
     headText (i .minZoom) (i .maxZoom) (i .minPoints) (i .radius) (i .extent) (i .nodeSize) (length (i .points)) (pointsText (i .points))
 
--- each coordinate has at most seven digits
+-- each number of a point has at most seven digits
 abbrev pub Small : List Place → Type 0
 Small [] = Unit
 Small (p ∷ ps) = ((p .x ≤ 9999999) × (p .y ≤ 9999999)) × Small ps
@@ -111,32 +115,61 @@ headIs i =
     headFor (i .minZoom) (i .maxZoom) (i .minPoints) (i .radius) (i .extent) (i .nodeSize) (length (i .points))
     (headEnd (i .minZoom) (i .maxZoom) (i .minPoints) (i .radius) (i .extent) (i .nodeSize) (length (i .points)))
 
+-- what is stored of a point
+abbrev pub xOf : Place → Float
+xOf p = coordOf (p .x)
+
+abbrev pub yOf : Place → Float
+yOf p = coordOf (p .y)
+
 abbrev pub xsOf : Input → List Float
-xsOf i = map (λ (p : Place). coordOf (p .x)) (i .points)
+xsOf i = map xOf (i .points)
 
 abbrev pub ysOf : Input → List Float
-ysOf i = map (λ (p : Place). coordOf (p .y)) (i .points)
+ysOf i = map yOf (i .points)
+
+-- the columns that points are read into
+pub record PointCols : Type 0 where
+  pub xs : List Float
+  pub ys : List Float
+
+abbrev pub pointCols : List Float → List Float → PointCols
+pointCols xs ys = record { xs = xs; ys = ys }
+
+-- those of an input
+abbrev pub pointsOf : Input → PointCols
+pointsOf i = pointCols (xsOf i) (ysOf i)
+
+-- the first n of each, and that each holds n
+abbrev pub frontOf : ℕ → PointCols → PointCols
+frontOf n c = pointCols (take n (c .xs)) (take n (c .ys))
+
+pub record Fits (n : ℕ) (c : PointCols) : Type 0 where
+  pub x : n ≤ length (c .xs)
+  pub y : n ≤ length (c .ys)
+
+-- the columns with points from the place k on, and elsewhere what they held
+abbrev pub putPoints : PointCols → ℕ → List Place → PointCols
+putPoints c k ps = pointCols (sets (c .xs) k (map xOf ps)) (sets (c .ys) k (map yOf ps))
 
 -- s is the writing of an input; its head is h, and the columns hold its points and past them what they held
-pub record Reads (s : List ℕ) (xs ys : List Float) (h : Head) (xs′ ys′ : List Float) : Type 0 where
+pub record Reads (s : List ℕ) (c : PointCols) (h : Head) (c′ : PointCols) : Type 0 where
   pub input : Input
   pub valid : Valid input
   pub is : s ≡ text input
   pub head : h ≡ headIs input
-  pub of-x : xs′ ≡ sets xs 0 (xsOf input)
-  pub of-y : ys′ ≡ sets ys 0 (ysOf input)
+  pub stored : c′ ≡ putPoints c 0 (input .points)
 
 -- s is the writing of no input, and the columns are as they were
-pub record Refuses (s : List ℕ) (xs ys xs′ ys′ : List Float) : Type 0 where
+pub record Refuses (s : List ℕ) (c c′ : PointCols) : Type 0 where
   pub none : (i : Input) → Valid i → s ≡ text i → ⊥
-  pub same-x : xs′ ≡ xs
-  pub same-y : ys′ ≡ ys
+  pub same : c′ ≡ c
 
 -- 01's number of a reply; 0 where there is no refusal
 abbrev pub parsedNumber : Parsed → ℕ
 parsedNumber (Read h) = 0
 parsedNumber Refused = 12
 
-abbrev pub Parsing : List ℕ → List Float → List Float → Parsed → List Float → List Float → Type 0
-Parsing s xs ys (Read h) xs′ ys′ = Reads s xs ys h xs′ ys′
-Parsing s xs ys Refused xs′ ys′ = Refuses s xs ys xs′ ys′
+abbrev pub Parsing : List ℕ → PointCols → Parsed → PointCols → Type 0
+Parsing s c (Read h) c′ = Reads s c h c′
+Parsing s c Refused c′ = Refuses s c c′

@@ -1,7 +1,7 @@
 -- A text is read as these values if and only if it is their writing: `accepts` and `only`. So what `parsedOf` answers meets the contract of `parse`
 -- (`parsing`), which allows just one reply to a text, and one content of the columns (`parsing-one`). Assumes nothing.
 use mathlib.Core.Bool.{Bool, true, false, cond}
-use mathlib.Core.List.{List}
+use mathlib.Core.List.{List, map}
 use mathlib.Core.Path.{_≡_, refl, ap, sym, subst, _∙_}
 use Prim.Native.Nat.{ℕ, _+_, _≤_}
 use native.Mathlib.Omega.{arith}
@@ -9,12 +9,12 @@ use borrow.Author.Tests.{le-ltb, ltb-false}
 use lib.Dec.{ltb}
 use lib.ListN.{length, take, drop, length-map}
 use lib.Seq.{sets, length-sets, sets-eq, take-at}
-use lib.Ieee.{Float}
 use Rattle.listing.specs.declared.Head.{Head}
 use Rattle.listing.specs.declared.Parsed.{Parsed}
 use Rattle.listing.specs.declared.Parsed.the-variants.{Read, Refused}
-use Rattle.listing.specs.Text.{Input, pointsText, headText, headIs, text, Valid, Reads, Parsing, xsOf, ysOf}
-use Rattle.listing.specs.Form.{headOf, pointsOk, fillX, fillY, withPoints, parsedOf, afterX, afterY}
+use Rattle.listing.specs.Text.{Place, Input, pointsText, headText, headIs, text, Valid}
+use Rattle.listing.specs.Text.{PointCols, pointCols, pointsOf, frontOf, Fits, putPoints, Reads, Parsing, xOf, yOf}
+use Rattle.listing.specs.Form.{headOf, pointsOk, withPoints, parsedOf, filledBy}
 use Rattle.listing.specs.Points.{Found, points-read, points-end}
 use Rattle.listing.specs.OneInput.{text-one}
 use Rattle.listing.specs.Heads.{refused-not, read-inj, head-read, head-ends}
@@ -24,8 +24,10 @@ pub accepts : (i : Input) → Valid i → (parsedOf (text i) ≡ Read (headIs i)
 unfolding parsedOf
 accepts i v =
     let s = text i in
-    let h = head-read s (i .minZoom) (i .maxZoom) (i .minPoints) (i .radius) (i .extent) (i .nodeSize) (length (i .points)) (pointsText (i .points)) refl (v .minZoom) (v .maxZoom) (v .minPoints) (v .radius) (v .extent) (v .nodeSize) (v .count) in
-    let p = points-read (i .points) s (headIs i .next .at) (h .upto) (v .points) (h .rest) in (
+    let h =
+    head-read s (i .minZoom) (i .maxZoom) (i .minPoints) (i .radius) (i .extent) (i .nodeSize) (length (i .points)) (pointsText (i .points))
+    refl (v .minZoom) (v .maxZoom) (v .minPoints) (v .radius) (v .extent) (v .nodeSize) (v .count) in
+    let p = points-read (i .points) s (headIs i .next .at) (h .rest) (v .points) in (
       ap (λ (b : Bool). cond b Refused (withPoints s (headOf s))) (le-ltb 65536 (length s) (v .short))
           ∙ ap (λ (x : Parsed). withPoints s x) (h .reads)
           ∙ ap (λ (b : Bool). cond b (Read (headIs i)) Refused) (p .ok),
@@ -88,60 +90,49 @@ only s h e =
 
 -- ---- the contract of `parse`
 
-module _ (s : List ℕ) (xs ys : List Float) where
-  reads-by : (h : Head) (xs′ ys′ : List Float) (f : Form s h) → xs′ ≡ afterX (Read h) s xs → ys′ ≡ afterY (Read h) s ys → Reads s xs ys h xs′ ys′
-  reads-by h xs′ ys′ f ex ey =
+module _ (s : List ℕ) (c : PointCols) where
+  reads-by : (h : Head) (c′ : PointCols) (f : Form s h) → c′ ≡ filledBy (Read h) s c → Reads s c h c′
+  reads-by h c′ f e =
       let i = f .input in
-      let g = accepts i (f .valid) .1 in
-      let same : (q : Head → List ℕ → List Float) → q h s ≡ q (headIs i) (text i) = λ q. ap (λ (k : Head). q k s) (f .head) ∙ ap (q (headIs i)) (f .is) in
-      record {
-        input = i;
-        valid = f .valid;
-        is = f .is;
-        head = f .head;
-        of-x = ex ∙ same (λ k u. fillX (k .count) u (k .next .at) 0 xs) ∙ g .xs 0 xs;
-        of-y = ey ∙ same (λ k u. fillY (k .count) u (k .next .at) 0 ys) ∙ g .ys 0 ys;
-      }
+      let same : filledBy (Read h) s c ≡ filledBy (Read (headIs i)) (text i) c = λ k. filledBy (Read (f .head k)) (f .is k) c in
+      record { input = i; valid = f .valid; is = f .is; head = f .head; stored = e ∙ same ∙ accepts i (f .valid) .1 .stored 0 c }
 
-  pub parsing : (r : Parsed) (xs′ ys′ : List Float) → r ≡ parsedOf s → xs′ ≡ afterX r s xs → ys′ ≡ afterY r s ys → Parsing s xs ys r xs′ ys′
-  parsing (Read h) xs′ ys′ e ex ey = reads-by h xs′ ys′ (only s h (sym e)) ex ey
-  parsing Refused xs′ ys′ e ex ey =
-      record { none = λ i v is. refused-not (e ∙ ap parsedOf is ∙ accepts i v .0); same-x = ex; same-y = ey }
+  pub parsing : (r : Parsed) (c′ : PointCols) → r ≡ parsedOf s → c′ ≡ filledBy r s c → Parsing s c r c′
+  parsing (Read h) c′ e q = reads-by h c′ (only s h (sym e)) q
+  parsing Refused c′ e q = record { none = λ i v is. refused-not (e ∙ ap parsedOf is ∙ accepts i v .0); same = q }
 
   -- two replies that meet it are equal, and so are the columns
-  pub parsing-one : (r q : Parsed) (xs′ ys′ xs″ ys″ : List Float) → Parsing s xs ys r xs′ ys′ → Parsing s xs ys q xs″ ys″ → (r ≡ q) × ((xs′ ≡ xs″) × (ys′ ≡ ys″))
-  parsing-one (Read h) (Read g) xs′ ys′ xs″ ys″ a b =
-      let e = text-one (a .input) (b .input) (a .valid) (b .valid) (sym (a .is) ∙ b .is) in (
-        ap Read (a .head ∙ ap headIs e ∙ sym (b .head)),
-        (
-          a .of-x ∙ ap (λ (i : Input). sets xs 0 (xsOf i)) e ∙ sym (b .of-x),
-          a .of-y ∙ ap (λ (i : Input). sets ys 0 (ysOf i)) e ∙ sym (b .of-y),
-        ),
-      )
-  parsing-one (Read h) Refused xs′ ys′ xs″ ys″ a b = absurd (b .none (a .input) (a .valid) (a .is))
-  parsing-one Refused (Read g) xs′ ys′ xs″ ys″ a b = absurd (a .none (b .input) (b .valid) (b .is))
-  parsing-one Refused Refused xs′ ys′ xs″ ys″ a b = (refl, (a .same-x ∙ sym (b .same-x), a .same-y ∙ sym (b .same-y)))
+  pub parsing-one : (r q : Parsed) (c′ c″ : PointCols) → Parsing s c r c′ → Parsing s c q c″ → (r ≡ q) × (c′ ≡ c″)
+  parsing-one (Read h) (Read g) c′ c″ a b =
+      let e = text-one (a .input) (b .input) (a .valid) (b .valid) (sym (a .is) ∙ b .is) in
+      (ap Read (a .head ∙ ap headIs e ∙ sym (b .head)), a .stored ∙ ap (λ (i : Input). putPoints c 0 (i .points)) e ∙ sym (b .stored))
+  parsing-one (Read h) Refused c′ c″ a b = absurd (b .none (a .input) (a .valid) (a .is))
+  parsing-one Refused (Read g) c′ c″ a b = absurd (a .none (b .input) (b .valid) (b .is))
+  parsing-one Refused Refused c′ c″ a b = (refl, a .same ∙ sym (b .same))
 
-  -- the points that were read stand at the front of the columns
-  pub record Front (i : Input) (h : Head) (xs′ ys′ : List Float) : Type 0 where
-    pub of-x : take (h .count) xs′ ≡ xsOf i
-    pub of-y : take (h .count) ys′ ≡ ysOf i
-    pub fits-x : h .count ≤ length xs′
-    pub fits-y : h .count ≤ length ys′
+-- ---- the points that were read stand at the front of the columns
 
-  front : (n : ℕ) (l d d′ : List Float) → d′ ≡ sets d 0 l → n ≡ length l → n ≤ length d′ → take n d′ ≡ l
-  front n l d d′ e k h =
-      let fits : 0 + length l ≤ length d = omega (arith, ap length e ∙ length-sets d 0 l) in
-      ap (take n) (e ∙ sets-eq l d 0 fits) ∙ take-at l (drop (0 + length l) d) n (sym k)
+pub record Front (i : Input) (n : ℕ) (c : PointCols) : Type 0 where
+  pub is : frontOf n c ≡ pointsOf i
+  pub fits : Fits n c
 
-  pub reads-front : (h : Head) (xs′ ys′ : List Float) (p : Reads s xs ys h xs′ ys′) → length xs′ ≡ 1152 → length ys′ ≡ 1152 → Front (p .input) h xs′ ys′
-  reads-front h xs′ ys′ p lx ly =
-      let n : h .count ≡ length (p .input .points) = ap (λ (k : Head). k .count) (p .head) in
-      let fx : h .count ≤ length xs′ = omega (arith, n, p .valid .count) in
-      let fy : h .count ≤ length ys′ = omega (arith, n, p .valid .count) in
-      record {
-        of-x = front (h .count) (xsOf (p .input)) xs xs′ (p .of-x) (n ∙ sym (length-map (p .input .points) _)) fx;
-        of-y = front (h .count) (ysOf (p .input)) ys ys′ (p .of-y) (n ∙ sym (length-map (p .input .points) _)) fy;
-        fits-x = fx;
-        fits-y = fy;
-      }
+-- columns of 1,152 places
+pub record Wide (c : PointCols) : Type 0 where
+  pub x : length (c .xs) ≡ 1152
+  pub y : length (c .ys) ≡ 1152
+
+front : {A : Type 0} (f : Place → A) (ps : List Place) (n : ℕ) (d d′ : List A) → d′ ≡ sets d 0 (map f ps)
+    → n ≡ length ps → n ≤ length d′ → take n d′ ≡ map f ps
+front f ps n d d′ e k h =
+    let long : length (map f ps) ≡ n = length-map ps f ∙ sym k in
+    let fits : 0 + length (map f ps) ≤ length d = omega (arith, ap length e ∙ length-sets d 0 (map f ps), long) in
+    ap (take n) (e ∙ sets-eq (map f ps) d 0 fits) ∙ take-at (map f ps) (drop (0 + length (map f ps)) d) n long
+
+pub reads-front : (s : List ℕ) (c : PointCols) (h : Head) (c′ : PointCols) (p : Reads s c h c′) → Wide c′ → Front (p .input) (h .count) c′
+reads-front s c h c′ p w =
+    let n : h .count ≡ length (p .input .points) = ap (λ (k : Head). k .count) (p .head) in
+    let ps = p .input .points in
+    let f : Fits (h .count) c′ = record { x = omega (arith, n, p .valid .count, w .x); y = omega (arith, n, p .valid .count, w .y) } in
+    let ex = front xOf ps (h .count) (c .xs) (c′ .xs) (ap (λ (d : PointCols). d .xs) (p .stored)) n (f .x) in
+    let ey = front yOf ps (h .count) (c .ys) (c′ .ys) (ap (λ (d : PointCols). d .ys) (p .stored)) n (f .y) in
+    record { is = λ k. pointCols (ex k) (ey k); fits = f }

@@ -8,10 +8,12 @@ use tables::Options;
 ghost use mathlib.Core.Path.{_≡_};
 ghost use Prim.Native.Nat.{_<_, _≤_};
 ghost use lib.ListN.{drop};
+ghost use Rattle.lent.specs.Lent.{old};
 ghost use Rattle.listing.specs.Scan.{startsWith, moreOf, numberOf, lineOf, valueIn};
-ghost use Rattle.listing.specs.Form.{headOf, countIn, pointOf, pointsOk, fillX, fillY};
+ghost use Rattle.listing.specs.Form.{headOf, countIn, pointOf, pointsOk, filled};
 ghost use Rattle.listing.specs.Values.{coordOf, optionsOf};
 ghost use Rattle.listing.specs.Text.{Parsing};
+ghost use Rattle.listing.specs.Lent.{lentPoints};
 
 // A place in the text.
 pub struct Cursor {
@@ -42,9 +44,9 @@ pub enum Parsed {
     Refused,
 }
 
-// A point's two lines and the place past them, or no such lines.
-pub enum Pair {
-    Both { x: u32, y: u32, next: Cursor },
+// The numbers of a point's lines and the place past these, or no such lines.
+pub enum Point {
+    Stands { x: u32, y: u32, next: Cursor },
     Missing,
 }
 
@@ -56,7 +58,7 @@ fn wide(x: u8) -> u32
 
 // Whether the key stands at `at`.
 fn starts(s: &[u8], at: usize, key: &[u8]) -> bool
-    ensures { λ r. ⌜ r ≡ startsWith (now (key .entry)) (drop at (now (s .entry))) ⌝ }
+    ensures { λ r. ⌜ r ≡ startsWith (old key) (drop at (old s)) ⌝ }
 {
     let mut i = 0;
     let mut p = at;
@@ -76,7 +78,7 @@ fn starts(s: &[u8], at: usize, key: &[u8]) -> bool
 // The rest of a number whose first digit is read, up to its line's end: no digit after a 0, at most seven digits.
 fn more(s: &[u8], from: usize, first: u32) -> Value
     requires { ⌜ first < 10 ⌝ }
-    ensures { λ r. ⌜ r ≡ moreOf first from (drop from (now (s .entry))) ⌝ }
+    ensures { λ r. ⌜ r ≡ moreOf first from (drop from (old s)) ⌝ }
 {
     let mut at = from;
     let mut v = first;
@@ -108,7 +110,7 @@ fn more(s: &[u8], from: usize, first: u32) -> Value
 
 // A number and its line's end.
 fn number(s: &[u8], at: usize) -> Value
-    ensures { λ r. ⌜ r ≡ numberOf at (drop at (now (s .entry))) ⌝ }
+    ensures { λ r. ⌜ r ≡ numberOf at (drop at (old s)) ⌝ }
 {
     if s.len() <= at {
         return Value::Bad;
@@ -125,7 +127,7 @@ fn number(s: &[u8], at: usize) -> Value
 
 // The line key=value at the cursor, its value at most max.
 fn line(s: &[u8], from: Cursor, key: &[u8], max: u32) -> Value
-    ensures { λ r. ⌜ (r ≡ lineOf (now (s .entry)) (from .at) (now (key .entry)) max) × valueIn max r ⌝ }
+    ensures { λ r. ⌜ (r ≡ lineOf (old s) (from .at) (old key) max) × valueIn max r ⌝ }
 {
     let at = from.at;
     if s.len() < at {
@@ -148,7 +150,7 @@ fn line(s: &[u8], from: Cursor, key: &[u8], max: u32) -> Value
 
 // The first seven lines.
 fn read_head(s: &[u8]) -> Parsed
-    ensures { λ r. ⌜ (r ≡ headOf (now (s .entry))) × countIn r ⌝ }
+    ensures { λ r. ⌜ (r ≡ headOf (old s)) × countIn r ⌝ }
 {
     let Value::Number { v: a, next: c1 } = line(s, Cursor { at: 0 }, b"min_zoom=", 255) else {
         return Parsed::Refused;
@@ -183,27 +185,27 @@ fn read_head(s: &[u8]) -> Parsed
     })
 }
 
-// The two lines of a point.
-fn read_point(s: &[u8], from: Cursor) -> Pair
-    ensures { λ r. ⌜ r ≡ pointOf (now (s .entry)) (from .at) ⌝ }
+// The lines of a point.
+fn read_point(s: &[u8], from: Cursor) -> Point
+    ensures { λ r. ⌜ r ≡ pointOf (old s) (from .at) ⌝ }
 {
     let Value::Number { v: x, next: c1 } = line(s, from, b"x=", 9999999) else {
-        return Pair::Missing;
+        return Point::Missing;
     };
     let Value::Number { v: y, next: c2 } = line(s, c1, b"y=", 9999999) else {
-        return Pair::Missing;
+        return Point::Missing;
     };
-    Pair::Both { x, y, next: c2 }
+    Point::Stands { x, y, next: c2 }
 }
 
 // Whether n points stand at the cursor, and then nothing.
 fn points_ok(s: &[u8], from: Cursor, n: u32) -> bool
-    ensures { λ r. ⌜ r ≡ pointsOk n (now (s .entry)) (from .at) ⌝ }
+    ensures { λ r. ⌜ r ≡ pointsOk n (old s) (from .at) ⌝ }
 {
     let mut at = from.at;
     let mut left = n;
     while 0 < left {
-        let Pair::Both { x: _, y: _, next } = read_point(s, Cursor { at }) else {
+        let Point::Stands { x: _, y: _, next } = read_point(s, Cursor { at }) else {
             return false;
         };
         at = next.at;
@@ -222,13 +224,13 @@ pub fn coordinate(k: u32) -> f64
 // Writes the n points at the cursor to the columns.
 fn fill(s: &[u8], from: Cursor, n: u32, xs: &mut [f64; 1152], ys: &mut [f64; 1152])
     requires { ⌜ n ≤ 1152 ⌝ }
-    ensures { λ _. ⌜ (now (xs .exit) ≡ fillX n (now (s .entry)) (from .at) 0 (now (xs .entry))) × (now (ys .exit) ≡ fillY n (now (s .entry)) (from .at) 0 (now (ys .entry))) ⌝ }
+    ensures { λ _. let c = lentPoints xs ys in ⌜ c .exit ≡ filled n (old s) (from .at) 0 (c .entry) ⌝ }
 {
     let mut at = from.at;
     let mut left = n;
     let mut i: usize = 0;
     while 0 < left {
-        let Pair::Both { x, y, next } = read_point(s, Cursor { at }) else {
+        let Point::Stands { x, y, next } = read_point(s, Cursor { at }) else {
             return;
         };
         xs[i] = coordinate(x);
@@ -241,7 +243,7 @@ fn fill(s: &[u8], from: Cursor, n: u32, xs: &mut [f64; 1152], ys: &mut [f64; 115
 
 // Reads a text: its numbers, and its points into the columns; or refuses it, and writes nothing.
 pub fn parse(s: &[u8], xs: &mut [f64; 1152], ys: &mut [f64; 1152]) -> Parsed
-    ensures { λ r. ⌜ Parsing (now (s .entry)) (now (xs .entry)) (now (ys .entry)) r (now (xs .exit)) (now (ys .exit)) ⌝ }
+    ensures { λ r. let c = lentPoints xs ys in ⌜ Parsing (old s) (c .entry) r (c .exit) ⌝ }
 {
     if 65536 < s.len() {
         return Parsed::Refused;

@@ -14,13 +14,13 @@ use Rattle.range.specs.declared.CoordinateSystem.the-variants.{Cartesian}
 use Rattle.range.specs.Range.{smallerOf, largerOf, normalized}
 use Rattle.kdslots.specs.Keep.{keep}
 use Rattle.kdbush.specs.declared.BuildReply.the-variants.{Done}
-use Rattle.tables.specs.declared.Options.{Options}
 use Rattle.tables.specs.declared.State.{State}
 use Rattle.asking.specs.Asked.{Asked, told}
 use Rattle.asking.specs.Columns.{Columns}
 use Rattle.boxes.specs.Lists.{boxAsked}
-use Rattle.supercluster.specs.Build.{Lent, loaded}
-use Rattle.answers.specs.Stored.{columnsOf}
+use Rattle.supercluster.specs.Build.{Lent}
+use Rattle.answers.specs.Stored.{columnsOf, loadedBy}
+use Rattle.builds.specs.Given.{Given}
 
 -- ---- a box, and the common part of two
 
@@ -97,6 +97,6 @@ boxAt s c zoom a = boxAsked s (c .ids) (c .coords) zoom (a .w) (a .s) (a .e) (a 
 -- zoom, built or not
 abbrev pub BoxesInsideBoxes : Type 0
 BoxesInsideBoxes =
-    (o : Options) (xs ys : List Float) (l : Lent) → loaded o xs ys l .reply .reply ≡ Done
-    → (d : DataRange) → o .«coordinate_system» ≡ Cartesian d → (zoom : ℕ)
-    → Overlaps d (boxAt (loaded o xs ys l .reply .state) (columnsOf (loaded o xs ys l .columns)) zoom)
+    (G : Given) (l : Lent) → loadedBy G l .reply .reply ≡ Done
+    → (d : DataRange) → G .options .«coordinate_system» ≡ Cartesian d → (zoom : ℕ)
+    → Overlaps d (boxAt (loadedBy G l .reply .state) (columnsOf (loadedBy G l .columns)) zoom)

@@ -1,6 +1,6 @@
 -- #111 holds of every Cartesian build that `load` accepts: `boxes-inside-boxes`. A box visits the places in the order of the index that the
 -- build left, the same order for every box; the rest is Cut's, for any order. Assumes nothing.
-use mathlib.Core.Path.{_≡_, ap, sym, _∙_, subst}
+use mathlib.Core.Path.{_≡_, ap, sym, _∙_}
 use mathlib.Core.Bool.{true}
 use mathlib.Core.List.{List}
 use Prim.Native.Nat.{ℕ}
@@ -14,7 +14,6 @@ use Rattle.range.specs.Range.{converted, systemInBounds}
 use Rattle.kdslots.specs.declared.Query.{Query}
 use Rattle.kdbush.specs.Reply.{found}
 use Rattle.kdbush.specs.Promise.{answered-kept, treeOrder}
-use Rattle.tables.specs.declared.Options.{Options}
 use Rattle.tables.specs.declared.State.{State}
 use Rattle.tables.specs.Bounds.{options-are}
 use Rattle.tables.specs.Entries.{xsOf, ysOf}
@@ -25,11 +24,11 @@ use Rattle.asking.specs.Columns.{indexRoom, idsAt, coordsAt}
 use Rattle.boxplan.specs.Rule.{once, planOf, boxOk}
 use Rattle.boxes.specs.Lists.{listedAt, boxAsked}
 use Rattle.boxes.specs.Inside.{Indexed, one-told}
-use Rattle.supercluster.specs.Build.{Lent, Outcome, need, checked, byReply, loaded}
-use Rattle.supercluster.specs.Load.{Holds, accepted, holds, replies}
-use Rattle.supercluster.specs.Ready.{Accepted}
-use Rattle.answers.specs.Stored.{columnsOf, stateBy, columnsBy}
+use Rattle.supercluster.specs.Build.{Lent, need}
+use Rattle.supercluster.specs.Load.{Holds}
+use Rattle.answers.specs.Stored.{stateBy, columnsBy, of-load}
 use Rattle.answers.specs.Boxed.{usedBy, between, index-sound, table-indexed}
+use Rattle.builds.specs.Given.{Given, Accepted, points}
 use Rattle.overlap.specs.BoxesInsideBoxes.{Box, Taken, Overlaps, boxAt, BoxesInsideBoxes}
 use Rattle.overlap.specs.Common.{boxed, Rising, rising}
 use Rattle.overlap.specs.Cut.{listOf, overlaps}
@@ -71,25 +70,21 @@ module _ (st : State) (ids : List ℕ) (co : List Float) (zoom : ℕ) (xs ys : L
 
 -- ---- of a build that is accepted, in columns that hold it
 
-module _ (o : Options) (xs ys : List Float) (acc : Accepted o xs ys) (l : Lent) (h : Holds (need o (length xs)) l)
-    (d : DataRange) (c : o .«coordinate_system» ≡ Cartesian d) (zoom : ℕ) where
+module _ (G : Given) (acc : Accepted G) (l : Lent) (h : Holds (need (G .options) (points G)) l)
+    (d : DataRange) (c : G .options .«coordinate_system» ≡ Cartesian d) (zoom : ℕ) where
   range-rising : Rising d
   unfolding systemInBounds
-  range-rising = rising d (rw c at (options-are o (acc .options) .system))
+  range-rising = rising d (rw c at (options-are (G .options) (acc .options) .system))
 
-  build-overlaps : Overlaps d (boxAt (stateBy o xs ys) (columnsBy o xs ys l) zoom)
+  build-overlaps : Overlaps d (boxAt (stateBy G) (columnsBy G l) zoom)
   build-overlaps =
-      let t = usedBy o xs ys zoom in
-      let b = between o xs ys acc zoom in
-      table-overlaps (stateBy o xs ys) (columnsBy o xs ys l .ids) (columnsBy o xs ys l .coords) zoom (xsOf t) (ysOf t)
-      (index-sound o xs ys acc l h) (table-indexed o xs ys acc l h (zoomUsed o zoom) (b .0) (b .1)) d c range-rising
+      let t = usedBy G zoom in
+      let b = between G acc zoom in
+      table-overlaps (stateBy G) (columnsBy G l .ids) (columnsBy G l .coords) zoom (xsOf t) (ysOf t)
+      (index-sound G acc l h) (table-indexed G acc l h (zoomUsed (G .options) zoom) (b .0) (b .1)) d c range-rising
 
 -- ---- of every build that `load` accepts
 
 pub boxes-inside-boxes : BoxesInsideBoxes
-unfolding loaded
-boxes-inside-boxes o xs ys l e d c zoom =
-    let f = sym (replies o xs ys l (checked o xs ys l)) ∙ e in
-    let a = accepted o xs ys l f in
-    subst (λ (x : Outcome). Overlaps d (boxAt (x .reply .state) (columnsOf (x .columns)) zoom)) (sym (ap (byReply o xs ys l) f))
-    (build-overlaps o xs ys (a .0) l (holds (need o (length xs)) l (a .1)) d c zoom)
+boxes-inside-boxes G l e d c zoom =
+    of-load (λ s k. Overlaps d (boxAt s k zoom)) G l (λ a h. build-overlaps G a l h d c zoom) e

@@ -7,7 +7,7 @@ use mathlib.Core.Bool.{true}
 use mathlib.Core.List.{List}
 use Prim.Native.Nat.{ℕ, suc, _+_, _<_, _≤_}
 use lib.Dec.{eqb}
-use lib.ListN.{length, getD, take}
+use lib.ListN.{length, take}
 use Rattle.tables.specs.declared.State.{State}
 use Rattle.tables.specs.Entries.{entry}
 use Rattle.groups.specs.Sums.{one, sum, count, range}

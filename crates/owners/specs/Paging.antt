@@ -1,14 +1,14 @@
 -- Any list turned page by page, the page k of a size beginning at k * size: how long a page is, that pages put together are the list, and that what is in the list once is
 -- on exactly one page. Laws only; what is said of leaves stands in LeafPages. Assumes nothing.
-use mathlib.Core.Path.{_≡_, refl, sym, ap, ap₂, _∙_, subst}
+use mathlib.Core.Path.{_≡_, refl, sym, ap, _∙_, subst}
 use mathlib.Core.Logic.{_⊎_, inl, inr, ⊎-elim}
 use mathlib.Core.List.{List, [], _∷_, _++_}
 use Prim.Native.Nat.{ℕ, zero, suc, _+_, _-_, _*_, _<_, _≤_, min}
 use native.Mathlib.Nat.{zero-mul, suc-mul}
 use native.Mathlib.Omega.{arith}
 use lib.ListN.{length, take, drop, length-take, length-drop, take-append-drop, drop-of-length-le}
-use lib.Seq.{drop-drop, drop-nil, take-nil}
-use Rattle.groups.specs.Sums.{sum, count, range, sum-append}
+use lib.Seq.{drop-drop}
+use Rattle.groups.specs.Sums.{count, range, sum-append}
 use Rattle.lamps.specs.Owner.{gather}
 use Rattle.owners.specs.LeafPages.{OnPage}
 

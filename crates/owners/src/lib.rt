@@ -3,8 +3,11 @@ use supercluster::Loaded;
 use tables::Options;
 ghost use mathlib.Core.Path.{_≡_};
 ghost use Rattle.kdbush.specs.declared.BuildReply.the-variants.{Done};
-ghost use Rattle.asking.specs.Columns.{columns};
-ghost use Rattle.supercluster.specs.Build.{outcome, lent, loaded};
+ghost use Rattle.lent.specs.Lent.{old};
+ghost use Rattle.supercluster.specs.Build.{outcome, loaded};
+ghost use Rattle.supercluster.specs.Lent.{lentAll};
+ghost use Rattle.builds.specs.Given.{given};
+ghost use Rattle.answers.specs.Stored.{columnsOf};
 ghost use Rattle.lamps.specs.Owner.{owner};
 ghost use Rattle.owners.specs.Owners.{Owners};
 
@@ -23,10 +26,12 @@ pub fn load(
     coords: &mut [f64],
     near: &mut [u32],
 ) -> Loaded
-    ensures { λ r. ⌜ outcome r (lent (now (x .exit)) (now (y .exit)) (now (seen .exit)) (now (id .exit)) (now (parent .exit)) (now (num .exit)) (now (ids .exit)) (now (coords .exit)) (now (near .exit)))
-        ≡ loaded o (now (xs .entry)) (now (ys .entry)) (lent (now (x .entry)) (now (y .entry)) (now (seen .entry)) (now (id .entry)) (now (parent .entry)) (now (num .entry)) (now (ids .entry)) (now (coords .entry)) (now (near .entry))) ⌝ }
-    ensures { λ r. ⌜ ((r .reply ≡ Done) → Owners (r .state) (columns (now (x .exit)) (now (y .exit)) (now (seen .exit)) (now (id .exit)) (now (parent .exit)) (now (num .exit)) (now (ids .exit)) (now (coords .exit)))
-        (owner o (now (xs .entry)) (now (ys .entry)))) ⌝ }
+    ensures { λ r.
+        let l = lentAll x y seen id parent num ids coords near in
+        ⌜ outcome r (l .exit) ≡ loaded o (old xs) (old ys) (l .entry) ⌝ }
+    ensures { λ r.
+        let l = lentAll x y seen id parent num ids coords near in
+        ⌜ ((r .reply ≡ Done) → Owners (r .state) (columnsOf (l .exit)) (owner (given o (old xs) (old ys)))) ⌝ }
 {
     supercluster::load(o, xs, ys, x, y, seen, id, parent, num, ids, coords, near)
 }

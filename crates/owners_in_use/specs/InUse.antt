@@ -6,19 +6,16 @@ use Prim.Native.Nat.{ℕ, _+_, _-_}
 use native.Mathlib.Omega.{arith}
 use lib.ListN.{length, replicate, drop, set, length-set, length-replicate}
 use lib.Seq.{take-all, drop-length}
-use lib.Ieee.{Float}
 use Rattle.kdbush.specs.declared.BuildReply.{BuildReply}
 use Rattle.kdbush.specs.declared.BuildReply.the-variants.{Done, Options as No·Options, Count, Point, Tables}
 use Rattle.kdbush.specs.Reply.{buildNumber}
 use Rattle.kdbush.specs.Run.{filled}
-use Rattle.tables.specs.declared.Options.{Options}
 use Rattle.tables.specs.declared.State.{State}
 use Rattle.tables.specs.Entries.{Table}
 use Rattle.tables.specs.State.{stateOf}
 use Rattle.zooms.specs.Zooms.{starts, lens}
-use Rattle.supercluster.specs.Build.{Lent, tablesOf, checked, byReply, loaded}
-use Rattle.supercluster.specs.Load.{replies}
-use Rattle.answers.specs.Stored.{columnsOf, stateBy}
+use Rattle.supercluster.specs.Build.{Lent}
+use Rattle.answers.specs.Stored.{columnsOf, stateBy, loadedBy, of-load}
 use Rattle.lamps.specs.Owner.{owner}
 use Rattle.owners.specs.Owners.{Owners}
 use Rattle.owners.specs.Proved.{one-owner}
@@ -26,6 +23,7 @@ use Rattle.listing.specs.Values.{optionsOf}
 use Rattle.listing.specs.Text.{Input, headIs, xsOf, ysOf}
 use Rattle.report.specs.Report.{Lending, left}
 use Rattle.exports.specs.Laid.{Laid, replied, laid, laidOf}
+use Rattle.builds.specs.Given.{Given, given, points, maxZ, tablesBy}
 
 -- ---- arrays that are as long as what is stored in them
 
@@ -51,35 +49,38 @@ zero-done Count e = absurd (omega (arith, e))
 zero-done (Point i) e = absurd (omega (arith, e))
 zero-done Tables e = absurd (omega (arith, e))
 
-module _ (o : Options) (xs ys : List Float) (l : Lent) where
+module _ (G : Given) (l : Lent) where
   -- where the build replies no refusal, its state is that of its tables
-  state-is : loaded o xs ys l .reply .reply ≡ Done → loaded o xs ys l .reply .state ≡ stateBy o xs ys
-  unfolding loaded
-  state-is e = ap (λ (r : BuildReply). byReply o xs ys l r .reply .state) (sym (replies o xs ys l (checked o xs ys l)) ∙ e)
+  state-is : loadedBy G l .reply .reply ≡ Done → loadedBy G l .reply .state ≡ stateBy G
+  state-is e = of-load (λ s c. s ≡ stateBy G) G l (λ a r. refl) e
 
-  -- `supercluster_load` by its contract: where it answers 0 into arrays of 32, the options, N and these arrays are a state that has one owner for every lamp in the
-  -- columns that it leaves
+  -- `supercluster_load` by its contract: where it answers 0 into arrays of 32, the options, N and these arrays are a state that has one
+  -- owner for every lamp in the columns that it leaves
   pub c-name-owners : (number carried : ℕ) (starts lens starts′ lens′ : List ℕ) (c : Lent) → length starts ≡ 32 → length lens ≡ 32
-      → laid (replied number carried starts′ lens′) c ≡ laidOf (loaded o xs ys l) starts lens → number ≡ 0
-      → Owners (stateOf o (length xs) starts′ lens′) (columnsOf c) (owner o xs ys)
+      → laid (replied number carried starts′ lens′) c ≡ laidOf (loadedBy G l) starts lens → number ≡ 0
+      → Owners (stateOf (G .options) (points G) starts′ lens′) (columnsOf c) (owner G)
   c-name-owners number carried ss ns ss′ ns′ c hs hn e z =
-      let done : loaded o xs ys l .reply .reply ≡ Done = zero-done _ (sym (ap (λ (q : Laid). q .told .number) e) ∙ z) in
+      let done : loadedBy G l .reply .reply ≡ Done = zero-done _ (sym (ap (λ (q : Laid). q .told .number) e) ∙ z) in
       let s = state-is done in
       let r = length-replicate {A = ℕ} 32 0 in
-      let a : ss′ ≡ stateBy o xs ys .starts =
+      let a : ss′ ≡ stateBy G .starts =
       ap (λ (q : Laid). q .told .starts) e ∙ ap (λ (t : State). filled (t .starts) ss) s
-      ∙ filled-whole _ ss (hs ∙ sym (starts-long (o .«max_zoom» + 1) 0 (tablesOf o xs ys) (replicate 32 0) ∙ r)) in
-      let b : ns′ ≡ stateBy o xs ys .lens =
+      ∙ filled-whole _ ss (hs ∙ sym (starts-long (maxZ G + 1) 0 (tablesBy G) (replicate 32 0) ∙ r)) in
+      let b : ns′ ≡ stateBy G .lens =
       ap (λ (q : Laid). q .told .lens) e ∙ ap (λ (t : State). filled (t .lens) ns) s
-      ∙ filled-whole _ ns (hn ∙ sym (lens-long (o .«max_zoom» + 1) (tablesOf o xs ys) (replicate 32 0) ∙ r)) in
-      subst (λ (k : Lent). Owners (stateOf o (length xs) ss′ ns′) (columnsOf k) (owner o xs ys)) (sym (ap (λ (q : Laid). q .columns) e))
-      (subst (λ (t : State). Owners t (columnsOf (loaded o xs ys l .columns)) (owner o xs ys))
-      (s ∙ ap₂ (λ (u v : List ℕ). stateOf o (length xs) u v) (sym a) (sym b)) (one-owner o xs ys l done))
+      ∙ filled-whole _ ns (hn ∙ sym (lens-long (maxZ G + 1) (tablesBy G) (replicate 32 0) ∙ r)) in
+      subst (λ (k : Lent). Owners (stateOf (G .options) (points G) ss′ ns′) (columnsOf k) (owner G)) (sym (ap (λ (q : Laid). q .columns) e))
+      (subst (λ (t : State). Owners t (columnsOf (loadedBy G l .columns)) (owner G))
+      (s ∙ ap₂ (λ (u v : List ℕ). stateOf (G .options) (points G) u v) (sym a) (sym b)) (one-owner G l done))
+
+-- what the lister's build of an input is given
+abbrev pub givenBy : Input → Given
+givenBy i = given (optionsOf (headIs i)) (xsOf i) (ysOf i)
 
 -- the lister: where the build of an input is not refused, it has one owner for every lamp in the columns that `report` leaves and prints
-pub lister-owners : (i : Input) (d : Lending) → loaded (optionsOf (headIs i)) (xsOf i) (ysOf i) (d .columns) .reply .reply ≡ Done
-    → Owners (stateBy (optionsOf (headIs i)) (xsOf i) (ysOf i)) (columnsOf (left i d .columns)) (owner (optionsOf (headIs i)) (xsOf i) (ysOf i))
+pub lister-owners : (i : Input) (d : Lending) → loadedBy (givenBy i) (d .columns) .reply .reply ≡ Done
+    → Owners (stateBy (givenBy i)) (columnsOf (left i d .columns)) (owner (givenBy i))
 unfolding left
 lister-owners i d e =
-    subst (λ (t : State). Owners t (columnsOf (loaded (optionsOf (headIs i)) (xsOf i) (ysOf i) (d .columns) .columns)) (owner (optionsOf (headIs i)) (xsOf i) (ysOf i)))
-    (state-is (optionsOf (headIs i)) (xsOf i) (ysOf i) (d .columns) e) (one-owner (optionsOf (headIs i)) (xsOf i) (ysOf i) (d .columns) e)
+    subst (λ (t : State). Owners t (columnsOf (loadedBy (givenBy i) (d .columns) .columns)) (owner (givenBy i)))
+    (state-is (givenBy i) (d .columns) e) (one-owner (givenBy i) (d .columns) e)

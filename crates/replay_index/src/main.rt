@@ -20,6 +20,7 @@ use vectors::Word;
 ghost use mathlib.Core.Path.{_≡_};
 ghost use Prim.Native.Nat.{_*_, _≤_};
 ghost use lib.ListN.{length};
+ghost use Rattle.lent.specs.Lent.{old, new};
 ghost use Rattle.vectors.specs.Tallies.{endingIs};
 ghost use Rattle.kdbush.specs.Reply.{searched, columnAfter};
 ghost use Rattle.replay_index.specs.Read.{queryOf};
@@ -100,7 +101,7 @@ fn builds(
     ids: &mut [u32],
     coords: &mut [f64],
 ) -> bool
-    ensures { λ r. ⌜ r ≡ buildsTo «node_size» (now (xs .entry)) (now (ys .entry)) (now («want_ids» .entry)) (now («want_coords» .entry)) (now (ids .entry)) (now (coords .entry)) ⌝ }
+    ensures { λ r. ⌜ r ≡ buildsTo «node_size» (old xs) (old ys) (now («want_ids» .entry)) (now («want_coords» .entry)) (old ids) (old coords) ⌝ }
 {
     if !vectors::is_done(kdbush::build(node_size, xs, ys, ids, coords)) {
         return false;
@@ -148,8 +149,8 @@ fn ask(
     coords: &[f64],
     out: &mut [u32],
 ) -> SearchReply
-    ensures { λ r. ⌜ r ≡ searched q «node_size» n (now (ids .entry)) (now (coords .entry)) (length (now (out .entry))) ⌝ }
-    ensures { λ _. ⌜ now (out .exit) ≡ columnAfter q «node_size» n (now (ids .entry)) (now (coords .entry)) (now (out .entry)) ⌝ }
+    ensures { λ r. ⌜ r ≡ searched q «node_size» n (old ids) (old coords) (length (old out)) ⌝ }
+    ensures { λ _. ⌜ new out ≡ columnAfter q «node_size» n (old ids) (old coords) (old out) ⌝ }
 {
     match q {
         Query::Range {
@@ -187,7 +188,7 @@ fn lists(
     want: &[u32],
     out: &mut [u32],
 ) -> bool
-    ensures { λ r. ⌜ r ≡ listsTo q «node_size» n (now (ids .entry)) (now (coords .entry)) m (now (want .entry)) (now (out .entry)) ⌝ }
+    ensures { λ r. ⌜ r ≡ listsTo q «node_size» n (old ids) (old coords) m (old want) (old out) ⌝ }
 {
     if !is_found(ask(q, node_size, n, ids, coords, out), m) {
         return false;
@@ -230,7 +231,7 @@ fn walks(
     want: &[u32],
 ) -> bool
     requires { ⌜ m ≤ length (now want) ⌝ }
-    ensures { λ r. ⌜ r ≡ walksTo q «node_size» n (now (ids .entry)) (now (coords .entry)) m (now (want .entry)) ⌝ }
+    ensures { λ r. ⌜ r ≡ walksTo q «node_size» n (old ids) (old coords) m (old want) ⌝ }
 {
     let mut step = kdwalk::first(q, node_size, n, coords);
     let mut i = 0;

@@ -7,11 +7,8 @@ use native.Mathlib.Omega.{arith}
 use lib.ListN.{length, take, drop}
 use lib.Seq.{take-at}
 use Rattle.zooms.specs.Zooms.{over}
-use Rattle.listing.specs.declared.Parsed.the-variants.{Refused}
-use Rattle.listing.specs.Text.{parsedNumber}
 use Rattle.listing.specs.OneInput.{text-one}
-use Rattle.report.specs.Lines.{refusalText}
-use Rattle.report.specs.Report.{linesOf, Lending, left, Reports, read, refused}
+use Rattle.report.specs.Report.{linesOf, refusedLine, Lending, left, Reports, read, refused}
 use Rattle.vectors.specs.Same.{samePlaces}
 use Rattle.vectors.specs.Equal.{places-equal, places-self}
 use Rattle.replay_lister.specs.Prints.{Prints, lines, none, printsIs}
@@ -29,7 +26,7 @@ front l o o′ r n e = ap (take r) e ∙ take-at l (drop (length l) o) r (sym n)
 pub reported : (s : List ℕ) (d : Lending) (r : ℕ) (d′ : Lending) → Reports s d r d′ → Prints s (take r (d′ .out))
 unfolding left
 reported s d r d′ (read i v e n l) = lines i v e (front (linesOf i) (d .out) (d′ .out) r n (ap (λ (q : Lending). q .out) l))
-reported s d r d′ (refused no′ n l) = none no′ (front (refusalText (parsedNumber Refused) 0) (d .out) (d′ .out) r n (ap (λ (q : Lending). q .out) l))
+reported s d r d′ (refused no′ n l) = none no′ (front refusedLine (d .out) (d′ .out) r n (ap (λ (q : Lending). q .out) l))
 
 -- and the comparison with it
 pub decides : (s got want : List ℕ) → Prints s got → (b : Bool) → b ≡ samePlaces want got → printsIs s want b

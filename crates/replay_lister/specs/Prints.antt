@@ -3,15 +3,13 @@ use mathlib.Core.Bool.{Bool, true, false}
 use mathlib.Core.List.{List}
 use mathlib.Core.Path.{_≡_}
 use Prim.Native.Nat.{ℕ}
-use Rattle.listing.specs.declared.Parsed.the-variants.{Refused}
-use Rattle.listing.specs.Text.{Input, text, Valid, parsedNumber}
-use Rattle.report.specs.Lines.{refusalText}
-use Rattle.report.specs.Report.{linesOf}
+use Rattle.listing.specs.Text.{Input, text, Valid}
+use Rattle.report.specs.Report.{linesOf, refusedLine}
 
 -- l is what is printed for the text s: the lines of the input that s is the writing of, or the refusal 12 where there is none
 pub data Prints (s l : List ℕ) : Type 0 where
   lines : (i : Input) → Valid i → s ≡ text i → l ≡ linesOf i → Prints s l
-  none : ((i : Input) → Valid i → s ≡ text i → ⊥) → l ≡ refusalText (parsedNumber Refused) 0 → Prints s l
+  none : ((i : Input) → Valid i → s ≡ text i → ⊥) → l ≡ refusedLine → Prints s l
 
 abbrev pub printsIs : List ℕ → List ℕ → Bool → Type 0
 printsIs s want true = Prints s want

@@ -10,12 +10,13 @@ use vectors::Pattern;
 use vectors::Tally;
 use vectors::Verdict;
 use vectors::Word;
+ghost use Rattle.lent.specs.Lent.{old};
 ghost use Rattle.replay_lister.specs.Prints.{printsIs};
 ghost use Rattle.vectors.specs.Tallies.{endingIs};
 
 // Whether what is printed for the text is what is expected.
 fn prints(text: &[u8], want: &[u8]) -> bool
-    ensures { λ r. ⌜ printsIs (now (text .entry)) (now (want .entry)) r ⌝ }
+    ensures { λ r. ⌜ printsIs (old text) (old want) r ⌝ }
 {
     let mut px = [0.0f64; 1152];
     let mut py = [0.0f64; 1152];

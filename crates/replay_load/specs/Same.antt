@@ -30,8 +30,9 @@ sameSetting Derived Derived = true
 -- the same four numbers, offset and scale
 unfoldable pub sameRange : DataRange → DataRange → Bool
 sameRange a b =
-    agreeing (a .«min_x») (b .«min_x») && (agreeing (a .«min_y») (b .«min_y») && (agreeing (a .«max_x») (b .«max_x») && (agreeing (a .«max_y») (b .«max_y») &&
-    (sameSetting (a .offset) (b .offset) && sameSetting (a .scale) (b .scale)))))
+    agreeing (a .«min_x») (b .«min_x») && agreeing (a .«min_y») (b .«min_y»)
+    && agreeing (a .«max_x») (b .«max_x») && agreeing (a .«max_y») (b .«max_y»)
+    && sameSetting (a .offset) (b .offset) && sameSetting (a .scale) (b .scale)
 
 -- both longitude, or both Cartesian with the same range
 abbrev pub sameSystem : CoordinateSystem → CoordinateSystem → Bool
@@ -40,36 +41,32 @@ sameSystem LatLng (Cartesian r) = false
 sameSystem (Cartesian r) LatLng = false
 sameSystem (Cartesian r) (Cartesian s) = sameRange r s
 
--- the same options
+-- the same options: those that are numbers or a choice, and all
+abbrev pub sameNumbers : Options → Options → Bool
+sameNumbers a b =
+    eqb (a .«min_zoom») (b .«min_zoom») && eqb (a .«max_zoom») (b .«max_zoom»)
+    && eqb (a .«min_points») (b .«min_points») && eqb (a .«node_size») (b .«node_size»)
+    && Bool·beq (a .«longitude_strips_only») (b .«longitude_strips_only»)
+
 unfoldable pub sameOptions : Options → Options → Bool
 sameOptions a b =
-    eqb (a .«min_zoom») (b .«min_zoom») && (eqb (a .«max_zoom») (b .«max_zoom») && (eqb (a .«min_points») (b .«min_points») && (eqb (a .«node_size») (b .«node_size») &&
-    (agreeing (a .radius) (b .radius) && (agreeing (a .extent) (b .extent) && (Bool·beq (a .«longitude_strips_only») (b .«longitude_strips_only») &&
-    sameSystem (a .«coordinate_system») (b .«coordinate_system»)))))))
+    sameNumbers a b && agreeing (a .radius) (b .radius) && agreeing (a .extent) (b .extent)
+    && sameSystem (a .«coordinate_system») (b .«coordinate_system»)
 
 -- the tables start where they are expected to, and are as long, and the state has the number of points and the options as given
 unfoldable pub sameState : Options → ℕ → List ℕ → List ℕ → State → Bool
-sameState o n starts lens s = samePlaces starts (s .starts) && (samePlaces lens (s .lens) && (eqb n (s .count) && sameOptions o (s .options)))
+sameState o n starts lens s = samePlaces starts (s .starts) && samePlaces lens (s .lens) && eqb n (s .count) && sameOptions o (s .options)
 
--- the six columns of the tables are those expected, to their ends
-unfoldable pub sameTables : List Float → List Float → List ℕ → List ℕ → List ℕ → List ℕ → List Float → List Float → List ℕ → List ℕ → List ℕ → List ℕ → Bool
-sameTables wx wy ws wi wp wn x y s i p n =
-    sameFloats wx x && (sameFloats wy y && (samePlaces ws s && (samePlaces wi i && (samePlaces wp p && samePlaces wn n))))
-
--- so are the indexes' two columns, and `near`
-unfoldable pub sameIndexes : List ℕ → List Float → List ℕ → List ℕ → List Float → List ℕ → Bool
-sameIndexes wd wc wr d c r = samePlaces wd d && (sameFloats wc c && samePlaces wr r)
-
--- all nine
-abbrev pub sameColumns : Lent → Lent → Bool
-sameColumns w l =
-    sameTables (w .x) (w .y) (w .seen) (w .id) (w .parent) (w .num) (l .x) (l .y) (l .seen) (l .id) (l .parent) (l .num) &&
-    sameIndexes (w .ids) (w .coords) (w .near) (l .ids) (l .coords) (l .near)
-
--- what a build replied and left: it was not refused, and its state and its columns are those expected
+-- what a build replied and left: it was not refused, and its state and its columns are those expected, to their ends
 unfoldable pub agreesWith : Options → ℕ → List ℕ → List ℕ → Lent → Outcome → Bool
 agreesWith o n starts lens want got =
-    doneIs (got .reply .reply) && (sameState o n starts lens (got .reply .state) && sameColumns want (got .columns))
+    let w = want .table in
+    let g = got .columns in
+    let t = g .table in
+    doneIs (got .reply .reply) && sameState o n starts lens (got .reply .state)
+    && sameFloats (w .x) (t .x) && sameFloats (w .y) (t .y) && samePlaces (w .seen) (t .seen)
+    && samePlaces (w .id) (t .id) && samePlaces (w .parent) (t .parent) && samePlaces (w .num) (t .num)
+    && samePlaces (want .ids) (g .ids) && sameFloats (want .coords) (g .coords) && samePlaces (want .near) (g .near)
 
 -- the build of these points in these columns
 unfoldable pub loadsTo : Options → List Float → List Float → List ℕ → List ℕ → Lent → Lent → Bool

@@ -31,9 +31,11 @@ ghost use mathlib.Core.Path.{_≡_};
 ghost use Prim.Native.Nat.{_*_, _≤_};
 ghost use lib.ListN.{length};
 ghost use Rattle.vectors.specs.Tallies.{endingIs};
+ghost use Rattle.lent.specs.Lent.{old, new};
 ghost use Rattle.tables.specs.Rows.{Even};
-ghost use Rattle.supercluster.specs.Build.{lent, outcome};
-ghost use Rattle.replay_load.specs.Same.{sameSetting, sameRange, sameSystem, sameOptions, sameState, sameTables, sameIndexes, agreesWith, loadsTo, zerosIn};
+ghost use Rattle.tables.specs.Lent.{given};
+ghost use Rattle.supercluster.specs.Lent.{lentAll};
+ghost use Rattle.replay_load.specs.Same.{sameSetting, sameRange, sameSystem, sameOptions, sameState, loadsTo, zerosIn};
 
 // An entry, or words that are none.
 enum Given {
@@ -88,21 +90,20 @@ fn read_entries(
     ids: &mut [u32],
     coords: &mut [f64],
 ) -> bool
-    requires { ⌜ Even (now x) (now y) (now seen) (now id) (now parent) (now num) ⌝ }
-    requires { ⌜ (m ≤ length (now x)) × (m ≤ length (now ids)) × (2 * m ≤ length (now coords)) ⌝ }
+    requires { let c = given x y seen id parent num in
+        ⌜ Even c × (m ≤ length (c .x)) × (m ≤ length (now ids)) × (2 * m ≤ length (now coords)) ⌝ }
 {
+    let mut good = true;
     let mut i = 0;
     while i < m {
         let Given::Entry(e) = read_entry() else {
             return false;
         };
         tables::put_entry(x, y, seen, id, parent, num, i, e);
-        if !vectors::read_slot(ids, coords, i) {
-            return false;
-        }
+        good = good & vectors::read_slot(ids, coords, i);
         i += 1;
     }
-    true
+    good
 }
 
 // Reads where the table of each zoom from min_zoom to max_zoom + 1 starts, and how long it is; the last length ends its line.
@@ -126,7 +127,7 @@ fn read_tables(min_zoom: usize, max_zoom: usize, starts: &mut [u32], lens: &mut 
 // Zeros in the first n.
 fn clear(n: usize, near: &mut [u32])
     requires { ⌜ n ≤ length (now near) ⌝ }
-    ensures { λ _. ⌜ now (near .exit) ≡ zerosIn n (now (near .entry)) ⌝ }
+    ensures { λ _. ⌜ new near ≡ zerosIn n (old near) ⌝ }
 {
     let mut i = 0;
     while i < n {
@@ -155,26 +156,16 @@ fn same_setting(a: Setting, b: Setting) -> bool
 fn same_range(a: DataRange, b: DataRange) -> bool
     ensures { λ r. ⌜ r ≡ sameRange a b ⌝ }
 {
-    if !vectors::agree(a.min_x, b.min_x) {
-        return false;
-    }
-    if !vectors::agree(a.min_y, b.min_y) {
-        return false;
-    }
-    if !vectors::agree(a.max_x, b.max_x) {
-        return false;
-    }
-    if !vectors::agree(a.max_y, b.max_y) {
-        return false;
-    }
     let offset = a.offset;
     let other_offset = b.offset;
-    if !same_setting(offset, other_offset) {
-        return false;
-    }
     let scale = a.scale;
     let other_scale = b.scale;
-    same_setting(scale, other_scale)
+    vectors::agree(a.min_x, b.min_x)
+        & vectors::agree(a.min_y, b.min_y)
+        & vectors::agree(a.max_x, b.max_x)
+        & vectors::agree(a.max_y, b.max_y)
+        & same_setting(offset, other_offset)
+        & same_setting(scale, other_scale)
 }
 
 // Whether both are longitude, or both Cartesian with the same range.
@@ -197,166 +188,33 @@ fn same_system(a: CoordinateSystem, b: CoordinateSystem) -> bool
 fn same_options(a: Options, b: Options) -> bool
     ensures { λ r. ⌜ r ≡ sameOptions a b ⌝ }
 {
-    if a.min_zoom != b.min_zoom {
-        return false;
-    }
-    if a.max_zoom != b.max_zoom {
-        return false;
-    }
-    if a.min_points != b.min_points {
-        return false;
-    }
-    if a.node_size != b.node_size {
-        return false;
-    }
-    if !vectors::agree(a.radius, b.radius) {
-        return false;
-    }
-    if !vectors::agree(a.extent, b.extent) {
-        return false;
-    }
-    if a.longitude_strips_only != b.longitude_strips_only {
-        return false;
-    }
     let system = a.coordinate_system;
     let other = b.coordinate_system;
-    same_system(system, other)
+    (a.min_zoom == b.min_zoom)
+        & (a.max_zoom == b.max_zoom)
+        & (a.min_points == b.min_points)
+        & (a.node_size == b.node_size)
+        & (a.longitude_strips_only == b.longitude_strips_only)
+        & vectors::agree(a.radius, b.radius)
+        & vectors::agree(a.extent, b.extent)
+        & same_system(system, other)
 }
 
 // Whether the tables of a state start where they are expected to, and are as long, and it has the number of points and the options as given.
 fn same_state(o: Options, n: usize, starts: &[u32], lens: &[u32], s: State) -> bool
-    ensures { λ r. ⌜ r ≡ sameState o n (now (starts .entry)) (now (lens .entry)) s ⌝ }
+    ensures { λ r. ⌜ r ≡ sameState o n (old starts) (old lens) s ⌝ }
 {
     let a = s.starts;
-    if !vectors::same_places(starts, &a) {
-        return false;
-    }
     let b = s.lens;
-    if !vectors::same_places(lens, &b) {
-        return false;
-    }
-    if n != s.count as usize {
-        return false;
-    }
     let made = s.options;
-    same_options(o, made)
+    vectors::same_places(starts, &a)
+        & vectors::same_places(lens, &b)
+        & (n == s.count as usize)
+        & same_options(o, made)
 }
 
-// Whether the columns of the tables are those expected, to their ends.
-fn same_tables(
-    want_x: &[f64],
-    want_y: &[f64],
-    want_seen: &[u8],
-    want_id: &[u32],
-    want_parent: &[u32],
-    want_num: &[u32],
-    x: &[f64],
-    y: &[f64],
-    seen: &[u8],
-    id: &[u32],
-    parent: &[u32],
-    num: &[u32],
-) -> bool
-    ensures { λ r. ⌜ r ≡ sameTables
-        (now («want_x» .entry)) (now («want_y» .entry)) (now («want_seen» .entry)) (now («want_id» .entry)) (now («want_parent» .entry)) (now («want_num» .entry))
-        (now (x .entry)) (now (y .entry)) (now (seen .entry)) (now (id .entry)) (now (parent .entry)) (now (num .entry)) ⌝ }
-{
-    if !vectors::same_floats(want_x, x) {
-        return false;
-    }
-    if !vectors::same_floats(want_y, y) {
-        return false;
-    }
-    if !vectors::same_bytes(want_seen, seen) {
-        return false;
-    }
-    if !vectors::same_places(want_id, id) {
-        return false;
-    }
-    if !vectors::same_places(want_parent, parent) {
-        return false;
-    }
-    vectors::same_places(want_num, num)
-}
-
-// Whether the columns of the indexes and `near` are those expected, to their ends.
-fn same_indexes(
-    want_ids: &[u32],
-    want_coords: &[f64],
-    want_near: &[u32],
-    ids: &[u32],
-    coords: &[f64],
-    near: &[u32],
-) -> bool
-    ensures { λ r. ⌜ r ≡ sameIndexes (now («want_ids» .entry)) (now («want_coords» .entry)) (now («want_near» .entry)) (now (ids .entry)) (now (coords .entry)) (now (near .entry)) ⌝ }
-{
-    if !vectors::same_places(want_ids, ids) {
-        return false;
-    }
-    if !vectors::same_floats(want_coords, coords) {
-        return false;
-    }
-    vectors::same_places(want_near, near)
-}
-
-// Whether a build was not refused, and its state and its columns are those expected.
-fn agrees(
-    o: Options,
-    n: usize,
-    starts: &[u32],
-    lens: &[u32],
-    want_x: &[f64],
-    want_y: &[f64],
-    want_seen: &[u8],
-    want_id: &[u32],
-    want_parent: &[u32],
-    want_num: &[u32],
-    want_ids: &[u32],
-    want_coords: &[f64],
-    want_near: &[u32],
-    built: Loaded,
-    x: &[f64],
-    y: &[f64],
-    seen: &[u8],
-    id: &[u32],
-    parent: &[u32],
-    num: &[u32],
-    ids: &[u32],
-    coords: &[f64],
-    near: &[u32],
-) -> bool
-    ensures { λ r. ⌜ r ≡ agreesWith o n (now (starts .entry)) (now (lens .entry))
-        (lent (now («want_x» .entry)) (now («want_y» .entry)) (now («want_seen» .entry)) (now («want_id» .entry)) (now («want_parent» .entry)) (now («want_num» .entry)) (now («want_ids» .entry)) (now («want_coords» .entry)) (now («want_near» .entry)))
-        (outcome built (lent (now (x .entry)) (now (y .entry)) (now (seen .entry)) (now (id .entry)) (now (parent .entry)) (now (num .entry)) (now (ids .entry)) (now (coords .entry)) (now (near .entry)))) ⌝ }
-{
-    let reply = built.reply;
-    if !vectors::is_done(reply) {
-        return false;
-    }
-    let state = built.state;
-    if !same_state(o, n, starts, lens, state) {
-        return false;
-    }
-    if !same_tables(
-        want_x,
-        want_y,
-        want_seen,
-        want_id,
-        want_parent,
-        want_num,
-        x,
-        y,
-        seen,
-        id,
-        parent,
-        num,
-    ) {
-        return false;
-    }
-    same_indexes(want_ids, want_coords, want_near, ids, coords, near)
-}
-
-// Builds the tables of points in lent columns, and says whether that comes out as expected.
+// Builds the tables of points in lent columns, and says whether that is not refused, and its state and its columns are
+// those expected, to their ends.
 fn loads(
     o: Options,
     xs: &[f64],
@@ -382,36 +240,25 @@ fn loads(
     coords: &mut [f64],
     near: &mut [u32],
 ) -> bool
-    ensures { λ r. ⌜ r ≡ loadsTo o (now (xs .entry)) (now (ys .entry)) (now (starts .entry)) (now (lens .entry))
-        (lent (now («want_x» .entry)) (now («want_y» .entry)) (now («want_seen» .entry)) (now («want_id» .entry)) (now («want_parent» .entry)) (now («want_num» .entry)) (now («want_ids» .entry)) (now («want_coords» .entry)) (now («want_near» .entry)))
-        (lent (now (x .entry)) (now (y .entry)) (now (seen .entry)) (now (id .entry)) (now (parent .entry)) (now (num .entry)) (now (ids .entry)) (now (coords .entry)) (now (near .entry))) ⌝ }
+    ensures { λ r.
+        let want = lentAll «want_x» «want_y» «want_seen» «want_id» «want_parent» «want_num» «want_ids» «want_coords» «want_near» in
+        let l = lentAll x y seen id parent num ids coords near in
+        ⌜ r ≡ loadsTo o (old xs) (old ys) (old starts) (old lens) (want .entry) (l .entry) ⌝ }
 {
     let built = supercluster::load(o, xs, ys, x, y, seen, id, parent, num, ids, coords, near);
-    agrees(
-        o,
-        xs.len(),
-        starts,
-        lens,
-        want_x,
-        want_y,
-        want_seen,
-        want_id,
-        want_parent,
-        want_num,
-        want_ids,
-        want_coords,
-        want_near,
-        built,
-        x,
-        y,
-        seen,
-        id,
-        parent,
-        num,
-        ids,
-        coords,
-        near,
-    )
+    let reply = built.reply;
+    let state = built.state;
+    vectors::is_done(reply)
+        & same_state(o, xs.len(), starts, lens, state)
+        & vectors::same_floats(want_x, x)
+        & vectors::same_floats(want_y, y)
+        & vectors::same_bytes(want_seen, seen)
+        & vectors::same_places(want_id, id)
+        & vectors::same_places(want_parent, parent)
+        & vectors::same_places(want_num, num)
+        & vectors::same_places(want_ids, ids)
+        & vectors::same_floats(want_coords, coords)
+        & vectors::same_places(want_near, near)
 }
 
 // Builds the tables of points in columns of old contents, and says whether that comes out as expected.

@@ -1,7 +1,7 @@
 -- How the comparisons of the code are those of the definitions, over plain values. Assumes nothing.
-use mathlib.Core.Bool.{Bool, true, false, not}
+use mathlib.Core.Bool.{Bool, _&&_}
 use mathlib.Core.List.{List}
-use mathlib.Core.Path.{_≡_, ap, sym, subst, _∙_}
+use mathlib.Core.Path.{_≡_, ap, sym, _∙_}
 use Prim.Native.Nat.{ℕ}
 use lib.IntN.{ℤ}
 use lib.ListN.{length}
@@ -15,7 +15,7 @@ use Rattle.walks.specs.Expansion.{expansionNumber, expansionCarried}
 use Rattle.tiling.specs.declared.Tally.{Tally}
 use Rattle.tiling.specs.Tally.{tallyNumber, tallyValue}
 use Rattle.tiles.specs.Asked.{Outcome, outcome}
-use Rattle.vectors.specs.Chain.{row-no, row-yes}
+use Rattle.vectors.specs.Chain.{_and_}
 use Rattle.vectors.specs.Same.{samePlaces}
 use Rattle.replay_questions.specs.declared.Listing.{Listing}
 use Rattle.replay_questions.specs.declared.Reply.{Reply}
@@ -48,20 +48,13 @@ module _ (reply : Reply) (n k : ℕ) (r : Bool) (h : r ≡ sameReply reply n k) 
     listed : (v : Answer) → w ≡ v → r ≡ sameReply reply (answerNumber v) (answerCarried v)
     listed v g = answered ∙ ap (λ (u : Answer). sameReply reply (answerNumber u) (answerCarried u)) g
 
-    pub lists-no : (want : List ℕ) (a : Asked) (out : List ℕ) → w ≡ answerOf a (length out) → not r ≡ true → false ≡ listsTo reply want a out
+    pub lists-told : (want : List ℕ) (a : Asked) (out got : List ℕ) (q : Bool)
+        → w ≡ answerOf a (length out) → got ≡ columnOf a out → q ≡ samePlaces want got → (r && q) ≡ listsTo reply want a out
     unfolding listsTo
-    lists-no want a out g f = row-no r _ _ (listed (answerOf a (length out)) g) f
-
-    pub lists-yes : (want : List ℕ) (a : Asked) (out got : List ℕ) (q : Bool) → w ≡ answerOf a (length out) → not r ≡ false → got ≡ columnOf a out → q ≡ samePlaces want got → q ≡ listsTo reply want a out
-    unfolding listsTo
-    lists-yes want a out got q g f e p = row-yes r _ q _ (listed (answerOf a (length out)) g) f (p ∙ ap (samePlaces want) e)
+    lists-told want a out got q g e p = listed (answerOf a (length out)) g and (p ∙ ap (samePlaces want) e)
 
     -- a tile left these columns
-    module _ (want : List ℕ) (wx wy : List ℤ) (places : List ℕ) (xs ys : List ℤ) (o : Outcome) (e : outcome w places xs ys ≡ o) where
-      pub tile-no : not r ≡ true → false ≡ tilesTo reply want wx wy o
-      unfolding tilesTo
-      tile-no f = row-no r _ _ answered f ∙ ap (tilesTo reply want wx wy) e
-
-      pub tile-yes : (q : Bool) → not r ≡ false → q ≡ sameTile want wx wy places xs ys → q ≡ tilesTo reply want wx wy o
-      unfolding tilesTo
-      tile-yes q f p = row-yes r _ q _ answered f p ∙ ap (tilesTo reply want wx wy) e
+    pub tile-told : (want : List ℕ) (wx wy : List ℤ) (places : List ℕ) (xs ys : List ℤ) (o : Outcome) (q : Bool)
+        → outcome w places xs ys ≡ o → q ≡ sameTile want wx wy places xs ys → (r && q) ≡ tilesTo reply want wx wy o
+    unfolding tilesTo
+    tile-told want wx wy places xs ys o q e p = (answered and p) ∙ ap (tilesTo reply want wx wy) e

@@ -76,9 +76,9 @@ tile-one r want wx wy o e =
     let n = answerNumber (o .answer) in
     let k = answerCarried (o .answer) in
     let w = and-both (sameReply r n k) (sameTile want wx wy (o .places) (o .xs) (o .ys)) e in
-    let u = and-both (samePlaces want (o .places)) (sameLongs wx (o .xs) && sameLongs wy (o .ys)) (w .1) in
-    let v = and-both (sameLongs wx (o .xs)) (sameLongs wy (o .ys)) (u .1) in
-    (reply-one r n k (w .0), places-equal want (o .places) (u .0), longs-equal wx (o .xs) (v .0), longs-equal wy (o .ys) (v .1))
+    let u = and-both (samePlaces want (o .places) && sameLongs wx (o .xs)) (sameLongs wy (o .ys)) (w .1) in
+    let v = and-both (samePlaces want (o .places)) (sameLongs wx (o .xs)) (u .0) in
+    (reply-one r n k (w .0), places-equal want (o .places) (v .0), longs-equal wx (o .xs) (v .1), longs-equal wy (o .ys) (u .1))
 
 pub tile-self : (o : Outcome) → tilesTo (answerReply (o .answer)) (o .places) (o .xs) (o .ys) o ≡ true
 unfolding tilesTo sameTile

@@ -56,7 +56,7 @@ sumsTo reply t = sameReply reply (tallyNumber t) (tallyValue t)
 
 -- a tile: its answer, and the three columns afterwards
 unfoldable pub sameTile : List ℕ → List ℤ → List ℤ → List ℕ → List ℤ → List ℤ → Bool
-sameTile want wx wy places xs ys = samePlaces want places && (sameLongs wx xs && sameLongs wy ys)
+sameTile want wx wy places xs ys = samePlaces want places && sameLongs wx xs && sameLongs wy ys
 
 unfoldable pub tilesTo : Reply → List ℕ → List ℤ → List ℤ → Outcome → Bool
 tilesTo reply want wx wy o =

@@ -30,8 +30,9 @@ use vectors::Word;
 ghost use mathlib.Core.Path.{_≡_};
 ghost use Prim.Native.Nat.{_≤_};
 ghost use lib.ListN.{length};
+ghost use Rattle.lent.specs.Lent.{old, new};
 ghost use Rattle.asking.specs.Asked.{answerOf, columnOf};
-ghost use Rattle.asking.specs.Columns.{columns};
+ghost use Rattle.asking.specs.Lent.{lentColumns};
 ghost use Rattle.walks.specs.Expansion.{zoomOf};
 ghost use Rattle.tiles.specs.Asked.{tiled};
 ghost use Rattle.tiles.specs.Tallied.{tallied};
@@ -113,10 +114,7 @@ fn long(x: usize) -> u64
 fn same_reply(want: Reply, number: u32, carried: u64) -> bool
     ensures { λ r. ⌜ r ≡ sameReply want number carried ⌝ }
 {
-    if want.number != number {
-        return false;
-    }
-    want.carried == carried
+    (want.number == number) & (want.carried == carried)
 }
 
 // Asks a question that lists.
@@ -133,8 +131,10 @@ fn ask(
     coords: &[f64],
     out: &mut [u32],
 ) -> Answer
-    ensures { λ r. ⌜ (r ≡ answerOf (askedOf q s (columns (now (x .entry)) (now (y .entry)) (now (seen .entry)) (now (id .entry)) (now (parent .entry)) (now (num .entry)) (now (ids .entry)) (now (coords .entry)))) (length (now (out .entry))))
-        × (now (out .exit) ≡ columnOf (askedOf q s (columns (now (x .entry)) (now (y .entry)) (now (seen .entry)) (now (id .entry)) (now (parent .entry)) (now (num .entry)) (now (ids .entry)) (now (coords .entry)))) (now (out .entry))) ⌝ }
+    ensures { λ r.
+        let c = lentColumns x y seen id parent num ids coords in
+        let a = askedOf q s c in
+        ⌜ (r ≡ answerOf a (length (old out))) × (new out ≡ columnOf a (old out)) ⌝ }
 {
     match q {
         Listing::Box {
@@ -193,13 +193,12 @@ fn lists(
     want: &[u32],
     out: &mut [u32],
 ) -> bool
-    ensures { λ r. ⌜ r ≡ listsTo reply (now (want .entry)) (askedOf q s (columns (now (x .entry)) (now (y .entry)) (now (seen .entry)) (now (id .entry)) (now (parent .entry)) (now (num .entry)) (now (ids .entry)) (now (coords .entry)))) (now (out .entry)) ⌝ }
+    ensures { λ r.
+        let c = lentColumns x y seen id parent num ids coords in
+        ⌜ r ≡ listsTo reply (old want) (askedOf q s c) (old out) ⌝ }
 {
     let a = ask(q, s, x, y, seen, id, parent, num, ids, coords, out);
-    if !same_reply(reply, a.number(), long(a.carried())) {
-        return false;
-    }
-    vectors::same_places(want, out)
+    same_reply(reply, a.number(), long(a.carried())) & vectors::same_places(want, out)
 }
 
 // Whether the expansion zoom of a cluster is the one expected.
@@ -216,7 +215,9 @@ fn finds_zoom(
     cid: u32,
     reply: Reply,
 ) -> bool
-    ensures { λ r. ⌜ r ≡ zoomsTo reply (zoomOf s (columns (now (x .entry)) (now (y .entry)) (now (seen .entry)) (now (id .entry)) (now (parent .entry)) (now (num .entry)) (now (ids .entry)) (now (coords .entry))) cid) ⌝ }
+    ensures { λ r.
+        let c = lentColumns x y seen id parent num ids coords in
+        ⌜ r ≡ zoomsTo reply (zoomOf s c cid) ⌝ }
 {
     let e = walks::expansion_zoom(s, x, y, seen, id, parent, num, ids, coords, cid);
     same_reply(reply, e.number(), wide(e.carried()))
@@ -236,7 +237,9 @@ fn adds_up(
     t: Tile,
     reply: Reply,
 ) -> bool
-    ensures { λ r. ⌜ r ≡ sumsTo reply (tallied s (columns (now (x .entry)) (now (y .entry)) (now (seen .entry)) (now (id .entry)) (now (parent .entry)) (now (num .entry)) (now (ids .entry)) (now (coords .entry))) (t .z) (t .x) (t .y)) ⌝ }
+    ensures { λ r.
+        let c = lentColumns x y seen id parent num ids coords in
+        ⌜ r ≡ sumsTo reply (tallied s c (t .z) (t .x) (t .y)) ⌝ }
 {
     let a = tiles::tally(s, x, y, seen, id, parent, num, ids, coords, t.z, t.x, t.y);
     same_reply(reply, a.number(), a.value())
@@ -251,15 +254,11 @@ fn same_tile(
     px: &[i64],
     py: &[i64],
 ) -> bool
-    ensures { λ r. ⌜ r ≡ sameTile (now (want .entry)) (now («want_x» .entry)) (now («want_y» .entry)) (now (places .entry)) (now (px .entry)) (now (py .entry)) ⌝ }
+    ensures { λ r. ⌜ r ≡ sameTile (old want) (old «want_x») (old «want_y») (old places) (old px) (old py) ⌝ }
 {
-    if !vectors::same_places(want, places) {
-        return false;
-    }
-    if !vectors::same_longs(want_x, px) {
-        return false;
-    }
-    vectors::same_longs(want_y, py)
+    vectors::same_places(want, places)
+        & vectors::same_longs(want_x, px)
+        & vectors::same_longs(want_y, py)
 }
 
 // Whether a tile is answered as expected, and leaves the columns expected.
@@ -282,8 +281,10 @@ fn lists_tile(
     px: &mut [i64],
     py: &mut [i64],
 ) -> bool
-    ensures { λ r. ⌜ r ≡ tilesTo reply (now (want .entry)) (now («want_x» .entry)) (now («want_y» .entry))
-        (tiled s (columns (now (x .entry)) (now (y .entry)) (now (seen .entry)) (now (id .entry)) (now (parent .entry)) (now (num .entry)) (now (ids .entry)) (now (coords .entry))) (t .z) (t .x) (t .y) (now (places .entry)) (now (px .entry)) (now (py .entry))) ⌝ }
+    ensures { λ r.
+        let c = lentColumns x y seen id parent num ids coords in
+        let a = tiled s c (t .z) (t .x) (t .y) (old places) (old px) (old py) in
+        ⌜ r ≡ tilesTo reply (old want) (old «want_x») (old «want_y») a ⌝ }
 {
     let a = tiles::tile(
         s,
@@ -302,10 +303,8 @@ fn lists_tile(
         px,
         py,
     );
-    if !same_reply(reply, a.number(), long(a.carried())) {
-        return false;
-    }
-    same_tile(want, want_x, want_y, places, px, py)
+    same_reply(reply, a.number(), long(a.carried()))
+        & same_tile(want, want_x, want_y, places, px, py)
 }
 
 // Reads a reply; what it carries ends its line where `last`.

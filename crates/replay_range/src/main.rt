@@ -13,6 +13,7 @@ use vectors::Tally;
 use vectors::Verdict;
 ghost use mathlib.Core.Path.{_≡_};
 ghost use Prim.Native.Nat.{_+_, _≤_, _<_};
+ghost use Rattle.lent.specs.Lent.{old};
 ghost use Rattle.replay_range.specs.Text.{dashesIs, separatorOf, fieldIs, settledIs, rangedIs, parsedIs};
 ghost use Rattle.replay_range.specs.Judge.{convertsTo, verdictOf};
 ghost use Rattle.vectors.specs.Tallies.{endingIs};
@@ -54,7 +55,7 @@ enum Parsed {
 // Whether the 16 bytes from `at` on are dashes.
 fn dashes(line: &[u8; 170], at: usize) -> bool
     requires { ⌜ at + 16 ≤ 170 ⌝ }
-    ensures { λ r. ⌜ dashesIs (now (line .entry)) at r ⌝ }
+    ensures { λ r. ⌜ dashesIs (old line) at r ⌝ }
 {
     let mut i = 0;
     while i < 16 {
@@ -76,7 +77,7 @@ fn separator(k: usize) -> u8
 // What the field k of a line holds, with the byte after it.
 fn read_field(line: &[u8; 170], k: usize) -> Field
     requires { ⌜ k < 10 ⌝ }
-    ensures { λ r. ⌜ fieldIs (now (line .entry)) k r ⌝ }
+    ensures { λ r. ⌜ fieldIs (old line) k r ⌝ }
 {
     let at = k * 17;
     if line[at + 16] != separator(k) {
@@ -94,7 +95,7 @@ fn read_field(line: &[u8; 170], k: usize) -> Field
 // The offset or the scale that the field k of a line holds.
 fn read_setting(line: &[u8; 170], k: usize) -> Settled
     requires { ⌜ k < 10 ⌝ }
-    ensures { λ r. ⌜ settledIs (now (line .entry)) k r ⌝ }
+    ensures { λ r. ⌜ settledIs (old line) k r ⌝ }
 {
     match read_field(line, k) {
         Field::Number(x) => Settled::Setting(range::Setting::Given(x)),
@@ -105,7 +106,7 @@ fn read_setting(line: &[u8; 170], k: usize) -> Settled
 
 // The range that the fields 0 to 5 of a line hold.
 fn read_range(line: &[u8; 170]) -> Ranged
-    ensures { λ r. ⌜ rangedIs (now (line .entry)) r ⌝ }
+    ensures { λ r. ⌜ rangedIs (old line) r ⌝ }
 {
     let Field::Number(min_x) = read_field(line, 0) else {
         return Ranged::Bad;
@@ -137,7 +138,7 @@ fn read_range(line: &[u8; 170]) -> Ranged
 
 // The vector of a line.
 fn read_case(line: &[u8; 170]) -> Parsed
-    ensures { λ r. ⌜ parsedIs (now (line .entry)) r ⌝ }
+    ensures { λ r. ⌜ parsedIs (old line) r ⌝ }
 {
     let Ranged::Range(range) = read_range(line) else {
         return Parsed::Bad;

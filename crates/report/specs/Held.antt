@@ -9,14 +9,14 @@ use Rattle.tables.specs.Columns.{part-long, heldAt}
 use Rattle.tables.specs.Entries.{Table}
 use Rattle.zooms.specs.Zooms.{joined}
 use Rattle.supercluster.specs.Held.{held, heldBy}
-use Rattle.report.specs.Lines.{tableText, tablesText}
+use Rattle.report.specs.Lines.{lineRoom, tableText, tablesText}
 
--- each table lies within the rows, and there is room for a line of 136 bytes for each entry
+-- each table lies within the rows, and there is room for a line for each entry
 pub record Holding (s : State) (t : Table) (room : ℕ) : Type 0 where
   pub zooms : s .options .«min_zoom» ≤ s .options .«max_zoom»
   pub top : s .options .«max_zoom» ≤ 30
   pub within : (z : ℕ) → s .options .«min_zoom» ≤ z → z < s .options .«max_zoom» + 2 → getD (s .starts) z 0 + getD (s .lens) z 0 ≤ length t
-  pub fits : 136 * length (joined (heldBy s t)) ≤ room
+  pub fits : lineRoom * length (joined (heldBy s t)) ≤ room
 
 -- ---- one table more
 

@@ -38,6 +38,10 @@ endText parent num = ((orDash unset parent ++ bytes " ") ++ decimalOf 10 num) ++
 abbrev pub lineText : ℕ → ℕ → Entry → List ℕ
 lineText zoom place e = ((placeText zoom place ++ pointText (e .x) (e .y)) ++ marksText (e .seen) (e .id)) ++ endText (e .parent) (e .num)
 
+-- how many bytes it takes at the most
+abbrev pub lineRoom : ℕ
+lineRoom = 136
+
 -- the lines of a table's entries, the first of them at the place i
 unfoldable pub tableText : ℕ → ℕ → Table → List ℕ
 tableText zoom i [] = []

@@ -9,10 +9,8 @@ use lib.Seq.{length-take-le}
 use Rattle.floats.specs.Replies.{same-reply}
 use Rattle.zooms.specs.Zooms.{over}
 use Rattle.listing.specs.OneInput.{text-one}
-use Rattle.listing.specs.declared.Parsed.the-variants.{Refused}
-use Rattle.listing.specs.Text.{Input, parsedNumber}
-use Rattle.report.specs.Lines.{refusalText}
-use Rattle.report.specs.Report.{linesOf, Lending, left, Reports, read, refused}
+use Rattle.listing.specs.Text.{Input}
+use Rattle.report.specs.Report.{linesOf, refusedLine, Lending, left, Reports, read, refused}
 
 pub report-replies : (s : List ℕ) (d : Lending) (r t : ℕ) (d′ d″ : Lending) → Reports s d r d′ → Reports s d t d″ → (r ≡ t) × (d′ ≡ d″)
 report-replies s d r t d′ d″ (read i v e n l) (read j w f m k) =
@@ -31,4 +29,4 @@ counts l o o′ r n e =
 pub report-counts : (s : List ℕ) (d : Lending) (r : ℕ) (d′ : Lending) → Reports s d r d′ → (r ≤ length (d′ .out)) × (r ≡ length (take r (d′ .out)))
 unfolding left
 report-counts s d r d′ (read i v e n l) = counts (linesOf i) (d .out) (d′ .out) r n (ap (λ (q : Lending). q .out) l)
-report-counts s d r d′ (refused no′ n l) = counts (refusalText (parsedNumber Refused) 0) (d .out) (d′ .out) r n (ap (λ (q : Lending). q .out) l)
+report-counts s d r d′ (refused no′ n l) = counts refusedLine (d .out) (d′ .out) r n (ap (λ (q : Lending). q .out) l)

@@ -7,23 +7,28 @@ use tables::State;
 ghost use mathlib.Core.Path.{_≡_};
 ghost use mathlib.Core.List.{[], _∷_};
 ghost use Prim.Native.Nat.{_+_, _*_, _<_, _≤_};
-ghost use lib.ListN.{length, getD, take};
+ghost use lib.ListN.{length, getD};
+ghost use Rattle.lent.specs.Lent.{old, new};
+ghost use Rattle.tables.specs.Lent.{given, lentCols};
 ghost use Rattle.tables.specs.Columns.{part, heldAt};
 ghost use Rattle.tables.specs.Rows.{rows, Even};
 ghost use Rattle.listing.specs.Digits.{decimalOf};
 ghost use Rattle.listing.specs.Values.{optionsOf};
 ghost use Rattle.report.specs.Hex.{glyphOf, hexOf};
-ghost use Rattle.report.specs.Lines.{orDash, bitsOf, placeText, pointText, marksText, endText, lineText, tableText, tablesText, atText, refusalText};
-ghost use Rattle.report.specs.Report.{buildText, lending, Reports};
+ghost use Rattle.listing.specs.Text.{frontOf, Fits};
+ghost use Rattle.listing.specs.Lent.{givenPoints, lentPoints};
+ghost use Rattle.report.specs.Lines.{orDash, bitsOf, placeText, pointText, marksText, endText, lineText, lineRoom};
+ghost use Rattle.report.specs.Lines.{tableText, tablesText, atText, refusalText};
+ghost use Rattle.report.specs.Report.{loadedBy, buildText, lending, Reports};
 ghost use Rattle.report.specs.Put.{Put};
-ghost use Rattle.supercluster.specs.Build.{lent, loaded};
+ghost use Rattle.supercluster.specs.Lent.{lentAll};
 ghost use Rattle.supercluster.specs.Held.{heldBy};
 ghost use Rattle.report.specs.Held.{Holding};
 
 // A byte. The place past it.
 fn put_byte(out: &mut [u8], at: usize, b: u8) -> usize
     requires { ⌜ at < length (now out) ⌝ }
-    ensures { λ r. ⌜ Put (now (out .entry)) (now (out .exit)) at (b ∷ []) 1 r ⌝ }
+    ensures { λ r. ⌜ Put (old out) (new out) at (b ∷ []) 1 r ⌝ }
 {
     out[at] = b;
     at + 1
@@ -32,7 +37,7 @@ fn put_byte(out: &mut [u8], at: usize, b: u8) -> usize
 // The bytes bs at `at`. The place past them.
 fn put_bytes(out: &mut [u8], at: usize, bs: &[u8]) -> usize
     requires { ⌜ at + length (now bs) ≤ length (now out) ⌝ }
-    ensures { λ r. ⌜ Put (now (out .entry)) (now (out .exit)) at (now (bs .entry)) (length (now (bs .entry))) r ⌝ }
+    ensures { λ r. ⌜ Put (old out) (new out) at (old bs) (length (old bs)) r ⌝ }
 {
     let mut p = at;
     let mut i: usize = 0;
@@ -46,7 +51,7 @@ fn put_bytes(out: &mut [u8], at: usize, bs: &[u8]) -> usize
 // n's decimal digits at `at`, at most `left` of them. The place past them.
 fn put_decimal(out: &mut [u8], at: usize, n: usize, left: usize) -> usize
     requires { ⌜ at + left ≤ length (now out) ⌝ }
-    ensures { λ r. ⌜ Put (now (out .entry)) (now (out .exit)) at (decimalOf left n) left r ⌝ }
+    ensures { λ r. ⌜ Put (old out) (new out) at (decimalOf left n) left r ⌝ }
 {
     if left < 1 {
         return at;
@@ -69,7 +74,7 @@ fn glyph(d: u8) -> u8
 // n's last `left` hexadecimal digits at `at`. The place past them.
 fn put_hex(out: &mut [u8], at: usize, n: u64, left: usize) -> usize
     requires { ⌜ at + left ≤ length (now out) ⌝ }
-    ensures { λ r. ⌜ Put (now (out .entry)) (now (out .exit)) at (hexOf left n) left r ⌝ }
+    ensures { λ r. ⌜ Put (old out) (new out) at (hexOf left n) left r ⌝ }
 {
     if left < 1 {
         return at;
@@ -91,7 +96,7 @@ fn bits(x: f64) -> u64
 // A number, or `-` where it is the one that stands for unset.
 fn put_or_dash(out: &mut [u8], at: usize, n: usize, unset: usize) -> usize
     requires { ⌜ at + 10 ≤ length (now out) ⌝ }
-    ensures { λ r. ⌜ Put (now (out .entry)) (now (out .exit)) at (orDash unset n) 10 r ⌝ }
+    ensures { λ r. ⌜ Put (old out) (new out) at (orDash unset n) 10 r ⌝ }
 {
     if n == unset {
         return put_byte(out, at, 45);
@@ -102,7 +107,7 @@ fn put_or_dash(out: &mut [u8], at: usize, n: usize, unset: usize) -> usize
 // Zoom and place.
 fn put_place(out: &mut [u8], at: usize, zoom: usize, place: usize) -> usize
     requires { ⌜ at + 34 ≤ length (now out) ⌝ }
-    ensures { λ r. ⌜ Put (now (out .entry)) (now (out .exit)) at (placeText zoom place) 34 r ⌝ }
+    ensures { λ r. ⌜ Put (old out) (new out) at (placeText zoom place) 34 r ⌝ }
 {
     let a = put_decimal(out, at, zoom, 10);
     let b = put_byte(out, a, 32);
@@ -113,7 +118,7 @@ fn put_place(out: &mut [u8], at: usize, zoom: usize, place: usize) -> usize
 // The bits of x and of y.
 fn put_point(out: &mut [u8], at: usize, x: f64, y: f64) -> usize
     requires { ⌜ at + 34 ≤ length (now out) ⌝ }
-    ensures { λ r. ⌜ Put (now (out .entry)) (now (out .exit)) at (pointText x y) 34 r ⌝ }
+    ensures { λ r. ⌜ Put (old out) (new out) at (pointText x y) 34 r ⌝ }
 {
     let a = put_hex(out, at, bits(x), 16);
     let b = put_byte(out, a, 32);
@@ -124,7 +129,7 @@ fn put_point(out: &mut [u8], at: usize, x: f64, y: f64) -> usize
 // Seen and id.
 fn put_marks(out: &mut [u8], at: usize, seen: usize, id: usize) -> usize
     requires { ⌜ at + 34 ≤ length (now out) ⌝ }
-    ensures { λ r. ⌜ Put (now (out .entry)) (now (out .exit)) at (marksText seen id) 34 r ⌝ }
+    ensures { λ r. ⌜ Put (old out) (new out) at (marksText seen id) 34 r ⌝ }
 {
     let a = put_or_dash(out, at, seen, 255);
     let b = put_byte(out, a, 32);
@@ -135,7 +140,7 @@ fn put_marks(out: &mut [u8], at: usize, seen: usize, id: usize) -> usize
 // Parent, num and the line's end.
 fn put_end(out: &mut [u8], at: usize, parent: usize, num: usize) -> usize
     requires { ⌜ at + 34 ≤ length (now out) ⌝ }
-    ensures { λ r. ⌜ Put (now (out .entry)) (now (out .exit)) at (endText parent num) 34 r ⌝ }
+    ensures { λ r. ⌜ Put (old out) (new out) at (endText parent num) 34 r ⌝ }
 {
     let a = put_or_dash(out, at, parent, 4294967295);
     let b = put_byte(out, a, 32);
@@ -145,8 +150,8 @@ fn put_end(out: &mut [u8], at: usize, parent: usize, num: usize) -> usize
 
 // The line of the entry at a place of the table of a zoom, at `at`. The place past it.
 fn put_line(out: &mut [u8], at: usize, zoom: u8, place: usize, e: Entry) -> usize
-    requires { ⌜ at + 136 ≤ length (now out) ⌝ }
-    ensures { λ r. ⌜ Put (now (out .entry)) (now (out .exit)) at (lineText zoom place e) 136 r ⌝ }
+    requires { ⌜ at + lineRoom ≤ length (now out) ⌝ }
+    ensures { λ r. ⌜ Put (old out) (new out) at (lineText zoom place e) lineRoom r ⌝ }
 {
     let a = put_place(out, at, zoom as usize, place);
     let b = put_point(out, a, e.x, e.y);
@@ -168,10 +173,11 @@ fn put_table(
     parent: &[u32],
     num: &[u32],
 ) -> usize
-    requires { ⌜ Even (now x) (now y) (now seen) (now id) (now parent) (now num) ⌝ }
-    requires { ⌜ (start + len ≤ length (now x)) × (at + 136 * len ≤ length (now out)) ⌝ }
-    ensures { λ r. ⌜ Put (now (out .entry)) (now (out .exit)) at
-        (tableText zoom 0 (part start len (rows (now (x .entry)) (now (y .entry)) (now (seen .entry)) (now (id .entry)) (now (parent .entry)) (now (num .entry))))) (136 * len) r ⌝ }
+    requires { let c = given x y seen id parent num in
+        ⌜ Even c × (start + len ≤ length (c .x)) × (at + lineRoom * len ≤ length (now out)) ⌝ }
+    ensures { λ r.
+        let c = lentCols x y seen id parent num in
+        ⌜ Put (old out) (new out) at (tableText zoom 0 (part start len (rows (c .entry)))) (lineRoom * len) r ⌝ }
 {
     let mut p = at;
     let mut i: usize = 0;
@@ -196,12 +202,13 @@ fn put_held(
     parent: &[u32],
     num: &[u32],
 ) -> usize
-    requires { ⌜ Even (now x) (now y) (now seen) (now id) (now parent) (now num) ⌝ }
-    requires { ⌜ z < 32 ⌝ }
-    requires { ⌜ (getD (s .starts) z 0 + getD (s .lens) z 0 ≤ length (now x)) × (at + 136 * getD (s .lens) z 0 ≤ length (now out)) ⌝ }
-    ensures { λ r. ⌜ Put (now (out .entry)) (now (out .exit)) at
-        (tableText z 0 (heldAt (s .starts) (s .lens) (rows (now (x .entry)) (now (y .entry)) (now (seen .entry)) (now (id .entry)) (now (parent .entry)) (now (num .entry))) z))
-        (136 * getD (s .lens) z 0) r ⌝ }
+    requires { let c = given x y seen id parent num in
+        let len = getD (s .lens) z 0 in
+        ⌜ Even c × (z < 32) × (getD (s .starts) z 0 + len ≤ length (c .x)) × (at + lineRoom * len ≤ length (now out)) ⌝ }
+    ensures { λ r.
+        let c = lentCols x y seen id parent num in
+        let t = heldAt (s .starts) (s .lens) (rows (c .entry)) z in
+        ⌜ Put (old out) (new out) at (tableText z 0 t) (lineRoom * getD (s .lens) z 0) r ⌝ }
 {
     let start = s.starts[z as usize] as usize;
     let len = s.lens[z as usize] as usize;
@@ -219,11 +226,10 @@ fn put_tables(
     parent: &[u32],
     num: &[u32],
 ) -> usize
-    requires { ⌜ Even (now x) (now y) (now seen) (now id) (now parent) (now num) ⌝ }
-    requires { ⌜ Holding s (rows (now x) (now y) (now seen) (now id) (now parent) (now num)) (length (now out)) ⌝ }
-    ensures { λ r. ⌜ Put (now (out .entry)) (now (out .exit)) 0
-        (tablesText (s .options .«max_zoom» + 1) (heldBy s (rows (now (x .entry)) (now (y .entry)) (now (seen .entry)) (now (id .entry)) (now (parent .entry)) (now (num .entry)))))
-        (length (now (out .entry))) r ⌝ }
+    requires { let c = given x y seen id parent num in ⌜ Even c × Holding s (rows c) (length (now out)) ⌝ }
+    ensures { λ r.
+        let c = lentCols x y seen id parent num in
+        ⌜ Put (old out) (new out) 0 (tablesText (s .options .«max_zoom» + 1) (heldBy s (rows (c .entry)))) (length (old out)) r ⌝ }
 {
     let o = s.options;
     let low = o.min_zoom;
@@ -239,7 +245,7 @@ fn put_tables(
 // What a refusal carries, at `at`: of 3 the point. The place past it.
 fn put_carried(out: &mut [u8], at: usize, number: u32, carried: usize) -> usize
     requires { ⌜ at + 24 ≤ length (now out) ⌝ }
-    ensures { λ r. ⌜ Put (now (out .entry)) (now (out .exit)) at (atText number carried) 24 r ⌝ }
+    ensures { λ r. ⌜ Put (old out) (new out) at (atText number carried) 24 r ⌝ }
 {
     if number == 3 {
         let a = put_bytes(out, at, b" at=");
@@ -251,7 +257,7 @@ fn put_carried(out: &mut [u8], at: usize, number: u32, carried: usize) -> usize
 // The line of a refusal at the start of `out`. How long it is.
 fn put_refusal(out: &mut [u8], number: u32, carried: usize) -> usize
     requires { ⌜ 43 ≤ length (now out) ⌝ }
-    ensures { λ r. ⌜ Put (now (out .entry)) (now (out .exit)) 0 (refusalText number carried) 43 r ⌝ }
+    ensures { λ r. ⌜ Put (old out) (new out) 0 (refusalText number carried) 43 r ⌝ }
 {
     let a = put_bytes(out, 0, b"refusal=");
     let b = put_decimal(out, a, number as usize, 10);
@@ -275,10 +281,12 @@ fn report_read(
     near: &mut [u32; 1152],
     out: &mut [u8; 156672],
 ) -> usize
-    requires { ⌜ (h .count ≤ length (now xs)) × (h .count ≤ length (now ys)) ⌝ }
-    ensures { λ r. ⌜ Put (now (out .entry)) (now (out .exit)) 0 (buildText (optionsOf h) (take (h .count) (now (xs .entry))) (take (h .count) (now (ys .entry)))) (length (now (out .entry))) r ⌝ }
-    ensures { λ _. ⌜ lent (now (x .exit)) (now (y .exit)) (now (seen .exit)) (now (id .exit)) (now (parent .exit)) (now (num .exit)) (now (ids .exit)) (now (coords .exit)) (now (near .exit))
-        ≡ loaded (optionsOf h) (take (h .count) (now (xs .entry))) (take (h .count) (now (ys .entry))) (lent (now (x .entry)) (now (y .entry)) (now (seen .entry)) (now (id .entry)) (now (parent .entry)) (now (num .entry)) (now (ids .entry)) (now (coords .entry)) (now (near .entry))) .columns ⌝ }
+    requires { ⌜ Fits (h .count) (givenPoints xs ys) ⌝ }
+    ensures { λ r.
+        let p = frontOf (h .count) (lentPoints xs ys .entry) in
+        let l = lentAll x y seen id parent num ids coords near in
+        ⌜ Put (old out) (new out) 0 (buildText (optionsOf h) p) (length (old out)) r
+        × (l .exit ≡ loadedBy (optionsOf h) p (l .entry) .columns) ⌝ }
 {
     let o = listing::options(h);
     let n = h.count as usize;
@@ -320,9 +328,10 @@ pub fn report(
     near: &mut [u32; 1152],
     out: &mut [u8; 156672],
 ) -> usize
-    ensures { λ r. ⌜ Reports (now (text .entry))
-        (lending (now (px .entry)) (now (py .entry)) (lent (now (x .entry)) (now (y .entry)) (now (seen .entry)) (now (id .entry)) (now (parent .entry)) (now (num .entry)) (now (ids .entry)) (now (coords .entry)) (now (near .entry))) (now (out .entry))) r
-        (lending (now (px .exit)) (now (py .exit)) (lent (now (x .exit)) (now (y .exit)) (now (seen .exit)) (now (id .exit)) (now (parent .exit)) (now (num .exit)) (now (ids .exit)) (now (coords .exit)) (now (near .exit))) (now (out .exit))) ⌝ }
+    ensures { λ r.
+        let p = lentPoints px py in
+        let l = lentAll x y seen id parent num ids coords near in
+        ⌜ Reports (old text) (lending (p .entry) (l .entry) (old out)) r (lending (p .exit) (l .exit) (new out)) ⌝ }
 {
     let Parsed::Read(h) = listing::parse(text, px, py) else {
         return put_refusal(out, 12, 0);

@@ -9,6 +9,7 @@ ghost use mathlib.Core.Bool.{true};
 ghost use mathlib.Core.List.{[], _∷_};
 ghost use Prim.Native.Nat.{_+_, _-_, _*_, _^_, _≤_, _<_};
 ghost use lib.ListN.{length};
+ghost use Rattle.lent.specs.Lent.{old, new};
 ghost use Rattle.kdsort.specs.Shape.{shape};
 ghost use Rattle.kdslots.specs.Slots.{over, when, scanned, slots};
 ghost use Rattle.kdbush.specs.Reply.{indexOk};
@@ -96,8 +97,7 @@ fn put(
     out: &mut [u32],
 ) -> Spent
     requires { ⌜ (2 * i + 1 < length (now coords)) × (i < length (now ids)) × (s .found + s .left < 2 ^ 64) ⌝ }
-    ensures { λ r. ⌜ went r (now (out .exit))
-        ≡ spend n (marks (over q (now (coords .entry))) (now (ids .entry)) (i ∷ [])) s (now (out .entry)) ⌝ }
+    ensures { λ r. ⌜ went r (new out) ≡ spend n (marks (over q (old coords)) (old ids) (i ∷ [])) s (old out) ⌝ }
 {
     if s.over {
         return s;
@@ -158,9 +158,9 @@ fn scan(
     out: &mut [u32],
 ) -> Spent
     requires { ⌜ (2 * hi ≤ length (now coords)) × (hi ≤ length (now ids)) × (s .found + s .left < 2 ^ 64) ⌝ }
-    ensures { λ r. ⌜ went r (now (out .exit))
-        ≡ spend n (marks (over q (now (coords .entry))) (now (ids .entry))
-        (scanned (testing (over q (now (coords .entry)))) lo (hi - lo))) s (now (out .entry)) ⌝ }
+    ensures { λ r.
+        let t = over q (old coords) in
+        ⌜ went r (new out) ≡ spend n (marks t (old ids) (scanned (testing t) lo (hi - lo))) s (old out) ⌝ }
 {
     let mut k = s;
     let mut i = lo;
@@ -190,9 +190,9 @@ fn part(
     out: &mut [u32],
 ) -> Spent
     requires { ⌜ (2 * hi ≤ length (now coords)) × (hi ≤ length (now ids)) × (lo ≤ hi) × (axis < 2) × (s .found + s .left < 2 ^ 64) ⌝ }
-    ensures { λ r. ⌜ went r (now (out .exit))
-        ≡ spend n (marks (over q (now (coords .entry))) (now (ids .entry))
-        (when go (slots (testing (over q (now (coords .entry)))) axis (shape most lo hi)))) s (now (out .entry)) ⌝ }
+    ensures { λ r.
+        let t = over q (old coords) in
+        ⌜ went r (new out) ≡ spend n (marks t (old ids) (when go (slots (testing t) axis (shape most lo hi)))) s (old out) ⌝ }
 {
     if !go {
         return s;
@@ -243,10 +243,9 @@ pub fn search(
     out: &mut [u32],
 ) -> EffortReply
     requires { ⌜ indexOk «node_size» n (now ids) (now coords) ≡ true ⌝ }
-    ensures { λ r. ⌜ r
-        ≡ answer n (trials p «node_size» n (now (ids .entry)) (now (coords .entry))) allowance (length (now (out .entry))) ⌝ }
-    ensures { λ _. ⌜ now (out .exit)
-        ≡ column n (trials p «node_size» n (now (ids .entry)) (now (coords .entry))) allowance (now (out .entry)) ⌝ }
+    ensures { λ r.
+        let t = trials p «node_size» n (old ids) (old coords) in
+        ⌜ (r ≡ answer n t allowance (length (old out))) × (new out ≡ column n t allowance (old out)) ⌝ }
 {
     let q = p.first;
     let w = p.second;

@@ -18,6 +18,7 @@ use Rattle.tables.specs.declared.Entry.{Entry}
 use Rattle.tables.specs.Options.{optionsOk, tableCount}
 use Rattle.tables.specs.State.{newState}
 use Rattle.tables.specs.Entries.{Table, never, unset, xsOf, ysOf, seenOf, idsOf, parentsOf, numsOf}
+use Rattle.tables.specs.Rows.{Cols, cols, each2}
 use Rattle.zooms.specs.Zooms.{planOf, run, zoomsOf, joined, joinedIds, joinedCo, over, starts, lens}
 use Rattle.supercluster.specs.declared.Loaded.{Loaded}
 
@@ -43,32 +44,25 @@ tablesOf o xs ys = run (planOf o (length xs)) (zoomsOf o) (finest (convertedAll 
 
 -- ---- the columns and the state that hold them
 
--- the lent columns
+-- the lent columns: those of the tables, those of the indexes, and room to work
 pub record Lent : Type 0 where
-  pub x : List Float
-  pub y : List Float
-  pub seen : List ℕ
-  pub id : List ℕ
-  pub parent : List ℕ
-  pub num : List ℕ
+  pub table : Cols
   pub ids : List ℕ
   pub coords : List Float
   pub near : List ℕ
 
-abbrev pub lent : List Float → List Float → List ℕ → List ℕ → List ℕ → List ℕ → List ℕ → List Float → List ℕ → Lent
-lent x y s i p n d c r = record { x = x; y = y; seen = s; id = i; parent = p; num = n; ids = d; coords = c; near = r }
+abbrev pub lent : Cols → List ℕ → List Float → List ℕ → Lent
+lent c ids coords near = record { table = c; ids = ids; coords = coords; near = near }
+
+-- the columns of a table
+abbrev pub colsOf : Table → Cols
+colsOf t = cols (xsOf t) (ysOf t) (seenOf t) (idsOf t) (parentsOf t) (numsOf t)
 
 -- the columns after a build of n points: the packed tables, their indexes, zeros in the first 2n of `near`, and past them the old contents
 unfoldable pub written : ℕ → ℕ → List Table → Lent → Lent
 written size n ts l =
-    let t = joined ts in
     record {
-      x = over (xsOf t) (l .x);
-      y = over (ysOf t) (l .y);
-      seen = over (seenOf t) (l .seen);
-      id = over (idsOf t) (l .id);
-      parent = over (parentsOf t) (l .parent);
-      num = over (numsOf t) (l .num);
+      table = each2 (λ A l q. over l q) (colsOf (joined ts)) (l .table);
       ids = over (joinedIds size ts) (l .ids);
       coords = over (joinedCo size ts) (l .coords);
       near = over (replicate (n + n) 0) (l .near);
@@ -91,7 +85,9 @@ roomyBy m x y seen id parent num ids coords near = leb m x && leb m y && leb m s
 
 abbrev pub roomy : ℕ → Lent → Bool
 roomy m l =
-    roomyBy m (length (l .x)) (length (l .y)) (length (l .seen)) (length (l .id)) (length (l .parent)) (length (l .num)) (length (l .ids)) (length (l .coords)) (length (l .near))
+    let c = l .table in
+    roomyBy m (length (c .x)) (length (c .y)) (length (c .seen)) (length (c .id)) (length (c .parent)) (length (c .num))
+    (length (l .ids)) (length (l .coords)) (length (l .near))
 
 -- refusals 1, 2, 3, 4, in this order
 unfoldable pub checked : Options → List Float → List Float → Lent → BuildReply

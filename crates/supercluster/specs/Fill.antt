@@ -18,7 +18,7 @@ use Rattle.kdbush.specs.declared.Outside.the-variants.{At, Nothing}
 use Rattle.kdslots.specs.All.{All}
 use Rattle.kdbush.specs.Reply.{firstOutside}
 use Rattle.tables.specs.Entries.{Table, entry}
-use Rattle.zoom.specs.Lamps.{total}
+use Rattle.zoom.specs.Lamps.{sumOf, total}
 use Rattle.zoom.specs.Sound.{Next}
 use Rattle.zooms.specs.Zooms.{over}
 use Rattle.zooms.specs.Parts.{Inside}
@@ -102,7 +102,7 @@ finest-fine (p ∷ ps) i z h f =
     (((w .0, w .1, omega arith), h), finest-fine ps (suc i) z h (λ k l. f (suc k) (omega (arith, l))))
 
 pub finest-total : (ps : List Point) (i : ℕ) → total (finest ps i) ≡ length (finest ps i)
-unfolding finest total
+unfolding finest sumOf
 finest-total [] i = refl
 finest-total (p ∷ ps) i = let r = finest-total ps (suc i) in omega (arith, r)
 

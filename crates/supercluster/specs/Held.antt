@@ -128,7 +128,7 @@ module _ (o : Options) (xs ys : List Float) (a : Accepted o xs ys) where
   module _ (l : Lent) where
     rows-are : rowsIn (written (o .«node_size») (length xs) tables l) ≡ over (joined tables) (rowsIn l)
     unfolding written
-    rows-are = rows-over (joined tables) (l .x) (l .y) (l .seen) (l .id) (l .parent) (l .num)
+    rows-are = rows-over (joined tables) (l .table)
 
     pub built-stands : (R : Table) → R ≡ over (joined tables) (rowsIn l)
         → Stands (stateOf o (length xs) tables .starts) (stateOf o (length xs) tables .lens) R (o .«min_zoom») tables

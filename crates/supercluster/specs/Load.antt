@@ -18,7 +18,7 @@ use Rattle.kdbush.specs.declared.BuildReply.the-variants.{Done, Options as No·
 use Rattle.tables.specs.Columns.{xs-rows, ys-rows, seen-rows, id-rows, parent-rows, num-rows}
 use Rattle.tables.specs.Entries.{Table}
 use Rattle.tables.specs.Options.{optionsOk}
-use Rattle.tables.specs.Rows.{rows, Even}
+use Rattle.tables.specs.Rows.{rows, Even, each, each2}
 use Rattle.tables.specs.declared.Entry.{Entry}
 use Rattle.tables.specs.declared.Options.{Options}
 use Rattle.tables.specs.declared.State.{State}
@@ -50,12 +50,12 @@ replies o xs ys l Tables = refl
 
 -- each column holds that much
 pub record Holds (m : ℕ) (l : Lent) : Type 0 where
-  pub hx : m ≤ length (l .x)
-  pub hy : m ≤ length (l .y)
-  pub hs : m ≤ length (l .seen)
-  pub hi : m ≤ length (l .id)
-  pub hp : m ≤ length (l .parent)
-  pub hn : m ≤ length (l .num)
+  pub hx : m ≤ length (l .table .x)
+  pub hy : m ≤ length (l .table .y)
+  pub hs : m ≤ length (l .table .seen)
+  pub hi : m ≤ length (l .table .id)
+  pub hp : m ≤ length (l .table .parent)
+  pub hn : m ≤ length (l .table .num)
   pub hd : m ≤ length (l .ids)
   pub hc : m * 2 ≤ length (l .coords)
   pub hr : m ≤ length (l .near)
@@ -65,19 +65,19 @@ holds m l e =
     let b9 = and-both _ (leb m (length (l .near))) e in
     let b8 = and-both _ (leb (2 * m) (length (l .coords))) (b9 .0) in
     let b7 = and-both _ (leb m (length (l .ids))) (b8 .0) in
-    let b6 = and-both _ (leb m (length (l .num))) (b7 .0) in
-    let b5 = and-both _ (leb m (length (l .parent))) (b6 .0) in
-    let b4 = and-both _ (leb m (length (l .id))) (b5 .0) in
-    let b3 = and-both _ (leb m (length (l .seen))) (b4 .0) in
-    let b2 = and-both (leb m (length (l .x))) (leb m (length (l .y))) (b3 .0) in
+    let b6 = and-both _ (leb m (length (l .table .num))) (b7 .0) in
+    let b5 = and-both _ (leb m (length (l .table .parent))) (b6 .0) in
+    let b4 = and-both _ (leb m (length (l .table .id))) (b5 .0) in
+    let b3 = and-both _ (leb m (length (l .table .seen))) (b4 .0) in
+    let b2 = and-both (leb m (length (l .table .x))) (leb m (length (l .table .y))) (b3 .0) in
     let c = leb-true (2 * m) (length (l .coords)) (b8 .1) in
     record {
-      hx = leb-true m (length (l .x)) (b2 .0);
-      hy = leb-true m (length (l .y)) (b2 .1);
-      hs = leb-true m (length (l .seen)) (b3 .1);
-      hi = leb-true m (length (l .id)) (b4 .1);
-      hp = leb-true m (length (l .parent)) (b5 .1);
-      hn = leb-true m (length (l .num)) (b6 .1);
+      hx = leb-true m (length (l .table .x)) (b2 .0);
+      hy = leb-true m (length (l .table .y)) (b2 .1);
+      hs = leb-true m (length (l .table .seen)) (b3 .1);
+      hi = leb-true m (length (l .table .id)) (b4 .1);
+      hp = leb-true m (length (l .table .parent)) (b5 .1);
+      hn = leb-true m (length (l .table .num)) (b6 .1);
       hd = leb-true m (length (l .ids)) (b7 .1);
       hc = omega (arith, c);
       hr = leb-true m (length (l .near)) (b9 .1);
@@ -90,52 +90,53 @@ col f T R R′ c c′ d m e a b k h l =
     cut-over (map f T) d c′ m h (sym a ∙ ap (map f) e ∙ over-map f T R ∙ ap (over (map f T)) (b ∙ k)) l
 
 abbrev pub fronts : ℕ → ℕ → Lent → Lent
-fronts m n l =
-    lent (take m (l .x)) (take m (l .y)) (take m (l .seen)) (take m (l .id)) (take m (l .parent)) (take m (l .num)) (take m (l .ids)) (take (m * 2) (l .coords)) (take n (l .near))
+fronts m n l = lent (each (λ A q. take m q) (l .table)) (take m (l .ids)) (take (m * 2) (l .coords)) (take n (l .near))
 
 abbrev pub rowsIn : Lent → Table
-rowsIn l = rows (l .x) (l .y) (l .seen) (l .id) (l .parent) (l .num)
+rowsIn l = rows (l .table)
 
 -- the fronts of the columns as they came back, and what follows them
 abbrev pub rejoined : ℕ → ℕ → Lent → Lent → Lent
 rejoined m n l′ l =
-    lent (l′ .x ++ drop m (l .x)) (l′ .y ++ drop m (l .y)) (l′ .seen ++ drop m (l .seen)) (l′ .id ++ drop m (l .id)) (l′ .parent ++ drop m (l .parent)) (l′ .num ++ drop m (l .num))
-    (l′ .ids ++ drop m (l .ids)) (l′ .coords ++ drop (m * 2) (l .coords)) (l′ .near ++ drop n (l .near))
+    lent (each2 (λ A p q. p ++ drop m q) (l′ .table) (l .table)) (l′ .ids ++ drop m (l .ids)) (l′ .coords ++ drop (m * 2) (l .coords)) (l′ .near ++ drop n (l .near))
 
 abbrev pub EvenIn : Lent → Type 0
-EvenIn l = Even (l .x) (l .y) (l .seen) (l .id) (l .parent) (l .num)
+EvenIn l = Even (l .table)
 
 pub fronts-even : (m n : ℕ) (l : Lent) → Holds m l → EvenIn (fronts m n l)
 fronts-even m n l h =
-    let e = sym (length-take-le m (l .x) (h .hx)) in
+    let c = l .table in
+    let e = sym (length-take-le m (c .x) (h .hx)) in
     record {
-      ey = length-take-le m (l .y) (h .hy) ∙ e;
-      es = length-take-le m (l .seen) (h .hs) ∙ e;
-      ei = length-take-le m (l .id) (h .hi) ∙ e;
-      ep = length-take-le m (l .parent) (h .hp) ∙ e;
-      en = length-take-le m (l .num) (h .hn) ∙ e;
+      ey = length-take-le m (c .y) (h .hy) ∙ e;
+      es = length-take-le m (c .seen) (h .hs) ∙ e;
+      ei = length-take-le m (c .id) (h .hi) ∙ e;
+      ep = length-take-le m (c .parent) (h .hp) ∙ e;
+      en = length-take-le m (c .num) (h .hn) ∙ e;
     }
 
 module _ (o : Options) (xs ys : List Float) (m : ℕ) (l l′ : Lent) (s : State) (h : Holds m l)
-    (v : EvenIn (fronts m (length xs + length xs) l)) (v′ : EvenIn l′) (k : length (l′ .x) ≡ m) (kd : length (l′ .ids) ≡ m) (kc : length (l′ .coords) ≡ m * 2)
+    (v : EvenIn (fronts m (length xs + length xs) l)) (v′ : EvenIn l′) (k : length (l′ .table .x) ≡ m) (kd : length (l′ .ids) ≡ m) (kc : length (l′ .coords) ≡ m * 2)
     (g : Made o xs ys s (rowsIn (fronts m (length xs + length xs) l)) (rowsIn l′) (take m (l .ids)) (l′ .ids) (take (m * 2) (l .coords)) (l′ .coords) (l′ .near)) where
   pub whole : rejoined m (length xs + length xs) l′ l ≡ written (o .«node_size») (length xs) (tablesOf o xs ys) l
   unfolding written
   whole =
-      let f = fronts m (length xs + length xs) l in
+      let c = fronts m (length xs + length xs) l .table in
+      let c′ = l′ .table in
+      let d = l .table in
       let T = joined (tablesOf o xs ys) in
-      let ex = col (λ e. e .x) T (rowsIn f) (rowsIn l′) (f .x) (l′ .x) (l .x) m (g .of-rows) (xs-rows (l′ .x) (l′ .y) (l′ .seen) (l′ .id) (l′ .parent) (l′ .num)) (xs-rows (f .x) (f .y) (f .seen) (f .id) (f .parent) (f .num)) refl (h .hx) k in
-      let ey = col (λ e. e .y) T (rowsIn f) (rowsIn l′) (f .y) (l′ .y) (l .y) m (g .of-rows) (ys-rows (l′ .x) (l′ .y) (l′ .seen) (l′ .id) (l′ .parent) (l′ .num) (v′ .ey)) (ys-rows (f .x) (f .y) (f .seen) (f .id) (f .parent) (f .num) (v .ey)) refl (h .hy) (v′ .ey ∙ k) in
-      let es = col (λ e. e .seen) T (rowsIn f) (rowsIn l′) (f .seen) (l′ .seen) (l .seen) m (g .of-rows) (seen-rows (l′ .x) (l′ .y) (l′ .seen) (l′ .id) (l′ .parent) (l′ .num) (v′ .es)) (seen-rows (f .x) (f .y) (f .seen) (f .id) (f .parent) (f .num) (v .es)) refl (h .hs) (v′ .es ∙ k) in
-      let ei = col (λ e. e .id) T (rowsIn f) (rowsIn l′) (f .id) (l′ .id) (l .id) m (g .of-rows) (id-rows (l′ .x) (l′ .y) (l′ .seen) (l′ .id) (l′ .parent) (l′ .num) (v′ .ei)) (id-rows (f .x) (f .y) (f .seen) (f .id) (f .parent) (f .num) (v .ei)) refl (h .hi) (v′ .ei ∙ k) in
-      let ep = col (λ e. e .parent) T (rowsIn f) (rowsIn l′) (f .parent) (l′ .parent) (l .parent) m (g .of-rows) (parent-rows (l′ .x) (l′ .y) (l′ .seen) (l′ .id) (l′ .parent) (l′ .num) (v′ .ep)) (parent-rows (f .x) (f .y) (f .seen) (f .id) (f .parent) (f .num) (v .ep)) refl (h .hp) (v′ .ep ∙ k) in
-      let en = col (λ e. e .num) T (rowsIn f) (rowsIn l′) (f .num) (l′ .num) (l .num) m (g .of-rows) (num-rows (l′ .x) (l′ .y) (l′ .seen) (l′ .id) (l′ .parent) (l′ .num) (v′ .en)) (num-rows (f .x) (f .y) (f .seen) (f .id) (f .parent) (f .num) (v .en)) refl (h .hn) (v′ .en ∙ k) in
+      let ex = col (λ e. e .x) T (rows c) (rows c′) (c .x) (c′ .x) (d .x) m (g .of-rows) (xs-rows c′) (xs-rows c) refl (h .hx) k in
+      let ey = col (λ e. e .y) T (rows c) (rows c′) (c .y) (c′ .y) (d .y) m (g .of-rows) (ys-rows c′ (v′ .ey)) (ys-rows c (v .ey)) refl (h .hy) (v′ .ey ∙ k) in
+      let es = col (λ e. e .seen) T (rows c) (rows c′) (c .seen) (c′ .seen) (d .seen) m (g .of-rows) (seen-rows c′ (v′ .es)) (seen-rows c (v .es)) refl (h .hs) (v′ .es ∙ k) in
+      let ei = col (λ e. e .id) T (rows c) (rows c′) (c .id) (c′ .id) (d .id) m (g .of-rows) (id-rows c′ (v′ .ei)) (id-rows c (v .ei)) refl (h .hi) (v′ .ei ∙ k) in
+      let ep = col (λ e. e .parent) T (rows c) (rows c′) (c .parent) (c′ .parent) (d .parent) m (g .of-rows) (parent-rows c′ (v′ .ep)) (parent-rows c (v .ep)) refl (h .hp) (v′ .ep ∙ k) in
+      let en = col (λ e. e .num) T (rows c) (rows c′) (c .num) (c′ .num) (d .num) m (g .of-rows) (num-rows c′ (v′ .en)) (num-rows c (v .en)) refl (h .hn) (v′ .en ∙ k) in
       let ed = cut-over (joinedIds (o .«node_size») (tablesOf o xs ys)) (l .ids) (l′ .ids) m (h .hd) (g .of-ids) kd in
       let ec = cut-over (joinedCo (o .«node_size») (tablesOf o xs ys)) (l .coords) (l′ .coords) (m * 2) (h .hc) (g .of-co) kc in
       let two = length xs + length xs in
       let er : l′ .near ++ drop two (l .near) ≡ over (replicate two 0) (l .near) =
       ap (λ (q : List ℕ). q ++ drop two (l .near)) (g .of-near) ∙ ap (λ (q : ℕ). replicate two 0 ++ drop q (l .near)) (sym (length-replicate {A = ℕ} two 0)) in
-      λ i. record { x = ex i; y = ey i; seen = es i; id = ei i; parent = ep i; num = en i; ids = ed i; coords = ec i; near = er i }
+      λ i. record { table = record { x = ex i; y = ey i; seen = es i; id = ei i; parent = ep i; num = en i }; ids = ed i; coords = ec i; near = er i }
 
 -- ---- what `load` leaves, by its reply
 

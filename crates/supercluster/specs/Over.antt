@@ -7,10 +7,11 @@ use lib.ListN.{length, take, drop, length-append, length-drop, length-map, take-
 use lib.Seq.{drop-append-add, drop-drop, length-take-le, drop-append-le}
 use lib.Ieee.{Float}
 use Rattle.tables.specs.Columns.{map-drop, rows-drop}
-use Rattle.tables.specs.Entries.{Table, xsOf, ysOf, seenOf, idsOf, parentsOf, numsOf}
-use Rattle.tables.specs.Rows.{rows}
+use Rattle.tables.specs.Entries.{Table}
+use Rattle.tables.specs.Rows.{Cols, rows, each2}
 use Rattle.tables.specs.declared.Entry.{Entry}
 use Rattle.zoom.specs.Keeps.{cluster-long}
+use Rattle.supercluster.specs.Build.{colsOf}
 use Rattle.zooms.specs.Zooms.{Plan, zoomed, run, joined, over}
 
 -- what a longer front covers is gone
@@ -52,16 +53,14 @@ run-long p (suc k) t =
 
 -- ---- the rows of columns that have a table at their front
 
-rows-append : (T : Table) (a b : List Float) (c d e f : List ℕ)
-    → rows (xsOf T ++ a) (ysOf T ++ b) (seenOf T ++ c) (idsOf T ++ d) (parentsOf T ++ e) (numsOf T ++ f) ≡ T ++ rows a b c d e f
+rows-append : (T : Table) (c : Cols) → rows (each2 (λ A l q. l ++ q) (colsOf T) c) ≡ T ++ rows c
 unfolding rows
-rows-append [] a b c d e f = refl
-rows-append (q ∷ T) a b c d e f = ap (λ (t : Table). q ∷ t) (rows-append T a b c d e f)
+rows-append [] c = refl
+rows-append (q ∷ T) c = ap (λ (t : Table). q ∷ t) (rows-append T c)
 
-pub rows-over : (T : Table) (x y : List Float) (ss is ps ns : List ℕ)
-    → rows (over (xsOf T) x) (over (ysOf T) y) (over (seenOf T) ss) (over (idsOf T) is) (over (parentsOf T) ps) (over (numsOf T) ns) ≡ over T (rows x y ss is ps ns)
-rows-over T x y ss is ps ns =
-    rows-append T _ _ _ _ _ _ ∙ ap (λ (t : Table). T ++ t) (simp length-map (rows-drop (length T) x y ss is ps ns))
+pub rows-over : (T : Table) (c : Cols) → rows (each2 (λ A l q. over l q) (colsOf T) c) ≡ over T (rows c)
+rows-over T c =
+    rows-append T (each2 (λ A l q. drop (length l) q) (colsOf T) c) ∙ ap (λ (t : Table). T ++ t) (simp length-map (rows-drop (length T) c))
 
 pub over-length : {A : Type 0} (l d : List A) → length l ≤ length d → length (over l d) ≡ length d
 over-length l d h = omega (arith, length-append l (drop (length l) d), length-drop (length l) d)

@@ -14,7 +14,7 @@ use Rattle.tables.specs.Bounds.{options-are}
 use Rattle.tables.specs.Columns.{part, xs-part, ys-part}
 use Rattle.tables.specs.Entries.{Table, xsOf, ysOf}
 use Rattle.tables.specs.Options.{optionsOk}
-use Rattle.tables.specs.Rows.{rows}
+use Rattle.tables.specs.Rows.{Cols, rows}
 use Rattle.tables.specs.State.{newState, withTable}
 use Rattle.tables.specs.declared.Options.{Options}
 use Rattle.tables.specs.declared.State.{State}
@@ -89,12 +89,12 @@ module _ (o : Options) (xs ys : List Float) (a : Accepted o xs ys) where
       ∙ take-append-seam (lamps (o .«coordinate_system») xs ys) (drop (length (lamps (o .«coordinate_system») xs ys)) R)
 
   -- and its points lie within [0,1]
-  pub first-inside : (x y : List Float) (ss is ps ns : List ℕ) (R : Table) → length y ≡ length x → rows x y ss is ps ns ≡ over (lamps (o .«coordinate_system») xs ys) R
-      → Inside (part 0 (length xs) x) (part 0 (length xs) y)
-  first-inside x y ss is ps ns R h e =
-      subst (λ (q : List Float). Inside q (part 0 (length xs) y)) (sym (xs-part 0 (length xs) x y ss is ps ns))
-      (subst (λ (q : List Float). Inside (xsOf (part 0 (length xs) (rows x y ss is ps ns))) q) (sym (ys-part 0 (length xs) x y ss is ps ns h))
-      (subst (λ (q : Table). Inside (xsOf q) (ysOf q)) (sym (first-part (rows x y ss is ps ns) R e)) (table-inside (lamps (o .«coordinate_system») xs ys) F-body)))
+  pub first-inside : (c : Cols) (R : Table) → length (c .y) ≡ length (c .x) → rows c ≡ over (lamps (o .«coordinate_system») xs ys) R
+      → Inside (part 0 (length xs) (c .x)) (part 0 (length xs) (c .y))
+  first-inside c R h e =
+      subst (λ (q : List Float). Inside q (part 0 (length xs) (c .y))) (sym (xs-part 0 (length xs) c))
+      (subst (λ (q : List Float). Inside (xsOf (part 0 (length xs) (rows c))) q) (sym (ys-part 0 (length xs) c h))
+      (subst (λ (q : Table). Inside (xsOf q) (ysOf q)) (sym (first-part (rows c) R e)) (table-inside (lamps (o .«coordinate_system») xs ys) F-body)))
 
   module _ (t R : Table) (ids ids₀ : List ℕ) (co co₀ : List Float) (et : t ≡ over (lamps (o .«coordinate_system») xs ys) R)
       (lt : length t ≡ need o (length xs)) (li : length ids₀ ≡ need o (length xs)) (lc : length co₀ ≡ need o (length xs) * 2)

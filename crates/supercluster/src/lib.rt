@@ -12,11 +12,14 @@ ghost use mathlib.Core.List.{map};
 ghost use Prim.Native.Nat.{_+_, _*_, _≤_};
 ghost use lib.ListN.{length, replicate};
 ghost use Rattle.kdbush.specs.Reply.{pairOk, firstOutside, inOrder};
+ghost use Rattle.lent.specs.Lent.{old, new};
 ghost use Rattle.tables.specs.Rows.{rows, Even};
+ghost use Rattle.tables.specs.Lent.{given, lentCols};
 ghost use Rattle.tables.specs.Options.{optionsOk};
 ghost use Rattle.tables.specs.State.{newState};
 ghost use Rattle.zooms.specs.Zooms.{over};
-ghost use Rattle.supercluster.specs.Build.{convertedAll, finest, lent, written, stateOf, tablesOf, need, roomyBy, outcome, loaded};
+ghost use Rattle.supercluster.specs.Build.{convertedAll, finest, written, stateOf, tablesOf, need, roomyBy, outcome, loaded};
+ghost use Rattle.supercluster.specs.Lent.{givenAll, lentAll};
 ghost use Rattle.supercluster.specs.Ready.{Accepted, Made};
 ghost use Rattle.supercluster.specs.Load.{Holds};
 
@@ -38,10 +41,11 @@ fn fill(
     parent: &mut [u32],
     num: &mut [u32],
 )
-    requires { ⌜ Even (now x) (now y) (now seen) (now id) (now parent) (now num) ⌝ }
-    requires { ⌜ (length (now ys) ≡ length (now xs)) × (length (now xs) ≤ length (now x)) × (length (now xs) ≤ 1048576) ⌝ }
-    ensures { λ _. ⌜ rows (now (x .exit)) (now (y .exit)) (now (seen .exit)) (now (id .exit)) (now (parent .exit)) (now (num .exit))
-        ≡ over (finest (convertedAll c (now (xs .entry)) (now (ys .entry))) 0) (rows (now (x .entry)) (now (y .entry)) (now (seen .entry)) (now (id .entry)) (now (parent .entry)) (now (num .entry))) ⌝ }
+    requires { let t = given x y seen id parent num in
+        ⌜ Even t × (length (now ys) ≡ length (now xs)) × (length (now xs) ≤ length (t .x)) × (length (now xs) ≤ 1048576) ⌝ }
+    ensures { λ _.
+        let t = lentCols x y seen id parent num in
+        ⌜ rows (t .exit) ≡ over (finest (convertedAll c (old xs) (old ys)) 0) (rows (t .entry)) ⌝ }
 {
     let mut place = 0;
     while place < xs.len() {
@@ -64,7 +68,7 @@ fn fill(
 
 // Zeros. What is zero already is not written, so that memory that was lent and never written to is not taken up.
 fn clear(a: &mut [u32])
-    ensures { λ _. ⌜ now (a .exit) ≡ replicate (length (now (a .entry))) 0 ⌝ }
+    ensures { λ _. ⌜ new a ≡ replicate (length (old a)) 0 ⌝ }
 {
     let mut i = 0;
     while i < a.len() {
@@ -90,13 +94,13 @@ fn build_in(
     coords: &mut [f64],
     near: &mut [u32],
 ) -> State
-    requires { ⌜ Even (now x) (now y) (now seen) (now id) (now parent) (now num) ⌝ }
-    requires { ⌜ Accepted o (now xs) (now ys) ⌝ }
-    requires { ⌜ (length (now x) ≡ need o (length (now xs))) × (length (now ids) ≡ need o (length (now xs))) × (length (now coords) ≡ need o (length (now xs)) * 2) × (length (now near) ≡ length (now xs) + length (now xs)) ⌝ }
-    ensures { λ s. ⌜ Made o (now (xs .entry)) (now (ys .entry)) s
-        (rows (now (x .entry)) (now (y .entry)) (now (seen .entry)) (now (id .entry)) (now (parent .entry)) (now (num .entry)))
-        (rows (now (x .exit)) (now (y .exit)) (now (seen .exit)) (now (id .exit)) (now (parent .exit)) (now (num .exit)))
-        (now (ids .entry)) (now (ids .exit)) (now (coords .entry)) (now (coords .exit)) (now (near .exit)) ⌝ }
+    requires { let t = given x y seen id parent num in
+        let n = length (now xs) in
+        ⌜ Even t × Accepted o (now xs) (now ys) × (length (t .x) ≡ need o n) × (length (now ids) ≡ need o n) × (length (now coords) ≡ need o n * 2)
+        × (length (now near) ≡ n + n) ⌝ }
+    ensures { λ s.
+        let t = lentCols x y seen id parent num in
+        ⌜ Made o (old xs) (old ys) s (rows (t .entry)) (rows (t .exit)) (old ids) (new ids) (old coords) (new coords) (new near) ⌝ }
 {
     let n = xs.len();
     let c = o.coordinate_system;
@@ -125,11 +129,13 @@ fn build_all(
     coords: &mut [f64],
     near: &mut [u32],
 ) -> State
-    requires { ⌜ Accepted o (now xs) (now ys) ⌝ }
-    requires { ⌜ Holds (need o (length (now xs))) (lent (now x) (now y) (now seen) (now id) (now parent) (now num) (now ids) (now coords) (now near)) ⌝ }
-    ensures { λ s. ⌜ (s ≡ stateOf o (length (now (xs .entry))) (tablesOf o (now (xs .entry)) (now (ys .entry))))
-        × (lent (now (x .exit)) (now (y .exit)) (now (seen .exit)) (now (id .exit)) (now (parent .exit)) (now (num .exit)) (now (ids .exit)) (now (coords .exit)) (now (near .exit))
-        ≡ written (o .«node_size») (length (now (xs .entry))) (tablesOf o (now (xs .entry)) (now (ys .entry))) (lent (now (x .entry)) (now (y .entry)) (now (seen .entry)) (now (id .entry)) (now (parent .entry)) (now (num .entry)) (now (ids .entry)) (now (coords .entry)) (now (near .entry)))) ⌝ }
+    requires { let l = givenAll x y seen id parent num ids coords near in
+        ⌜ Accepted o (now xs) (now ys) × Holds (need o (length (now xs))) l ⌝ }
+    ensures { λ s.
+        let l = lentAll x y seen id parent num ids coords near in
+        let n = length (old xs) in
+        let ts = tablesOf o (old xs) (old ys) in
+        ⌜ (s ≡ stateOf o n ts) × (l .exit ≡ written (o .«node_size») n ts (l .entry)) ⌝ }
 {
     let n = xs.len();
     let w = n + n;
@@ -154,7 +160,9 @@ fn build_all(
 // The first point that is outside [0,1], or no number, once it is converted.
 fn first_outside(c: CoordinateSystem, xs: &[f64], ys: &[f64]) -> Outside
     requires { ⌜ length (now ys) ≡ length (now xs) ⌝ }
-    ensures { λ r. ⌜ r ≡ firstOutside (map (λ p. p .x) (convertedAll c (now (xs .entry)) (now (ys .entry)))) (map (λ p. p .y) (convertedAll c (now (xs .entry)) (now (ys .entry)))) 0 ⌝ }
+    ensures { λ r.
+        let ps = convertedAll c (old xs) (old ys) in
+        ⌜ r ≡ firstOutside (map (λ p. p .x) ps) (map (λ p. p .y) ps) 0 ⌝ }
 {
     let mut i = 0;
     while i < xs.len() {
@@ -228,9 +236,10 @@ fn check(
     coords: usize,
     near: usize,
 ) -> BuildReply
-    ensures { λ r. ⌜ r ≡ inOrder (optionsOk o) (pairOk (now (xs .entry)) (now (ys .entry)))
-        (firstOutside (map (λ p. p .x) (convertedAll (o .«coordinate_system») (now (xs .entry)) (now (ys .entry)))) (map (λ p. p .y) (convertedAll (o .«coordinate_system») (now (xs .entry)) (now (ys .entry)))) 0)
-        (roomyBy (need o (length (now (xs .entry)))) x y seen id parent num ids coords near) ⌝ }
+    ensures { λ r.
+        let ps = convertedAll (o .«coordinate_system») (old xs) (old ys) in
+        ⌜ r ≡ inOrder (optionsOk o) (pairOk (old xs) (old ys)) (firstOutside (map (λ p. p .x) ps) (map (λ p. p .y) ps) 0)
+        (roomyBy (need o (length (old xs))) x y seen id parent num ids coords near) ⌝ }
 {
     if !o.is_in_bounds() {
         return BuildReply::Options;
@@ -279,8 +288,9 @@ pub fn load(
     coords: &mut [f64],
     near: &mut [u32],
 ) -> Loaded
-    ensures { λ r. ⌜ outcome r (lent (now (x .exit)) (now (y .exit)) (now (seen .exit)) (now (id .exit)) (now (parent .exit)) (now (num .exit)) (now (ids .exit)) (now (coords .exit)) (now (near .exit)))
-        ≡ loaded o (now (xs .entry)) (now (ys .entry)) (lent (now (x .entry)) (now (y .entry)) (now (seen .entry)) (now (id .entry)) (now (parent .entry)) (now (num .entry)) (now (ids .entry)) (now (coords .entry)) (now (near .entry))) ⌝ }
+    ensures { λ r.
+        let l = lentAll x y seen id parent num ids coords near in
+        ⌜ outcome r (l .exit) ≡ loaded o (old xs) (old ys) (l .entry) ⌝ }
 {
     match check(
         o,

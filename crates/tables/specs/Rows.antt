@@ -1,135 +1,256 @@
--- The six lent columns as one table, and what a store in them is in it: a whole entry, a mark, a parent. Only x says how long the table is; the laws on stores
--- ask that the six are as long as each other. Assumes nothing.
+-- The table that the lent columns hold, and how a store in them is in it: a whole entry, a mark, a parent. The columns go by one record, and all that is said of
+-- them is said of that. Only x says how long the table is; the laws on stores ask that the others are as long as it. Assumes nothing.
 use mathlib.Core.Path.{_≡_, refl, ap, sym, _∙_}
-use mathlib.Core.List.{List, [], _∷_}
-use Prim.Native.Nat.{ℕ, zero, suc, _<_}
+use mathlib.Core.List.{List, [], _∷_, map}
+use mathlib.Core.Bool.{Bool, true, false}
+use Prim.Native.Nat.{ℕ, zero, suc, _<_, _≤_}
 use native.Mathlib.Omega.{arith}
-use lib.ListN.{length, getD, set, length-set}
-use lib.Seq.{set-getD}
+use borrow.Author.Tests.{eqb-true, eqb-false}
+use lib.Dec.{eqb}
+use lib.ListN.{length, getD, set, length-set, length-map, List·getD-map}
+use lib.Seq.{set-getD, getD-set-same, getD-set-other, ext-getD}
 use lib.Ieee.{Float, nan}
 use Rattle.tables.specs.declared.Entry.{Entry}
-use Rattle.tables.specs.Entries.{Table, entry, marked, under}
+use Rattle.tables.specs.Entries.{Table, entry, none, marked, under}
 
-abbrev pub tail : {A : Type 0} → List A → List A
-tail [] = []
-tail (a ∷ l) = l
+-- ---- the columns. A further column is named in this part, in `Even` and `Kept`, and in `putAll`, `rows-set` and the one-line laws on single columns
+
+pub record Cols : Type 0 where
+  pub x : List Float
+  pub y : List Float
+  pub seen : List ℕ
+  pub id : List ℕ
+  pub parent : List ℕ
+  pub num : List ℕ
+
+abbrev pub cols : List Float → List Float → List ℕ → List ℕ → List ℕ → List ℕ → Cols
+cols xs ys ss is ps ns = record { x = xs; y = ys; seen = ss; id = is; parent = ps; num = ns }
 
 -- what stands at place i of the columns
-abbrev pub row : List Float → List Float → List ℕ → List ℕ → List ℕ → List ℕ → ℕ → Entry
-row xs ys ss is ps ns i =
-    record { x = getD xs i nan; y = getD ys i nan; seen = getD ss i 0; id = getD is i 0; parent = getD ps i 0; num = getD ns i 0 }
-
--- the table that the columns hold
-unfoldable pub rows : List Float → List Float → List ℕ → List ℕ → List ℕ → List ℕ → Table
-rows [] ys ss is ps ns = []
-rows (a ∷ xs) ys ss is ps ns =
-    record { x = a; y = getD ys 0 nan; seen = getD ss 0 0; id = getD is 0 0; parent = getD ps 0 0; num = getD ns 0 0 } ∷
-    rows xs (tail ys) (tail ss) (tail is) (tail ps) (tail ns)
-
--- the columns are as long as each other
-pub record Even (xs ys : List Float) (ss is ps ns : List ℕ) : Type 0 where
-  pub ey : length ys ≡ length xs
-  pub es : length ss ≡ length xs
-  pub ei : length is ≡ length xs
-  pub ep : length ps ≡ length xs
-  pub en : length ns ≡ length xs
-
-pub rows-length : (xs ys : List Float) (ss is ps ns : List ℕ) → length (rows xs ys ss is ps ns) ≡ length xs
-unfolding rows
-rows-length [] ys ss is ps ns = refl
-rows-length (a ∷ xs) ys ss is ps ns = ap suc (rows-length xs (tail ys) (tail ss) (tail is) (tail ps) (tail ns))
-
-getD-tail : {A : Type 0} (l : List A) (i : ℕ) (d : A) → getD (tail l) i d ≡ getD l (suc i) d
-getD-tail [] i d = refl
-getD-tail (a ∷ l) i d = refl
-
-pub rows-entry : (xs ys : List Float) (ss is ps ns : List ℕ) (i : ℕ) → i < length xs → entry (rows xs ys ss is ps ns) i ≡ row xs ys ss is ps ns i
-unfolding rows
-rows-entry [] ys ss is ps ns i h = let z : ⊥ = omega arith in absurd z
-rows-entry (a ∷ xs) ys ss is ps ns zero h = refl
-rows-entry (a ∷ xs) ys ss is ps ns (suc i) h =
-    rows-entry xs (tail ys) (tail ss) (tail is) (tail ps) (tail ns) i (omega arith) ∙ simp getD-tail
-
-tail-set : {A : Type 0} (l : List A) (i : ℕ) (a : A) → tail (set l (suc i) a) ≡ set (tail l) i a
-tail-set [] i a = refl
-tail-set (b ∷ l) i a = refl
-
-getD-set-0 : {A : Type 0} (l : List A) (i : ℕ) (a d : A) → getD (set l (suc i) a) 0 d ≡ getD l 0 d
-getD-set-0 [] i a d = refl
-getD-set-0 (b ∷ l) i a d = refl
-
-head-set : {A : Type 0} (l : List A) (a d : A) → 0 < length l → getD (set l 0 a) 0 d ≡ a
-head-set [] a d h = let z : ⊥ = omega arith in absurd z
-head-set (b ∷ l) a d h = refl
-
-tail-set-0 : {A : Type 0} (l : List A) (a : A) → tail (set l 0 a) ≡ tail l
-tail-set-0 [] a = refl
-tail-set-0 (b ∷ l) a = refl
-
-tail-length : {A : Type 0} (l : List A) (n : ℕ) → length l ≡ suc n → length (tail l) ≡ n
-tail-length [] n e = let z : ⊥ = omega arith in absurd z
-tail-length (b ∷ l) n e = omega arith
-
-pub even-tail : (a : Float) (xs ys : List Float) (ss is ps ns : List ℕ) → Even (a ∷ xs) ys ss is ps ns
-    → Even xs (tail ys) (tail ss) (tail is) (tail ps) (tail ns)
-even-tail a xs ys ss is ps ns v =
+abbrev pub row : Cols → ℕ → Entry
+row c i =
     record {
-      ey = tail-length ys _ (v .ey);
-      es = tail-length ss _ (v .es);
-      ei = tail-length is _ (v .ei);
-      ep = tail-length ps _ (v .ep);
-      en = tail-length ns _ (v .en);
+      x = getD (c .x) i nan;
+      y = getD (c .y) i nan;
+      seen = getD (c .seen) i 0;
+      id = getD (c .id) i 0;
+      parent = getD (c .parent) i 0;
+      num = getD (c .num) i 0;
     }
 
--- a whole entry is stored
-pub rows-set : (xs ys : List Float) (ss is ps ns : List ℕ) (i : ℕ) (e : Entry) → Even xs ys ss is ps ns → i < length xs
-    → rows (set xs i (e .x)) (set ys i (e .y)) (set ss i (e .seen)) (set is i (e .id)) (set ps i (e .parent)) (set ns i (e .num))
-    ≡ set (rows xs ys ss is ps ns) i e
-unfolding rows
-rows-set [] ys ss is ps ns i e v h = let z : ⊥ = omega arith in absurd z
-rows-set (a ∷ xs) ys ss is ps ns zero e v h =
-    let hy : 0 < length ys = omega arith in
-    let hs : 0 < length ss = omega arith in
-    let hi : 0 < length is = omega arith in
-    let hp : 0 < length ps = omega arith in
-    let hn : 0 < length ns = omega arith in
-    simp (head-set ys (e .y) nan hy, head-set ss (e .seen) 0 hs, head-set is (e .id) 0 hi, head-set ps (e .parent) 0 hp, head-set ns (e .num) 0 hn, tail-set-0)
-rows-set (a ∷ xs) ys ss is ps ns (suc i) e v h =
-    simp (getD-set-0, tail-set, rows-set xs (tail ys) (tail ss) (tail is) (tail ps) (tail ns) i e (even-tail a xs ys ss is ps ns v) (omega arith))
+-- the same done to each column
+abbrev pub each : ((A : Type 0) → List A → List A) → Cols → Cols
+each f c =
+    record {
+      x = f Float (c .x);
+      y = f Float (c .y);
+      seen = f ℕ (c .seen);
+      id = f ℕ (c .id);
+      parent = f ℕ (c .parent);
+      num = f ℕ (c .num);
+    }
 
-module _ (xs ys : List Float) (ss is ps ns : List ℕ) (i : ℕ) (v : Even xs ys ss is ps ns) (h : i < length xs) where
-  -- seen and parent are stored
-  pub rows-join : (z p : ℕ)
-      → rows xs ys (set ss i z) is (set ps i p) ns ≡ set (rows xs ys ss is ps ns) i (under p (marked z (entry (rows xs ys ss is ps ns) i)))
-  rows-join z p =
-      rw (rows-entry xs ys ss is ps ns i h)
-      (rw (sym (rows-set xs ys ss is ps ns i (under p (marked z (row xs ys ss is ps ns i))) v h)) (simp set-getD))
+-- and with each column of others
+abbrev pub each2 : ((A : Type 0) → List A → List A → List A) → Cols → Cols → Cols
+each2 f c d =
+    record {
+      x = f Float (c .x) (d .x);
+      y = f Float (c .y) (d .y);
+      seen = f ℕ (c .seen) (d .seen);
+      id = f ℕ (c .id) (d .id);
+      parent = f ℕ (c .parent) (d .parent);
+      num = f ℕ (c .num) (d .num);
+    }
 
-  -- seen is stored
-  pub rows-mark : (z : ℕ)
-      → rows xs ys (set ss i z) is ps ns ≡ set (rows xs ys ss is ps ns) i (marked z (entry (rows xs ys ss is ps ns) i))
-  rows-mark z =
-      rw (rows-entry xs ys ss is ps ns i h)
-      (rw (sym (rows-set xs ys ss is ps ns i (marked z (row xs ys ss is ps ns i)) v h)) (simp set-getD))
+-- an entry stored, field by field
+abbrev pub putAll : Cols → ℕ → Entry → Cols
+putAll c i e =
+    record {
+      x = set (c .x) i (e .x);
+      y = set (c .y) i (e .y);
+      seen = set (c .seen) i (e .seen);
+      id = set (c .id) i (e .id);
+      parent = set (c .parent) i (e .parent);
+      num = set (c .num) i (e .num);
+    }
 
-  -- parent is stored
-  pub rows-parent : (p : ℕ)
-      → rows xs ys ss is (set ps i p) ns ≡ set (rows xs ys ss is ps ns) i (under p (entry (rows xs ys ss is ps ns) i))
-  rows-parent p =
-      rw (rows-entry xs ys ss is ps ns i h)
-      (rw (sym (rows-set xs ys ss is ps ns i (under p (row xs ys ss is ps ns i)) v h)) (simp set-getD))
+-- other marks, and other parents
+abbrev pub withSeen : Cols → List ℕ → Cols
+withSeen c l = record { x = c .x; y = c .y; seen = l; id = c .id; parent = c .parent; num = c .num }
 
-pub even-marks : {xs ys : List Float} {ss is ps ns : List ℕ} (i a b : ℕ) → Even xs ys ss is ps ns → Even xs ys (set ss i a) is (set ps i b) ns
-even-marks {ss = ss} {ps = ps} i a b v =
-    record { ey = v .ey; es = length-set ss i a ∙ v .es; ei = v .ei; ep = length-set ps i b ∙ v .ep; en = v .en }
+abbrev pub withParent : Cols → List ℕ → Cols
+withParent c l = record { x = c .x; y = c .y; seen = c .seen; id = c .id; parent = l; num = c .num }
 
-pub even-mark : {xs ys : List Float} {ss is ps ns : List ℕ} (i a : ℕ) → Even xs ys ss is ps ns → Even xs ys (set ss i a) is ps ns
-even-mark {ss = ss} i a v =
-    record { ey = v .ey; es = length-set ss i a ∙ v .es; ei = v .ei; ep = v .ep; en = v .en }
+-- the columns are as long as each other
+pub record Even (c : Cols) : Type 0 where
+  pub ey : length (c .y) ≡ length (c .x)
+  pub es : length (c .seen) ≡ length (c .x)
+  pub ei : length (c .id) ≡ length (c .x)
+  pub ep : length (c .parent) ≡ length (c .x)
+  pub en : length (c .num) ≡ length (c .x)
 
--- lengths that are kept
-pub even-kept : {xs ys xs′ ys′ : List Float} {ss is ps ns ss′ is′ ps′ ns′ : List ℕ} → Even xs ys ss is ps ns
-    → length xs′ ≡ length xs → length ys′ ≡ length ys → length ss′ ≡ length ss → length is′ ≡ length is → length ps′ ≡ length ps → length ns′ ≡ length ns
-    → Even xs′ ys′ ss′ is′ ps′ ns′
-even-kept v a b c d e f =
+-- each column is as long as it was
+pub record Kept (old new : Cols) : Type 0 where
+  pub kx : length (new .x) ≡ length (old .x)
+  pub ky : length (new .y) ≡ length (old .y)
+  pub ks : length (new .seen) ≡ length (old .seen)
+  pub ki : length (new .id) ≡ length (old .id)
+  pub kp : length (new .parent) ≡ length (old .parent)
+  pub kn : length (new .num) ≡ length (old .num)
+
+pub kept-then : (a b c : Cols) → Kept b c → Kept a b → Kept a c
+kept-then a b c k l =
+    record { kx = k .kx ∙ l .kx; ky = k .ky ∙ l .ky; ks = k .ks ∙ l .ks; ki = k .ki ∙ l .ki; kp = k .kp ∙ l .kp; kn = k .kn ∙ l .kn }
+
+pub kept-mark : (c : Cols) (i a : ℕ) → Kept c (withSeen c (set (c .seen) i a))
+kept-mark c i a = record { kx = refl; ky = refl; ks = length-set (c .seen) i a; ki = refl; kp = refl; kn = refl }
+
+-- columns as long as each other, before and after: one length says all
+pub kept-even : (a b : Cols) → Even a → Even b → length (b .x) ≡ length (a .x) → Kept a b
+kept-even a b v w e =
+    record { kx = e; ky = omega arith; ks = omega arith; ki = omega arith; kp = omega arith; kn = omega arith }
+
+pub even-kept : (a b : Cols) → Kept a b → Even a → Even b
+even-kept a b k v =
     record { ey = omega arith; es = omega arith; ei = omega arith; ep = omega arith; en = omega arith }
+
+pub even-seen : (c : Cols) (l : List ℕ) → length l ≡ length (c .seen) → Even c → Even (withSeen c l)
+even-seen c l e v = record { ey = v .ey; es = e ∙ v .es; ei = v .ei; ep = v .ep; en = v .en }
+
+pub even-parent : (c : Cols) (l : List ℕ) → length l ≡ length (c .parent) → Even c → Even (withParent c l)
+even-parent c l e v = record { ey = v .ey; es = v .es; ei = v .ei; ep = e ∙ v .ep; en = v .en }
+
+pub even-mark : (c : Cols) (i a : ℕ) → Even c → Even (withSeen c (set (c .seen) i a))
+even-mark c i a v = even-seen c (set (c .seen) i a) (length-set (c .seen) i a) v
+
+pub even-marks : (c : Cols) (i a b : ℕ) → Even c → Even (withParent (withSeen c (set (c .seen) i a)) (set (c .parent) i b))
+even-marks c i a b v = even-parent (withSeen c (set (c .seen) i a)) (set (c .parent) i b) (length-set (c .parent) i b) (even-mark c i a v)
+
+-- ---- the table
+
+-- the values of f at the first n numbers
+abbrev pub firsts : (ℕ → Entry) → ℕ → Table
+firsts f zero = []
+firsts f (suc n) = f 0 ∷ firsts (λ i. f (suc i)) n
+
+firsts-length : (f : ℕ → Entry) (n : ℕ) → length (firsts f n) ≡ n
+firsts-length f zero = refl
+firsts-length f (suc n) = ap suc (firsts-length (λ i. f (suc i)) n)
+
+firsts-at : (f : ℕ → Entry) (n i : ℕ) → i < n → entry (firsts f n) i ≡ f i
+firsts-at f zero i h = let z : ⊥ = omega arith in absurd z
+firsts-at f (suc n) zero h = refl
+firsts-at f (suc n) (suc i) h = firsts-at (λ k. f (suc k)) n i (omega arith)
+
+-- the table that the columns hold
+unfoldable pub rows : Cols → Table
+rows c = firsts (row c) (length (c .x))
+
+pub rows-length : (c : Cols) → length (rows c) ≡ length (c .x)
+unfolding rows
+rows-length c = firsts-length (row c) (length (c .x))
+
+pub rows-entry : (c : Cols) (i : ℕ) → i < length (c .x) → entry (rows c) i ≡ row c i
+unfolding rows
+rows-entry c i h = firsts-at (row c) (length (c .x)) i h
+
+-- a table of the columns' length with what stands in them at each place is the one that they hold
+pub rows-are : (c : Cols) (t : Table) → length t ≡ length (c .x) → ((i : ℕ) → i < length (c .x) → row c i ≡ entry t i) → rows c ≡ t
+rows-are c t e f =
+    ext-getD none (rows c) t (rows-length c ∙ sym e)
+    (λ i h. let l : i < length (c .x) = omega (arith, rows-length c) in rows-entry c i l ∙ f i l)
+
+-- a whole entry is stored
+put-at : (c : Cols) (i : ℕ) (e : Entry) → Even c → i < length (c .x) → row (putAll c i e) i ≡ e
+put-at c i e v h =
+    simp (
+      getD-set-same (c .x) i (e .x) nan h,
+      getD-set-same (c .y) i (e .y) nan (let q : i < length (c .y) = omega arith in q),
+      getD-set-same (c .seen) i (e .seen) 0 (let q : i < length (c .seen) = omega arith in q),
+      getD-set-same (c .id) i (e .id) 0 (let q : i < length (c .id) = omega arith in q),
+      getD-set-same (c .parent) i (e .parent) 0 (let q : i < length (c .parent) = omega arith in q),
+      getD-set-same (c .num) i (e .num) 0 (let q : i < length (c .num) = omega arith in q),
+    )
+
+pub rows-set : (c : Cols) (i : ℕ) (e : Entry) → Even c → i < length (c .x) → rows (putAll c i e) ≡ set (rows c) i e
+rows-set c i e v h =
+    let n : length (set (rows c) i e) ≡ length (set (c .x) i (e .x)) = length-set (rows c) i e ∙ rows-length c ∙ sym (length-set (c .x) i (e .x)) in
+    rows-are (putAll c i e) (set (rows c) i e) n (λ j k. by j (rw (length-set (c .x) i (e .x)) at k) _ refl)
+  where
+    by : (j : ℕ) → j < length (c .x) → (b : Bool) → eqb j i ≡ b → row (putAll c i e) j ≡ entry (set (rows c) i e) j
+    by j k true q =
+        let r : j ≡ i = eqb-true j i q in
+        let m : i < length (rows c) = omega (arith, rows-length c, h) in
+        rw r (put-at c i e v h ∙ sym (getD-set-same (rows c) i e none m))
+    by j k false q =
+        let o = eqb-false j i q in
+        simp (getD-set-other (c .x) i j (e .x) nan o, getD-set-other (c .y) i j (e .y) nan o, getD-set-other (c .seen) i j (e .seen) 0 o, getD-set-other (c .id) i j (e .id) 0 o, getD-set-other (c .parent) i j (e .parent) 0 o, getD-set-other (c .num) i j (e .num) 0 o)
+        (sym (getD-set-other (rows c) i j e none o ∙ rows-entry c j k))
+
+-- a store that leaves the other columns as they are
+module _ (c : Cols) (i : ℕ) (v : Even c) (h : i < length (c .x)) where
+  -- seen and parent
+  pub rows-join : (z p : ℕ)
+      → rows (withParent (withSeen c (set (c .seen) i z)) (set (c .parent) i p)) ≡ set (rows c) i (under p (marked z (entry (rows c) i)))
+  rows-join z p = rw (rows-entry c i h) (rw (sym (rows-set c i (under p (marked z (row c i))) v h)) (simp set-getD))
+
+  -- seen
+  pub rows-mark : (z : ℕ) → rows (withSeen c (set (c .seen) i z)) ≡ set (rows c) i (marked z (entry (rows c) i))
+  rows-mark z = rw (rows-entry c i h) (rw (sym (rows-set c i (marked z (row c i)) v h)) (simp set-getD))
+
+  -- parent
+  pub rows-parent : (p : ℕ) → rows (withParent c (set (c .parent) i p)) ≡ set (rows c) i (under p (entry (rows c) i))
+  rows-parent p = rw (rows-entry c i h) (rw (sym (rows-set c i (under p (row c i)) v h)) (simp set-getD))
+
+-- ---- the same done to each column
+
+-- f takes what stands at k to i
+pub each-row : (f : (A : Type 0) → List A → List A) (c : Cols) (i k : ℕ) → ((A : Type 0) (l : List A) (d : A) → getD (f A l) i d ≡ getD l k d) → row (each f c) i ≡ row c k
+each-row f c i k g = simp (g Float (c .x) nan, g Float (c .y) nan, g ℕ (c .seen) 0, g ℕ (c .id) 0, g ℕ (c .parent) 0, g ℕ (c .num) 0)
+
+pub each-same : (f g : (A : Type 0) → List A → List A) (c : Cols) → ((A : Type 0) (l : List A) → f A l ≡ g A l) → each f c ≡ each g c
+each-same f g c e = simp (e Float (c .x), e Float (c .y), e ℕ (c .seen), e ℕ (c .id), e ℕ (c .parent), e ℕ (c .num))
+
+-- what is done to each of two columns, and then again: h to the first, or the second itself
+module _ (f : (A : Type 0) → List A → List A → List A) (g : (A : Type 0) → List A → List A) (c d : Cols) (v : Even c) where
+  pub each2-first : (h : (A : Type 0) → List A → List A) → ((A : Type 0) (l q : List A) → length l ≡ length (c .x) → g A (f A l q) ≡ h A l) → each g (each2 f c d) ≡ each h c
+  each2-first h e =
+      simp (
+        e Float (c .x) (d .x) refl,
+        e Float (c .y) (d .y) (v .ey),
+        e ℕ (c .seen) (d .seen) (v .es),
+        e ℕ (c .id) (d .id) (v .ei),
+        e ℕ (c .parent) (d .parent) (v .ep),
+        e ℕ (c .num) (d .num) (v .en),
+      )
+
+  pub each2-second : ((A : Type 0) (l q : List A) → length l ≡ length (c .x) → g A (f A l q) ≡ q) → each g (each2 f c d) ≡ d
+  each2-second e =
+      simp (
+        e Float (c .x) (d .x) refl,
+        e Float (c .y) (d .y) (v .ey),
+        e ℕ (c .seen) (d .seen) (v .es),
+        e ℕ (c .id) (d .id) (v .ei),
+        e ℕ (c .parent) (d .parent) (v .ep),
+        e ℕ (c .num) (d .num) (v .en),
+      )
+
+-- columns as long as each other come out so
+pub even-each : (f : (A : Type 0) → List A → List A) (g : ℕ → ℕ) (c : Cols) → ((A : Type 0) (l : List A) → length (f A l) ≡ g (length l)) → Even c → Even (each f c)
+even-each f g c e v =
+    let by : (A : Type 0) (l : List A) → length l ≡ length (c .x) → length (f A l) ≡ length (f Float (c .x)) = λ A l q. e A l ∙ ap g q ∙ sym (e Float (c .x)) in
+    record { ey = by Float (c .y) (v .ey); es = by ℕ (c .seen) (v .es); ei = by ℕ (c .id) (v .ei); ep = by ℕ (c .parent) (v .ep); en = by ℕ (c .num) (v .en) }
+
+-- ---- the columns of the rows
+
+getD-any : {A : Type 0} (l : List A) (i : ℕ) (a b : A) → i < length l → getD l i a ≡ getD l i b
+getD-any [] i a b h = let z : ⊥ = omega arith in absurd z
+getD-any (k ∷ l) zero a b h = refl
+getD-any (k ∷ l) (suc i) a b h = getD-any l i a b (omega arith)
+
+-- a field of the rows is the column that stands for it
+pub column : {B : Type 0} (f : Entry → B) (c : Cols) (l : List B) (d : B) → length l ≡ length (c .x) → ((i : ℕ) → f (row c i) ≡ getD l i d) → map f (rows c) ≡ l
+column f c l d e g =
+    let n : length (map f (rows c)) ≡ length l = length-map (rows c) f ∙ rows-length c ∙ sym e in
+    ext-getD (f none) (map f (rows c)) l n
+    (λ i h. let q : i < length l = omega (arith, n) in List·getD-map f (rows c) i none ∙ ap f (rows-entry c i (omega (arith, e, q))) ∙ g i ∙ getD-any l i d (f none) q)

@@ -14,6 +14,7 @@ ghost use Rattle.tables.specs.State.{newState, withTable, startOf, lenOf
 ghost use Rattle.tables.specs.Sound.{isTable, packed, stateOk};
 ghost use Rattle.tables.specs.Entries.{entry};
 ghost use Rattle.tables.specs.Rows.{rows, Even};
+ghost use Rattle.tables.specs.Lent.{given, lentCols};
 ghost use Rattle.tables.specs.Ids.{clusterId, originOf, tableOf};
 ghost use Rattle.tables.specs.Radius.{radiusAt};
 
@@ -260,9 +261,8 @@ pub fn entry_at(
     num: &[u32],
     i: usize,
 ) -> Entry
-    requires { ⌜ Even (now x) (now y) (now seen) (now id) (now parent) (now num) ⌝ }
-    requires { ⌜ i < length (now x) ⌝ }
-    ensures { λ r. ⌜ r ≡ entry (rows (now (x .entry)) (now (y .entry)) (now (seen .entry)) (now (id .entry)) (now (parent .entry)) (now (num .entry))) i ⌝ }
+    requires { let c = given x y seen id parent num in ⌜ Even c × (i < length (c .x)) ⌝ }
+    ensures { λ r. let c = lentCols x y seen id parent num in ⌜ r ≡ entry (rows (c .entry)) i ⌝ }
 {
     Entry {
         x: x[i],
@@ -285,10 +285,8 @@ pub fn put_entry(
     i: usize,
     e: Entry,
 )
-    requires { ⌜ Even (now x) (now y) (now seen) (now id) (now parent) (now num) ⌝ }
-    requires { ⌜ i < length (now x) ⌝ }
-    ensures { λ _. ⌜ rows (now (x .exit)) (now (y .exit)) (now (seen .exit)) (now (id .exit)) (now (parent .exit)) (now (num .exit))
-        ≡ set (rows (now (x .entry)) (now (y .entry)) (now (seen .entry)) (now (id .entry)) (now (parent .entry)) (now (num .entry))) i e ⌝ }
+    requires { let c = given x y seen id parent num in ⌜ Even c × (i < length (c .x)) ⌝ }
+    ensures { λ _. let c = lentCols x y seen id parent num in ⌜ rows (c .exit) ≡ set (rows (c .entry)) i e ⌝ }
 {
     x[i] = e.x;
     y[i] = e.y;

@@ -13,7 +13,7 @@ use Rattle.tables.specs.State.{startOf, lenOf}
 use Rattle.tables.specs.Sound.{stateOk, given, used-stands}
 use Rattle.tables.specs.Bounds.{InBounds}
 use Rattle.tables.specs.Entries.{Table}
-use Rattle.tables.specs.Rows.{rows}
+use Rattle.tables.specs.Rows.{rows, each}
 use Rattle.tables.specs.Columns.{part, part-long}
 use Rattle.asking.specs.Columns.{Columns, roomOf, Held, held, room-index, index-held, lent, lent-part, lent-rows, coordsAt, coords-length, stands-index}
 use Rattle.tiling.specs.Tile.{visited}
@@ -29,7 +29,7 @@ pub record Spot (s : State) (c : Columns) (u a n : ℕ) : Type 0 where
   pub size-to : s .options .«node_size» ≤ 65535
   pub some : 1 ≤ n
   pub most : n ≤ 1048576
-  pub rows-held : Held (a + n) (c .x) (c .y) (c .seen) (c .id) (c .parent) (c .num)
+  pub rows-held : Held (a + n) (c .table)
   pub ids-held : a + n ≤ length (c .ids)
   pub coords-held : 2 * (a + n) ≤ length (c .coords)
 
@@ -75,15 +75,15 @@ lent-twice a n l =
     ap (λ (k : ℕ). lent (2 * a) k l) e ∙ lent-part (2 * a) (2 * n) l
 
 module _ (s : State) (c : Columns) (u a n : ℕ) (p : Spot s c u a n) where
-  pub lent-ok : coordsOk (s .options .«node_size») (length (lent a (a + n) (c .x))) (length (lent (2 * a) (2 * (a + n)) (c .coords))) ≡ true
+  pub lent-ok : coordsOk (s .options .«node_size») (length (lent a (a + n) (c .table .x))) (length (lent (2 * a) (2 * (a + n)) (c .coords))) ≡ true
   lent-ok =
-      let h = lent-length a n (c .x) (p .rows-held .hx) in
+      let h = lent-length a n (c .table .x) (p .rows-held .hx) in
       let k : length (lent (2 * a) (2 * (a + n)) (c .coords)) ≡ 2 * n = ap length (lent-twice a n (c .coords)) ∙ part-long (2 * a) (2 * n) (c .coords) (omega (arith, p .coords-held)) in
-      searchable (s .options .«node_size») (length (lent a (a + n) (c .x))) (length (lent (2 * a) (2 * (a + n)) (c .coords))) (p .size-from) (p .size-to)
+      searchable (s .options .«node_size») (length (lent a (a + n) (c .table .x))) (length (lent (2 * a) (2 * (a + n)) (c .coords))) (p .size-from) (p .size-to)
       (omega (arith, h, p .some)) (omega (arith, h, p .most)) (omega (arith, h, k))
 
-  pub lent-ids : length (lent a (a + n) (c .x)) ≤ length (lent a (a + n) (c .ids))
-  lent-ids = omega (arith, lent-length a n (c .x) (p .rows-held .hx), lent-length a n (c .ids) (p .ids-held))
+  pub lent-ids : length (lent a (a + n) (c .table .x)) ≤ length (lent a (a + n) (c .ids))
+  lent-ids = omega (arith, lent-length a n (c .table .x) (p .rows-held .hx), lent-length a n (c .ids) (p .ids-held))
 
 -- the index of the zoom used may be searched
 pub coords-ok : (s : State) (c : Columns) (z : ℕ) → stateOk s (roomOf c) ≡ true → let u = zoomUsed (s .options) z in coordsOk (s .options .«node_size») (lenOf s u) (length (coordsAt s (c .coords) u)) ≡ true
@@ -95,11 +95,11 @@ coords-ok s c z e =
 
 -- the same tables, and so the same visits
 abbrev pub lentTable : Columns → ℕ → ℕ → Table
-lentTable c a e = rows (lent a e (c .x)) (lent a e (c .y)) (lent a e (c .seen)) (lent a e (c .id)) (lent a e (c .parent)) (lent a e (c .num))
+lentTable c a e = rows (each (λ A l. lent a e l) (c .table))
 
 module _ (s : State) (c : Columns) (z a n : ℕ) (ea : a ≡ startOf s (zoomUsed (s .options) z)) (en : n ≡ lenOf s (zoomUsed (s .options) z)) where
   pub table-used : lentTable c a (a + n) ≡ tableFor s c z
-  table-used = lent-rows a n (c .x) (c .y) (c .seen) (c .id) (c .parent) (c .num) ∙ rw (ea, en)
+  table-used = lent-rows a n (c .table) ∙ rw (ea, en)
 
   pub visits-used : (x y : ℕ) → visited (s .options) z x y (lentTable c a (a + n)) (lent a (a + n) (c .ids)) (lent (2 * a) (2 * (a + n)) (c .coords)) ≡ visitsFor s c z x y
   visits-used x y = rw (table-used, lent-part a n (c .ids), lent-twice a n (c .coords), ea, en)

@@ -7,9 +7,11 @@ use tiling::Running;
 use tiling::Tally;
 ghost use mathlib.Core.Path.{_≡_};
 ghost use mathlib.Core.Bool.{true};
+ghost use Rattle.lent.specs.Lent.{old, new};
 ghost use Rattle.tables.specs.State.{stateOf};
 ghost use Rattle.tables.specs.Sound.{stateOk};
-ghost use Rattle.asking.specs.Columns.{columns, roomOf};
+ghost use Rattle.asking.specs.Columns.{roomOf};
+ghost use Rattle.asking.specs.Lent.{givenColumns, lentColumns};
 ghost use Rattle.tiling.specs.Framed.{IsTile};
 ghost use Rattle.tiling.specs.Runs.{left, run};
 ghost use Rattle.tiling.specs.Tally.{weightIn};
@@ -59,12 +61,11 @@ fn list_used(
     px: &mut [i64],
     py: &mut [i64],
 ) -> Ran
-    requires { ⌜ (stateOk s (roomOf (columns (now x) (now y) (now seen) (now id) (now parent) (now num) (now ids) (now coords))) ≡ true) × IsTile z tx ty ⌝ }
+    requires { let c = givenColumns x y seen id parent num ids coords in ⌜ (stateOk s (roomOf c) ≡ true) × IsTile z tx ty ⌝ }
     requires { ⌜ (now starts ≡ s .starts) × (now lens ≡ s .lens) ⌝ }
-    ensures { λ r. ⌜ left r (now (out .exit)) (now (px .exit)) (now (py .exit))
-        ≡ run (tableFor s (columns (now (x .entry)) (now (y .entry)) (now (seen .entry)) (now (id .entry)) (now (parent .entry)) (now (num .entry)) (now (ids .entry)) (now (coords .entry))) z) 0
-        (visitsFor s (columns (now (x .entry)) (now (y .entry)) (now (seen .entry)) (now (id .entry)) (now (parent .entry)) (now (num .entry)) (now (ids .entry)) (now (coords .entry))) z tx ty)
-        (now (out .entry)) (now (px .entry)) (now (py .entry)) ⌝ }
+    ensures { λ r.
+        let c = lentColumns x y seen id parent num ids coords in
+        ⌜ left r (new out) (new px) (new py) ≡ run (tableFor s c z) 0 (visitsFor s c z tx ty) (old out) (old px) (old py) ⌝ }
 {
     let o = s.options;
     let u = index(o.zoom_used(z));
@@ -113,9 +114,10 @@ pub fn tile_lent(
     px: &mut [i64],
     py: &mut [i64],
 ) -> Answer
-    ensures { λ r. ⌜ outcome r (now (places .exit)) (now (px .exit)) (now (py .exit))
-        ≡ tiled (stateOf options count (now (starts .entry)) (now (lens .entry))) (columns (now (x .entry)) (now (y .entry)) (now (seen .entry)) (now (id .entry)) (now (parent .entry)) (now (num .entry)) (now (ids .entry)) (now (coords .entry))) z tx ty
-        (now (places .entry)) (now (px .entry)) (now (py .entry)) ⌝ }
+    ensures { λ r.
+        let s = stateOf options count (old starts) (old lens) in
+        let c = lentColumns x y seen id parent num ids coords in
+        ⌜ outcome r (new places) (new px) (new py) ≡ tiled s c z tx ty (old places) (old px) (old py) ⌝ }
 {
     let s = State {
         options,
@@ -176,9 +178,9 @@ pub fn tile(
     px: &mut [i64],
     py: &mut [i64],
 ) -> Answer
-    ensures { λ r. ⌜ outcome r (now (places .exit)) (now (px .exit)) (now (py .exit))
-        ≡ tiled s (columns (now (x .entry)) (now (y .entry)) (now (seen .entry)) (now (id .entry)) (now (parent .entry)) (now (num .entry)) (now (ids .entry)) (now (coords .entry))) z tx ty
-        (now (places .entry)) (now (px .entry)) (now (py .entry)) ⌝ }
+    ensures { λ r.
+        let c = lentColumns x y seen id parent num ids coords in
+        ⌜ outcome r (new places) (new px) (new py) ≡ tiled s c z tx ty (old places) (old px) (old py) ⌝ }
 {
     let starts = s.starts;
     let lens = s.lens;
@@ -221,10 +223,11 @@ fn tally_used(
     tx: u32,
     ty: u32,
 ) -> Running
-    requires { ⌜ (stateOk s (roomOf (columns (now x) (now y) (now seen) (now id) (now parent) (now num) (now ids) (now coords))) ≡ true) × IsTile z tx ty ⌝ }
+    requires { let c = givenColumns x y seen id parent num ids coords in ⌜ (stateOk s (roomOf c) ≡ true) × IsTile z tx ty ⌝ }
     requires { ⌜ (now starts ≡ s .starts) × (now lens ≡ s .lens) ⌝ }
-    ensures { λ r. ⌜ r ≡ runningOf (weightIn z tx ty) (tableFor s (columns (now (x .entry)) (now (y .entry)) (now (seen .entry)) (now (id .entry)) (now (parent .entry)) (now (num .entry)) (now (ids .entry)) (now (coords .entry))) z)
-        (visitsFor s (columns (now (x .entry)) (now (y .entry)) (now (seen .entry)) (now (id .entry)) (now (parent .entry)) (now (num .entry)) (now (ids .entry)) (now (coords .entry))) z tx ty) ⌝ }
+    ensures { λ r.
+        let c = lentColumns x y seen id parent num ids coords in
+        ⌜ r ≡ runningOf (weightIn z tx ty) (tableFor s c z) (visitsFor s c z tx ty) ⌝ }
 {
     let o = s.options;
     let used = index(o.zoom_used(z));
@@ -276,7 +279,10 @@ pub fn tally_lent(
     tx: u32,
     ty: u32,
 ) -> Tally
-    ensures { λ r. ⌜ r ≡ tallied (stateOf options count (now (starts .entry)) (now (lens .entry))) (columns (now (x .entry)) (now (y .entry)) (now (seen .entry)) (now (id .entry)) (now (parent .entry)) (now (num .entry)) (now (ids .entry)) (now (coords .entry))) z tx ty ⌝ }
+    ensures { λ r.
+        let s = stateOf options count (old starts) (old lens) in
+        let c = lentColumns x y seen id parent num ids coords in
+        ⌜ r ≡ tallied s c z tx ty ⌝ }
 {
     let s = State {
         options,
@@ -328,7 +334,9 @@ pub fn tally(
     tx: u32,
     ty: u32,
 ) -> Tally
-    ensures { λ r. ⌜ r ≡ tallied s (columns (now (x .entry)) (now (y .entry)) (now (seen .entry)) (now (id .entry)) (now (parent .entry)) (now (num .entry)) (now (ids .entry)) (now (coords .entry))) z tx ty ⌝ }
+    ensures { λ r.
+        let c = lentColumns x y seen id parent num ids coords in
+        ⌜ r ≡ tallied s c z tx ty ⌝ }
 {
     let starts = s.starts;
     let lens = s.lens;

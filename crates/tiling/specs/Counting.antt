@@ -26,6 +26,10 @@ pub data Held : Type 0 where
 abbrev pub heldOf : Running → List ℕ → Held
 heldOf r m = held (r .whole) (r .sure) (r .count) (r .sum) m
 
+-- the marks, by a contract that says what is held
+abbrev pub marksHeld : {a b : Bool} {k s : ℕ} {m : List ℕ} {h : Held} → held a b k s m ≡ h → List ℕ
+marksHeld {m = m} e = m
+
 -- the places of visits
 abbrev pub placesIn : List Visit → List ℕ
 placesIn vs = map (λ v. v .place) vs

@@ -19,6 +19,17 @@ use Rattle.tiling.specs.Tile.{Visit, listable, listed, whole, itemAt, it
 pub data Left : Type 0 where
   left : Ran → List ℕ → List ℤ → List ℤ → Left
 
+-- each column, by a contract that says what is left in all three
+module _ {r : Ran} {o : List ℕ} {a b : List ℤ} {l : Left} where
+  abbrev pub outLeft : left r o a b ≡ l → List ℕ
+  outLeft e = o
+
+  abbrev pub pxLeft : left r o a b ≡ l → List ℤ
+  pxLeft e = a
+
+  abbrev pub pyLeft : left r o a b ≡ l → List ℤ
+  pyLeft e = b
+
 -- the visits one after the other, k listed before: the item of each goes to its position, if a column reaches so far. The first that cannot be listed ends it.
 unfoldable pub run : Table → ℕ → List Visit → List ℕ → List ℤ → List ℤ → Left
 run t k [] out xs ys = left (All k) out xs ys

@@ -11,11 +11,13 @@ ghost use Prim.Native.Nat.{_+_, _*_, _/_, _^_, _<_, _≤_};
 ghost use lib.Dec.{T, eqb, ltb};
 ghost use lib.ListN.{length, set};
 ghost use lib.Ieee.{le, neg};
+ghost use Rattle.lent.specs.Lent.{old, new};
 ghost use Rattle.floats.specs.Numbers.{one, pow31};
 ghost use Rattle.floats.specs.Unit.{In01};
 ghost use Rattle.kdslots.specs.Bounds.{coordsOk};
 ghost use Rattle.tables.specs.Bounds.{InBounds};
 ghost use Rattle.tables.specs.Rows.{rows, Even};
+ghost use Rattle.tables.specs.Lent.{given, lentCols};
 ghost use Rattle.tiling.specs.Tile.{isTile, wraps, atEnd, side, strip, here, east, west, visited, namedAt, rounded, itemOf};
 ghost use Rattle.tiling.specs.Framed.{Framed, IsTile};
 ghost use Rattle.tiling.specs.Runs.{left, run};
@@ -239,8 +241,8 @@ fn entry_named(
     num: &[u32],
     p: u32,
 ) -> Named
-    requires { ⌜ Even (now x) (now y) (now seen) (now id) (now parent) (now num) ⌝ }
-    ensures { λ r. ⌜ r ≡ namedAt (rows (now (x .entry)) (now (y .entry)) (now (seen .entry)) (now (id .entry)) (now (parent .entry)) (now (num .entry))) p ⌝ }
+    requires { ⌜ Even (given x y seen id parent num) ⌝ }
+    ensures { λ r. let t = rows (lentCols x y seen id parent num .entry) in ⌜ r ≡ namedAt t p ⌝ }
 {
     let k = index(p);
     if x.len() <= k {
@@ -279,7 +281,7 @@ fn item_of(g: Search, p: u32, e: Entry) -> Item
 
 // Stores v at k, if the column reaches so far.
 fn put_whole(out: &mut [i64], k: usize, v: i64)
-    ensures { λ _. ⌜ now (out .exit) ≡ set (now (out .entry)) k v ⌝ }
+    ensures { λ _. ⌜ new out ≡ set (old out) k v ⌝ }
 {
     if k < out.len() {
         out[k] = v;
@@ -288,7 +290,7 @@ fn put_whole(out: &mut [i64], k: usize, v: i64)
 
 // Stores the item i as the k-th in the three columns, as far as they reach.
 fn put_item(i: Item, k: usize, out: &mut [u32], px: &mut [i64], py: &mut [i64])
-    ensures { λ _. ⌜ (now (out .exit) ≡ set (now (out .entry)) k (i .place)) × (now (px .exit) ≡ set (now (px .entry)) k (i .x)) × (now (py .exit) ≡ set (now (py .entry)) k (i .y)) ⌝ }
+    ensures { λ _. ⌜ (new out ≡ set (old out) k (i .place)) × (new px ≡ set (old px) k (i .x)) × (new py ≡ set (old py) k (i .y)) ⌝ }
 {
     asking::put_at(out, k, i.place);
     put_whole(px, k, i.x);
@@ -312,11 +314,12 @@ fn list_by(
     py: &mut [i64],
 ) -> Ran
     requires { ⌜ Framed g ⌝ }
-    requires { ⌜ Even (now x) (now y) (now seen) (now id) (now parent) (now num) ⌝ }
+    requires { ⌜ Even (given x y seen id parent num) ⌝ }
     requires { ⌜ (length (now x) ≤ length (now ids)) × (at + length (now x) < 2 ^ 64) ⌝ }
-    ensures { λ r. ⌜ left r (now (out .exit)) (now (px .exit)) (now (py .exit))
-        ≡ run (rows (now (x .entry)) (now (y .entry)) (now (seen .entry)) (now (id .entry)) (now (parent .entry)) (now (num .entry))) at
-        (walked g (length (now (x .entry))) (now (ids .entry)) (now (coords .entry))) (now (out .entry)) (now (px .entry)) (now (py .entry)) ⌝ }
+    ensures { λ r.
+        let c = lentCols x y seen id parent num .entry in
+        let vs = walked g (length (c .x)) (old ids) (old coords) in
+        ⌜ left r (new out) (new px) (new py) ≡ run (rows c) at vs (old out) (old px) (old py) ⌝ }
 {
     if !g.made {
         return Ran::All(at);
@@ -362,12 +365,12 @@ pub fn list(
     py: &mut [i64],
 ) -> Ran
     requires { ⌜ InBounds o × IsTile z tx ty ⌝ }
-    requires { ⌜ Even (now x) (now y) (now seen) (now id) (now parent) (now num) ⌝ }
+    requires { ⌜ Even (given x y seen id parent num) ⌝ }
     requires { ⌜ (coordsOk (o .«node_size») (length (now x)) (length (now coords)) ≡ true) × (length (now x) ≤ length (now ids)) ⌝ }
-    ensures { λ r. ⌜ left r (now (out .exit)) (now (px .exit)) (now (py .exit))
-        ≡ run (rows (now (x .entry)) (now (y .entry)) (now (seen .entry)) (now (id .entry)) (now (parent .entry)) (now (num .entry))) 0
-        (visited o z tx ty (rows (now (x .entry)) (now (y .entry)) (now (seen .entry)) (now (id .entry)) (now (parent .entry)) (now (num .entry))) (now (ids .entry)) (now (coords .entry)))
-        (now (out .entry)) (now (px .entry)) (now (py .entry)) ⌝ }
+    ensures { λ r.
+        let t = rows (lentCols x y seen id parent num .entry) in
+        let vs = visited o z tx ty t (old ids) (old coords) in
+        ⌜ left r (new out) (new px) (new py) ≡ run t 0 vs (old out) (old px) (old py) ⌝ }
 {
     let g = search_here(o, z, tx, ty);
     let Ran::All(a) = list_by(g, x, y, seen, id, parent, num, ids, coords, 0, out, px, py) else {
@@ -395,7 +398,7 @@ fn bit(j: usize) -> u8
 // Whether the mark q is there.
 fn is_marked(marks: &[u8], q: usize) -> bool
     requires { ⌜ q < 8 * length (now marks) ⌝ }
-    ensures { λ r. ⌜ r ≡ marked (now (marks .entry)) q ⌝ }
+    ensures { λ r. ⌜ r ≡ marked (old marks) q ⌝ }
 {
     let b = bit(q % 8);
     marks[q / 8] / b % 2 == 1
@@ -404,7 +407,7 @@ fn is_marked(marks: &[u8], q: usize) -> bool
 // Adds num to the sum, if the mark q is not there, and sets it.
 fn add_once(marks: &mut [u8], q: usize, num: u32, sum: u64) -> u64
     requires { ⌜ (q < 8 * length (now marks)) × (sum + 4294967295 < 2 ^ 64) ⌝ }
-    ensures { λ r. ⌜ (r ≡ added num q sum (now (marks .entry))) × (now (marks .exit) ≡ marking q (now (marks .entry))) × (r ≤ sum + 4294967295) ⌝ }
+    ensures { λ r. ⌜ (r ≡ added num q sum (old marks)) × (new marks ≡ marking q (old marks)) × (r ≤ sum + 4294967295) ⌝ }
 {
     if is_marked(marks, q) {
         return sum;
@@ -516,12 +519,12 @@ fn tally_one(
     r: Running,
     marks: &mut [u8],
 ) -> Running
-    requires { ⌜ Even (now x) (now y) (now seen) (now id) (now parent) (now num) ⌝ }
+    requires { ⌜ Even (given x y seen id parent num) ⌝ }
     requires { ⌜ marksFor few (length (now x)) ≤ 8 * length (now marks) ⌝ }
     requires { ⌜ (r .count < 4194304) × (r .sum ≤ r .count * 4294967295) ⌝ }
-    ensures { λ a. ⌜ (heldOf a (now (marks .exit))
-        ≡ counted few (weightBy h) (rows (now (x .entry)) (now (y .entry)) (now (seen .entry)) (now (id .entry)) (now (parent .entry)) (now (num .entry))) (r .count) (r .sum)
-        (p ∷ []) (now (marks .entry)))
+    ensures { λ a.
+        let t = rows (lentCols x y seen id parent num .entry) in
+        ⌜ (heldOf a (new marks) ≡ counted few (weightBy h) t (r .count) (r .sum) (p ∷ []) (old marks))
         × (a .count ≤ r .count + 1) × (a .sum ≤ a .count * 4294967295) ⌝ }
 {
     let Named::At(e) = entry_named(x, y, seen, id, parent, num, p) else {
@@ -568,13 +571,14 @@ fn tally_by(
     r: Running,
     marks: &mut [u8],
 ) -> Running
-    requires { ⌜ Even (now x) (now y) (now seen) (now id) (now parent) (now num) ⌝ }
+    requires { ⌜ Even (given x y seen id parent num) ⌝ }
     requires { ⌜ (length (now x) ≤ length (now ids)) × (marksFor few (length (now x)) ≤ 8 * length (now marks)) ⌝ }
     requires { ⌜ (r .count + length (now x) ≤ 4194304) × (r .sum ≤ r .count * 4294967295) ⌝ }
-    ensures { λ a. ⌜ (heldOf a (now (marks .exit))
-        ≡ counted few (weightBy h) (rows (now (x .entry)) (now (y .entry)) (now (seen .entry)) (now (id .entry)) (now (parent .entry)) (now (num .entry))) (r .count) (r .sum)
-        (placesIn (walked g (length (now (x .entry))) (now (ids .entry)) (now (coords .entry)))) (now (marks .entry)))
-        × (a .count ≤ r .count + length (now (x .entry))) × (a .sum ≤ a .count * 4294967295) ⌝ }
+    ensures { λ a.
+        let c = lentCols x y seen id parent num .entry in
+        let ps = placesIn (walked g (length (c .x)) (old ids) (old coords)) in
+        ⌜ (heldOf a (new marks) ≡ counted few (weightBy h) (rows c) (r .count) (r .sum) ps (old marks))
+        × (a .count ≤ r .count + length (c .x)) × (a .sum ≤ a .count * 4294967295) ⌝ }
 {
     let mut a = Running {
         whole: true,
@@ -623,12 +627,13 @@ fn add_with(
     marks: &mut [u8],
 ) -> Running
     requires { ⌜ InBounds o × IsTile z tx ty ⌝ }
-    requires { ⌜ Even (now x) (now y) (now seen) (now id) (now parent) (now num) ⌝ }
+    requires { ⌜ Even (given x y seen id parent num) ⌝ }
     requires { ⌜ (coordsOk (o .«node_size») (length (now x)) (length (now coords)) ≡ true) × (length (now x) ≤ length (now ids)) ⌝ }
     requires { ⌜ Blank few (length (now x)) (now marks) ⌝ }
-    ensures { λ r. ⌜ ((few && not (r .sure)) ≡ false
-        → r ≡ runningOf (weightIn z tx ty) (rows (now (x .entry)) (now (y .entry)) (now (seen .entry)) (now (id .entry)) (now (parent .entry)) (now (num .entry)))
-        (visited o z tx ty (rows (now (x .entry)) (now (y .entry)) (now (seen .entry)) (now (id .entry)) (now (parent .entry)) (now (num .entry))) (now (ids .entry)) (now (coords .entry)))) ⌝ }
+    ensures { λ r.
+        let t = rows (lentCols x y seen id parent num .entry) in
+        let vs = visited o z tx ty t (old ids) (old coords) in
+        ⌜ ((few && not (r .sure)) ≡ false → r ≡ runningOf (weightIn z tx ty) t vs) ⌝ }
 {
     let r = Running {
         whole: true,
@@ -712,10 +717,11 @@ fn add_all(
     coords: &[f64],
 ) -> Running
     requires { ⌜ InBounds o × IsTile z tx ty ⌝ }
-    requires { ⌜ Even (now x) (now y) (now seen) (now id) (now parent) (now num) ⌝ }
+    requires { ⌜ Even (given x y seen id parent num) ⌝ }
     requires { ⌜ (coordsOk (o .«node_size») (length (now x)) (length (now coords)) ≡ true) × (length (now x) ≤ length (now ids)) ⌝ }
-    ensures { λ r. ⌜ r ≡ runningOf (weightIn z tx ty) (rows (now (x .entry)) (now (y .entry)) (now (seen .entry)) (now (id .entry)) (now (parent .entry)) (now (num .entry)))
-        (visited o z tx ty (rows (now (x .entry)) (now (y .entry)) (now (seen .entry)) (now (id .entry)) (now (parent .entry)) (now (num .entry))) (now (ids .entry)) (now (coords .entry))) ⌝ }
+    ensures { λ r.
+        let t = rows (lentCols x y seen id parent num .entry) in
+        ⌜ r ≡ runningOf (weightIn z tx ty) t (visited o z tx ty t (old ids) (old coords)) ⌝ }
 {
     if x.len() <= 131072 {
         let mut some = [0u8; 16384];
@@ -783,10 +789,11 @@ pub fn add_up(
     coords: &[f64],
 ) -> Running
     requires { ⌜ InBounds o × IsTile z tx ty ⌝ }
-    requires { ⌜ Even (now x) (now y) (now seen) (now id) (now parent) (now num) ⌝ }
+    requires { ⌜ Even (given x y seen id parent num) ⌝ }
     requires { ⌜ (coordsOk (o .«node_size») (length (now x)) (length (now coords)) ≡ true) × (length (now x) ≤ length (now ids)) ⌝ }
-    ensures { λ r. ⌜ r ≡ runningOf (weightIn z tx ty) (rows (now (x .entry)) (now (y .entry)) (now (seen .entry)) (now (id .entry)) (now (parent .entry)) (now (num .entry)))
-        (visited o z tx ty (rows (now (x .entry)) (now (y .entry)) (now (seen .entry)) (now (id .entry)) (now (parent .entry)) (now (num .entry))) (now (ids .entry)) (now (coords .entry))) ⌝ }
+    ensures { λ r.
+        let t = rows (lentCols x y seen id parent num .entry) in
+        ⌜ r ≡ runningOf (weightIn z tx ty) t (visited o z tx ty t (old ids) (old coords)) ⌝ }
 {
     if is_crowded(z, x.len()) {
         return add_all(o, z, tx, ty, x, y, seen, id, parent, num, ids, coords);

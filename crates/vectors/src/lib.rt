@@ -13,6 +13,7 @@ ghost use lib.ListN.{length};
 ghost use lib.Ieee.{binary64, nanBits, ofBits};
 ghost use mir.Syntax.{w64};
 ghost use mir.Val.{toZ};
+ghost use Rattle.lent.specs.Lent.{old};
 ghost use Rattle.vectors.specs.Words.{digitIs, patternIs, wordIs, countIs, agreeing};
 ghost use Rattle.vectors.specs.Same.{samePlaces, sameLongs, sameFloats, doneIs};
 ghost use Rattle.vectors.specs.Tallies.{earlierOf, firstOf, withAgreed, withDiffered};
@@ -133,7 +134,7 @@ fn hex_digit(c: u8) -> Digit
 // The number that the 16 digits from `at` on write.
 pub fn read_pattern(line: &[u8], at: usize) -> Pattern
     requires { ⌜ at + 16 ≤ length (now line) ⌝ }
-    ensures { λ r. ⌜ patternIs (now (line .entry)) at r ⌝ }
+    ensures { λ r. ⌜ patternIs (old line) at r ⌝ }
 {
     let mut bits: u64 = 0;
     let mut i = 0;
@@ -194,7 +195,7 @@ pub fn agree(a: f64, b: f64) -> bool
 
 // The word that 17 bytes hold.
 fn word_of(text: &[u8; 17]) -> Word
-    ensures { λ r. ⌜ wordIs (now (text .entry)) r ⌝ }
+    ensures { λ r. ⌜ wordIs (old text) r ⌝ }
 {
     let Pattern::Bits(bits) = read_pattern(text, 0) else {
         return Word::Bad;
@@ -383,7 +384,7 @@ pub fn read_longs(m: usize, last: bool, column: &mut [i64]) -> bool
 
 // Reads how many floats there are and then these, as many as the column holds at the most.
 pub fn next_floats(column: &mut [f64]) -> Count
-    ensures { λ r. ⌜ countIs (length (now (column .entry))) r ⌝ }
+    ensures { λ r. ⌜ countIs (length (old column)) r ⌝ }
 {
     let Count::Is(n) = next_count(column.len(), false) else {
         return Count::Bad;
@@ -400,7 +401,7 @@ pub fn next_floats(column: &mut [f64]) -> Count
 
 // The same of bytes.
 pub fn next_bytes(column: &mut [u8]) -> Count
-    ensures { λ r. ⌜ countIs (length (now (column .entry))) r ⌝ }
+    ensures { λ r. ⌜ countIs (length (old column)) r ⌝ }
 {
     let Count::Is(n) = next_count(column.len(), false) else {
         return Count::Bad;
@@ -418,7 +419,7 @@ pub fn next_bytes(column: &mut [u8]) -> Count
 
 // The same of places.
 pub fn next_places(column: &mut [u32]) -> Count
-    ensures { λ r. ⌜ countIs (length (now (column .entry))) r ⌝ }
+    ensures { λ r. ⌜ countIs (length (old column)) r ⌝ }
 {
     let Count::Is(n) = next_count(column.len(), false) else {
         return Count::Bad;
@@ -431,7 +432,7 @@ pub fn next_places(column: &mut [u32]) -> Count
 
 // Whether two columns of places are the same, to their ends.
 pub fn same_places(want: &[u32], got: &[u32]) -> bool
-    ensures { λ r. ⌜ r ≡ samePlaces (now (want .entry)) (now (got .entry)) ⌝ }
+    ensures { λ r. ⌜ r ≡ samePlaces (old want) (old got) ⌝ }
 {
     if want.len() != got.len() {
         return false;
@@ -448,7 +449,7 @@ pub fn same_places(want: &[u32], got: &[u32]) -> bool
 
 // Whether two columns of bytes are the same, to their ends.
 pub fn same_bytes(want: &[u8], got: &[u8]) -> bool
-    ensures { λ r. ⌜ r ≡ samePlaces (now (want .entry)) (now (got .entry)) ⌝ }
+    ensures { λ r. ⌜ r ≡ samePlaces (old want) (old got) ⌝ }
 {
     if want.len() != got.len() {
         return false;
@@ -465,7 +466,7 @@ pub fn same_bytes(want: &[u8], got: &[u8]) -> bool
 
 // Whether two columns of numbers with a sign are the same, to their ends.
 pub fn same_longs(want: &[i64], got: &[i64]) -> bool
-    ensures { λ r. ⌜ r ≡ sameLongs (now (want .entry)) (now (got .entry)) ⌝ }
+    ensures { λ r. ⌜ r ≡ sameLongs (old want) (old got) ⌝ }
 {
     if want.len() != got.len() {
         return false;
@@ -482,7 +483,7 @@ pub fn same_longs(want: &[i64], got: &[i64]) -> bool
 
 // Whether two columns of floats agree, to their ends.
 pub fn same_floats(want: &[f64], got: &[f64]) -> bool
-    ensures { λ r. ⌜ r ≡ sameFloats (now (want .entry)) (now (got .entry)) ⌝ }
+    ensures { λ r. ⌜ r ≡ sameFloats (old want) (old got) ⌝ }
 {
     if want.len() != got.len() {
         return false;

@@ -1,11 +1,10 @@
 -- How the children of a ring, listed in a column of one, make a fetch. Assumes nothing.
-use mathlib.Core.Bool.{Bool, true, false, cond}
+use mathlib.Core.Bool.{Bool, cond}
 use mathlib.Core.Path.{_≡_, refl, sym, ap, _∙_}
 use mathlib.Core.List.{List, [], _∷_}
 use Prim.Native.Nat.{ℕ, _<_, _≤_}
 use native.Mathlib.Omega.{arith}
 use borrow.Author.Tests.{lt-ltb, le-ltb}
-use lib.Dec.{ltb}
 use lib.ListN.{length, getD}
 use Rattle.kdbush.specs.Run.{filled}
 use Rattle.tables.specs.declared.Entry.{Entry}
@@ -14,15 +13,13 @@ use Rattle.tables.specs.State.{lenOf}
 use Rattle.tables.specs.Entries.{Table, entry}
 use Rattle.asking.specs.declared.Ring.{Ring}
 use Rattle.asking.specs.Columns.{Columns, tableAt}
-use Rattle.asking.specs.Around.{ringOf, slotsOf}
 use Rattle.kids.specs.declared.Kids.{Kids}
 use Rattle.kids.specs.declared.Kids.the-variants.{All, Spoiled as Kids·Spoiled}
-use Rattle.kids.specs.Kids.{kidsAt, cleanAt, kidsReply}
-use Rattle.kids.specs.Next.{tableIn, kidsIn, cleanIn, reply-around, column-around, kids-below, all-is, spoiled-is}
-use Rattle.walks.specs.declared.Fetched.{Fetched}
+use Rattle.kids.specs.Kids.{kidsAt}
+use Rattle.kids.specs.Next.{tableIn, kids-below}
 use Rattle.walks.specs.declared.Fetched.the-variants.{Cluster, Nobody, Others, Spoiled}
 use Rattle.walks.specs.Expansion.{sole, fetchedAt}
-use Rattle.walks.proofs.Led.{none-is}
+use Rattle.walks.proofs.Led.{none-is, Looked, looked-column, looked-spoiled, looked-all}
 
 sole-is : (l : List ℕ) → length l ≡ 1 → l ≡ getD (filled l (0 ∷ [])) 0 0 ∷ []
 sole-is [] e = absurd (omega arith)
@@ -34,48 +31,44 @@ many-are t [] h = absurd (omega arith)
 many-are t (a ∷ []) h = absurd (omega arith)
 many-are t (a ∷ b ∷ l) h = refl
 
-module _ (s : State) (c : Columns) (id t o : ℕ) (g : Ring) (h : g ≡ ringOf s (tableAt s c t) t o) (r : Kids) (out : List ℕ)
-    (w : r ≡ kidsReply (cleanIn g c (slotsOf g (c .coords))) (length (kidsIn g c id (slotsOf g (c .coords)))))
-    (f : out ≡ filled (kidsIn g c id (slotsOf g (c .coords))) (0 ∷ [])) where
+module _ {s : State} {c : Columns} {id t o : ℕ} {g : Ring} {r : Kids} {out : List ℕ} (q : Looked s c id t o g (0 ∷ []) r out) where
   pub fetch-spoiled : r ≡ Kids·Spoiled → Spoiled ≡ fetchedAt s c id t o
   unfolding fetchedAt
-  fetch-spoiled v =
-      let b = spoiled-is (cleanAt s c t o) _ (sym v ∙ reply-around s c t o g h id r w) in
-      sym (simp b)
+  fetch-spoiled v = sym (simp (looked-spoiled q v))
 
   module _ (n : ℕ) (v : r ≡ All n) where
-    all : (cleanAt s c t o ≡ true) × (n ≡ length (kidsAt s c id t o))
-    all = all-is (cleanAt s c t o) _ n (sym v ∙ reply-around s c t o g h id r w)
+    all : n ≡ length (kidsAt s c id t o)
+    all = looked-all q n v .1
 
     went : fetchedAt s c id t o ≡ sole (tableAt s c t) (kidsAt s c id t o)
     unfolding fetchedAt
-    went = ap (λ (b : Bool). cond b (sole (tableAt s c t) (kidsAt s c id t o)) Spoiled) (all .0)
+    went = ap (λ (b : Bool). cond b (sole (tableAt s c t) (kidsAt s c id t o)) Spoiled) (looked-all q n v .0)
 
     pub fetch-nobody : n ≡ 0 → Nobody ≡ fetchedAt s c id t o
-    fetch-nobody q = sym (went ∙ ap (sole (tableAt s c t)) (none-is (kidsAt s c id t o) (sym (all .1) ∙ q)))
+    fetch-nobody m = sym (went ∙ ap (sole (tableAt s c t)) (none-is (kidsAt s c id t o) (sym all ∙ m)))
 
     pub fetch-others : 1 < n → Others ≡ fetchedAt s c id t o
-    fetch-others q = sym (went ∙ many-are (tableAt s c t) (kidsAt s c id t o) (omega (arith, q, all .1)))
+    fetch-others m = sym (went ∙ many-are (tableAt s c t) (kidsAt s c id t o) (omega (arith, m, all)))
 
     module _ (a : n ≡ 0 → ⊥) (b : n ≤ 1) where
       one : kidsAt s c id t o ≡ getD out 0 0 ∷ []
       one =
           let m : n ≡ 1 = omega arith in
-          sole-is (kidsAt s c id t o) (sym (all .1) ∙ m) ∙ ap (λ (l : List ℕ). getD l 0 0 ∷ []) (sym (column-around s c t o g h id (0 ∷ []) out f))
+          sole-is (kidsAt s c id t o) (sym all ∙ m) ∙ ap (λ (l : List ℕ). getD l 0 0 ∷ []) (sym (looked-column q))
 
       -- the sole child is a place of the table
       pub fetch-below : getD out 0 0 < g .len
       unfolding kidsAt
       fetch-below =
           let k = kids-below (tableAt s c t) id (lenOf s t) _ (getD out 0 0) [] one in
-          omega (arith, k, ap (λ (x : Ring). x .len) h)
+          omega (arith, k, ap (λ (x : Ring). x .len) (q .ring))
 
       only : fetchedAt s c id t o ≡ sole (tableAt s c t) (getD out 0 0 ∷ [])
       only = went ∙ ap (sole (tableAt s c t)) one
 
       module _ (e : Entry) (i : e ≡ entry (tableIn g c) (getD out 0 0)) where
         here : e ≡ entry (tableAt s c t) (getD out 0 0)
-        here = i ∙ ap (λ (x : Ring). entry (tableIn x c) (getD out 0 0)) h
+        here = i ∙ ap (λ (x : Ring). entry (tableIn x c) (getD out 0 0)) (q .ring)
 
         pub fetch-cluster : 1 < e .num → Cluster (e .id) ≡ fetchedAt s c id t o
         fetch-cluster m =

@@ -2,7 +2,7 @@
 use mathlib.Core.Bool.{Bool, true, false, cond, _&&_}
 use mathlib.Core.Path.{_≡_, refl, sym, ap, _∙_}
 use mathlib.Core.List.{List, [], _∷_}
-use Prim.Native.Nat.{ℕ, suc, _+_, _≤_}
+use Prim.Native.Nat.{ℕ, suc}
 use native.Mathlib.Omega.{arith}
 use borrow.Author.Tests.{eq-eqb, ne-eqb, le-leb}
 use lib.Dec.{ltb, eqb}
@@ -17,12 +17,10 @@ use Rattle.asking.specs.declared.Target.{Target}
 use Rattle.asking.specs.declared.Target.the-variants.{At}
 use Rattle.asking.specs.Answers.{fitted}
 use Rattle.asking.specs.Asked.{Asked, refused, told, answerOf, columnOf}
-use Rattle.asking.specs.Columns.{Columns, roomOf, tableAt}
+use Rattle.asking.specs.Columns.{Columns, tableAt}
 use Rattle.asking.specs.Filled.{filled-none, filled-length}
-use Rattle.asking.specs.Ids.{targetOf}
 use Rattle.kids.specs.Kids.{kidsAt, cleanAt, childless}
-use Rattle.walks.specs.declared.Fetched.{Fetched}
-use Rattle.walks.specs.declared.Fetched.the-variants.{Cluster, Nobody, Others, Spoiled as Fetched·Spoiled}
+use Rattle.walks.specs.declared.Fetched.the-variants.{Cluster, Others, Spoiled as Fetched·Spoiled}
 use Rattle.walks.specs.declared.Sofar.{Sofar}
 use Rattle.walks.specs.declared.Walk.{Walk}
 use Rattle.walks.specs.declared.Walk.the-variants.{Went, Broke, Childless}
@@ -30,7 +28,7 @@ use Rattle.walks.specs.Children.{atTarget}
 use Rattle.walks.specs.Expansion.{sole, fetchedAt}
 use Rattle.walks.specs.Leaves.{Trip, broke, went, walk, lamps, listed, noneBy, leavesAt, leavesOf}
 use Rattle.walks.specs.Column.{Col, col, column, tripOf, childlessOf, Walked, mapTrip, laid, walk-laid}
-use Rattle.walks.proofs.Led.{Gives, gives, gives-refused, led}
+use Rattle.walks.proofs.Led.{Gives, gives, gives-refused, Led, leads}
 
 -- the list behind a column that holds k lamps
 record Behind (out out' : List ℕ) (k : ℕ) (x y : Trip (List ℕ)) (l : List ℕ) : Type 0 where
@@ -88,15 +86,16 @@ none-written s c id z o out = of (childless s c id z o) (cleanAt s c z o)
     of true clean = refl
     of false clean = filled-none out
 
-module _ (s : State) (c : Columns) (id limit offset cap : ℕ) (k : cap ≡ roomOf c) (t : Target) (e : t ≡ targetOf s cap id) where
-  pub leaves-refused : (u : Target) (a : Answer) → t ≡ u → atTarget u (λ z o. leavesAt s c id limit offset z o) ≡ refused a → (out : List ℕ) → Gives (leavesOf s c id limit offset) a out out
+module _ {s : State} {c : Columns} {id cap : ℕ} {t : Target} (q : Led s c id cap t) (limit offset : ℕ) where
+  pub leaves-refused : (u : Target) (a : Answer) → t ≡ u → atTarget u (λ z o. leavesAt s c id limit offset z o) ≡ refused a → (out : List ℕ)
+      → Gives (leavesOf s c id limit offset) a out out
   unfolding leavesOf
-  leaves-refused u a d h out = gives-refused s c id cap k t e u a (λ z o. leavesAt s c id limit offset z o) d h out
+  leaves-refused u a d h out = gives-refused q u a (λ z o. leavesAt s c id limit offset z o) d h out
 
   module _ (z o : ℕ) (d : t ≡ At z o) where
     there : leavesOf s c id limit offset ≡ leavesAt s c id limit offset z o
     unfolding leavesOf
-    there = ap (λ (x : Target). atTarget x (λ z o. leavesAt s c id limit offset z o)) (led s c id cap k t e (At z o) d)
+    there = ap (λ (x : Target). atTarget x (λ z o. leavesAt s c id limit offset z o)) (leads q (At z o) d)
 
     -- limit 0: the answer of a fetch, and nothing is written
     pub gives-none : limit ≡ 0 → (out : List ℕ) (a : Answer) → a ≡ noneBy (fetchedAt s c id z o) → Gives (leavesOf s c id limit offset) a out out
@@ -104,7 +103,8 @@ module _ (s : State) (c : Columns) (id limit offset cap : ℕ) (k : cap ≡ room
         let w : leavesOf s c id limit offset ≡ nothing s c id z o = there ∙ at-none s c id limit offset z o m in
         gives (leavesOf s c id limit offset) (nothing s c id z o) a out out w (u ∙ none-fetched s c id z o (length out), sym (none-written s c id z o out))
 
-  module _ (z o : ℕ) (d : t ≡ At z o) (m : limit ≡ 0 → ⊥) (r : Walk) (out out' : List ℕ) (w : Walked s c limit offset id z o 0 (col 0 out) r out') where
+  module _ (z o : ℕ) (d : t ≡ At z o) (m : limit ≡ 0 → ⊥) (r : Walk) (out out' : List ℕ)
+      (w : Walked s c limit offset id z o 0 (col 0 out) r out') where
     -- a cluster that has children is answered by the walk
     went-in : childless s c id z o ≡ false → leavesOf s c id limit offset ≡ listed (walk lamps s c limit offset 32 id z o 0 [])
     unfolding leavesAt

@@ -8,13 +8,14 @@ use tables::Entry;
 use tables::State;
 ghost use mathlib.Core.Path.{_≡_};
 ghost use mathlib.Core.Bool.{true};
-ghost use Prim.Native.Nat.{_+_, _-_};
+ghost use Prim.Native.Nat.{_+_, _-_, _≤_};
 ghost use lib.ListN.{length};
+ghost use Rattle.lent.specs.Lent.{old, new};
 ghost use Rattle.asking.specs.declared.Target.the-variants.{At as Target·At};
 ghost use Rattle.asking.specs.Asked.{answerOf, columnOf};
-ghost use Rattle.asking.specs.Columns.{columns};
+ghost use Rattle.asking.specs.Columns.{roomOf};
+ghost use Rattle.asking.specs.Lent.{givenColumns, lentColumns};
 ghost use Rattle.asking.specs.Reached.{Reached};
-ghost use Rattle.kids.specs.Next.{Lent};
 ghost use Rattle.walks.specs.Children.{childrenOf};
 ghost use Rattle.walks.specs.Expansion.{expansionNumber, expansionCarried, fetchedAt, expand, zoomOf};
 ghost use Rattle.walks.specs.declared.Walk.the-variants.{Went as Walk·Went};
@@ -35,8 +36,9 @@ pub fn children(
     cid: u32,
     out: &mut [u32],
 ) -> Answer
-    ensures { λ r. ⌜ (r ≡ answerOf (childrenOf s (columns (now (x .entry)) (now (y .entry)) (now (seen .entry)) (now (id .entry)) (now (parent .entry)) (now (num .entry)) (now (ids .entry)) (now (coords .entry))) cid) (length (now (out .entry))))
-        × (now (out .exit) ≡ columnOf (childrenOf s (columns (now (x .entry)) (now (y .entry)) (now (seen .entry)) (now (id .entry)) (now (parent .entry)) (now (num .entry)) (now (ids .entry)) (now (coords .entry))) cid) (now (out .entry))) ⌝ }
+    ensures { λ r.
+        let a = childrenOf s (lentColumns x y seen id parent num ids coords) cid in
+        ⌜ (r ≡ answerOf a (length (old out))) × (new out ≡ columnOf a (old out)) ⌝ }
 {
     let cap = asking::room(x, y, seen, id, parent, num, ids, coords);
     match asking::find_target(s, cap, cid) {
@@ -116,8 +118,8 @@ fn fetch(
     origin: usize,
 ) -> Fetched
     requires { ⌜ Reached s cap table origin ⌝ }
-    requires { ⌜ Lent cap (columns (now x) (now y) (now seen) (now id) (now parent) (now num) (now ids) (now coords)) ⌝ }
-    ensures { λ r. ⌜ r ≡ fetchedAt s (columns (now (x .entry)) (now (y .entry)) (now (seen .entry)) (now (id .entry)) (now (parent .entry)) (now (num .entry)) (now (ids .entry)) (now (coords .entry))) cid table origin ⌝ }
+    requires { ⌜ cap ≤ roomOf (givenColumns x y seen id parent num ids coords) ⌝ }
+    ensures { λ r. ⌜ r ≡ fetchedAt s (lentColumns x y seen id parent num ids coords) cid table origin ⌝ }
 {
     let g = asking::ring_of(s, cap, table, origin, x, y, seen, id, parent, num);
     let mut one = [0u32; 1];
@@ -157,9 +159,10 @@ fn expand_from(
     origin: usize,
 ) -> Expansion
     requires { ⌜ Reached s cap table origin ⌝ }
-    requires { ⌜ Lent cap (columns (now x) (now y) (now seen) (now id) (now parent) (now num) (now ids) (now coords)) ⌝ }
-    ensures { λ r. ⌜ r ≡ expand s (columns (now (x .entry)) (now (y .entry)) (now (seen .entry)) (now (id .entry)) (now (parent .entry)) (now (num .entry)) (now (ids .entry)) (now (coords .entry)))
-        (s .options .«max_zoom» + 1 - (table - 1)) (Target·At table origin) cid (table - 1) true ⌝ }
+    requires { ⌜ cap ≤ roomOf (givenColumns x y seen id parent num ids coords) ⌝ }
+    ensures { λ r.
+        let c = lentColumns x y seen id parent num ids coords in
+        ⌜ r ≡ expand s c (s .options .«max_zoom» + 1 - (table - 1)) (Target·At table origin) cid (table - 1) true ⌝ }
 {
     let o = s.options;
     let top = o.max_zoom as usize;
@@ -227,7 +230,7 @@ pub fn expansion_zoom(
     coords: &[f64],
     cid: u32,
 ) -> Expansion
-    ensures { λ r. ⌜ r ≡ zoomOf s (columns (now (x .entry)) (now (y .entry)) (now (seen .entry)) (now (id .entry)) (now (parent .entry)) (now (num .entry)) (now (ids .entry)) (now (coords .entry))) cid ⌝ }
+    ensures { λ r. ⌜ r ≡ zoomOf s (lentColumns x y seen id parent num ids coords) cid ⌝ }
 {
     let cap = asking::room(x, y, seen, id, parent, num, ids, coords);
     match asking::find_target(s, cap, cid) {
@@ -309,7 +312,7 @@ fn skip_to(skipped: u32, so: Sofar) -> Walk
 
 // A lamp is listed, unless `count` are.
 fn list_one(count: u32, lamp: u32, so: Sofar, out: &mut [u32]) -> Walk
-    ensures { λ r. ⌜ tripOf r (now (out .exit)) ≡ listOne column count lamp (so .skipped) (col (so .listed) (now (out .entry))) ⌝ }
+    ensures { λ r. ⌜ tripOf r (new out) ≡ listOne column count lamp (so .skipped) (col (so .listed) (old out)) ⌝ }
 {
     if count as usize <= so.listed {
         return Walk::Broke(so.listed);
@@ -324,6 +327,7 @@ fn list_one(count: u32, lamp: u32, so: Sofar, out: &mut [u32]) -> Walk
 // The child cluster e is entered.
 fn enter(
     s: State,
+    leg: Leg,
     x: &[f64],
     y: &[f64],
     seen: &[u8],
@@ -333,14 +337,14 @@ fn enter(
     ids: &[u32],
     coords: &[f64],
     e: Entry,
-    leg: Leg,
     so: Sofar,
     out: &mut [u32],
 ) -> Walk
     requires { ⌜ Reached s (leg .cap) (leg .table) 0 ⌝ }
-    requires { ⌜ Lent (leg .cap) (columns (now x) (now y) (now seen) (now id) (now parent) (now num) (now ids) (now coords)) ⌝ }
-    ensures { λ r. ⌜ Opened s (columns (now (x .entry)) (now (y .entry)) (now (seen .entry)) (now (id .entry)) (now (parent .entry)) (now (num .entry)) (now (ids .entry)) (now (coords .entry)))
-        (leg .limit) (leg .offset) (leg .table) (e .id) (so .skipped) (col (so .listed) (now (out .entry))) r (now (out .exit)) ⌝ }
+    requires { ⌜ leg .cap ≤ roomOf (givenColumns x y seen id parent num ids coords) ⌝ }
+    ensures { λ r.
+        let c = lentColumns x y seen id parent num ids coords in
+        ⌜ Opened s c (leg .limit) (leg .offset) (leg .table) (e .id) (so .skipped) (col (so .listed) (old out)) r (new out) ⌝ }
 {
     let to = asking::go_on(s, leg.table, e.id);
     let Target::At { table, origin } = to else {
@@ -354,6 +358,7 @@ fn enter(
     };
     walk_into(
         s,
+        next,
         x,
         y,
         seen,
@@ -364,7 +369,6 @@ fn enter(
         coords,
         e.id,
         origin,
-        next,
         so,
         out,
     )
@@ -373,6 +377,7 @@ fn enter(
 // The children of the cluster cid, one after the other, from the ring around its origin.
 fn walk_into(
     s: State,
+    leg: Leg,
     x: &[f64],
     y: &[f64],
     seen: &[u8],
@@ -383,14 +388,14 @@ fn walk_into(
     coords: &[f64],
     cid: u32,
     origin: usize,
-    leg: Leg,
     was: Sofar,
     out: &mut [u32],
 ) -> Walk
     requires { ⌜ Reached s (leg .cap) (leg .table) origin ⌝ }
-    requires { ⌜ Lent (leg .cap) (columns (now x) (now y) (now seen) (now id) (now parent) (now num) (now ids) (now coords)) ⌝ }
-    ensures { λ r. ⌜ Walked s (columns (now (x .entry)) (now (y .entry)) (now (seen .entry)) (now (id .entry)) (now (parent .entry)) (now (num .entry)) (now (ids .entry)) (now (coords .entry)))
-        (leg .limit) (leg .offset) cid (leg .table) origin (was .skipped) (col (was .listed) (now (out .entry))) r (now (out .exit)) ⌝ }
+    requires { ⌜ leg .cap ≤ roomOf (givenColumns x y seen id parent num ids coords) ⌝ }
+    ensures { λ r.
+        let c = lentColumns x y seen id parent num ids coords in
+        ⌜ Walked s c (leg .limit) (leg .offset) cid (leg .table) origin (was .skipped) (col (was .listed) (old out)) r (new out) ⌝ }
 {
     let g = asking::ring_of(s, leg.cap, leg.table, origin, x, y, seen, id, parent, num);
     let mut any = false;
@@ -426,7 +431,7 @@ fn walk_into(
             } => {
                 let w = match fate_of(leg.offset, so.skipped, e.num) {
                     Fate::Entered => {
-                        enter(s, x, y, seen, id, parent, num, ids, coords, e, leg, so, out)
+                        enter(s, leg, x, y, seen, id, parent, num, ids, coords, e, so, out)
                     }
                     Fate::Listed => list_one(s.count, e.id, so, out),
                     Fate::Skipped(n) => skip_to(n, so),
@@ -465,8 +470,8 @@ fn list_none(
     origin: usize,
 ) -> Answer
     requires { ⌜ Reached s cap table origin ⌝ }
-    requires { ⌜ Lent cap (columns (now x) (now y) (now seen) (now id) (now parent) (now num) (now ids) (now coords)) ⌝ }
-    ensures { λ r. ⌜ r ≡ noneBy (fetchedAt s (columns (now (x .entry)) (now (y .entry)) (now (seen .entry)) (now (id .entry)) (now (parent .entry)) (now (num .entry)) (now (ids .entry)) (now (coords .entry))) cid table origin) ⌝ }
+    requires { ⌜ cap ≤ roomOf (givenColumns x y seen id parent num ids coords) ⌝ }
+    ensures { λ r. ⌜ r ≡ noneBy (fetchedAt s (lentColumns x y seen id parent num ids coords) cid table origin) ⌝ }
 {
     match fetch(
         s,
@@ -506,8 +511,9 @@ pub fn leaves(
     offset: u32,
     out: &mut [u32],
 ) -> Answer
-    ensures { λ r. ⌜ (r ≡ answerOf (leavesOf s (columns (now (x .entry)) (now (y .entry)) (now (seen .entry)) (now (id .entry)) (now (parent .entry)) (now (num .entry)) (now (ids .entry)) (now (coords .entry))) cid limit offset) (length (now (out .entry))))
-        × (now (out .exit) ≡ columnOf (leavesOf s (columns (now (x .entry)) (now (y .entry)) (now (seen .entry)) (now (id .entry)) (now (parent .entry)) (now (num .entry)) (now (ids .entry)) (now (coords .entry))) cid limit offset) (now (out .entry))) ⌝ }
+    ensures { λ r.
+        let a = leavesOf s (lentColumns x y seen id parent num ids coords) cid limit offset in
+        ⌜ (r ≡ answerOf a (length (old out))) × (new out ≡ columnOf a (old out)) ⌝ }
 {
     let cap = asking::room(x, y, seen, id, parent, num, ids, coords);
     match asking::find_target(s, cap, cid) {
@@ -544,6 +550,7 @@ pub fn leaves(
             };
             match walk_into(
                 s,
+                leg,
                 x,
                 y,
                 seen,
@@ -554,7 +561,6 @@ pub fn leaves(
                 coords,
                 cid,
                 origin,
-                leg,
                 so,
                 out,
             ) {

@@ -51,13 +51,16 @@ after l =
     let r = b 0x3fda000000000000 in
     let u = b 0x3fd2000000000000 in
     let v = b 0x3fd6000000000000 in
+    let c = l .table in
     record {
-      x = p ∷ q ∷ r ∷ r ∷ u ∷ r ∷ v ∷ drop 7 (l .x);
-      y = h ∷ h ∷ h ∷ h ∷ h ∷ h ∷ h ∷ drop 7 (l .y);
-      seen = 1 ∷ 1 ∷ 1 ∷ 1 ∷ 0 ∷ 0 ∷ never ∷ drop 7 (l .seen);
-      id = 0 ∷ 1 ∷ 2 ∷ 3 ∷ 6 ∷ 70 ∷ 5 ∷ drop 7 (l .id);
-      parent = 6 ∷ 6 ∷ 70 ∷ 70 ∷ 5 ∷ 5 ∷ unset ∷ drop 7 (l .parent);
-      num = 1 ∷ 1 ∷ 1 ∷ 1 ∷ 2 ∷ 2 ∷ 4 ∷ drop 7 (l .num);
+      table = record {
+        x = p ∷ q ∷ r ∷ r ∷ u ∷ r ∷ v ∷ drop 7 (c .x);
+        y = h ∷ h ∷ h ∷ h ∷ h ∷ h ∷ h ∷ drop 7 (c .y);
+        seen = 1 ∷ 1 ∷ 1 ∷ 1 ∷ 0 ∷ 0 ∷ never ∷ drop 7 (c .seen);
+        id = 0 ∷ 1 ∷ 2 ∷ 3 ∷ 6 ∷ 70 ∷ 5 ∷ drop 7 (c .id);
+        parent = 6 ∷ 6 ∷ 70 ∷ 70 ∷ 5 ∷ 5 ∷ unset ∷ drop 7 (c .parent);
+        num = 1 ∷ 1 ∷ 1 ∷ 1 ∷ 2 ∷ 2 ∷ 4 ∷ drop 7 (c .num);
+      };
       ids = 0 ∷ 1 ∷ 2 ∷ 3 ∷ 0 ∷ 1 ∷ 0 ∷ drop 7 (l .ids);
       coords = p ∷ h ∷ q ∷ h ∷ r ∷ h ∷ r ∷ h ∷ u ∷ h ∷ r ∷ h ∷ v ∷ h ∷ drop 14 (l .coords);
       near = 0 ∷ 0 ∷ 0 ∷ 0 ∷ 0 ∷ 0 ∷ 0 ∷ 0 ∷ drop 8 (l .near);

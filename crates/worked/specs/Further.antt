@@ -25,7 +25,7 @@ use Rattle.tables.specs.Entries.{idsOf, numsOf}
 use Rattle.tables.specs.Radius.{radiusAt}
 use Rattle.tables.specs.Rows.{rows}
 use Rattle.tables.specs.Sound.{packed, stateOk}
-use Rattle.zoom.specs.Zoom.{more, absorbOne, absorb, copyOne, copyAll, visit, scanOne, scanFrom, cluster}
+use Rattle.zoom.specs.Zoom.{moreOf, absorbOne, absorb, copyOne, copyAll, visit, scanOne, scanFrom, cluster}
 use Rattle.zooms.specs.Zooms.{indexOf, slotsOf, run, joined, joinedIds, joinedCo, starts, lens}
 use Rattle.supercluster.specs.Build.{convertedAll, finest, tablesOf, Lent, written, roomy, checked, Outcome, loaded}
 use Rattle.asking.specs.declared.Answer.the-variants.{NoRoom}
@@ -72,7 +72,7 @@ size-0 l = refl
 -- ---- with min_points 3 all four lamps stay single down to table 0
 
 pub single : (map idsOf (tablesOf (with 1 3) xs ys) ≡ replicate 3 (0 ∷ 1 ∷ 2 ∷ 3 ∷ [])) × (map numsOf (tablesOf (with 1 3) xs ys) ≡ replicate 3 (replicate 4 1))
-unfolding tablesOf run convertedAll finest slotsOf indexOf radiusAt cluster scanFrom scanOne visit copyAll copyOne absorb absorbOne more converted normalized offsetOf scaleOf filled sorted indexed selected sel parted passes up down swapCo swapIds add sub mul div ofInt ofBits le lt eq shape split scanned slots places with options xs ys b
+unfolding tablesOf run convertedAll finest slotsOf indexOf radiusAt cluster scanFrom scanOne visit copyAll copyOne absorb absorbOne moreOf converted normalized offsetOf scaleOf filled sorted indexed selected sel parted passes up down swapCo swapIds add sub mul div ofInt ofBits le lt eq shape split scanned slots places with options xs ys b
 single = (refl, refl)
 
 -- ---- a lone lamp at (1, 0.5)
@@ -83,7 +83,7 @@ lone = loaded (options 64) (one ∷ []) (half ∷ []) (zeros 3)
 -- at (512,256), and again at (0,256)
 pub tile-of-lone : asked (lone .reply .state) (columnsOf (lone .columns)) 0 0 0
     ≡ told true (record { place = 0; x = pos 512; y = pos 256 } ∷ record { place = 0; x = pos 0; y = pos 256 } ∷ [])
-unfolding loaded checked zeros written joined joinedIds joinedCo starts lens tablesOf run convertedAll finest slotsOf indexOf radiusAt cluster scanFrom scanOne visit copyAll copyOne absorb absorbOne more converted normalized offsetOf scaleOf filled sorted indexed selected sel parted passes up down swapCo swapIds firstOutside asked stateOk packed optionsOk systemInBounds inBounds visited here wraps east west listed whole rounded away neg add sub mul div ofInt ofBits le lt eq shape split scanned slots places rows options b
+unfolding loaded checked zeros written joined joinedIds joinedCo starts lens tablesOf run convertedAll finest slotsOf indexOf radiusAt cluster scanFrom scanOne visit copyAll copyOne absorb absorbOne moreOf converted normalized offsetOf scaleOf filled sorted indexed selected sel parted passes up down swapCo swapIds firstOutside asked stateOk packed optionsOk systemInBounds inBounds visited here wraps east west listed whole rounded away neg add sub mul div ofInt ofBits le lt eq shape split scanned slots places rows options b
 tile-of-lone = refl
 
 -- the shortest column has room for one of the two
@@ -93,7 +93,7 @@ lone-no-room = ap (λ (a : Asked). outcomeOf a (9 ∷ 9 ∷ []) (pos 9 ∷ []) (
 
 -- listed twice, and counted once
 pub tally-of-lone : tallied (lone .reply .state) (columnsOf (lone .columns)) 0 0 0 ≡ Sum 1
-unfolding loaded checked zeros written joined joinedIds joinedCo starts lens tablesOf run convertedAll finest slotsOf indexOf radiusAt cluster scanFrom scanOne visit copyAll copyOne absorb absorbOne more converted normalized offsetOf scaleOf filled sorted indexed selected sel parted passes up down swapCo swapIds firstOutside tallied tallyOf total distinct member homeOf stateOk packed optionsOk systemInBounds inBounds visited here wraps east west listed whole rounded away neg add sub mul div ofInt ofBits le lt eq shape split scanned slots places rows options b
+unfolding loaded checked zeros written joined joinedIds joinedCo starts lens tablesOf run convertedAll finest slotsOf indexOf radiusAt cluster scanFrom scanOne visit copyAll copyOne absorb absorbOne moreOf converted normalized offsetOf scaleOf filled sorted indexed selected sel parted passes up down swapCo swapIds firstOutside tallied tallyOf total distinct member homeOf stateOk packed optionsOk systemInBounds inBounds visited here wraps east west listed whole rounded away neg add sub mul div ofInt ofBits le lt eq shape split scanned slots places rows options b
 tally-of-lone = refl
 
 -- ---- the same lamp on a site plan, with the strips for longitude only: at (512,256) alone (02, #114)
@@ -116,7 +116,7 @@ planned = loaded (onPlan (options 64)) (one ∷ []) (half ∷ []) (zeros 3)
 
 pub tile-of-planned : asked (planned .reply .state) (columnsOf (planned .columns)) 0 0 0
     ≡ told true (record { place = 0; x = pos 512; y = pos 256 } ∷ [])
-unfolding onPlan loaded checked zeros written joined joinedIds joinedCo starts lens tablesOf run convertedAll finest slotsOf indexOf radiusAt cluster scanFrom scanOne visit copyAll copyOne absorb absorbOne more converted normalized offsetOf scaleOf filled sorted indexed selected sel parted passes up down swapCo swapIds firstOutside asked stateOk packed optionsOk systemInBounds inBounds visited here wraps east west listed whole rounded away neg add sub mul div ofInt ofBits le lt eq shape split scanned slots places rows options b
+unfolding onPlan loaded checked zeros written joined joinedIds joinedCo starts lens tablesOf run convertedAll finest slotsOf indexOf radiusAt cluster scanFrom scanOne visit copyAll copyOne absorb absorbOne moreOf converted normalized offsetOf scaleOf filled sorted indexed selected sel parted passes up down swapCo swapIds firstOutside asked stateOk packed optionsOk systemInBounds inBounds visited here wraps east west listed whole rounded away neg add sub mul div ofInt ofBits le lt eq shape split scanned slots places rows options b
 tile-of-planned = refl
 
 -- ---- lamps at (0, 0.5) and (1, 0.5): each is listed in the tile, and once more by the other strip
@@ -131,5 +131,5 @@ pub tile-of-two : asked (two .reply .state) (columnsOf (two .columns)) 0 0 0
     ∷ record { place = 1; x = pos 0; y = pos 256 }
     ∷ record { place = 0; x = pos 512; y = pos 256 }
     ∷ [])
-unfolding loaded checked zeros written joined joinedIds joinedCo starts lens tablesOf run convertedAll finest slotsOf indexOf radiusAt cluster scanFrom scanOne visit copyAll copyOne absorb absorbOne more converted normalized offsetOf scaleOf filled sorted indexed selected sel parted passes up down swapCo swapIds firstOutside asked stateOk packed optionsOk systemInBounds inBounds visited here wraps east west listed whole rounded away neg add sub mul div ofInt ofBits le lt eq shape split scanned slots places rows options b
+unfolding loaded checked zeros written joined joinedIds joinedCo starts lens tablesOf run convertedAll finest slotsOf indexOf radiusAt cluster scanFrom scanOne visit copyAll copyOne absorb absorbOne moreOf converted normalized offsetOf scaleOf filled sorted indexed selected sel parted passes up down swapCo swapIds firstOutside asked stateOk packed optionsOk systemInBounds inBounds visited here wraps east west listed whole rounded away neg add sub mul div ofInt ofBits le lt eq shape split scanned slots places rows options b
 tile-of-two = refl

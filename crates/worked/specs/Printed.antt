@@ -9,7 +9,7 @@ use Rattle.supercluster.specs.Build.{Lent, checked, loaded}
 use Rattle.listing.specs.declared.Parsed.the-variants.{Refused}
 use Rattle.listing.specs.Bytes.{bytes}
 use Rattle.listing.specs.Digits.{decimalOf}
-use Rattle.listing.specs.Text.{Place, Input, line, pointsText, text, headIs, xsOf, ysOf, parsedNumber}
+use Rattle.listing.specs.Text.{Place, Input, line, pointsText, text, headIs, xsOf, ysOf, pointCols, parsedNumber}
 use Rattle.listing.specs.Values.{optionsOf}
 use Rattle.report.specs.Hex.{hexOf}
 use Rattle.report.specs.Lines.{tableText, tablesText, refusalText}
@@ -92,8 +92,8 @@ shown-text = refl
 pub lines-are : linesOf example ≡ sevenLines
 unfolding linesOf buildText options
 lines-are =
-    (λ i. buildText (options-are i) (xs-are i) (ys-are i))
-    ∙ ap (answerText (options 64) xs ys) reply-is
+    (λ i. buildText (options-are i) (pointCols (xs-are i) (ys-are i)))
+    ∙ ap (answerText (options 64) (pointCols xs ys)) reply-is
     ∙ ap (tablesText 2) tables-are
     ∙ shown-text
 

@@ -23,7 +23,8 @@ use Rattle.tables.specs.declared.Entry.{Entry}
 use Rattle.tables.specs.Options.{optionsOk}
 use Rattle.tables.specs.Entries.{Table, never, unset}
 use Rattle.tables.specs.Radius.{radiusAt}
-use Rattle.zoom.specs.Zoom.{more, absorbOne, absorb, copyOne, copyAll, visit, scanOne, scanFrom, cluster}
+use Rattle.tables.specs.Rows.{cols}
+use Rattle.zoom.specs.Zoom.{moreOf, absorbOne, absorb, copyOne, copyAll, visit, scanOne, scanFrom, cluster}
 use Rattle.zooms.specs.Zooms.{indexOf, slotsOf, run, starts}
 use Rattle.supercluster.specs.Build.{convertedAll, finest, tablesOf, Lent, lent, checked, loaded}
 
@@ -70,12 +71,12 @@ shown =
     ∷ []
 
 pub tables-are : tablesOf (options 64) xs ys ≡ shown
-unfolding tablesOf run convertedAll finest slotsOf indexOf radiusAt cluster scanFrom scanOne visit copyAll copyOne absorb absorbOne more converted normalized offsetOf scaleOf add sub mul div ofInt ofBits le lt eq filled sorted indexed selected sel parted passes up down swapCo swapIds shape split scanned slots places options xs ys shown b at
+unfolding tablesOf run convertedAll finest slotsOf indexOf radiusAt cluster scanFrom scanOne visit copyAll copyOne absorb absorbOne moreOf converted normalized offsetOf scaleOf add sub mul div ofInt ofBits le lt eq filled sorted indexed selected sel parted passes up down swapCo swapIds shape split scanned slots places options xs ys shown b at
 tables-are = refl
 
 -- and at node size 1
 pub split-are : tablesOf (options 1) xs ys ≡ shown
-unfolding tablesOf run convertedAll finest slotsOf indexOf radiusAt cluster scanFrom scanOne visit copyAll copyOne absorb absorbOne more converted normalized offsetOf scaleOf add sub mul div ofInt ofBits le lt eq filled sorted indexed selected sel parted passes up down swapCo swapIds shape split scanned slots places options xs ys shown b at
+unfolding tablesOf run convertedAll finest slotsOf indexOf radiusAt cluster scanFrom scanOne visit copyAll copyOne absorb absorbOne moreOf converted normalized offsetOf scaleOf add sub mul div ofInt ofBits le lt eq filled sorted indexed selected sel parted passes up down swapCo swapIds shape split scanned slots places options xs ys shown b at
 split-are = refl
 
 -- table 2 starts at 0, table 1 at 4, table 0 at 6
@@ -85,7 +86,10 @@ starts-are = refl
 
 -- zeroed columns of n entries
 unfoldable pub zeros : ℕ → Lent
-zeros n = lent (replicate n zero) (replicate n zero) (replicate n 0) (replicate n 0) (replicate n 0) (replicate n 0) (replicate n 0) (replicate (n + n) zero) (replicate n 0)
+zeros n =
+    let f = replicate n zero in
+    let z = replicate {A = ℕ} n 0 in
+    lent (cols f f z z z z) z (replicate (n + n) zero) z
 
 -- columns of 12 entries are long enough (Build), and one less is refused 4
 pub too-short : loaded (options 64) xs ys (zeros 11) .reply .reply ≡ Tables

@@ -20,7 +20,7 @@ use Rattle.zoom.specs.Keeps.{keep-absorb, kept-unseenCount}
 abbrev pub needed : ℕ → Scan → ℕ
 needed z s = length (s .next) + unseenCount z (s .table)
 
-copyOne-fewer : (z : ℕ) (s : Scan) (k : ℕ) (b : Bool) → unseen z (entry (s .table) k) ≡ b → needed z (copyOne z s k) ≤ needed z s
+pub copyOne-fewer : (z : ℕ) (s : Scan) (k : ℕ) (b : Bool) → unseen z (entry (s .table) k) ≡ b → needed z (copyOne z s k) ≤ needed z s
 copyOne-fewer z s k true e =
     let u : z < entry (s .table) k .seen = ltb-true z (entry (s .table) k .seen) e in
     let m = marked z (entry (s .table) k) in

@@ -15,10 +15,10 @@ use Rattle.kdslots.specs.All.{All, all-getD, all-set}
 use Rattle.tables.specs.declared.Entry.{Entry}
 use Rattle.tables.specs.Entries.{Table, entry, none, unseen, marked, under}
 use Rattle.tables.specs.Ids.{clusterId}
-use Rattle.zoom.specs.Scanned.{unseenCount, unseenNum}
+use Rattle.zoom.specs.Scanned.{unseenCount, unseenOf}
 use Rattle.zoom.specs.Zoom.{Absorbed, absorbOne, absorb, started, Scan, copyOne, copyAll, enough, visit, markAt, scanOne, scanFrom, cluster}
 use Rattle.zoom.specs.Steps.{absorbOne-yes, absorbOne-no, copyOne-yes, copyOne-no, totalOf, visit-made, visit-left, scan-seen, scan-visit}
-use Rattle.zoom.specs.Unseen.{unseenCount-le, unseenNum-le, unseenCount-under, unseenNum-under}
+use Rattle.zoom.specs.Unseen.{unseenCount-le, unseenOf-le, unseenCount-under, unseenOf-under}
 
 -- what each entry has, the entry at a place has
 pub all-at : (P : Entry → Type 0) (t : Table) (i : ℕ) → All P t → i < length t → P (entry t i)
@@ -109,12 +109,12 @@ kept-unseenCount z m =
       hang = λ t k p r. rw (unseenCount-under z t k p) r;
     }
 
-pub kept-unseenNum : (z m : ℕ) → Keeps z (λ t. unseenNum z t ≤ m)
-kept-unseenNum z m =
+pub kept-unseenOf : (f : Entry → ℕ) → ((e : Entry) (q : ℕ) → f (under q e) ≡ f e) → (z m : ℕ) → Keeps z (λ t. unseenOf f z t ≤ m)
+kept-unseenOf f g z m =
     record {
-      join = λ t k p r. le-trans (unseenNum-le z t k (under p (marked z (entry t k))) (le-refl z)) r;
-      mark = λ t k r. le-trans (unseenNum-le z t k (marked z (entry t k)) (le-refl z)) r;
-      hang = λ t k p r. rw (unseenNum-under z t k p) r;
+      join = λ t k p r. le-trans (unseenOf-le f z t k (under p (marked z (entry t k))) (le-refl z)) r;
+      mark = λ t k r. le-trans (unseenOf-le f z t k (marked z (entry t k)) (le-refl z)) r;
+      hang = λ t k p r. rw (unseenOf-under f g z t k p) r;
     }
 
 -- an entry that is seen stays seen

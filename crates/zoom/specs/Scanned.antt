@@ -1,12 +1,13 @@
--- What the six columns hold while a table is scanned: its entries, and right after them the next table's, as far as it is made. And what is counted on the way.
--- Definitions only.
+-- What the columns hold while a table is scanned: its entries, and right after them the next table's, as far as it is made. And what is counted
+-- on the way. Definitions only.
 use mathlib.Core.Path.{_≡_}
 use mathlib.Core.Bool.{cond}
 use mathlib.Core.List.{[], _∷_}
 use Prim.Native.Nat.{ℕ, _+_, _≤_}
-use lib.ListN.{length, set, take, drop}
-use Rattle.tables.specs.Entries.{Table, entry, unseen, marked}
-use Rattle.zoom.specs.Zoom.{Scan}
+use lib.ListN.{length, take, drop}
+use Rattle.tables.specs.declared.Entry.{Entry}
+use Rattle.tables.specs.Entries.{Table, unseen}
+use Rattle.zoom.specs.Zoom.{Scan, adds, numOf}
 
 -- the scan that the columns hold: the table is the first len rows, and the next one the d rows after them
 abbrev pub scanOf : ℕ → ℕ → Table → Scan
@@ -19,16 +20,16 @@ pub record Scanned (len d₀ : ℕ) (s : Scan) (old new : Table) (d : ℕ) : Typ
   pub grown : d₀ ≤ d
   pub fits : len + d ≤ length new
 
--- row k is marked, and then copied to row `at`
-abbrev pub copiedTo : Table → ℕ → ℕ → ℕ → Table
-copiedTo t k at z = set (set t k (marked z (entry t k))) at (entry (set t k (marked z (entry t k))) k)
-
 -- how many entries are unseen: there is room for no more in the next table
 unfoldable pub unseenCount : ℕ → Table → ℕ
 unseenCount z [] = 0
 unseenCount z (e ∷ t) = cond (unseen z e) 1 0 + unseenCount z t
 
--- the num of the unseen entries, added up: no total is more
-unfoldable pub unseenNum : ℕ → Table → ℕ
-unseenNum z [] = 0
-unseenNum z (e ∷ t) = cond (unseen z e) (e .num) 0 + unseenNum z t
+-- f of the unseen entries, added up
+unfoldable pub unseenOf : (Entry → ℕ) → ℕ → Table → ℕ
+unseenOf f z [] = 0
+unseenOf f z (e ∷ t) = adds f z e + unseenOf f z t
+
+-- the num of the unseen entries: no total is more
+abbrev pub unseenNum : ℕ → Table → ℕ
+unseenNum z t = unseenOf numOf z t

@@ -9,21 +9,22 @@ use native.Mathlib.Numerals.{add-one}
 use lib.ListN.{length, drop, take}
 use lib.Seq.{length-take-le, drop-drop}
 use lib.Ieee.{Float}
-use Rattle.tables.specs.Entries.{Table}
+use Rattle.tables.specs.declared.Entry.{Entry}
+use Rattle.tables.specs.Entries.{Table, under}
 use Rattle.tables.specs.Columns.{part-long}
-use Rattle.zoom.specs.Scanned.{scanOf, Scanned, unseenCount, unseenNum}
+use Rattle.zoom.specs.Scanned.{scanOf, Scanned, unseenCount, unseenOf}
 use Rattle.zoom.specs.Zoom.{Scan, scanOne, scanFrom, cluster}
 use Rattle.zoom.specs.Unseen.{unseenCount-length}
-use Rattle.zoom.specs.Keeps.{keep-one, kept-unseenNum}
+use Rattle.zoom.specs.Keeps.{keep-one, kept-unseenOf}
 use Rattle.zoom.specs.Fewer.{needed, scan-fewer}
 
 -- the i-th entry is next: what is still to be scanned leads to the whole scan, the rows past the two tables are old, there is room for each unseen entry, and
--- what is unseen counts no more lamps than at the start
+-- what is unseen carries no more than at the start
 pub record Scanning (n least z : ℕ) (near : Float → Float → List ℕ) (len : ℕ) (t₀ t : Table) (d i : ℕ) : Type 0 where
   pub scan : scanFrom n least z near (scanOf len d t) i (len - i) ≡ cluster n least z near (take len t₀)
   pub rest : drop (len + d) t ≡ drop (len + d) t₀
   pub room : len + d + unseenCount z (take len t) ≤ length t
-  pub light : unseenNum z (take len t) ≤ unseenNum z (take len t₀)
+  pub light : (f : Entry → ℕ) → ((e : Entry) (q : ℕ) → f (under q e) ≡ f e) → unseenOf f z (take len t) ≤ unseenOf f z (take len t₀)
 
 module _ (n least z : ℕ) (near : Float → Float → List ℕ) (len : ℕ) (t₀ : Table) where
   pub scanning-start : len + len ≤ length t₀ → Scanning n least z near len t₀ t₀ 0 0
@@ -36,7 +37,7 @@ module _ (n least z : ℕ) (near : Float → Float → List ℕ) (len : ℕ) (t�
         scan = rw (lt, q);
         rest = refl;
         room = omega (arith, f, lt, h);
-        light = le-refl _;
+        light = λ f g. le-refl _;
       }
 
   pub scanning-step : (t t′ : Table) (d d′ i : ℕ) → Scanning n least z near len t₀ t d i → i < len
@@ -48,9 +49,6 @@ module _ (n least z : ℕ) (near : Float → Float → List ℕ) (len : ℕ) (t�
       let step : scanFrom n least z near s i (len - i) ≡ scanFrom n least z near (scanOne n least z near s i) (i + 1) (len - (i + 1))
       = rw (k, add-one i) in
       let c : needed z (scanOf len d′ t′) ≤ needed z s = subst (λ (q : Scan). needed z q ≤ needed z s) (sym (l .scan)) (scan-fewer n least z near s i) in
-      let w : unseenNum z (scanOf len d′ t′ .table) ≤ unseenNum z (s .table)
-      = subst (λ (q : Scan). unseenNum z (q .table) ≤ unseenNum z (s .table)) (sym (l .scan))
-      (keep-one z (λ t. unseenNum z t ≤ unseenNum z (s .table)) (kept-unseenNum z (unseenNum z (s .table))) n least near s i _ refl (le-refl _)) in
       let q : len + d + (d′ - d) ≡ len + d′ = omega (arith, l .grown) in
       let nx = part-long len d t (omega (arith, v .room)) in
       let ny = part-long len d′ t′ (l .fits) in
@@ -58,7 +56,10 @@ module _ (n least z : ℕ) (near : Float → Float → List ℕ) (len : ℕ) (t�
         scan = rw (l .scan) (sym step ∙ v .scan);
         rest = l .rest ∙ simp (drop-drop, q) at (ap (drop (d′ - d)) (v .rest));
         room = omega (arith, c, nx, ny, v .room, e);
-        light = le-trans w (v .light);
+        light = λ f g.
+            let m = unseenOf f z (s .table) in
+            let k = keep-one z (λ t. unseenOf f z t ≤ m) (kept-unseenOf f g z m) n least near s i _ refl (le-refl m) in
+            le-trans (subst (λ (q : Scan). unseenOf f z (q .table) ≤ m) (sym (l .scan)) k) (v .light f g);
       }
 
   pub scanning-end : (t : Table) (d i : ℕ) → Scanning n least z near len t₀ t d i → len ≤ i → Scanned len 0 (cluster n least z near (take len t₀)) t₀ t d

@@ -17,13 +17,13 @@ use Rattle.kdslots.specs.Members.{Distinct, NotIn}
 use Rattle.tables.specs.declared.Entry.{Entry}
 use Rattle.tables.specs.Entries.{Table, entry, none, unseen, marked, under}
 use Rattle.tables.specs.Ids.{clusterId}
-use Rattle.zoom.specs.Scanned.{unseenNum}
-use Rattle.zoom.specs.Zoom.{more, Absorbed, absorbOne, absorb, started, centre, Scan, copyOne, copyAll, enough, visit, markAt, scanOne, scanFrom, cluster}
+use Rattle.zoom.specs.Scanned.{unseenOf, unseenNum}
+use Rattle.zoom.specs.Zoom.{numOf, more, Absorbed, absorbOne, absorb, started, centre, Scan, copyOne, copyAll, enough, visit, markAt, scanOne, scanFrom, cluster}
 use Rattle.zoom.specs.Steps.{joined, absorbOne-yes, absorbOne-no, copyOne-yes, copyOne-no, more-nil, more-yes, more-no, totalOf, visit-made, visit-left, scan-seen, scan-visit}
-use Rattle.zoom.specs.Unseen.{unseen-in, unseenCount-length, unseenNum-mark, unseenNum-none, more-same}
+use Rattle.zoom.specs.Unseen.{unseen-in, unseenCount-length, unseenOf-mark, unseenOf-none, more-same}
 use Rattle.zoom.specs.Keeps.{all-at, Keeps, kept-all, keep-copy, keep-one, keep-scan, kept-field, kept-length, scan-sees}
 use Rattle.zoom.specs.Fewer.{from-fewer}
-use Rattle.zoom.specs.Lamps.{total, absorb-weighs, scan-weighs-by, from-weighs}
+use Rattle.zoom.specs.Lamps.{sumOf, total, Carried, num-carried, absorb-weighs, scan-weighs-by, from-weighs}
 
 -- a place from 0 to 1, and one lamp or more
 abbrev pub Body : Entry → Type 0
@@ -37,10 +37,13 @@ kept-body : (z : ℕ) → Keeps z (λ t. All Body t)
 kept-body z = kept-all Body z (λ e q b. b) (λ e q b. b)
 
 -- all entries are unseen
-pub unseenNum-all : (z : ℕ) (t : Table) → All (Next (suc z)) t → unseenNum z t ≡ total t
-unfolding unseenNum total All
-unseenNum-all z [] a = refl
-unseenNum-all z (e ∷ t) a = rw (lt-ltb z (e .seen) (let q : z < e .seen = omega (arith, a .0 .1) in q)) (let r = unseenNum-all z t (a .1) in omega (arith, r))
+pub unseenOf-all : (f : Entry → ℕ) (z : ℕ) (t : Table) → All (Next (suc z)) t → unseenOf f z t ≡ sumOf f t
+unfolding unseenOf sumOf All
+unseenOf-all f z [] a = refl
+unseenOf-all f z (e ∷ t) a =
+    let r = unseenOf-all f z t (a .1) in
+    let q : z < e .seen = omega (arith, a .0 .1) in
+    rw (lt-ltb z (e .seen) q) (omega (arith, r))
 
 -- ---- the centres: sums of what counts at most B lamps
 
@@ -59,8 +62,8 @@ module _ (z p B : ℕ) (few : B ≤ 2 ^ 53) where
       let u : z < entry t k .seen = ltb-true z (entry t k .seen) e in
       let f = all-at Body t k a (unseen-in z t k u) in
       let s′ = joined z p s k in
-      let m : more z (s′ .table) ks ≡ more z t ks = more-same z t k (under p (marked z (entry t k))) ks d in
-      let my = more-yes z t k ks e in
+      let m : more z (s′ .table) ks ≡ more z t ks = more-same numOf z t k (under p (marked z (entry t k))) ks d in
+      let my = more-yes numOf z t k ks e in
       let q : S + entry t k .num + more z (s′ .table) ks ≡ S + more z t (k ∷ ks) = omega (arith, m, my) in
       let hb : S + entry t k .num ≤ B = omega (arith, my, h) in
       let hb2 : S + entry t k .num + more z (s′ .table) ks ≤ B = omega (arith, q, h) in
@@ -68,13 +71,13 @@ module _ (z p B : ℕ) (few : B ≤ 2 ^ 53) where
       (ih s′ (S + entry t k .num) (kept-body z .join t k p a)
       (weigh-more (s .sx) S (entry t k .x) (entry t k .num) (w .0) (f .0) (f .2) (le-trans hb few), weigh-more (s .sy) S (entry t k .y) (entry t k .num) (w .1) (f .1) (f .2) (le-trans hb few)) hb2))
   absorb-by s k ks S ih d a w h false e =
-      let mn = more-no z (s .table) k ks e in
+      let mn = more-no numOf z (s .table) k ks e in
       rw (absorbOne-no z p s k e, mn) (ih s S a w (omega (arith, mn, h)))
 
   absorb-weighted : (s : Absorbed) (l : List ℕ) (S : ℕ) → Distinct l → All Body (s .table) → both-weighted s S → S + more z (s .table) l ≤ B
       → both-weighted (absorb z p s l) (S + more z (s .table) l)
   unfolding absorb both-weighted
-  absorb-weighted s [] S o a w h = rw (more-nil z (s .table), add-zero S) w
+  absorb-weighted s [] S o a w h = rw (more-nil numOf z (s .table), add-zero S) w
   absorb-weighted s (k ∷ ks) S o a w h = absorb-by s k ks S (λ s′ S′ a′ w′ h′. absorb-weighted s′ ks S′ (o .1) a′ w′ h′) (o .0) a w h _ refl
 
 -- the entry that a cluster gets
@@ -88,7 +91,7 @@ module _ (n least z B : ℕ) (few : B ≤ 2 ^ 53) (zs : z ≤ 255) (near : List 
       let st = started t (entry t i) in
       let f = all-at Body t i a hi in
       let num = entry t i .num in
-      let l : num + more z t near ≤ B = omega (arith, light, absorb-weighs z p st near o) in
+      let l : num + more z t near ≤ B = omega (arith, light, absorb-weighs numOf z p st near o) in
       let l1 : num ≤ B = omega (arith, l) in
       let l2 : 1 ≤ num + more z t near = omega (arith, f .2) in
       let w : both-weighted z p B few (absorb z p st near) (num + more z t near) = absorb-weighted z p B few st near num o a (weigh-one (entry t i .x) num (f .0) (f .2) (le-trans l1 few), weigh-one (entry t i .y) num (f .1) (f .2) (le-trans l1 few)) l in (
@@ -137,7 +140,7 @@ module _ (n least z B : ℕ) (few : B ≤ 2 ^ 53) (zs : z ≤ 255) where
         let l : length (set t i m) ≡ length t = length-set t i m in
         rw (scan-visit n least z near s i u)
         (visit-next (near (entry t i .x) (entry t i .y)) i (markAt z i s) (o _ _) (kept-body z .mark t i a) (omega (arith, l, hin)) (omega (arith, hs))
-        (omega (arith, hn, light, unseenNum-mark z t i m hin u (le-refl z))) x _ refl)
+        (omega (arith, hn, light, unseenOf-mark numOf z t i m hin u (le-refl z))) x _ refl)
     one-next s i a light x false e = rw (scan-seen n least z near s i (ltb-false z (entry (s .table) i .seen) e)) x
 
     scan-next : (s : Scan) (i k : ℕ) → All Body (s .table) → unseenNum z (s .table) + total (s .next) ≤ B → All (Next z) (s .next)
@@ -145,19 +148,19 @@ module _ (n least z B : ℕ) (few : B ≤ 2 ^ 53) (zs : z ≤ 255) where
     unfolding scanFrom
     scan-next s i zero a light x = x
     scan-next s i (suc k) a light x =
-        let w = scan-weighs-by n least z near o s i _ refl in
+        let w = scan-weighs-by numOf num-carried n least z near o s i _ refl in
         scan-next (scanOne n least z near s i) (suc i) k (keep-one z (λ t. All Body t) (kept-body z) n least near s i _ refl a) (omega (arith, w, light))
         (one-next s i a (omega (arith, light)) x _ refl)
 
--- the same nums give the same total
+-- the same numbers give the same sum
 sum : List ℕ → ℕ
 sum [] = 0
 sum (a ∷ l) = a + sum l
 
-total-sum : (t : Table) → total t ≡ sum (map (λ e. e .num) t)
-unfolding total sum
-total-sum [] = refl
-total-sum (e ∷ t) = ap (λ (q : ℕ). e .num + q) (total-sum t)
+sum-map : (f : Entry → ℕ) (t : Table) → sumOf f t ≡ sum (map f t)
+unfolding sumOf sum
+sum-map f [] = refl
+sum-map f (e ∷ t) = ap (λ (q : ℕ). f e + q) (sum-map f t)
 
 -- what one zoom does to a table whose entries are unseen by it
 pub record Sound (z : ℕ) (t : Table) (s : Scan) : Type 0 where
@@ -171,24 +174,44 @@ pub record Sound (z : ℕ) (t : Table) (s : Scan) : Type 0 where
   pub long : length (s .table) ≡ length t
 
 module _ (n least z : ℕ) (near : Float → Float → List ℕ) (o : (qx qy : Float) → Distinct (near qx qy)) (t : Table) (a : All (Next (suc z)) t) (few : total t ≤ 2 ^ 53) (zs : z ≤ 255) where
+  first : Scan
+  first = record { table = t; next = [] }
+
+  last : Scan
+  last = scanFrom n least z near first 0 (length t)
+
+  -- a number that the entries carry: in the next table, and in the table with its marks
+  module _ (f : Entry → ℕ) (C : Carried f) where
+    carried-next : sumOf f (last .next) ≡ sumOf f t
+    unfolding first last sumOf
+    carried-next =
+        let w = from-weighs f C n least z near o first 0 (length t) in
+        let len : length (last .table) ≡ length t
+        = keep-scan z (λ q. length q ≡ length t) (kept-length z (length t)) n least near first 0 (length t) refl in
+        let left : unseenOf f z (last .table) ≡ 0
+        = unseenOf-none f z (last .table)
+        (λ j h. scan-sees n least z near first 0 (length t) j (λ q. absurd (omega arith)) (omega (arith, len, h))) in
+        omega (arith, w, unseenOf-all f z t a, left)
+
+    carried-table : sumOf f (last .table) ≡ sumOf f t
+    unfolding first last
+    carried-table =
+        let same = keep-scan z (λ q. map f q ≡ map f t) (kept-field f z t (C .marks) (C .hangs)) n least near first 0 (length t) refl in
+        sum-map f (last .table) ∙ ap sum same ∙ sym (sum-map f t)
+
   pub cluster-sound : Sound z t (cluster n least z near t)
-  unfolding cluster total sum All
+  unfolding cluster sumOf All first last
   cluster-sound =
-      let s₀ : Scan = record { table = t; next = [] } in
-      let s = scanFrom n least z near s₀ 0 (length t) in
+      let s₀ : Scan = first in
       let b = all-map (Next (suc z)) Body (λ e q. q .0) t a in
-      let hv = unseenNum-all z t a in
-      let w = from-weighs n least z near o s₀ 0 (length t) in
-      let len : length (s .table) ≡ length t = keep-scan z (λ q. length q ≡ length t) (kept-length z (length t)) n least near s₀ 0 (length t) refl in
-      let none-left : unseenNum z (s .table) ≡ 0 = unseenNum-none z (s .table) (λ j h. scan-sees n least z near s₀ 0 (length t) j (λ q. absurd (omega arith)) (omega (arith, len, h))) in
-      let nums : map (λ e. e .num) (s .table) ≡ map (λ e. e .num) t = keep-scan z (λ q. map (λ e. e .num) q ≡ map (λ e. e .num) t) (kept-field (λ e. e .num) z t (λ e q. refl) (λ e q. refl)) n least near s₀ 0 (length t) refl in
+      let hv = unseenOf-all numOf z t a in
       record {
         body = keep-scan z (λ q. All Body q) (kept-body z) n least near s₀ 0 (length t) b;
         next = scan-next n least z (total t) few zs near o s₀ 0 (length t) b (omega (arith, hv)) tt;
-        lamps = omega (arith, w, hv, none-left);
-        lamps-kept = total-sum (s .table) ∙ ap sum nums ∙ sym (total-sum t);
+        lamps = carried-next numOf num-carried;
+        lamps-kept = carried-table numOf num-carried;
         xs = keep-scan z (λ q. map (λ e. e .x) q ≡ map (λ e. e .x) t) (kept-field (λ e. e .x) z t (λ e q. refl) (λ e q. refl)) n least near s₀ 0 (length t) refl;
         ys = keep-scan z (λ q. map (λ e. e .y) q ≡ map (λ e. e .y) t) (kept-field (λ e. e .y) z t (λ e q. refl) (λ e q. refl)) n least near s₀ 0 (length t) refl;
         shorter = omega (arith, from-fewer n least z near s₀ 0 (length t), unseenCount-length z t);
-        long = len;
+        long = keep-scan z (λ q. length q ≡ length t) (kept-length z (length t)) n least near s₀ 0 (length t) refl;
       }

@@ -9,8 +9,9 @@ use borrow.Author.Tests.{lt-ltb, le-ltb}
 use lib.ListN.{set}
 use lib.Ieee.{Float, binary64, add, mul}
 use Rattle.floats.specs.Numbers.{float}
+use Rattle.tables.specs.declared.Entry.{Entry}
 use Rattle.tables.specs.Entries.{Table, entry, unseen, marked, under}
-use Rattle.zoom.specs.Zoom.{more, Absorbed, absorbOne, Scan, copyOne, madeAt, leftAt, enough, visit, markAt, scanOne}
+use Rattle.zoom.specs.Zoom.{moreOf, more, Absorbed, absorbOne, Scan, copyOne, madeAt, leftAt, enough, visit, markAt, scanOne}
 
 -- ---- one neighbour
 
@@ -43,17 +44,18 @@ pub copyOne-no : (z : ℕ) (s : Scan) (k : ℕ) → unseen z (entry (s .table) k
 unfolding copyOne
 copyOne-no z s k e = rw e
 
-pub more-nil : (z : ℕ) (t : Table) → more z t [] ≡ 0
-unfolding more
-more-nil z t = refl
+module _ (f : Entry → ℕ) (z : ℕ) (t : Table) where
+  pub more-nil : moreOf f z t [] ≡ 0
+  unfolding moreOf
+  more-nil = refl
 
-pub more-yes : (z : ℕ) (t : Table) (k : ℕ) (ks : List ℕ) → unseen z (entry t k) ≡ true → more z t (k ∷ ks) ≡ entry t k .num + more z t ks
-unfolding more
-more-yes z t k ks e = rw e
+  pub more-yes : (k : ℕ) (ks : List ℕ) → unseen z (entry t k) ≡ true → moreOf f z t (k ∷ ks) ≡ f (entry t k) + moreOf f z t ks
+  unfolding moreOf
+  more-yes k ks e = rw e
 
-pub more-no : (z : ℕ) (t : Table) (k : ℕ) (ks : List ℕ) → unseen z (entry t k) ≡ false → more z t (k ∷ ks) ≡ more z t ks
-unfolding more
-more-no z t k ks e = rw e (omega arith)
+  pub more-no : (k : ℕ) (ks : List ℕ) → unseen z (entry t k) ≡ false → moreOf f z t (k ∷ ks) ≡ moreOf f z t ks
+  unfolding moreOf
+  more-no k ks e = rw e (omega arith)
 
 -- ---- one entry
 

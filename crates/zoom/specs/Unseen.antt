@@ -13,8 +13,8 @@ use Rattle.kdslots.specs.All.{All, AllBelow}
 use Rattle.kdslots.specs.Members.{Distinct, NotIn}
 use Rattle.tables.specs.declared.Entry.{Entry}
 use Rattle.tables.specs.Entries.{Table, entry, none, unseen, marked, under}
-use Rattle.zoom.specs.Scanned.{unseenCount, unseenNum}
-use Rattle.zoom.specs.Zoom.{more}
+use Rattle.zoom.specs.Scanned.{unseenCount, unseenOf}
+use Rattle.zoom.specs.Zoom.{adds, moreOf}
 use Rattle.zoom.specs.Steps.{more-yes, more-no, more-nil}
 
 -- what stands past a table's end is seen
@@ -33,13 +33,13 @@ unseenCount-mark z (a ∷ t) zero e h u v = simp (lt-ltb z (a .seen) u, le-ltb z
 unseenCount-mark z (a ∷ t) (suc k) e h u v =
     let r = unseenCount-mark z t k e (omega arith) u v in omega (arith, r)
 
-pub unseenNum-mark : (z : ℕ) (t : Table) (k : ℕ) (e : Entry) → k < length t → z < entry t k .seen → e .seen ≤ z
-    → unseenNum z t ≡ entry t k .num + unseenNum z (set t k e)
-unfolding unseenNum
-unseenNum-mark z [] k e h u v = let q : ⊥ = omega arith in absurd q
-unseenNum-mark z (a ∷ t) zero e h u v = simp (lt-ltb z (a .seen) u, le-ltb z (e .seen) v) (omega arith)
-unseenNum-mark z (a ∷ t) (suc k) e h u v =
-    let r = unseenNum-mark z t k e (omega arith) u v in omega (arith, r)
+pub unseenOf-mark : (f : Entry → ℕ) (z : ℕ) (t : Table) (k : ℕ) (e : Entry) → k < length t → z < entry t k .seen → e .seen ≤ z
+    → unseenOf f z t ≡ f (entry t k) + unseenOf f z (set t k e)
+unfolding unseenOf
+unseenOf-mark f z [] k e h u v = let q : ⊥ = omega arith in absurd q
+unseenOf-mark f z (a ∷ t) zero e h u v = simp (lt-ltb z (a .seen) u, le-ltb z (e .seen) v) (omega arith)
+unseenOf-mark f z (a ∷ t) (suc k) e h u v =
+    let r = unseenOf-mark f z t k e (omega arith) u v in omega (arith, r)
 
 -- ---- an entry that is seen is stored, whatever stood there
 
@@ -49,11 +49,11 @@ unseenCount-le z [] k e h = le-refl 0
 unseenCount-le z (a ∷ t) zero e h = rw (le-ltb z (e .seen) h) (omega arith)
 unseenCount-le z (a ∷ t) (suc k) e h = let r = unseenCount-le z t k e h in omega (arith, r)
 
-pub unseenNum-le : (z : ℕ) (t : Table) (k : ℕ) (e : Entry) → e .seen ≤ z → unseenNum z (set t k e) ≤ unseenNum z t
-unfolding unseenNum
-unseenNum-le z [] k e h = le-refl 0
-unseenNum-le z (a ∷ t) zero e h = rw (le-ltb z (e .seen) h) (omega arith)
-unseenNum-le z (a ∷ t) (suc k) e h = let r = unseenNum-le z t k e h in omega (arith, r)
+pub unseenOf-le : (f : Entry → ℕ) (z : ℕ) (t : Table) (k : ℕ) (e : Entry) → e .seen ≤ z → unseenOf f z (set t k e) ≤ unseenOf f z t
+unfolding unseenOf
+unseenOf-le f z [] k e h = le-refl 0
+unseenOf-le f z (a ∷ t) zero e h = rw (le-ltb z (e .seen) h) (omega arith)
+unseenOf-le f z (a ∷ t) (suc k) e h = let r = unseenOf-le f z t k e h in omega (arith, r)
 
 -- ---- a parent is stored
 
@@ -63,11 +63,12 @@ unseenCount-under z [] k p = refl
 unseenCount-under z (a ∷ t) zero p = refl
 unseenCount-under z (a ∷ t) (suc k) p = let r = unseenCount-under z t k p in omega (arith, r)
 
-pub unseenNum-under : (z : ℕ) (t : Table) (k p : ℕ) → unseenNum z (set t k (under p (entry t k))) ≡ unseenNum z t
-unfolding unseenNum
-unseenNum-under z [] k p = refl
-unseenNum-under z (a ∷ t) zero p = refl
-unseenNum-under z (a ∷ t) (suc k) p = let r = unseenNum-under z t k p in omega (arith, r)
+pub unseenOf-under : (f : Entry → ℕ) → ((e : Entry) (q : ℕ) → f (under q e) ≡ f e)
+    → (z : ℕ) (t : Table) (k p : ℕ) → unseenOf f z (set t k (under p (entry t k))) ≡ unseenOf f z t
+unfolding unseenOf
+unseenOf-under f g z [] k p = refl
+unseenOf-under f g z (a ∷ t) zero p = rw (g a p)
+unseenOf-under f g z (a ∷ t) (suc k) p = let r = unseenOf-under f g z t k p in omega (arith, r)
 
 -- ---- how many at most, and none
 
@@ -80,46 +81,50 @@ unseenCount-length z (a ∷ t) = by (unseen z a) (unseenCount-length z t)
     by true h = omega (arith, h)
     by false h = omega (arith, h)
 
-pub unseenNum-none : (z : ℕ) (t : Table) → ((j : ℕ) → j < length t → entry t j .seen ≤ z) → unseenNum z t ≡ 0
-unfolding unseenNum
-unseenNum-none z [] f = refl
-unseenNum-none z (e ∷ t) f = rw (le-ltb z (e .seen) (f 0 (omega arith))) (let r = unseenNum-none z t (λ j h. f (suc j) (omega arith)) in omega (arith, r))
+pub unseenOf-none : (f : Entry → ℕ) (z : ℕ) (t : Table) → ((j : ℕ) → j < length t → entry t j .seen ≤ z) → unseenOf f z t ≡ 0
+unfolding unseenOf
+unseenOf-none f z [] g = refl
+unseenOf-none f z (e ∷ t) g =
+    let r = unseenOf-none f z t (λ j h. g (suc j) (omega arith)) in
+    rw (le-ltb z (e .seen) (g 0 (omega arith))) (omega (arith, r))
 
 -- ---- the neighbours
 
 -- a store at a place that is no neighbour's
-pub more-same : (z : ℕ) (t : Table) (k : ℕ) (e : Entry) (l : List ℕ) → NotIn k l → more z (set t k e) l ≡ more z t l
-unfolding more
-more-same z t k e [] h = refl
-more-same z t k e (j ∷ js) h =
-    rw (getD-set-other t k j e none (λ q. h .0 (sym q))) (ap (λ (q : ℕ). cond (unseen z (entry t j)) (entry t j .num) 0 + q) (more-same z t k e js (h .1)))
+pub more-same : (f : Entry → ℕ) (z : ℕ) (t : Table) (k : ℕ) (e : Entry) (l : List ℕ) → NotIn k l → moreOf f z (set t k e) l ≡ moreOf f z t l
+unfolding moreOf
+more-same f z t k e [] h = refl
+more-same f z t k e (j ∷ js) h =
+    rw (getD-set-other t k j e none (λ q. h .0 (sym q))) (ap (λ (q : ℕ). adds f z (entry t j) + q) (more-same f z t k e js (h .1)))
 
 -- rows past the neighbours change nothing
-more-grow : (z : ℕ) (t r : Table) (l : List ℕ) → AllBelow (length t) l → more z (t ++ r) l ≡ more z t l
-unfolding more All
-more-grow z t r [] b = refl
-more-grow z t r (k ∷ ks) b =
-    rw (List·getD-append t r none k (b .0)) (ap (λ (q : ℕ). cond (unseen z (entry t k)) (entry t k .num) 0 + q) (more-grow z t r ks (b .1)))
+more-grow : (f : Entry → ℕ) (z : ℕ) (t r : Table) (l : List ℕ) → AllBelow (length t) l → moreOf f z (t ++ r) l ≡ moreOf f z t l
+unfolding moreOf All
+more-grow f z t r [] b = refl
+more-grow f z t r (k ∷ ks) b =
+    rw (List·getD-append t r none k (b .0)) (ap (λ (q : ℕ). adds f z (entry t k) + q) (more-grow f z t r ks (b .1)))
 
-pub more-take : (z len : ℕ) (t : Table) (near : List ℕ) → AllBelow len near → len ≤ length t → more z t near ≡ more z (take len t) near
-more-take z len t near b h =
-    ap (λ (q : Table). more z q near) (sym (take-append-drop len t))
-    ∙ more-grow z (take len t) (drop len t) near (rw (length-take-le len t h) b)
+pub more-take : (f : Entry → ℕ) (z len : ℕ) (t : Table) (near : List ℕ) → AllBelow len near → len ≤ length t
+    → moreOf f z t near ≡ moreOf f z (take len t) near
+more-take f z len t near b h =
+    ap (λ (q : Table). moreOf f z q near) (sym (take-append-drop len t))
+    ∙ more-grow f z (take len t) (drop len t) near (rw (length-take-le len t h) b)
 
 -- one neighbour, once what is said holds of the others in every table as long
-more-le-by : (z : ℕ) (t : Table) (k : ℕ) (ks : List ℕ) → k < length t → NotIn k ks
-    → ((t′ : Table) → length t′ ≡ length t → more z t′ ks ≤ unseenNum z t′) → (b : Bool) → unseen z (entry t k) ≡ b → more z t (k ∷ ks) ≤ unseenNum z t
-more-le-by z t k ks h o f true e =
+more-le-by : (f : Entry → ℕ) (z : ℕ) (t : Table) (k : ℕ) (ks : List ℕ) → k < length t → NotIn k ks
+    → ((t′ : Table) → length t′ ≡ length t → moreOf f z t′ ks ≤ unseenOf f z t′) → (b : Bool) → unseen z (entry t k) ≡ b
+    → moreOf f z t (k ∷ ks) ≤ unseenOf f z t
+more-le-by f z t k ks h o r true e =
     let u : z < entry t k .seen = ltb-true z (entry t k .seen) e in
     let m = marked z (entry t k) in
-    let g = f (set t k m) (length-set t k m) in
-    omega (arith, more-yes z t k ks e, unseenNum-mark z t k m h u (le-refl z), more-same z t k m ks o, g)
-more-le-by z t k ks h o f false e = omega (arith, more-no z t k ks e, f t refl)
+    let g = r (set t k m) (length-set t k m) in
+    omega (arith, more-yes f z t k ks e, unseenOf-mark f z t k m h u (le-refl z), more-same f z t k m ks o, g)
+more-le-by f z t k ks h o r false e = omega (arith, more-no f z t k ks e, r t refl)
 
 -- distinct neighbours: each lamp counts once
-pub more-le : (z : ℕ) (t : Table) (l : List ℕ) → AllBelow (length t) l → Distinct l → more z t l ≤ unseenNum z t
+pub more-le : (f : Entry → ℕ) (z : ℕ) (t : Table) (l : List ℕ) → AllBelow (length t) l → Distinct l → moreOf f z t l ≤ unseenOf f z t
 unfolding All
-more-le z t [] b o = omega (arith, more-nil z t)
-more-le z t (k ∷ ks) b o =
-    more-le-by z t k ks (b .0) (o .0)
-    (λ t′ e. more-le z t′ ks (rw e (b .1)) (o .1)) _ refl
+more-le f z t [] b o = omega (arith, more-nil f z t)
+more-le f z t (k ∷ ks) b o =
+    more-le-by f z t k ks (b .0) (o .0)
+    (λ t′ e. more-le f z t′ ks (rw e (b .1)) (o .1)) _ refl

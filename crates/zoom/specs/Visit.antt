@@ -5,24 +5,17 @@ use mathlib.Core.List.{List}
 use Prim.Native.Nat.{ℕ, _+_, _<_, _≤_}
 use native.Mathlib.Omega.{arith}
 use native.Mathlib.Nat.{le-refl}
-use lib.ListN.{length, getD, set, drop, take, length-set}
-use lib.Seq.{length-take-le, getD-take, take-set-lt, drop-set-lt}
+use lib.ListN.{length, set, drop, take, length-set}
+use lib.Seq.{length-take-le, getD-take, getD-set-same, take-set-lt, drop-set-lt}
 use lib.Ieee.{Float}
 use Rattle.kdslots.specs.All.{AllBelow}
 use Rattle.kdslots.specs.Members.{Distinct}
 use Rattle.tables.specs.declared.Entry.{Entry}
 use Rattle.tables.specs.Entries.{Table, entry, none, marked}
-use Rattle.tables.specs.Rows.{rows, rows-entry}
-use Rattle.zoom.specs.Scanned.{scanOf, Scanned, unseenCount, unseenNum}
-use Rattle.zoom.specs.Zoom.{more, visit, markAt, scanOne}
+use Rattle.zoom.specs.Scanned.{scanOf, Scanned, unseenCount, unseenOf}
+use Rattle.zoom.specs.Zoom.{moreOf, visit, markAt, scanOne}
 use Rattle.zoom.specs.Steps.{scan-seen, scan-visit}
-use Rattle.zoom.specs.Unseen.{unseenCount-mark, unseenNum-mark, more-le}
-
--- the num of an entry of the table, by its column
-pub num-take : (xs ys : List Float) (ss is ps ns : List ℕ) (len i : ℕ) → i < len → len ≤ length xs
-    → entry (take len (rows xs ys ss is ps ns)) i .num ≡ getD ns i 0
-num-take xs ys ss is ps ns len i hi hl =
-    ap (λ (e : Entry). e .num) (getD-take len (rows xs ys ss is ps ns) i none hi ∙ rows-entry xs ys ss is ps ns i (omega arith))
+use Rattle.zoom.specs.Unseen.{unseenCount-mark, unseenOf-mark, more-le, more-take}
 
 -- ---- the entry i is marked
 
@@ -57,15 +50,26 @@ module _ (t : Table) (len d z i : ℕ) (hi : i < len) (hl : len ≤ length t) (u
       rw taken (omega (arith, f, h))
 
   -- its total is at most what was unseen before the mark
-  pub marked-unseenNum : (m : ℕ) (l : List ℕ) → AllBelow len l → Distinct l → unseenNum z (take len t) < m
-      → entry t i .num + more z (take len (marking t len d z i hi)) l < m
-  marked-unseenNum m l b o h =
+  pub marked-sum : (f : Entry → ℕ) (m : ℕ) (l : List ℕ) → AllBelow len l → Distinct l → unseenOf f z (take len t) < m
+      → f (entry t i) + moreOf f z (take len (marking t len d z i hi)) l < m
+  marked-sum g m l b o h =
       let q = set (take len t) i (marked z (entry t i)) in
-      let f = unseenNum-mark z (take len t) i (marked z (entry t i)) inside unseen-at (le-refl z) in
+      let f = unseenOf-mark g z (take len t) i (marked z (entry t i)) inside unseen-at (le-refl z) in
       let lq : length q ≡ len = length-set (take len t) i (marked z (entry t i)) ∙ length-take-le len t hl in
-      let g = more-le z q l (rw lq b) o in
-      let k : entry (take len t) i .num ≡ entry t i .num = rw (getD-take len t i none hi) in
-      rw taken (omega (arith, f, g, h, k))
+      let j = more-le g z q l (rw lq b) o in
+      let k : g (entry (take len t) i) ≡ g (entry t i) = rw (getD-take len t i none hi) in
+      rw taken (omega (arith, f, j, h, k))
+
+  -- the same, of the columns: what the entry carries and its unseen neighbours
+  pub marked-fits : (f : Entry → ℕ) → ((e : Entry) (q : ℕ) → f (marked q e) ≡ f e)
+      → (m : ℕ) (l : List ℕ) → AllBelow len l → Distinct l → unseenOf f z (take len t) < m
+      → f (entry (marking t len d z i hi) i) + moreOf f z (marking t len d z i hi) l < m
+  marked-fits f g m l b o h =
+      let q = marking t len d z i hi in
+      let lq : len ≤ length q = omega (arith, length-set t i (marked z (entry t i)), hl) in
+      let li : i < length t = omega arith in
+      let e : f (entry q i) ≡ f (entry t i) = ap f (getD-set-same t i (marked z (entry t i)) none li) ∙ g (entry t i) z in
+      omega (arith, e, more-take f z len q l b lq, marked-sum f m l b o h)
 
 -- ---- the scan of i, from the visit of the marked table
 

@@ -11,10 +11,22 @@ use Rattle.tables.specs.declared.Entry.{Entry}
 use Rattle.tables.specs.Entries.{Table, entry, never, unset, unseen, marked, under}
 use Rattle.tables.specs.Ids.{clusterId}
 
--- the num of each unseen neighbour, added up
-unfoldable pub more : ℕ → Table → List ℕ → ℕ
-more z t [] = 0
-more z t (k ∷ ks) = cond (unseen z (entry t k)) (entry t k .num) 0 + more z t ks
+-- the number that clusters add up
+abbrev pub numOf : Entry → ℕ
+numOf e = e .num
+
+-- what an entry adds to a sum of f: nothing where it is seen
+abbrev pub adds : (Entry → ℕ) → ℕ → Entry → ℕ
+adds f z e = cond (unseen z e) (f e) 0
+
+-- f of each unseen neighbour, added up
+unfoldable pub moreOf : (Entry → ℕ) → ℕ → Table → List ℕ → ℕ
+moreOf f z t [] = 0
+moreOf f z t (k ∷ ks) = adds f z (entry t k) + moreOf f z t ks
+
+-- the num of each unseen neighbour
+abbrev pub more : ℕ → Table → List ℕ → ℕ
+more z t l = moreOf numOf z t l
 
 -- ---- a cluster
 

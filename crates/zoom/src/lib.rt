@@ -1,5 +1,5 @@
 // One zoom, `cluster` of the Rust: the entries of a table in order, each passed by, or made a cluster with its unseen neighbours, or copied with them.
-// The table stands in the first `len` rows of the lent columns, and the next one, `done` entries so far, right after it.
+// The table stands in the first `len` rows of the lent columns, and the next one, `done` entries so far, right after it. An entry is read as one record.
 use kdbush::SearchReply;
 use kdslots::Query;
 use tables::Entry;
@@ -14,10 +14,12 @@ ghost use Rattle.kdsort.specs.Shape.{shape};
 ghost use Rattle.kdslots.specs.All.{All, AllBelow};
 ghost use Rattle.kdslots.specs.Slots.{over, when, scanned, slots, answers};
 ghost use Rattle.kdbush.specs.Promise.{Promised};
-ghost use Rattle.tables.specs.Entries.{Table};
+ghost use Rattle.lent.specs.Lent.{old, new};
+ghost use Rattle.tables.specs.Entries.{Table, entry};
 ghost use Rattle.tables.specs.Rows.{rows, Even};
-ghost use Rattle.zoom.specs.Zoom.{absorb, absorbed, copyAll, more, madeAt, leftAt, enough, visit, scanOne, cluster};
-ghost use Rattle.zoom.specs.Scanned.{Scanned, scanOf, copiedTo, unseenCount, unseenNum};
+ghost use Rattle.tables.specs.Lent.{given, lentCols};
+ghost use Rattle.zoom.specs.Zoom.{numOf, adds, more, absorbOne, absorb, absorbed, copyOne, copyAll, madeAt, leftAt, enough, visit, scanOne, cluster};
+ghost use Rattle.zoom.specs.Scanned.{Scanned, scanOf, unseenCount, unseenNum};
 ghost use Rattle.zoom.specs.Near.{nearOf, Answered, Placed, Radius};
 ghost use Rattle.zoom.specs.Notes.{Tells, Noted, Owned, Slotted, Same};
 
@@ -27,7 +29,38 @@ struct Sums {
     y: f64,
 }
 
-// Each unseen neighbour, in answer order, is marked, gets the parent p, and adds its products.
+// The neighbour k: unseen, it is marked, gets the parent p, and adds its products.
+fn absorb_one(
+    x: &[f64],
+    y: &[f64],
+    seen: &mut [u8],
+    id: &[u32],
+    parent: &mut [u32],
+    num: &[u32],
+    k: usize,
+    z: u8,
+    p: u32,
+    sums: Sums,
+) -> Sums
+    requires { let c = given x y seen id parent num in ⌜ Even c × (k < length (c .x)) ⌝ }
+    ensures { λ r.
+        let c = lentCols x y seen id parent num in
+        ⌜ absorbed (rows (c .exit)) (r .x) (r .y) ≡ absorbOne z p (absorbed (rows (c .entry)) (sums .x) (sums .y)) k ⌝ }
+{
+    let e = tables::entry_at(x, y, seen, id, parent, num, k);
+    if e.seen <= z {
+        return sums;
+    }
+    seen[k] = z;
+    parent[k] = p;
+    let w = e.num as f64;
+    Sums {
+        x: sums.x + e.x * w,
+        y: sums.y + e.y * w,
+    }
+}
+
+// The neighbours, in answer order.
 fn absorb_near(
     x: &[f64],
     y: &[f64],
@@ -40,29 +73,22 @@ fn absorb_near(
     p: u32,
     sums: Sums,
 ) -> Sums
-    requires { ⌜ Even (now x) (now y) (now seen) (now id) (now parent) (now num) ⌝ }
-    requires { ⌜ AllBelow (length (now x)) (now near) ⌝ }
-    ensures { λ r. ⌜ absorbed (rows (now (x .entry)) (now (y .entry)) (now (seen .exit)) (now (id .entry)) (now (parent .exit)) (now (num .entry))) (r .x) (r .y)
-        ≡ absorb z p (absorbed (rows (now (x .entry)) (now (y .entry)) (now (seen .entry)) (now (id .entry)) (now (parent .entry)) (now (num .entry))) (sums .x) (sums .y)) (now (near .entry)) ⌝ }
+    requires { let c = given x y seen id parent num in ⌜ Even c × AllBelow (length (c .x)) (now near) ⌝ }
+    ensures { λ r.
+        let c = lentCols x y seen id parent num in
+        ⌜ absorbed (rows (c .exit)) (r .x) (r .y) ≡ absorb z p (absorbed (rows (c .entry)) (sums .x) (sums .y)) (old near) ⌝ }
 {
-    let mut wx = sums.x;
-    let mut wy = sums.y;
+    let mut s = sums;
     let mut j = 0;
     while j < near.len() {
         let k = near[j] as usize;
-        if z < seen[k] {
-            seen[k] = z;
-            parent[k] = p;
-            let w = num[k] as f64;
-            wx = wx + x[k] * w;
-            wy = wy + y[k] * w;
-        }
+        s = absorb_one(x, y, seen, id, parent, num, k, z, p, s);
         j += 1;
     }
-    Sums { x: wx, y: wy }
+    s
 }
 
-// The entry k is marked, and then copied to row `at`.
+// The neighbour k: unseen, it is marked, and then copied as the next table's next entry.
 fn copy_one(
     x: &mut [f64],
     y: &mut [f64],
@@ -70,21 +96,30 @@ fn copy_one(
     id: &mut [u32],
     parent: &mut [u32],
     num: &mut [u32],
+    len: usize,
+    done: usize,
     k: usize,
-    at: usize,
     z: u8,
-)
-    requires { ⌜ Even (now x) (now y) (now seen) (now id) (now parent) (now num) ⌝ }
-    requires { ⌜ (k < length (now x)) × (at < length (now x)) ⌝ }
-    ensures { λ _. ⌜ rows (now (x .exit)) (now (y .exit)) (now (seen .exit)) (now (id .exit)) (now (parent .exit)) (now (num .exit))
-        ≡ copiedTo (rows (now (x .entry)) (now (y .entry)) (now (seen .entry)) (now (id .entry)) (now (parent .entry)) (now (num .entry))) k at z ⌝ }
+) -> usize
+    requires { let c = given x y seen id parent num in
+        ⌜ Even c × (k < len) × (len + done + unseenCount z (take len (rows c)) ≤ length (c .x)) ⌝ }
+    ensures { λ r.
+        let c = lentCols x y seen id parent num in
+        let t = rows (c .entry) in
+        ⌜ Scanned len done (copyOne z (scanOf len done t) k) t (rows (c .exit)) r ⌝ }
 {
-    seen[k] = z;
     let e = tables::entry_at(x, y, seen, id, parent, num, k);
-    tables::put_entry(x, y, seen, id, parent, num, at, e);
+    if e.seen <= z {
+        return done;
+    }
+    seen[k] = z;
+    let mut m = e;
+    m.seen = z;
+    tables::put_entry(x, y, seen, id, parent, num, len + done, m);
+    done + 1
 }
 
-// Each unseen neighbour, in answer order, is marked and copied.
+// The neighbours, in answer order.
 fn copy_near(
     x: &mut [f64],
     y: &mut [f64],
@@ -97,25 +132,31 @@ fn copy_near(
     done: usize,
     z: u8,
 ) -> usize
-    requires { ⌜ Even (now x) (now y) (now seen) (now id) (now parent) (now num) ⌝ }
-    requires { ⌜ AllBelow len (now near) ⌝ }
-    requires { ⌜ len + done + unseenCount z (take len (rows (now x) (now y) (now seen) (now id) (now parent) (now num))) ≤ length (now x) ⌝ }
-    ensures { λ r. ⌜ Scanned len done
-        (copyAll z (scanOf len done (rows (now (x .entry)) (now (y .entry)) (now (seen .entry)) (now (id .entry)) (now (parent .entry)) (now (num .entry)))) (now (near .entry)))
-        (rows (now (x .entry)) (now (y .entry)) (now (seen .entry)) (now (id .entry)) (now (parent .entry)) (now (num .entry)))
-        (rows (now (x .exit)) (now (y .exit)) (now (seen .exit)) (now (id .exit)) (now (parent .exit)) (now (num .exit))) r ⌝ }
+    requires { let c = given x y seen id parent num in
+        ⌜ Even c × AllBelow len (now near) × (len + done + unseenCount z (take len (rows c)) ≤ length (c .x)) ⌝ }
+    ensures { λ r.
+        let c = lentCols x y seen id parent num in
+        let t = rows (c .entry) in
+        ⌜ Scanned len done (copyAll z (scanOf len done t) (old near)) t (rows (c .exit)) r ⌝ }
 {
     let mut d = done;
     let mut j = 0;
     while j < near.len() {
         let k = near[j] as usize;
-        if z < seen[k] {
-            copy_one(x, y, seen, id, parent, num, k, len + d, z);
-            d += 1;
-        }
+        d = copy_one(x, y, seen, id, parent, num, len, d, k, z);
         j += 1;
     }
     d
+}
+
+// What an entry adds to a total: its num, where it is unseen.
+fn counted(e: Entry, z: u8) -> u32
+    ensures { λ r. ⌜ r ≡ adds numOf z e ⌝ }
+{
+    if e.seen <= z {
+        return 0;
+    }
+    e.num
 }
 
 // The entry's own num and that of each unseen neighbour.
@@ -130,18 +171,16 @@ fn total_near(
     z: u8,
     own: u32,
 ) -> u32
-    requires { ⌜ Even (now x) (now y) (now seen) (now id) (now parent) (now num) ⌝ }
-    requires { ⌜ AllBelow (length (now x)) (now near) ⌝ }
-    requires { ⌜ own + more z (rows (now x) (now y) (now seen) (now id) (now parent) (now num)) (now near) < 2 ^ 32 ⌝ }
-    ensures { λ r. ⌜ r ≡ own + more z (rows (now (x .entry)) (now (y .entry)) (now (seen .entry)) (now (id .entry)) (now (parent .entry)) (now (num .entry))) (now (near .entry)) ⌝ }
+    requires { let c = given x y seen id parent num in
+        ⌜ Even c × AllBelow (length (c .x)) (now near) × (own + more z (rows c) (now near) < 2 ^ 32) ⌝ }
+    ensures { λ r. let c = lentCols x y seen id parent num in ⌜ r ≡ own + more z (rows (c .entry)) (old near) ⌝ }
 {
     let mut total = own;
     let mut j = 0;
     while j < near.len() {
         let k = near[j] as usize;
-        if z < seen[k] {
-            total += num[k];
-        }
+        let e = tables::entry_at(x, y, seen, id, parent, num, k);
+        total += counted(e, z);
         j += 1;
     }
     total
@@ -163,19 +202,19 @@ fn make_one(
     n: u32,
     total: u32,
 )
-    requires { ⌜ Even (now x) (now y) (now seen) (now id) (now parent) (now num) ⌝ }
-    requires { ⌜ AllBelow len (now near) ⌝ }
-    requires { ⌜ (i < len) × (len + done < length (now x)) × (len ≤ 1048576) × (n ≤ 1048576) × (z ≤ 30) ⌝ }
-    ensures { λ _. ⌜ Scanned len done
-        (madeAt n z i total (now (near .entry)) (scanOf len done (rows (now (x .entry)) (now (y .entry)) (now (seen .entry)) (now (id .entry)) (now (parent .entry)) (now (num .entry)))))
-        (rows (now (x .entry)) (now (y .entry)) (now (seen .entry)) (now (id .entry)) (now (parent .entry)) (now (num .entry)))
-        (rows (now (x .exit)) (now (y .exit)) (now (seen .exit)) (now (id .exit)) (now (parent .exit)) (now (num .exit))) (done + 1) ⌝ }
+    requires { let c = given x y seen id parent num in
+        ⌜ Even c × AllBelow len (now near) × (i < len) × (len + done < length (c .x)) × (len ≤ 1048576) × (n ≤ 1048576) × (z ≤ 30) ⌝ }
+    ensures { λ _.
+        let c = lentCols x y seen id parent num in
+        let t = rows (c .entry) in
+        ⌜ Scanned len done (madeAt n z i total (old near) (scanOf len done t)) t (rows (c .exit)) (done + 1) ⌝ }
 {
     let cluster = tables::cluster_id(i, z, n);
-    let own = num[i] as f64;
+    let o = tables::entry_at(x, y, seen, id, parent, num, i);
+    let own = o.num as f64;
     let from = Sums {
-        x: x[i] * own,
-        y: y[i] * own,
+        x: o.x * own,
+        y: o.y * own,
     };
     let s = absorb_near(x, y, seen, id, parent, num, near, z, cluster, from);
     parent[i] = cluster;
@@ -205,13 +244,12 @@ fn leave_one(
     i: usize,
     z: u8,
 ) -> usize
-    requires { ⌜ Even (now x) (now y) (now seen) (now id) (now parent) (now num) ⌝ }
-    requires { ⌜ AllBelow len (now near) ⌝ }
-    requires { ⌜ (i < len) × (len + done + 1 + unseenCount z (take len (rows (now x) (now y) (now seen) (now id) (now parent) (now num))) ≤ length (now x)) ⌝ }
-    ensures { λ r. ⌜ Scanned len done
-        (leftAt z i (now (near .entry)) (scanOf len done (rows (now (x .entry)) (now (y .entry)) (now (seen .entry)) (now (id .entry)) (now (parent .entry)) (now (num .entry)))))
-        (rows (now (x .entry)) (now (y .entry)) (now (seen .entry)) (now (id .entry)) (now (parent .entry)) (now (num .entry)))
-        (rows (now (x .exit)) (now (y .exit)) (now (seen .exit)) (now (id .exit)) (now (parent .exit)) (now (num .exit))) r ⌝ }
+    requires { let c = given x y seen id parent num in
+        ⌜ Even c × AllBelow len (now near) × (i < len) × (len + done + 1 + unseenCount z (take len (rows c)) ≤ length (c .x)) ⌝ }
+    ensures { λ r.
+        let c = lentCols x y seen id parent num in
+        let t = rows (c .entry) in
+        ⌜ Scanned len done (leftAt z i (old near) (scanOf len done t)) t (rows (c .exit)) r ⌝ }
 {
     let e = tables::entry_at(x, y, seen, id, parent, num, i);
     tables::put_entry(x, y, seen, id, parent, num, len + done, e);
@@ -244,17 +282,16 @@ fn visit_one(
     n: u32,
     least: u8,
 ) -> usize
-    requires { ⌜ Even (now x) (now y) (now seen) (now id) (now parent) (now num) ⌝ }
-    requires { ⌜ AllBelow len (now near) ⌝ }
-    requires { ⌜ (i < len) × (len + done + 1 + unseenCount z (take len (rows (now x) (now y) (now seen) (now id) (now parent) (now num))) ≤ length (now x)) ⌝ }
-    requires { ⌜ getD (now num) i 0 + more z (take len (rows (now x) (now y) (now seen) (now id) (now parent) (now num))) (now near) < 2 ^ 32 ⌝ }
-    requires { ⌜ (len ≤ 1048576) × (n ≤ 1048576) × (z ≤ 30) ⌝ }
-    ensures { λ r. ⌜ Scanned len done
-        (visit n least z (now (near .entry)) i (scanOf len done (rows (now (x .entry)) (now (y .entry)) (now (seen .entry)) (now (id .entry)) (now (parent .entry)) (now (num .entry)))))
-        (rows (now (x .entry)) (now (y .entry)) (now (seen .entry)) (now (id .entry)) (now (parent .entry)) (now (num .entry)))
-        (rows (now (x .exit)) (now (y .exit)) (now (seen .exit)) (now (id .exit)) (now (parent .exit)) (now (num .exit))) r ⌝ }
+    requires { let c = given x y seen id parent num in
+        ⌜ Even c × AllBelow len (now near) × (i < len) × (len + done + 1 + unseenCount z (take len (rows c)) ≤ length (c .x))
+        × (len ≤ 1048576) × (n ≤ 1048576) × (z ≤ 30) × (entry (rows c) i .num + more z (rows c) (now near) < 2 ^ 32) ⌝ }
+    ensures { λ r.
+        let c = lentCols x y seen id parent num in
+        let t = rows (c .entry) in
+        ⌜ Scanned len done (visit n least z (old near) i (scanOf len done t)) t (rows (c .exit)) r ⌝ }
 {
-    let own = num[i];
+    let e = tables::entry_at(x, y, seen, id, parent, num, i);
+    let own = e.num;
     let total = total_near(x, y, seen, id, parent, num, near, z, own);
     if is_enough(own, total, least) {
         make_one(x, y, seen, id, parent, num, near, len, done, i, z, n, total);
@@ -266,7 +303,7 @@ fn visit_one(
 // How many of the slots from lo up to hi are answered. No test decides where to go on, so that several slots are tested at once.
 fn count_slots(q: Query, coords: &[f64], lo: usize, hi: usize) -> usize
     requires { ⌜ 2 * hi ≤ length (now coords) ⌝ }
-    ensures { λ r. ⌜ r ≡ length (scanned (over q (now (coords .entry))) lo (hi - lo)) ⌝ }
+    ensures { λ r. ⌜ r ≡ length (scanned (over q (old coords)) lo (hi - lo)) ⌝ }
 {
     let mut k = 0;
     let mut i = lo;
@@ -288,7 +325,7 @@ fn count_part(
     axis: usize,
 ) -> usize
     requires { ⌜ (2 * hi ≤ length (now coords)) × (lo ≤ hi) × (axis < 2) ⌝ }
-    ensures { λ r. ⌜ r ≡ length (when «is_searched» (slots (over q (now (coords .entry))) axis (shape most lo hi))) ⌝ }
+    ensures { λ r. ⌜ r ≡ length (when «is_searched» (slots (over q (old coords)) axis (shape most lo hi))) ⌝ }
 {
     if !is_searched {
         return 0;
@@ -308,7 +345,7 @@ fn count_part(
 // How many places there are around (qx, qy).
 fn count_near(coords: &[f64], node_size: usize, r: f64, len: usize, qx: f64, qy: f64) -> usize
     requires { ⌜ (2 * len ≤ length (now coords)) × («node_size» ≤ 65535) ⌝ }
-    ensures { λ k. ⌜ k ≡ length (answers (Query.Within qx qy r) (now (coords .entry)) «node_size» len) ⌝ }
+    ensures { λ k. ⌜ k ≡ length (answers (Query.Within qx qy r) (old coords) «node_size» len) ⌝ }
 {
     let q = Query::Within { qx, qy, radius: r };
     let v = kdslots::narrow(q, coords, node_size + 1, len);
@@ -317,7 +354,8 @@ fn count_near(coords: &[f64], node_size: usize, r: f64, len: usize, qx: f64, qy:
 
 // The note of an entry at whose place these two are answered: 2 + 2 * other where it comes first, 3 + 2 * other where the other does.
 fn note_of(own: u32, first: u32, second: u32) -> u32
-    ensures { λ v. ⌜ ((l rest : List ℕ) → length l ≡ 2 → getD (l ++ rest) 0 0 ≡ first → getD (l ++ rest) 1 0 ≡ second → Tells own v l) ⌝ }
+    ensures { λ v.
+        ⌜ ((l rest : List ℕ) → length l ≡ 2 → getD (l ++ rest) 0 0 ≡ first → getD (l ++ rest) 1 0 ≡ second → Tells own v l) ⌝ }
 {
     if first == own {
         if 1048576 < second {
@@ -347,7 +385,7 @@ fn note_two(
 ) -> u32
     requires { ⌜ Promised «node_size» len (now ids) (now coords) ⌝ }
     requires { ⌜ length (nearOf «node_size» len (now ids) (now coords) r qx qy) ≡ 2 ⌝ }
-    ensures { λ v. ⌜ Tells own v (nearOf «node_size» len (now (ids .entry)) (now (coords .entry)) r qx qy) ⌝ }
+    ensures { λ v. ⌜ Tells own v (nearOf «node_size» len (old ids) (old coords) r qx qy) ⌝ }
 {
     let mut two: [u32; 2] = [0; 2];
     match kdbush::within(node_size, len, ids, coords, qx, qy, r, &mut two) {
@@ -369,7 +407,9 @@ struct Note {
 fn note_at(ids: &[u32], coords: &[f64], node_size: usize, r: f64, len: usize, s: usize) -> Note
     requires { ⌜ Promised «node_size» len (now ids) (now coords) × (s < len) × (len ≤ 1048576) ⌝ }
     requires { ⌜ Owned len (nearOf «node_size» len (now ids) (now coords) r) (now ids) (now coords) ⌝ }
-    ensures { λ n. ⌜ Tells (getD (now (ids .entry)) s 0) (n .note) (nearOf «node_size» len (now (ids .entry)) (now (coords .entry)) r (key 0 (now (coords .entry)) s) (key 1 (now (coords .entry)) s)) ⌝ }
+    ensures { λ n.
+        let around = nearOf «node_size» len (old ids) (old coords) r in
+        ⌜ Tells (getD (old ids) s 0) (n .note) (around (key 0 (old coords) s) (key 1 (old coords) s)) ⌝ }
 {
     let qx = coords[2 * s];
     let qy = coords[2 * s + 1];
@@ -387,7 +427,7 @@ fn note_at(ids: &[u32], coords: &[f64], node_size: usize, r: f64, len: usize, s:
 // No notes.
 fn forget(near: &mut [u32], notes: usize, len: usize)
     requires { ⌜ (notes + len ≤ length (now near)) × (notes ≤ 1048576) × (len ≤ 1048576) ⌝ }
-    ensures { λ _. ⌜ ((i : ℕ) → i < len → getD (now (near .exit)) (notes + i) 0 ≡ 0) ⌝ }
+    ensures { λ _. ⌜ ((i : ℕ) → i < len → getD (new near) (notes + i) 0 ≡ 0) ⌝ }
 {
     let mut i = 0;
     while i < len {
@@ -415,7 +455,9 @@ fn note_all(
 )
     requires { ⌜ Promised «node_size» len (now ids) (now coords) × (notes + len ≤ length (now near)) × (notes ≤ 1048576) × (len ≤ 1048576) ⌝ }
     requires { ⌜ Owned len (nearOf «node_size» len (now ids) (now coords) r) (now ids) (now coords) ⌝ }
-    ensures { λ _. ⌜ ((t : Table) → Slotted len (now (ids .entry)) (now (coords .entry)) t → Noted notes len (nearOf «node_size» len (now (ids .entry)) (now (coords .entry)) r) (now (near .exit)) t) ⌝ }
+    ensures { λ _.
+        let around = nearOf «node_size» len (old ids) (old coords) r in
+        ⌜ ((t : Table) → Slotted len (old ids) (old coords) t → Noted notes len around (new near) t) ⌝ }
 {
     forget(near, notes, len);
     let mut left = 8 * len;
@@ -445,7 +487,9 @@ fn search_near(
 ) -> usize
     requires { ⌜ Promised «node_size» len (now ids) (now coords) × Radius r × (len ≤ length (now near)) ⌝ }
     requires { ⌜ T (finite qx) × T (finite qy) ⌝ }
-    ensures { λ k. ⌜ Answered (nearOf «node_size» len (now (ids .entry)) (now (coords .entry)) r qx qy) (now (near .exit)) k × Same len (now (near .entry)) (now (near .exit)) ⌝ }
+    ensures { λ k.
+        let around = nearOf «node_size» len (old ids) (old coords) r in
+        ⌜ Answered (around qx qy) (new near) k × Same len (old near) (new near) ⌝ }
 {
     match kdbush::within(node_size, len, ids, coords, qx, qy, r, near) {
         SearchReply::Found(k) => k,
@@ -472,7 +516,9 @@ fn neighbours(
     requires { ⌜ Promised «node_size» len (now ids) (now coords) × Radius r × (len ≤ length (now near)) × (i < len) × (len ≤ 1048576) ⌝ }
     requires { ⌜ T (finite qx) × T (finite qy) ⌝ }
     requires { ⌜ Tells i note (nearOf «node_size» len (now ids) (now coords) r qx qy) ⌝ }
-    ensures { λ k. ⌜ Answered (nearOf «node_size» len (now (ids .entry)) (now (coords .entry)) r qx qy) (now (near .exit)) k × Same len (now (near .entry)) (now (near .exit)) ⌝ }
+    ensures { λ k.
+        let around = nearOf «node_size» len (old ids) (old coords) r in
+        ⌜ Answered (around qx qy) (new near) k × Same len (old near) (new near) ⌝ }
 {
     if note == 0 {
         return search_near(ids, coords, near, node_size, r, len, qx, qy);
@@ -513,25 +559,25 @@ fn scan_one(
     n: u32,
     least: u8,
 ) -> usize
-    requires { ⌜ Even (now x) (now y) (now seen) (now id) (now parent) (now num) ⌝ }
-    requires { ⌜ Promised «node_size» len (now ids) (now coords) × Radius r × (n + len ≤ length (now near)) × (i < len) ⌝ }
-    requires { ⌜ All Placed (take len (rows (now x) (now y) (now seen) (now id) (now parent) (now num))) × Noted n len (nearOf «node_size» len (now ids) (now coords) r) (now near) (take len (rows (now x) (now y) (now seen) (now id) (now parent) (now num))) ⌝ }
-    requires { ⌜ (len + done + unseenCount z (take len (rows (now x) (now y) (now seen) (now id) (now parent) (now num))) ≤ length (now x)) × (unseenNum z (take len (rows (now x) (now y) (now seen) (now id) (now parent) (now num))) < 2 ^ 32) ⌝ }
-    requires { ⌜ (len ≤ n) × (n ≤ 1048576) × (z ≤ 30) ⌝ }
-    ensures { λ _. ⌜ Same len (now (near .entry)) (now (near .exit)) ⌝ }
-    ensures { λ d. ⌜ Scanned len done
-        (scanOne n least z (nearOf «node_size» len (now (ids .entry)) (now (coords .entry)) r) (scanOf len done (rows (now (x .entry)) (now (y .entry)) (now (seen .entry)) (now (id .entry)) (now (parent .entry)) (now (num .entry)))) i)
-        (rows (now (x .entry)) (now (y .entry)) (now (seen .entry)) (now (id .entry)) (now (parent .entry)) (now (num .entry)))
-        (rows (now (x .exit)) (now (y .exit)) (now (seen .exit)) (now (id .exit)) (now (parent .exit)) (now (num .exit))) d ⌝ }
+    requires { let c = given x y seen id parent num in
+        let t = take len (rows c) in
+        let around = nearOf «node_size» len (now ids) (now coords) r in
+        ⌜ Even c × Promised «node_size» len (now ids) (now coords) × Radius r × (n + len ≤ length (now near)) × (i < len)
+        × All Placed t × Noted n len around (now near) t × (len + done + unseenCount z t ≤ length (c .x))
+        × (len ≤ n) × (n ≤ 1048576) × (z ≤ 30) × (unseenNum z t < 2 ^ 32) ⌝ }
+    ensures { λ d.
+        let c = lentCols x y seen id parent num in
+        let t = rows (c .entry) in
+        let around = nearOf «node_size» len (old ids) (old coords) r in
+        ⌜ Same len (old near) (new near) × Scanned len done (scanOne n least z around (scanOf len done t) i) t (rows (c .exit)) d ⌝ }
 {
-    if seen[i] <= z {
+    let e = tables::entry_at(x, y, seen, id, parent, num, i);
+    if e.seen <= z {
         return done;
     }
     seen[i] = z;
-    let qx = x[i];
-    let qy = y[i];
     let note = near[wide(n) + i];
-    let found = neighbours(ids, coords, near, node_size, r, len, i, note, qx, qy);
+    let found = neighbours(ids, coords, near, node_size, r, len, i, note, e.x, e.y);
     visit_one(
         x,
         y,
@@ -567,16 +613,17 @@ pub fn cluster(
     n: u32,
     least: u8,
 ) -> usize
-    requires { ⌜ Even (now x) (now y) (now seen) (now id) (now parent) (now num) ⌝ }
-    requires { ⌜ Promised «node_size» len (now ids) (now coords) × Radius r × (n + len ≤ length (now near)) × (len + len ≤ length (now x)) ⌝ }
-    requires { ⌜ All Placed (take len (rows (now x) (now y) (now seen) (now id) (now parent) (now num))) × Slotted len (now ids) (now coords) (take len (rows (now x) (now y) (now seen) (now id) (now parent) (now num))) ⌝ }
-    requires { ⌜ Owned len (nearOf «node_size» len (now ids) (now coords) r) (now ids) (now coords) ⌝ }
-    requires { ⌜ unseenNum z (take len (rows (now x) (now y) (now seen) (now id) (now parent) (now num))) < 2 ^ 32 ⌝ }
-    requires { ⌜ (len ≤ n) × (n ≤ 1048576) × (z ≤ 30) ⌝ }
-    ensures { λ d. ⌜ Scanned len 0
-        (cluster n least z (nearOf «node_size» len (now (ids .entry)) (now (coords .entry)) r) (take len (rows (now (x .entry)) (now (y .entry)) (now (seen .entry)) (now (id .entry)) (now (parent .entry)) (now (num .entry)))))
-        (rows (now (x .entry)) (now (y .entry)) (now (seen .entry)) (now (id .entry)) (now (parent .entry)) (now (num .entry)))
-        (rows (now (x .exit)) (now (y .exit)) (now (seen .exit)) (now (id .exit)) (now (parent .exit)) (now (num .exit))) d ⌝ }
+    requires { let c = given x y seen id parent num in
+        let t = take len (rows c) in
+        let around = nearOf «node_size» len (now ids) (now coords) r in
+        ⌜ Even c × Promised «node_size» len (now ids) (now coords) × Radius r × (n + len ≤ length (now near)) × (len + len ≤ length (c .x))
+        × All Placed t × Slotted len (now ids) (now coords) t × Owned len around (now ids) (now coords)
+        × (len ≤ n) × (n ≤ 1048576) × (z ≤ 30) × (unseenNum z t < 2 ^ 32) ⌝ }
+    ensures { λ d.
+        let c = lentCols x y seen id parent num in
+        let t = rows (c .entry) in
+        let around = nearOf «node_size» len (old ids) (old coords) r in
+        ⌜ Scanned len 0 (cluster n least z around (take len t)) t (rows (c .exit)) d ⌝ }
 {
     note_all(ids, coords, near, node_size, r, len, wide(n));
     let mut d = 0;

@@ -17,7 +17,7 @@ use Rattle.tables.specs.Columns.{part, part-long}
 use Rattle.tables.specs.Entries.{Table, none, xsOf, ysOf}
 use Rattle.tables.specs.Radius.{radiusAt}
 use Rattle.zoom.specs.Keeps.{all-at}
-use Rattle.zoom.specs.Lamps.{total}
+use Rattle.zoom.specs.Lamps.{sumOf, total}
 use Rattle.zoom.specs.Sound.{Body, Next, Sound, cluster-sound}
 use Rattle.zooms.specs.Zooms.{slotsOf, nearIn, Plan, zoomed}
 use Rattle.zooms.specs.Parts.{putAt, part-put, Inside, Indexable, index-ids, index-co, index-promised}
@@ -25,7 +25,7 @@ use Rattle.zooms.specs.Parts.{putAt, part-put, Inside, Indexable, index-
 -- ---- a table whose entries lie from 0 to 1 has an index that keeps its promises
 
 pub total-some : (t : Table) → 1 ≤ total t → 1 ≤ length t
-unfolding total
+unfolding sumOf
 total-some [] h = absurd (omega arith)
 total-some (e ∷ t) h = omega arith
 

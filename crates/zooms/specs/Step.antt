@@ -1,38 +1,45 @@
 -- A zoom of a table that stands at `start`: the rows before it stay, and from there on a scan is left. Assumes nothing.
-use mathlib.Core.Path.{_≡_, sym, _∙_}
+use mathlib.Core.Path.{_≡_, ap, sym, _∙_}
 use mathlib.Core.List.{List}
-use Prim.Native.Nat.{ℕ, _≤_}
+use Prim.Native.Nat.{ℕ, _-_, _≤_}
 use native.Mathlib.Omega.{arith}
 use lib.ListN.{length, take, drop}
 use lib.Ieee.{Float}
 use Rattle.tables.specs.Entries.{Table}
-use Rattle.tables.specs.Rows.{rows, Even}
+use Rattle.tables.specs.Rows.{Cols, rows, Even, Kept, each, each2, each2-first, each2-second}
 use Rattle.tables.specs.Columns.{from, back, take-back, drop-back, rows-take, rows-drop, rows-from}
 use Rattle.zoom.specs.Zoom.{Scan}
 use Rattle.zoom.specs.Scanned.{Scanned}
+use Rattle.zooms.specs.Parts.{put-long}
 
 -- the rows before start stay, and from start on a scan is left
 pub record Stepped (start len : ℕ) (s : Scan) (old new : Table) (d : ℕ) : Type 0 where
   pub before : take start new ≡ take start old
   pub after : Scanned len 0 s (drop start old) (drop start new) d
 
-module _ (s : ℕ) (xs ys : List Float) (ss is ps ns : List ℕ) (v : Even xs ys ss is ps ns) (h : s ≤ length xs)
-    (px py : List Float) (pss pis pps pns : List ℕ) where
-  pub stepped : (len d : ℕ) (sc : Scan)
-      → Scanned len 0 sc (rows (from s xs) (from s ys) (from s ss) (from s is) (from s ps) (from s ns)) (rows px py pss pis pps pns) d
-      → Stepped s len sc (rows xs ys ss is ps ns) (rows (back s xs px) (back s ys py) (back s ss pss) (back s is pis) (back s ps pps) (back s ns pns)) d
-  stepped len d sc l =
-      let hy : s ≤ length ys = omega (arith, v .ey) in
-      let hs : s ≤ length ss = omega (arith, v .es) in
-      let hi : s ≤ length is = omega (arith, v .ei) in
-      let hp : s ≤ length ps = omega (arith, v .ep) in
-      let hn : s ≤ length ns = omega (arith, v .en) in
-      record {
-        before =
-            sym (rows-take s (back s xs px) (back s ys py) (back s ss pss) (back s is pis) (back s ps pps) (back s ns pns))
-            ∙ simp (take-back s xs px h, take-back s ys py hy, take-back s ss pss hs, take-back s is pis hi, take-back s ps pps hp, take-back s ns pns hn)
-            (rows-take s xs ys ss is ps ns);
-        after =
-            rw (sym (rows-from s xs ys ss is ps ns), sym (rows-drop s (back s xs px) (back s ys py) (back s ss pss) (back s is pis) (back s ps pps) (back s ns pns)))
-            (rw (drop-back s xs px h, drop-back s ys py hy, drop-back s ss pss hs, drop-back s is pis hi, drop-back s ps pps hp, drop-back s ns pns hn) l);
-      }
+-- the columns c are lent from s on, and come back there as d
+pub stepped : (s : ℕ) (c d : Cols) → Even c → s ≤ length (c .x) → (len k : ℕ) (sc : Scan)
+    → Scanned len 0 sc (rows (each (λ A l. from s l) c)) (rows d) k → Stepped s len sc (rows c) (rows (each2 (λ A l q. back s l q) c d)) k
+stepped s c d v h len k sc l =
+    let b = each2 (λ A l q. back s l q) c d in
+    let e : drop s (rows b) ≡ rows d
+    = sym (rows-drop s b) ∙ ap rows (each2-second (λ A l q. back s l q) (λ A l. drop s l) c d v (λ A l q n. drop-back s l q (let m : s ≤ length l = omega arith in m))) in
+    record {
+      before =
+          sym (rows-take s b)
+          ∙ ap rows (each2-first (λ A l q. back s l q) (λ A l. take s l) c d v (λ A l. take s l) (λ A l q n. take-back s l q (let m : s ≤ length l = omega arith in m)))
+          ∙ rows-take s c;
+      after = rw (sym (rows-from s c), e) l;
+    }
+
+-- columns lent from s on that come back as long as they were
+pub kept-back : (s : ℕ) (c d : Cols) → Kept (each (λ A l. from s l) c) d → Kept c (each2 (λ A l q. back s l q) c d)
+kept-back s c d k =
+    record {
+      kx = put-long s (length (c .x) - s) (d .x) (c .x) (k .kx);
+      ky = put-long s (length (c .y) - s) (d .y) (c .y) (k .ky);
+      ks = put-long s (length (c .seen) - s) (d .seen) (c .seen) (k .ks);
+      ki = put-long s (length (c .id) - s) (d .id) (c .id) (k .ki);
+      kp = put-long s (length (c .parent) - s) (d .parent) (c .parent) (k .kp);
+      kn = put-long s (length (c .num) - s) (d .num) (c .num) (k .kn);
+    }

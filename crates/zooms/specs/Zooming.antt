@@ -13,12 +13,12 @@ use Rattle.kdslots.specs.All.{All, all-map}
 use Rattle.tables.specs.Columns.{part, xs-part, ys-part}
 use Rattle.tables.specs.Entries.{Table}
 use Rattle.tables.specs.Radius.{radiusAt, radius-fine}
-use Rattle.tables.specs.Rows.{rows, Even}
-use Rattle.zoom.specs.Lamps.{unseenNum-total}
+use Rattle.tables.specs.Rows.{Cols as TableCols, rows, Even}
+use Rattle.zoom.specs.Lamps.{unseenOf-sum}
 use Rattle.zoom.specs.Near.{nearOf, Placed, Radius}
-use Rattle.zoom.specs.Scanned.{unseenNum}
+use Rattle.zoom.specs.Scanned.{unseenOf}
 use Rattle.zoom.specs.Sound.{Body}
-use Rattle.zoom.specs.Zoom.{Scan, cluster}
+use Rattle.zoom.specs.Zoom.{numOf, Scan, cluster}
 use Rattle.zooms.specs.Zooms.{indexOf, slotsOf, nearIn, Plan, zoomed}
 use Rattle.zooms.specs.Parts.{putAt, Inside}
 use Rattle.zooms.specs.Running.{Running, Advanced, next-some, next-few, cur-long, cur-body, table-inside, next-body}
@@ -42,8 +42,8 @@ module _ (p : Plan) (M z start len : ℕ) (t : Table) (ids : List ℕ) (co : Lis
   pub step-room : start + len + len ≤ M
   step-room = omega (arith, r .room, r .len-few, suc-mul (z - p .options .«min_zoom») (p .count))
 
-  pub step-light : unseenNum z (part start len t) < 2 ^ 32
-  step-light = omega (arith, unseenNum-total z (part start len t), r .lamps, r .able .few)
+  pub step-light : unseenOf numOf z (part start len t) < 2 ^ 32
+  step-light = omega (arith, unseenOf-sum numOf z (part start len t), r .lamps, r .able .few)
 
   pub step-radius : Radius (radiusAt (p .options .radius) (p .options .extent) z)
   step-radius = let a = r .able in radius-fine (p .options .radius) (p .options .extent) z (omega (arith, z-few)) (a .radius-from) (a .radius-to) (a .extent-from) (a .extent-to)
@@ -87,21 +87,20 @@ module _ (p : Plan) (M z start len : ℕ) (t : Table) (ids : List ℕ) (co : Lis
         }
 
 -- the index of what was made
-module _ (p : Plan) (z start len d : ℕ) (t : Table) (xs ys : List Float) (ss is ps ns : List ℕ) (v : Even xs ys ss is ps ns)
-    (s : Zoomed p z start len d t (rows xs ys ss is ps ns)) where
-  pub index-made : indexOf (p .options .«node_size») (part (start + len) d xs) (part (start + len) d ys) ≡ slotsOf (p .options .«node_size») (zoomed p z (part start len t) .next)
+module _ (p : Plan) (z start len d : ℕ) (t : Table) (c : TableCols) (v : Even c) (s : Zoomed p z start len d t (rows c)) where
+  pub index-made : indexOf (p .options .«node_size») (part (start + len) d (c .x)) (part (start + len) d (c .y)) ≡ slotsOf (p .options .«node_size») (zoomed p z (part start len t) .next)
   unfolding slotsOf
   index-made =
-      rw (xs-part (start + len) d xs ys ss is ps ns, ys-part (start + len) d xs ys ss is ps ns (v .ey), s .made)
+      rw (xs-part (start + len) d c, ys-part (start + len) d c (v .ey), s .made)
 
-  pub inside-made : All Body (zoomed p z (part start len t) .next) → Inside (part (start + len) d xs) (part (start + len) d ys)
+  pub inside-made : All Body (zoomed p z (part start len t) .next) → Inside (part (start + len) d (c .x)) (part (start + len) d (c .y))
   inside-made a =
-      rw (xs-part (start + len) d xs ys ss is ps ns, ys-part (start + len) d xs ys ss is ps ns (v .ey), s .made) (table-inside (zoomed p z (part start len t) .next) a)
+      rw (xs-part (start + len) d c, ys-part (start + len) d c (v .ey), s .made) (table-inside (zoomed p z (part start len t) .next) a)
 
   pub advanced : (ids ids′ : List ℕ) (co co′ : List Float)
-      → ids′ ≡ putAt (start + len) d (indexOf (p .options .«node_size») (part (start + len) d xs) (part (start + len) d ys) .ids) ids
-      → co′ ≡ putAt ((start + len) * 2) (d * 2) (indexOf (p .options .«node_size») (part (start + len) d xs) (part (start + len) d ys) .co) co
-      → Advanced p z start len d t (rows xs ys ss is ps ns) ids ids′ co co′
+      → ids′ ≡ putAt (start + len) d (indexOf (p .options .«node_size») (part (start + len) d (c .x)) (part (start + len) d (c .y)) .ids) ids
+      → co′ ≡ putAt ((start + len) * 2) (d * 2) (indexOf (p .options .«node_size») (part (start + len) d (c .x)) (part (start + len) d (c .y)) .co) co
+      → Advanced p z start len d t (rows c) ids ids′ co co′
   advanced ids ids′ co co′ a b =
       record {
         before = s .before;
@@ -113,6 +112,6 @@ module _ (p : Plan) (z start len d : ℕ) (t : Table) (xs ys : List Float) (ss i
         co-put = b ∙ ap (λ (q : Cols). putAt ((start + len) * 2) (d * 2) (q .co) co) index-made;
       }
 
-pub part-index : (size a n : ℕ) (xs ys : List Float) (ss is ps ns : List ℕ) → length ys ≡ length xs → indexOf size (part a n xs) (part a n ys) ≡ slotsOf size (part a n (rows xs ys ss is ps ns))
+pub part-index : (size a n : ℕ) (c : TableCols) → length (c .y) ≡ length (c .x) → indexOf size (part a n (c .x)) (part a n (c .y)) ≡ slotsOf size (part a n (rows c))
 unfolding slotsOf
-part-index size a n xs ys ss is ps ns h = rw (xs-part a n xs ys ss is ps ns, ys-part a n xs ys ss is ps ns h)
+part-index size a n c h = rw (xs-part a n c, ys-part a n c h)

@@ -4,13 +4,15 @@ use tables::Options;
 use tables::State;
 ghost use mathlib.Core.Path.{_≡_};
 ghost use Prim.Native.Nat.{suc, _+_, _-_, _*_, _^_, _<_, _≤_};
-ghost use lib.ListN.{length, set, take, drop};
+ghost use lib.ListN.{length, set};
 ghost use Rattle.kdslots.specs.All.{All};
 ghost use Rattle.kdbush.specs.Promise.{Promised};
+ghost use Rattle.lent.specs.Lent.{old, new};
 ghost use Rattle.tables.specs.Rows.{rows, Even};
+ghost use Rattle.tables.specs.Lent.{given, lentCols};
 ghost use Rattle.tables.specs.Columns.{part};
-ghost use Rattle.zoom.specs.Zoom.{cluster};
-ghost use Rattle.zoom.specs.Scanned.{unseenNum};
+ghost use Rattle.zoom.specs.Zoom.{numOf, cluster};
+ghost use Rattle.zoom.specs.Scanned.{unseenOf};
 ghost use Rattle.zoom.specs.Near.{nearOf, Placed, Radius};
 ghost use Rattle.zoom.specs.Notes.{Owned, Slotted};
 ghost use Rattle.zooms.specs.Zooms.{indexOf, planOf, zoomsOf};
@@ -37,18 +39,18 @@ fn zoom_step(
     z: u8,
     n: u32,
 ) -> usize
-    requires { ⌜ Even (now x) (now y) (now seen) (now id) (now parent) (now num) ⌝ }
-    requires { ⌜ Promised (o .«node_size») len (part start len (now ids)) (part (start * 2) (len * 2) (now coords)) × Radius r ⌝ }
-    requires { ⌜ All Placed (take len (drop start (rows (now x) (now y) (now seen) (now id) (now parent) (now num)))) × Slotted len (part start len (now ids)) (part (start * 2) (len * 2) (now coords)) (take len (drop start (rows (now x) (now y) (now seen) (now id) (now parent) (now num)))) ⌝ }
-    requires { ⌜ Owned len (nearOf (o .«node_size») len (part start len (now ids)) (part (start * 2) (len * 2) (now coords)) r) (part start len (now ids)) (part (start * 2) (len * 2) (now coords)) ⌝ }
-    requires { ⌜ (start + len ≤ length (now ids)) × ((start + len) * 2 ≤ length (now coords)) × (n + len ≤ length (now near)) × (start + len + len ≤ length (now x)) ⌝ }
-    requires { ⌜ unseenNum z (take len (drop start (rows (now x) (now y) (now seen) (now id) (now parent) (now num)))) < 2 ^ 32 ⌝ }
-    requires { ⌜ (start ≤ 67108864) × (len ≤ n) × (n ≤ 1048576) × (z ≤ 30) ⌝ }
-    ensures { λ d. ⌜ Stepped start len
-        (cluster n (o .«min_points») z (nearOf (o .«node_size») len (part start len (now (ids .entry))) (part (start * 2) (len * 2) (now (coords .entry))) r)
-        (take len (drop start (rows (now (x .entry)) (now (y .entry)) (now (seen .entry)) (now (id .entry)) (now (parent .entry)) (now (num .entry))))))
-        (rows (now (x .entry)) (now (y .entry)) (now (seen .entry)) (now (id .entry)) (now (parent .entry)) (now (num .entry)))
-        (rows (now (x .exit)) (now (y .exit)) (now (seen .exit)) (now (id .exit)) (now (parent .exit)) (now (num .exit))) d ⌝ }
+    requires { let c = given x y seen id parent num in
+        let t = part start len (rows c) in
+        let slots = part start len (now ids) in
+        let co = part (start * 2) (len * 2) (now coords) in
+        ⌜ Even c × Promised (o .«node_size») len slots co × Radius r × All Placed t
+        × (start + len ≤ length (now ids)) × ((start + len) * 2 ≤ length (now coords)) × (n + len ≤ length (now near)) × (start + len + len ≤ length (c .x))
+        × (unseenOf numOf z t < 2 ^ 32) × (start ≤ 67108864) × (len ≤ n) × (n ≤ 1048576) × (z ≤ 30)
+        × Slotted len slots co t × Owned len (nearOf (o .«node_size») len slots co r) slots co ⌝ }
+    ensures { λ d.
+        let c = lentCols x y seen id parent num in
+        let near = nearOf (o .«node_size») len (part start len (old ids)) (part (start * 2) (len * 2) (old coords)) r in
+        ⌜ Stepped start len (cluster n (o .«min_points») z near (part start len (rows (c .entry)))) (rows (c .entry)) (rows (c .exit)) d ⌝ }
 {
     let end = start + len;
     let c0 = start * 2;
@@ -87,8 +89,9 @@ pub fn index_part(
     requires { ⌜ (1 ≤ len) × (len ≤ 1048576) × (start ≤ 67108864) × (1 ≤ size) × (size ≤ 65535) ⌝ }
     requires { ⌜ (length (now y) ≡ length (now x)) × (start + len ≤ length (now x)) × (start + len ≤ length (now ids)) × ((start + len) * 2 ≤ length (now coords)) ⌝ }
     requires { ⌜ Inside (part start len (now x)) (part start len (now y)) ⌝ }
-    ensures { λ _. ⌜ (now (ids .exit) ≡ putAt start len (indexOf size (part start len (now (x .entry))) (part start len (now (y .entry))) .ids) (now (ids .entry)))
-        × (now (coords .exit) ≡ putAt (start * 2) (len * 2) (indexOf size (part start len (now (x .entry))) (part start len (now (y .entry))) .co) (now (coords .entry))) ⌝ }
+    ensures { λ _.
+        let i = indexOf size (part start len (old x)) (part start len (old y)) in
+        ⌜ (new ids ≡ putAt start len (i .ids) (old ids)) × (new coords ≡ putAt (start * 2) (len * 2) (i .co) (old coords)) ⌝ }
 {
     let end = start + len;
     let c0 = start * 2;
@@ -119,13 +122,12 @@ fn one_zoom(
     z: u8,
     n: u32,
 ) -> usize
-    requires { ⌜ Even (now x) (now y) (now seen) (now id) (now parent) (now num) ⌝ }
-    requires { ⌜ (n + n ≤ length (now near)) × (o .«min_zoom» ≤ z) ⌝ }
-    requires { ⌜ Running (planOf o n) (length (now x)) (suc (z - o .«min_zoom»)) start len (rows (now x) (now y) (now seen) (now id) (now parent) (now num)) (now ids) (now coords) ⌝ }
-    ensures { λ d. ⌜ Advanced (planOf o n) z start len d
-        (rows (now (x .entry)) (now (y .entry)) (now (seen .entry)) (now (id .entry)) (now (parent .entry)) (now (num .entry)))
-        (rows (now (x .exit)) (now (y .exit)) (now (seen .exit)) (now (id .exit)) (now (parent .exit)) (now (num .exit)))
-        (now (ids .entry)) (now (ids .exit)) (now (coords .entry)) (now (coords .exit)) ⌝ }
+    requires { let c = given x y seen id parent num in
+        ⌜ Even c × (n + n ≤ length (now near)) × (o .«min_zoom» ≤ z)
+        × Running (planOf o n) (length (c .x)) (suc (z - o .«min_zoom»)) start len (rows c) (now ids) (now coords) ⌝ }
+    ensures { λ d.
+        let c = lentCols x y seen id parent num in
+        ⌜ Advanced (planOf o n) z start len d (rows (c .entry)) (rows (c .exit)) (old ids) (new ids) (old coords) (new coords) ⌝ }
 {
     let r = tables::radius_at(o.radius, o.extent, z);
     let d = zoom_step(
@@ -165,15 +167,14 @@ pub fn run_zooms(
     s: State,
     n: u32,
 ) -> State
-    requires { ⌜ Even (now x) (now y) (now seen) (now id) (now parent) (now num) ⌝ }
-    requires { ⌜ (n + n ≤ length (now near)) × (s .options .«min_zoom» ≤ s .options .«max_zoom» + 1) ⌝ }
-    requires { ⌜ Running (planOf (s .options) n) (length (now x)) (zoomsOf (s .options)) 0 n (rows (now x) (now y) (now seen) (now id) (now parent) (now num)) (now ids) (now coords) ⌝ }
-    requires { ⌜ (set (s .starts) (s .options .«max_zoom» + 1) 0 ≡ s .starts) × (set (s .lens) (s .options .«max_zoom» + 1) n ≡ s .lens) ⌝ }
-    ensures { λ r. ⌜ Finished (planOf (s .options) n) (zoomsOf (s .options)) s r
-        (part 0 n (rows (now (x .entry)) (now (y .entry)) (now (seen .entry)) (now (id .entry)) (now (parent .entry)) (now (num .entry))))
-        (rows (now (x .entry)) (now (y .entry)) (now (seen .entry)) (now (id .entry)) (now (parent .entry)) (now (num .entry)))
-        (rows (now (x .exit)) (now (y .exit)) (now (seen .exit)) (now (id .exit)) (now (parent .exit)) (now (num .exit)))
-        (now (ids .entry)) (now (ids .exit)) (now (coords .entry)) (now (coords .exit)) ⌝ }
+    requires { let c = given x y seen id parent num in
+        ⌜ Even c × (n + n ≤ length (now near)) × (s .options .«min_zoom» ≤ s .options .«max_zoom» + 1)
+        × Running (planOf (s .options) n) (length (c .x)) (zoomsOf (s .options)) 0 n (rows c) (now ids) (now coords)
+        × (set (s .starts) (s .options .«max_zoom» + 1) 0 ≡ s .starts) × (set (s .lens) (s .options .«max_zoom» + 1) n ≡ s .lens) ⌝ }
+    ensures { λ r.
+        let c = lentCols x y seen id parent num in
+        let t = rows (c .entry) in
+        ⌜ Finished (planOf (s .options) n) (zoomsOf (s .options)) s r (part 0 n t) t (rows (c .exit)) (old ids) (new ids) (old coords) (new coords) ⌝ }
 {
     let o = s.options;
     let low = o.min_zoom;

@@ -1,10 +1,12 @@
--- `asking::entry_in` meets its contract: what is lent of the six columns is the table. Assumes nothing.
+-- `asking::entry_in` meets its contract: what is lent of the columns is the table. Assumes nothing.
 use mathlib.Core.Path.{ap, _∙_}
 use native.Mathlib.Omega.{arith}
 use lib.ListN.{length}
 use denote.Ref.{now}
 use Rattle.tables.specs.Entries.{Table, entry}
 use Rattle.tables.specs.Columns.{part-long}
+use Rattle.tables.specs.Rows.{Cols}
+use Rattle.tables.specs.Lent.{given}
 use Rattle.asking.specs.Columns.{lent-rows, lent-even, lent-part}
 use borrow.Author.Needs.{needs}
 use Rattle.asking.proofs.entry_in.Statement.{statement}
@@ -12,6 +14,12 @@ use Rattle.asking.proofs.entry_in.Tie as tie
 
 abbrev start : tie.After-entry-at-arg6 → tie.Start
 start e = e .before .before .before .before .before .before .before .before .before .before .before .before
+
+-- the columns
+abbrev columns : tie.Start → Cols
+columns s =
+    let a = s .args in
+    given (a .x) (a .y) (a .seen) (a .id) (a .parent) (a .num)
 
 add-end : tie.Need-add-end
 add-end c = search needs
@@ -90,12 +98,13 @@ entry-at-requires c κs =
     let s = start c in
     let a = s .args in
     let h = s .pre .0 in
-    (lent-even (a .start) (a .len) _ _ _ _ _ _ h, omega (arith, s .pre .1, ap length (lent-part (a .start) (a .len) (now (a .x))) ∙ part-long (a .start) (a .len) (now (a .x)) (h .hx)))
+    (lent-even (a .start) (a .len) (columns s) h, omega (arith, s .pre .1, ap length (lent-part (a .start) (a .len) (now (a .x))) ∙ part-long (a .start) (a .len) (now (a .x)) (h .hx)))
 
 returns : tie.Need-returns
 returns c =
-    let a = start (c .before) .args in
-    c .entry-at .ensures ∙ ap (λ (t : Table). entry t (a .p)) (lent-rows (a .start) (a .len) _ _ _ _ _ _)
+    let s = start (c .before) in
+    let a = s .args in
+    c .entry-at .ensures ∙ ap (λ (t : Table). entry t (a .p)) (lent-rows (a .start) (a .len) (columns s))
 
 pub entry-in-spec : {M : Type 1} → statement M
 entry-in-spec =

@@ -4,7 +4,7 @@ use denote.Ref.{now}
 use borrow.Author.Needs.{needs}
 use Rattle.tables.specs.declared.State.{State}
 use Rattle.tables.specs.State.{stateOf}
-use Rattle.asking.specs.Columns.{columns}
+use Rattle.asking.specs.Lent.{givenColumns}
 use Rattle.walks.specs.Expansion.{zoomOf}
 use Rattle.exports.specs.Given.{given}
 use Rattle.exports.specs.Told.{zoomSaid}
@@ -13,7 +13,7 @@ use Rattle.exports.proofs.supercluster_expansion_zoom.Statement.{statem
 use Rattle.exports.proofs.supercluster_expansion_zoom.Tie as tie
 
 abbrev start-of : tie.After-state → tie.Start
-start-of y = y .before .before .before .before .before .before .before .before .before .before
+start-of y = search
 
 -- the state that is passed on
 state-given : (y : tie.After-state)
@@ -43,7 +43,8 @@ returns c =
     let w = c .before .before in
     let y = w .before in
     let a = start-of y .args in
-    said-is (c .number .ensures) (c .before .carried .ensures) ∙ ap zoomSaid (w .expansion-zoom .ensures ∙ ap (λ (s : State). zoomOf s (columns (now (a .x)) (now (a .y)) (now (a .seen)) (now (a .id)) (now (a .parent)) (now (a .num)) (now (a .ids)) (now (a .coords))) (a .cid)) (state-given y))
+    let columns = givenColumns (a .x) (a .y) (a .seen) (a .id) (a .parent) (a .num) (a .ids) (a .coords) in
+    said-is (c .number .ensures) (c .before .carried .ensures) ∙ ap zoomSaid (w .expansion-zoom .ensures ∙ ap (λ (s : State). zoomOf s columns (a .cid)) (state-given y))
 
 pub supercluster-expansion-zoom-spec : {M : Type 1} → statement M
 supercluster-expansion-zoom-spec =

@@ -4,7 +4,7 @@ use denote.Ref.{now}
 use borrow.Author.Needs.{needs}
 use Rattle.tables.specs.declared.Options.{Options}
 use Rattle.tables.specs.State.{stateOf}
-use Rattle.asking.specs.Columns.{columns}
+use Rattle.asking.specs.Lent.{givenColumns}
 use Rattle.tiles.specs.Tallied.{tallied}
 use Rattle.exports.specs.Told.{tallySaid}
 use Rattle.exports.proofs.Telling.{said-is}
@@ -12,7 +12,7 @@ use Rattle.exports.proofs.supercluster_tally.Statement.{statement}
 use Rattle.exports.proofs.supercluster_tally.Tie as tie
 
 abbrev start-of : tie.After-options → tie.Start
-start-of y = y .before .before .before .before .before .before .before .before .before
+start-of y = search
 
 options-requires : tie.Need-options-requires
 options-requires c κs = search needs
@@ -31,7 +31,8 @@ returns c =
     let w = c .before .before in
     let y = w .before in
     let a = start-of y .args in
-    said-is (c .number .ensures) (c .before .value .ensures) ∙ ap tallySaid (w .tally-lent .ensures ∙ ap (λ (o : Options). tallied (stateOf o (a .count) (now (a .starts)) (now (a .lens))) (columns (now (a .x)) (now (a .y)) (now (a .seen)) (now (a .id)) (now (a .parent)) (now (a .num)) (now (a .ids)) (now (a .coords))) (a .z) (a .tile-x) (a .tile-y)) (y .options .ensures))
+    let columns = givenColumns (a .x) (a .y) (a .seen) (a .id) (a .parent) (a .num) (a .ids) (a .coords) in
+    said-is (c .number .ensures) (c .before .value .ensures) ∙ ap tallySaid (w .tally-lent .ensures ∙ ap (λ (o : Options). tallied (stateOf o (a .count) (now (a .starts)) (now (a .lens))) columns (a .z) (a .tile-x) (a .tile-y)) (y .options .ensures))
 
 pub supercluster-tally-spec : {M : Type 1} → statement M
 supercluster-tally-spec =

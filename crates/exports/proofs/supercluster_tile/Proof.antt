@@ -4,14 +4,14 @@ use denote.Ref.{now}
 use borrow.Author.Needs.{needs}
 use Rattle.tables.specs.declared.Options.{Options}
 use Rattle.tables.specs.State.{stateOf}
-use Rattle.asking.specs.Columns.{columns}
+use Rattle.asking.specs.Lent.{givenColumns}
 use Rattle.tiles.specs.Asked.{tiled}
 use Rattle.exports.proofs.Telling.{tile-told-is}
 use Rattle.exports.proofs.supercluster_tile.Statement.{statement}
 use Rattle.exports.proofs.supercluster_tile.Tie as tie
 
 abbrev start-of : tie.After-options → tie.Start
-start-of y = y .before .before .before .before .before .before .before .before .before .before
+start-of y = search
 
 options-requires : tie.Need-options-requires
 options-requires c κs = search needs
@@ -39,7 +39,8 @@ returns c =
     let w = c .before .before .before .before .before .before in
     let y = w .before .before .before .before in
     let a = start-of y .args in
-    tile-told-is (c .number .ensures) (c .before .carried .ensures) (w .tile-lent .ensures ∙ ap (λ (o : Options). tiled (stateOf o (a .count) (now (a .starts)) (now (a .lens))) (columns (now (a .x)) (now (a .y)) (now (a .seen)) (now (a .id)) (now (a .parent)) (now (a .num)) (now (a .ids)) (now (a .coords))) (a .z) (a .tile-x) (a .tile-y) (now (a .places)) (now (a .px)) (now (a .py))) (y .options .ensures))
+    let columns = givenColumns (a .x) (a .y) (a .seen) (a .id) (a .parent) (a .num) (a .ids) (a .coords) in
+    tile-told-is (c .number .ensures) (c .before .carried .ensures) (w .tile-lent .ensures ∙ ap (λ (o : Options). tiled (stateOf o (a .count) (now (a .starts)) (now (a .lens))) columns (a .z) (a .tile-x) (a .tile-y) (now (a .places)) (now (a .px)) (now (a .py))) (y .options .ensures))
 
 pub supercluster-tile-spec : {M : Type 1} → statement M
 supercluster-tile-spec =

@@ -1,25 +1,28 @@
--- `kids::next_child` meets its contract: what it has passed by has no child, so the next child of what is ahead is that of the whole. The measure is what is
--- ahead. Assumes nothing.
+-- `kids::next_child` meets its contract: what it has passed by has no child, so the next child of what is ahead is that of the whole. The
+-- measure is what is ahead. Assumes nothing.
 use mathlib.Core.Path.{_≡_, refl, ap, sym, _∙_}
-use mathlib.Core.List.{List, _∷_}
-use Prim.Native.Nat.{ℕ, _+_, _<_, _≤_}
+use mathlib.Core.List.{List}
+use Prim.Native.Nat.{ℕ, _+_, _*_, _≤_}
 use native.Mathlib.Omega.{arith}
 use borrow.Author.Needs.{needs}
 use lib.ListN.{length, getD}
 use denote.Ref.{now}
 use Rattle.kdslots.specs.All.{AllBelow}
+use Rattle.tables.specs.Rows.{cols}
 use Rattle.asking.specs.declared.Ring.{Ring}
-use Rattle.asking.specs.Columns.{Columns, columns, part-getD}
-use Rattle.asking.specs.Around.{aheadIn, ring-next, ring-end}
-use Rattle.kids.specs.Next.{tableIn, idsIn, nextIn, next-none, next-past, next-kid, next-other}
-use Rattle.kids.proofs.Listing.{no-slot}
+use Rattle.asking.specs.Columns.{Columns, columns, held}
+use Rattle.asking.specs.Lent.{givenColumns}
+use Rattle.asking.specs.Around.{aheadIn}
+use Rattle.kids.specs.Next.{index-room, nextIn}
+use Rattle.kids.proofs.Listing.{ended, Met, met, end-none, met-past, met-kid, met-other}
 use Rattle.kids.proofs.next_child.Statement.{statement}
 use Rattle.kids.proofs.next_child.Tie as tie
 
 abbrev Inv-loop : tie.InvT-loop
 Inv-loop g x y seen id parent num ids coords cid page₀ start len at₀ page at =
+    let c = columns (cols x y seen id parent num) ids coords in
     (length page ≡ length page₀) × AllBelow (g .len) (aheadIn g coords page at)
-    × (nextIn g (columns x y seen id parent num ids coords) cid (aheadIn g coords page at) ≡ nextIn g (columns x y seen id parent num ids coords) cid (aheadIn g coords page₀ at₀))
+    × (nextIn g c cid (aheadIn g coords page at) ≡ nextIn g c cid (aheadIn g coords page₀ at₀))
 
 abbrev μ-loop : tie.MeasureT-loop
 μ-loop g x y seen id parent num ids coords cid page₀ start len at₀ page at = length (aheadIn g coords page at)
@@ -27,13 +30,27 @@ abbrev μ-loop : tie.MeasureT-loop
 abbrev Loop : Type 0
 Loop = tie.At-loop Inv-loop μ-loop
 
-abbrev start-of : Loop → tie.Start Inv-loop μ-loop
-start-of w = w .before .before .before .before .before .before .before .before .before .before
+module _ (w : Loop) where
+  abbrev start : tie.Start Inv-loop μ-loop
+  start = w .before .before .before .before .before .before .before .before .before .before
 
-abbrev cols : Loop → Columns
-cols w = let a = start-of w .args in columns (now (a .x)) (now (a .y)) (now (a .seen)) (now (a .id)) (now (a .parent)) (now (a .num)) (now (a .ids)) (now (a .coords))
+  abbrev ring : Ring
+  ring = start .args .g
 
--- after the step: what was ahead of it, and what is ahead now
+  abbrev cid : ℕ
+  cid = start .args .cid
+
+  abbrev lent : Columns
+  lent = let a = start .args in givenColumns (a .x) (a .y) (a .seen) (a .id) (a .parent) (a .num) (a .ids) (a .coords)
+
+  abbrev was : List ℕ
+  was = aheadIn ring (lent .coords) (w .loop .page) (w .loop .at)
+
+  -- the index reaches over the ring's table
+  room : (ring .start + ring .len ≤ length (lent .ids)) × (2 * (ring .start + ring .len) ≤ length (lent .coords))
+  room = index-room lent _ (start .pre .0)
+
+-- after the step: what is ahead now
 module _ (q : tie.After-pages Inv-loop μ-loop) where
   abbrev stepped : tie.After-next-in Inv-loop μ-loop
   stepped = q .before .before .before
@@ -41,16 +58,13 @@ module _ (q : tie.After-pages Inv-loop μ-loop) where
   abbrev loop-of : Loop
   loop-of = stepped .before .before
 
-  abbrev was : List ℕ
-  was = let a = start-of loop-of .args in aheadIn (a .g) (now (a .coords)) (loop-of .loop .page) (loop-of .loop .at)
-
   abbrev is : List ℕ
-  is = let a = start-of loop-of .args in aheadIn (a .g) (now (a .coords)) (stepped .next-in .last .1 .1 .0) (stepped .next-in .result .pages)
+  is = aheadIn (ring loop-of) (lent loop-of .coords) (stepped .next-in .last .1 .1 .0) (stepped .next-in .result .pages)
 
-  page-same : length (stepped .next-in .last .1 .1 .0) ≡ length (now (start-of loop-of .args .page))
+  page-same : length (stepped .next-in .last .1 .1 .0) ≡ length (now (start loop-of .args .page))
   page-same = stepped .next-in .kept .1 .1 .0 ∙ loop-of .loop .inv .0
 
--- at a slot: it lies in the table, and what was ahead begins with it
+-- at a slot
 module _ (d : tie.After-known-told Inv-loop μ-loop) where
   abbrev turned : tie.After-pages Inv-loop μ-loop
   turned = d .before .before .before
@@ -61,28 +75,20 @@ module _ (d : tie.After-known-told Inv-loop μ-loop) where
   abbrev slot : ℕ
   slot = d .before .step .given .0 .0
 
-  next : (was turned ≡ slot ∷ is turned) × (slot < start-of here .args .g .len) × AllBelow (start-of here .args .g .len) (is turned)
-  next =
+  abbrev place : ℕ
+  place = getD (lent here .ids) (ring here .start + slot) 0
+
+  at-slot : Met (ring here) (lent here) (was here) slot (is turned) place
+  at-slot =
       let n = stepped turned .next-in in
-      let a = start-of here .args in
-      ring-next (a .g) (now (a .coords)) (here .loop .page) (here .loop .at) (n .result) (n .ensures .0) (n .last .1 .1 .0) (n .ensures .1) slot (d .before .step .given .1) (here .loop .inv .1)
-
-  -- the place that is read is that of the slot
-  place-is : let a = start-of here .args in getD (now (a .ids)) (a .g .start + slot) 0 ≡ getD (idsIn (a .g) (cols here)) slot 0
-  place-is = let a = start-of here .args in sym (part-getD (a .g .start) (a .g .len) (now (a .ids)) slot 0 (next .1))
-
-  room : let s = start-of here in s .args .g .start + s .args .g .len ≤ length (now (s .args .ids))
-  room = start-of here .pre .0 .places
-
-  -- the answer to what was ahead
-  whole : let a = start-of here .args in nextIn (a .g) (cols here) (a .cid) (slot ∷ is turned) ≡ nextIn (a .g) (cols here) (a .cid) (aheadIn (a .g) (now (a .coords)) (now (a .page)) (a .from))
-  whole = let a = start-of here .args in ap (nextIn (a .g) (cols here) (a .cid)) (sym (next .0)) ∙ here .loop .inv .2
+      met (ring here) (lent here) (here .loop .page) (here .loop .at) (n .result) _ (n .ensures) slot (d .before .step .given .1)
+      (here .loop .inv .1)
 
 loop-holds : tie.Need-loop-holds Inv-loop μ-loop
-loop-holds c = (refl, c .before .before .before .before .before .before .before .before .before .pre .1, refl)
+loop-holds c = let s : tie.Start Inv-loop μ-loop = search in (refl, s .pre .1, refl)
 
 next-in-requires : tie.Need-next-in-requires Inv-loop μ-loop
-next-in-requires c κs = start-of (c .before) .pre .0 .coords
+next-in-requires c κs = room (c .before) .1
 
 enum-known-step : tie.Need-enum-known-step Inv-loop μ-loop
 enum-known-step c = search needs
@@ -92,24 +98,22 @@ same-length c = page-same (c .before)
 
 returns : tie.Need-returns Inv-loop μ-loop
 returns c =
-    let q = c .before in
-    let w = loop-of q in
-    let a = start-of w .args in
-    let n = stepped q .next-in in
-    let e = ring-end (a .g) (now (a .coords)) (w .loop .page) (w .loop .at) (n .result) (n .ensures .0) (no-slot (n .result .step) (c .match .keys2)) in
-    sym (next-none (tableIn (a .g) (cols w)) (idsIn (a .g) (cols w)) (a .g .len) (a .cid)) ∙ ap (nextIn (a .g) (cols w) (a .cid)) (sym e) ∙ w .loop .inv .2
+    let w = loop-of (c .before) in
+    let n = stepped (c .before) .next-in in
+    let e = ended (ring w) (lent w) (w .loop .page) (w .loop .at) (n .result) _ (n .ensures) (c .match .keys2) in
+    sym (end-none (ring w) (lent w) (cid w) (was w) e) ∙ w .loop .inv .2
 
 add-i : tie.Need-add-i Inv-loop μ-loop
-add-i c = omega (arith, next c .1, room c, start-of (here c) .good .1 .1 .1 .1 .1 .1 .1 .0)
+add-i c = omega (arith, at-slot c .inside, room (here c) .0, start (here c) .good)
 
 mul-place : tie.Need-mul-place Inv-loop μ-loop
-mul-place c = omega (arith, next c .1, room c, start-of (here c) .good .1 .1 .1 .1 .1 .1 .1 .0)
+mul-place c = omega (arith, at-slot c .inside, room (here c) .0, start (here c) .good)
 
 shared-slice-read-place : tie.Need-shared-slice-read-place Inv-loop μ-loop
-shared-slice-read-place c = let d = c .before in omega (arith, next d .1, room d)
+shared-slice-read-place c = let d = c .before in omega (arith, at-slot d .inside, room (here d) .0)
 
 cast-if1 : tie.Need-cast-if1 Inv-loop μ-loop
-cast-if1 c = let d = c .before in omega (arith, c .shared-slice-known9 .given (start-of (here d) .args .g .start + slot d))
+cast-if1 c = let d = c .before in omega (arith, c .shared-slice-known9 .given (ring (here d) .start + slot d))
 
 same-length-2 : tie.Need-same-length-2 Inv-loop μ-loop
 same-length-2 c = page-same (turned (c .before .before))
@@ -118,41 +122,36 @@ returns-2 : tie.Need-returns-2 Inv-loop μ-loop
 returns-2 c =
     let d = c .before .before in
     let w = here d in
-    let a = start-of w .args in
-    sym (next-past (tableIn (a .g) (cols w)) (idsIn (a .g) (cols w)) (a .g .len) (a .cid) (slot d) (is (turned d)) _ (place-is d) (c .if1 .taken)) ∙ whole d
+    sym (met-past (ring w) (lent w) (cid w) _ _ _ _ (at-slot d) (c .if1 .taken)) ∙ w .loop .inv .2
 
 cast-entry-in : tie.Need-cast-entry-in Inv-loop μ-loop
-cast-entry-in c = let d = c .before .before in omega (arith, c .before .shared-slice-known9 .given (start-of (here d) .args .g .start + slot d))
+cast-entry-in c = cast-if1 (c .before)
 
 entry-in-requires : tie.Need-entry-in-requires Inv-loop μ-loop
-entry-in-requires c κs = (start-of (here (c .before .before)) .pre .0 .entries, c .if1 .left)
+entry-in-requires c κs = let w = here (c .before .before) in (held (lent w) _ (start w .pre .0), c .if1 .left)
 
 same-length-3 : tie.Need-same-length-3 Inv-loop μ-loop
 same-length-3 c = page-same (turned (c .before .before .before .before .before))
 
 returns-3 : tie.Need-returns-3 Inv-loop μ-loop
 returns-3 c =
+    let y = c .before .before .entry-in in
     let t = c .before .before .before in
     let d = t .before .before in
     let w = here d in
-    let a = start-of w .args in
-    let y = c .before .before .entry-in in
-    sym (next-kid (tableIn (a .g) (cols w)) (idsIn (a .g) (cols w)) (a .g .len) (a .cid) (slot d) (is (turned d)) _ (place-is d) (y .result) (y .ensures) (t .if1 .left) (c .if2 .taken)) ∙ whole d
+    sym (met-kid (ring w) (lent w) (cid w) _ _ _ _ (at-slot d) (y .result) (y .ensures) (t .if1 .left) (c .if2 .taken)) ∙ w .loop .inv .2
 
 loop-less : tie.Need-loop-less Inv-loop μ-loop
-loop-less c = omega (arith, ap length (next (c .before .before .before .before .before) .0))
+loop-less c = omega (arith, ap length (at-slot (c .before .before .before .before .before) .first))
 
 loop-again : tie.Need-loop-again Inv-loop μ-loop
 loop-again c =
+    let y = c .before .before .entry-in in
     let t = c .before .before .before in
     let d = t .before .before in
     let w = here d in
-    let a = start-of w .args in
-    let y = c .before .before .entry-in in (
-      page-same (turned d),
-      next d .2,
-      sym (next-other (tableIn (a .g) (cols w)) (idsIn (a .g) (cols w)) (a .g .len) (a .cid) (slot d) (is (turned d)) _ (place-is d) (y .result) (y .ensures) (t .if1 .left) (c .if2 .left)) ∙ whole d,
-    )
+    let o = met-other (ring w) (lent w) (cid w) _ _ _ _ (at-slot d) (y .result) (y .ensures) (t .if1 .left) (c .if2 .left) in
+    (page-same (turned d), at-slot d .below, sym (o .0) ∙ w .loop .inv .2)
 
 pub next-child-spec : {M : Type 1} → statement M
 next-child-spec =

@@ -3,18 +3,20 @@ use mathlib.Core.Path.{_≡_, refl, sym, _∙_}
 use Prim.Native.Nat.{_+_, _≤_}
 use native.Mathlib.Omega.{arith}
 use borrow.Author.Needs.{needs}
-use Rattle.listing.specs.Form.{fillX, fillY, fillX-step, fillY-step, fillX-end, fillY-end}
+use Rattle.listing.specs.Text.{pointCols}
+use Rattle.listing.specs.Form.{filled, filled-step, filled-end}
 use Rattle.listing.proofs.fill.Statement.{statement}
 use Rattle.listing.proofs.fill.Tie as tie
 
 abbrev Inv-loop : tie.InvT-loop
-Inv-loop s n xs₀ ys₀ at₀ left₀ i₀ xs ys at left i = (fillX left s at i xs ≡ fillX n s at₀ 0 xs₀) × ((fillY left s at i ys ≡ fillY n s at₀ 0 ys₀) × (i + left ≤ 1152))
+Inv-loop s n xs₀ ys₀ at₀ left₀ i₀ xs ys at left i =
+    (filled left s at i (pointCols xs ys) ≡ filled n s at₀ 0 (pointCols xs₀ ys₀)) × (i + left ≤ 1152)
 
 abbrev μ-loop : tie.MeasureT-loop
 μ-loop s n xs₀ ys₀ at₀ left₀ i₀ xs ys at left i = left
 
 loop-holds : tie.Need-loop-holds Inv-loop μ-loop
-loop-holds c = (refl, (refl, omega arith))
+loop-holds c = (refl, omega arith)
 
 read-point-requires : tie.Need-read-point-requires Inv-loop μ-loop
 read-point-requires c κs = tt
@@ -29,11 +31,7 @@ returns : tie.Need-returns Inv-loop μ-loop
 returns c =
     let r = c .before .before in
     let t = r .before in
-    let l = t .before in
-    let f = c .enum-told .given .1 in (
-      sym (fillX-step (l .loop .left) (l .before .before .args .s .now) (l .loop .at) (l .loop .i) (l .loop .xs) (t .loop-test .taken) ∙ simp (sym (r .read-point .ensures) ∙ f)) ∙ l .loop .inv .0,
-      sym (fillY-step (l .loop .left) (l .before .before .args .s .now) (l .loop .at) (l .loop .i) (l .loop .ys) (t .loop-test .taken) ∙ simp (sym (r .read-point .ensures) ∙ f)) ∙ l .loop .inv .1 .0,
-    )
+    sym (filled-step _ _ _ _ _ _ (t .loop-test .taken) (sym (r .read-point .ensures) ∙ c .enum-told .given .1)) ∙ t .before .loop .inv .0
 
 coordinate-requires : tie.Need-coordinate-requires Inv-loop μ-loop
 coordinate-requires c κs = tt
@@ -66,19 +64,14 @@ loop-again : tie.Need-loop-again Inv-loop μ-loop
 loop-again c =
     let x = c .before .before .before in
     let r = x .before .before in
-    let t = r .before in
-    let l = t .before in
-    let f = x .x .given .1 in (
-      rw (c .before .coordinate .ensures) (sym (fillX-step (l .loop .left) (l .before .before .args .s .now) (l .loop .at) (l .loop .i) (l .loop .xs) (t .loop-test .taken) ∙ simp (sym (r .read-point .ensures) ∙ f)) ∙ l .loop .inv .0),
-      (rw (c .coordinate2 .ensures) (sym (fillY-step (l .loop .left) (l .before .before .args .s .now) (l .loop .at) (l .loop .i) (l .loop .ys) (t .loop-test .taken) ∙ simp (sym (r .read-point .ensures) ∙ f)) ∙ l .loop .inv .1 .0), omega arith),
+    let t = r .before in (
+      rw (c .before .coordinate .ensures, c .coordinate2 .ensures)
+          (sym (filled-step _ _ _ _ _ _ (t .loop-test .taken) (sym (r .read-point .ensures) ∙ x .x .given .1)) ∙ t .before .loop .inv .0),
+      omega arith,
     )
 
 returns-2 : tie.Need-returns-2 Inv-loop μ-loop
-returns-2 c =
-    let l = c .before in (
-      sym (fillX-end (l .loop .left) (l .before .before .args .s .now) (l .loop .at) (l .loop .i) (l .loop .xs) (c .loop-test .left)) ∙ l .loop .inv .0,
-      sym (fillY-end (l .loop .left) (l .before .before .args .s .now) (l .loop .at) (l .loop .i) (l .loop .ys) (c .loop-test .left)) ∙ l .loop .inv .1 .0,
-    )
+returns-2 c = sym (filled-end _ _ _ _ _ (c .loop-test .left)) ∙ c .before .loop .inv .0
 
 pub fill-spec : {M : Type 1} → statement M
 fill-spec =

@@ -3,16 +3,22 @@ use mathlib.Core.Path.{refl, sym, _∙_, subst}
 use borrow.Author.Needs.{needs}
 use borrow.Author.Tests.{lt-ltb, le-ltb, not-true, not-false}
 use Rattle.listing.specs.declared.Parsed.the-variants.{Read, Refused}
+use Rattle.listing.specs.Text.{PointCols}
+use Rattle.listing.specs.Lent.{givenPoints}
 use Rattle.listing.specs.Form.{parsedOf, countIn}
 use Rattle.listing.specs.Whole.{parsing}
 use Rattle.listing.proofs.parse.Statement.{statement}
 use Rattle.listing.proofs.parse.Tie as tie
 
+-- the columns as they came
+abbrev points-of : tie.Start → PointCols
+points-of a = givenPoints (a .args .xs) (a .args .ys)
+
 returns : tie.Need-returns
 unfolding parsedOf
 returns c =
-    let a = c .before .before .args in
-    parsing (a .s .now) (a .xs .now) (a .ys .now) Refused _ _ (simp (lt-ltb _ _ (c .if1 .taken))) refl refl
+    let a = c .before .before in
+    parsing (a .args .s .now) (points-of a) Refused _ (simp (lt-ltb _ _ (c .if1 .taken))) refl
 
 read-head-requires : tie.Need-read-head-requires
 read-head-requires c κs = search needs
@@ -28,8 +34,9 @@ unfolding parsedOf
 returns-2 c =
     let r = c .before .before in
     let l = r .before in
-    let a = l .before .before .args in
-    parsing (a .s .now) (a .xs .now) (a .ys .now) Refused _ _ (simp (le-ltb _ _ (l .if1 .left), sym (r .read-head .ensures .0) ∙ c .enum-told .given .1)) refl refl
+    let a = l .before .before in
+    parsing (a .args .s .now) (points-of a) Refused _
+    (simp (le-ltb _ _ (l .if1 .left), sym (r .read-head .ensures .0) ∙ c .enum-told .given .1)) refl
 
 points-ok-requires : tie.Need-points-ok-requires
 points-ok-requires c κs = search needs
@@ -41,9 +48,10 @@ returns-3 c =
     let h = k .before .before .before in
     let r = h .before .before in
     let l = r .before in
-    let a = l .before .before .args in
-    parsing (a .s .now) (a .xs .now) (a .ys .now) Refused _ _
-    (simp (le-ltb _ _ (l .if1 .left), sym (r .read-head .ensures .0) ∙ h .h .given .1, sym (k .points-ok .ensures) ∙ not-true _ (c .if2 .taken))) refl refl
+    let a = l .before .before in
+    let ok = sym (k .points-ok .ensures) ∙ not-true _ (c .if2 .taken) in
+    parsing (a .args .s .now) (points-of a) Refused _
+    (simp (le-ltb _ _ (l .if1 .left), sym (r .read-head .ensures .0) ∙ h .h .given .1, ok)) refl
 
 fill-requires : tie.Need-fill-requires
 fill-requires c κs =
@@ -58,10 +66,11 @@ returns-4 c =
     let h = k .before .before .before in
     let r = h .before .before in
     let l = r .before in
-    let a = l .before .before .args in
-    parsing (a .s .now) (a .xs .now) (a .ys .now) (Read _) _ _
-    (simp (le-ltb _ _ (l .if1 .left), sym (r .read-head .ensures .0) ∙ h .h .given .1, sym (k .points-ok .ensures) ∙ not-false _ (e .if2 .left)))
-    (c .fill .ensures .0) (c .fill .ensures .1)
+    let a = l .before .before in
+    let ok = sym (k .points-ok .ensures) ∙ not-false _ (e .if2 .left) in
+    parsing (a .args .s .now) (points-of a) (Read _) _
+    (simp (le-ltb _ _ (l .if1 .left), sym (r .read-head .ensures .0) ∙ h .h .given .1, ok))
+    (c .fill .ensures)
 
 pub parse-spec : {M : Type 1} → statement M
 parse-spec =

@@ -28,8 +28,7 @@ returns : tie.Need-returns Inv-loop μ-loop
 returns c =
     let r = c .before .before in
     let t = r .before in
-    let l = t .before in
-    sym (ok-step (l .loop .left) (l .before .before .args .s .now) (l .loop .at) (t .loop-test .taken) ∙ simp (sym (r .read-point .ensures) ∙ c .enum-told .given .1)) ∙ l .loop .inv
+    sym (ok-step _ _ _ _ (t .loop-test .taken) (sym (r .read-point .ensures) ∙ c .enum-told .given .1)) ∙ t .before .loop .inv
 
 sub-left : tie.Need-sub-left Inv-loop μ-loop
 sub-left c = omega arith
@@ -41,11 +40,10 @@ loop-again : tie.Need-loop-again Inv-loop μ-loop
 loop-again c =
     let r = c .before .before .before in
     let t = r .before in
-    let l = t .before in
-    sym (ok-step (l .loop .left) (l .before .before .args .s .now) (l .loop .at) (t .loop-test .taken) ∙ simp (sym (r .read-point .ensures) ∙ c .before .next .given .1)) ∙ l .loop .inv
+    sym (ok-step _ _ _ _ (t .loop-test .taken) (sym (r .read-point .ensures) ∙ c .before .next .given .1)) ∙ t .before .loop .inv
 
 returns-2 : tie.Need-returns-2 Inv-loop μ-loop
-returns-2 c = let l = c .before in sym (ok-end (l .loop .left) (l .before .before .args .s .now) (l .loop .at) (c .loop-test .left)) ∙ l .loop .inv
+returns-2 c = sym (ok-end _ _ _ (c .loop-test .left)) ∙ c .before .loop .inv
 
 pub points-ok-spec : {M : Type 1} → statement M
 points-ok-spec =

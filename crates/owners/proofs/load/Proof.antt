@@ -41,7 +41,7 @@ returns : tie.Need-returns
 returns c =
     let w = loaded-at c in
     let e = w .load .ensures in
-    (e, λ d. outcome-owners _ _ _ _ _ e d)
+    (e, λ d. outcome-owners _ _ _ e d)
 
 pub load-spec : {M : Type 1} → statement M
 load-spec =

@@ -1,62 +1,74 @@
--- `replay_load::loads` meets its contract: what the build leaves is what `loaded` says, and it is compared as the definition says. Assumes nothing.
-use mathlib.Core.Path.{ap, _∙_}
+-- `replay_load::loads` meets its contract: what the build leaves is what `loaded` says, and it is compared as the definition says.
+-- Assumes nothing.
+use mathlib.Core.Bool.{Bool}
+use mathlib.Core.List.{List}
+use mathlib.Core.Path.{_≡_, ap, _∙_}
+use Prim.Native.Nat.{ℕ}
+use native.Mathlib.Omega.{arith}
+use lib.ListN.{length}
+use lib.Ieee.{Float}
+use Rattle.tables.specs.declared.Options.{Options}
+use Rattle.supercluster.specs.Build.{Lent, Outcome, loaded}
+use Rattle.vectors.specs.Chain.{_and_}
 use Rattle.replay_load.specs.Same.{agreesWith, loadsTo}
 use Rattle.replay_load.proofs.loads.Statement.{statement}
 use Rattle.replay_load.proofs.loads.Tie as tie
 
-abbrev loading : tie.After-agrees → tie.After-load
-loading c = c .before .before .before .before .before .before .before .before .before .before .before .before .before .before .before .before .before .before .before .before .before .before .before .before .before .before .before .before
+-- what is compared is what the build came to
+compared : (o : Options) (xs ys : List Float) (starts lens : List ℕ) (want l : Lent) (got : Outcome) (r : Bool) → got ≡ loaded o xs ys l
+    → r ≡ agreesWith o (length xs) starts lens want got → r ≡ loadsTo o xs ys starts lens want l
+unfolding loadsTo
+compared o xs ys starts lens want l got r e f = f ∙ ap (agreesWith o (length xs) starts lens want) e
 
-load-requires : tie.Need-load-requires
-load-requires c κs = tt
+-- the first comparison, and the build
+abbrev done-of : tie.After-same-places5 → tie.After-is-done
+done-of c = let p : tie.After-same-places = search in search
 
-agrees-requires : tie.Need-agrees-requires
-agrees-requires c κs = tt
-
-same-length : tie.Need-same-length
-same-length c = loading c .load .kept .1 .1 .1 .0
-
-same-length-2 : tie.Need-same-length-2
-same-length-2 c = loading c .load .kept .1 .1 .1 .1 .0
-
-same-length-3 : tie.Need-same-length-3
-same-length-3 c = loading c .load .kept .1 .1 .1 .1 .1 .0
-
-same-length-4 : tie.Need-same-length-4
-same-length-4 c = loading c .load .kept .1 .1 .1 .1 .1 .1 .0
-
-same-length-5 : tie.Need-same-length-5
-same-length-5 c = loading c .load .kept .1 .1 .1 .1 .1 .1 .1 .0
-
-same-length-6 : tie.Need-same-length-6
-same-length-6 c = loading c .load .kept .1 .1 .1 .1 .1 .1 .1 .1 .0
-
-same-length-7 : tie.Need-same-length-7
-same-length-7 c = loading c .load .kept .1 .1 .1 .1 .1 .1 .1 .1 .1 .0
-
-same-length-8 : tie.Need-same-length-8
-same-length-8 c = loading c .load .kept .1 .1 .1 .1 .1 .1 .1 .1 .1 .1 .0
-
-same-length-9 : tie.Need-same-length-9
-same-length-9 c = loading c .load .kept .1 .1 .1 .1 .1 .1 .1 .1 .1 .1 .1 .0
+abbrev loading : tie.After-is-done → tie.After-load
+loading d = search
 
 returns : tie.Need-returns
-unfolding loadsTo
-returns c = c .agrees .ensures ∙ ap (agreesWith _ _ _ _ _) (loading c .load .ensures)
+unfolding agreesWith
+returns c =
+    let coords = c .before .before in
+    let ids = coords .before .before in
+    let num = ids .before .before in
+    let parent = num .before .before in
+    let id = parent .before .before in
+    let seen = id .before .before in
+    let y = seen .before .before in
+    let x = y .before .before in
+    let state = x .before .before in
+    let done = state .before in
+    compared _ _ _ _ _ _ _ _ _ (loading done .load .ensures)
+    (done .is-done .ensures and state .same-state .ensures
+    and x .same-floats .ensures and y .same-floats2 .ensures and seen .same-bytes .ensures
+    and id .same-places .ensures and parent .same-places2 .ensures and num .same-places3 .ensures
+    and ids .same-places4 .ensures and coords .same-floats3 .ensures and c .same-places5 .ensures)
 
 pub loads-spec : {M : Type 1} → statement M
 loads-spec =
     tie.close
     (tie.spec
-    load-requires
-    agrees-requires
-    same-length
-    same-length-2
-    same-length-3
-    same-length-4
-    same-length-5
-    same-length-6
-    same-length-7
-    same-length-8
-    same-length-9
+    (λ c κs. tt)
+    (λ c κs. tt)
+    (λ c κs. tt)
+    (λ c κs. tt)
+    (λ c κs. tt)
+    (λ c κs. tt)
+    (λ c κs. tt)
+    (λ c κs. tt)
+    (λ c κs. tt)
+    (λ c κs. tt)
+    (λ c κs. tt)
+    (λ c κs. tt)
+    (λ c. omega (arith, loading (done-of c) .load .kept))
+    (λ c. omega (arith, loading (done-of c) .load .kept))
+    (λ c. omega (arith, loading (done-of c) .load .kept))
+    (λ c. omega (arith, loading (done-of c) .load .kept))
+    (λ c. omega (arith, loading (done-of c) .load .kept))
+    (λ c. omega (arith, loading (done-of c) .load .kept))
+    (λ c. omega (arith, loading (done-of c) .load .kept))
+    (λ c. omega (arith, loading (done-of c) .load .kept))
+    (λ c. omega (arith, loading (done-of c) .load .kept))
     returns)

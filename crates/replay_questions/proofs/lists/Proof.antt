@@ -1,44 +1,39 @@
 -- `replay_questions::lists` meets its contract: what is compared is the answer, and the column that it leaves. Assumes nothing.
 use mathlib.Core.Path.{_∙_}
-use Rattle.replay_questions.proofs.Laws.{lists-no, lists-yes}
 use borrow.Author.Needs.{needs}
+use Rattle.replay_questions.proofs.Laws.{lists-told}
 use Rattle.replay_questions.proofs.lists.Statement.{statement}
 use Rattle.replay_questions.proofs.lists.Tie as tie
 
 ask-requires : tie.Need-ask-requires
-ask-requires c κs = search needs
+ask-requires c κs = tt
 
 number-requires : tie.Need-number-requires
-number-requires c κs = search needs
+number-requires c κs = tt
 
 carried-requires : tie.Need-carried-requires
-carried-requires c κs = search needs
+carried-requires c κs = tt
 
 long-requires : tie.Need-long-requires
-long-requires c κs = search needs
+long-requires c κs = tt
 
 same-reply-requires : tie.Need-same-reply-requires
-same-reply-requires c κs = search needs
+same-reply-requires c κs = tt
+
+same-places-requires : tie.Need-same-places-requires
+same-places-requires c κs = tt
 
 same-length : tie.Need-same-length
 same-length c = search needs
 
 returns : tie.Need-returns
 returns c =
-    let e = c .before in
-    lists-no _ _ _ _ (e .same-reply .ensures) _ (e .before .before .before .number .ensures) (e .before .long .ensures ∙ e .before .before .carried .ensures) _ _ _ (e .before .before .before .before .before .before .ask .ensures .0) (c .if1 .taken)
-
-same-places-requires : tie.Need-same-places-requires
-same-places-requires c κs = search needs
-
-same-length-2 : tie.Need-same-length-2
-same-length-2 c = search needs
-
-returns-2 : tie.Need-returns-2
-returns-2 c =
-    let f = c .before .before in
-    let e = f .before in
-    lists-yes _ _ _ _ (e .same-reply .ensures) _ (e .before .before .before .number .ensures) (e .before .long .ensures ∙ e .before .before .carried .ensures) _ _ _ _ _ (e .before .before .before .before .before .before .ask .ensures .0) (f .if1 .left) (e .before .before .before .before .before .before .ask .ensures .1) (c .same-places .ensures)
+    let r : tie.After-same-reply = search in
+    let a : tie.After-ask = search in
+    let l = r .before in
+    let k = l .before in
+    lists-told _ _ _ _ (r .same-reply .ensures) _ (k .before .number .ensures) (l .long .ensures ∙ k .carried .ensures) _ _ _ _ _
+    (a .ask .ensures .0) (a .ask .ensures .1) (c .same-places .ensures)
 
 pub lists-spec : {M : Type 1} → statement M
 lists-spec =
@@ -49,8 +44,6 @@ lists-spec =
     carried-requires
     long-requires
     same-reply-requires
-    same-length
-    returns
     same-places-requires
-    same-length-2
-    returns-2)
+    same-length
+    returns)

@@ -7,6 +7,9 @@ use borrow.Author.Needs.{needs}
 use Rattle.replay_questions.proofs.replay_listed.Statement.{statement}
 use Rattle.replay_questions.proofs.replay_listed.Tie as tie
 
+abbrev begin : tie.After-read-reply → tie.Start
+begin r = search
+
 read-reply-requires : tie.Need-read-reply-requires
 read-reply-requires c κs = search needs
 
@@ -35,7 +38,11 @@ slice-aggregate-read-places : tie.Need-slice-aggregate-read-places
 slice-aggregate-read-places c = search needs
 
 read-places-requires : tie.Need-read-places-requires
-read-places-requires c κs = omega (arith, subst (countIs _) (c .before .before .m .given .1) (c .before .before .before .before .next-count .ensures), c .before .before .before .before .before .before .before .before .before .before .before .before .before .before .before .before .before .pre)
+read-places-requires c κs =
+    let m = c .before .before in
+    let n = m .before .before in
+    let r : tie.After-read-reply = search in
+    omega (arith, subst (countIs _) (m .m .given .1) (n .next-count .ensures), begin r .pre)
 
 returns-3 : tie.Need-returns-3
 returns-3 c = search needs

@@ -8,6 +8,9 @@ use borrow.Author.Needs.{needs}
 use Rattle.replay_questions.proofs.replay_tiled.Statement.{statement}
 use Rattle.replay_questions.proofs.replay_tiled.Tie as tie
 
+abbrev begin : tie.After-read-reply → tie.Start
+begin r = search
+
 read-reply-requires : tie.Need-read-reply-requires
 read-reply-requires c κs = search needs
 
@@ -43,7 +46,10 @@ slice-aggregate-read-places c = search needs
 
 -- as many items as there is room for
 few : (c : tie.After-known-told2) → c .before .m .given .0 .0 ≤ 64
-few c = omega (arith, subst (countIs _) (c .before .m .given .1) (c .before .before .before .next-count .ensures), c .before .before .before .before .less2 .ensures, c .before .before .before .before .before .before .before .before .before .before .before .before .before .before .before .before .before .before .pre .0)
+few c =
+    let n = c .before .before .before in
+    let r : tie.After-read-reply = search in
+    omega (arith, subst (countIs _) (c .before .m .given .1) (n .next-count .ensures), n .before .less2 .ensures, begin r .pre .0)
 
 read-places-requires : tie.Need-read-places-requires
 read-places-requires c κs = few (c .before)
@@ -89,8 +95,13 @@ slice-aggregate-ask-tile-3 c = sym (length-take-le _ _ (array-share-prefix-want-
 
 ask-tile-requires : tie.Need-ask-tile-requires
 ask-tile-requires c κs =
-    let h = c .before .before .before .before .before .before .before .before .before .before .before .before .before .before .before .before .before .before .before .before .before .before .before .before .before .before .before .before .before .before .before .before .before .pre in
-    (subst (λ (k : ℕ). k ≤ 64) (slice-aggregate-ask-tile (c .before .before)) (h .0), subst (λ (k : ℕ). k ≤ 64) (slice-aggregate-ask-tile-2 (c .before)) (h .1), subst (λ (k : ℕ). k ≤ 64) (slice-aggregate-ask-tile-3 c) (h .2))
+    let m : tie.After-m = search in
+    let r : tie.After-read-reply = search in
+    let h = begin r .pre in (
+      subst (λ (k : ℕ). k ≤ 64) (slice-aggregate-ask-tile (c .before .before)) (h .0),
+      subst (λ (k : ℕ). k ≤ 64) (slice-aggregate-ask-tile-2 (c .before)) (h .1),
+      subst (λ (k : ℕ). k ≤ 64) (slice-aggregate-ask-tile-3 c) (h .2),
+    )
 
 returns-6 : tie.Need-returns-6
 returns-6 c = search needs

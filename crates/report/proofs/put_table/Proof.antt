@@ -5,8 +5,9 @@ use denote.Ref.{now}
 use lib.ListN.{length, drop}
 use Rattle.tables.specs.Columns.{part}
 use Rattle.tables.specs.Entries.{Table}
-use Rattle.tables.specs.Rows.{rows, rows-length}
-use Rattle.report.specs.Lines.{lineText, tableText}
+use Rattle.tables.specs.Rows.{Cols, cols, rows, rows-length}
+use Rattle.tables.specs.Lent.{given}
+use Rattle.report.specs.Lines.{lineText, lineRoom, tableText}
 use Rattle.report.specs.Put.{Storing, storing-start, storing-step, storing-end}
 use Rattle.report.specs.Parts.{line-next, line-none}
 use Rattle.report.proofs.put_table.Statement.{statement}
@@ -14,8 +15,8 @@ use Rattle.report.proofs.put_table.Tie as tie
 
 abbrev Inv-loop : tie.InvT-loop
 Inv-loop out₀ at zoom start len x y seen id parent num p₀ i₀ out p i =
-    (i ≤ len) × ((p ≤ at + 136 * i)
-    × Storing out₀ at (tableText zoom 0 (part start len (rows x y seen id parent num))) out p (tableText zoom i (drop i (part start len (rows x y seen id parent num)))))
+    let t = part start len (rows (cols x y seen id parent num)) in
+    (i ≤ len) × ((p ≤ at + lineRoom * i) × Storing out₀ at (tableText zoom 0 t) out p (tableText zoom i (drop i t)))
 
 abbrev μ-loop : tie.MeasureT-loop
 μ-loop out₀ at zoom start len x y seen id parent num p₀ i₀ out p i = len - i
@@ -23,17 +24,18 @@ abbrev μ-loop : tie.MeasureT-loop
 abbrev start-of : tie.At-loop Inv-loop μ-loop → tie.Start Inv-loop μ-loop
 start-of l = l .before .before .before .before .before .before .before .before
 
+abbrev cols-of : tie.Start Inv-loop μ-loop → Cols
+cols-of s = let a = s .args in given (a .x) (a .y) (a .seen) (a .id) (a .parent) (a .num)
+
 abbrev rows-of : tie.Start Inv-loop μ-loop → Table
-rows-of s = let a = s .args in rows (now (a .x)) (now (a .y)) (now (a .seen)) (now (a .id)) (now (a .parent)) (now (a .num))
+rows-of s = rows (cols-of s)
 
 abbrev part-of : tie.Start Inv-loop μ-loop → Table
 part-of s = part (s .args .start) (s .args .len) (rows-of s)
 
 -- the part lies within the rows
 within : (s : tie.Start Inv-loop μ-loop) → s .args .start + s .args .len ≤ length (rows-of s)
-within s =
-    let a = s .args in
-    omega (arith, s .pre .1 .0, rows-length (now (a .x)) (now (a .y)) (now (a .seen)) (now (a .id)) (now (a .parent)) (now (a .num)))
+within s = omega (arith, s .pre .1, rows-length (cols-of s))
 
 loop-holds : tie.Need-loop-holds Inv-loop μ-loop
 loop-holds c =
@@ -41,16 +43,16 @@ loop-holds c =
     (omega arith, (omega arith, storing-start (now (s .args .out)) (s .args .at) (tableText (s .args .zoom) 0 (part-of s))))
 
 add-entry-at : tie.Need-add-entry-at Inv-loop μ-loop
-add-entry-at c = let s = start-of (c .before) in omega (arith, s .pre .1 .0, s .good)
+add-entry-at c = let s = start-of (c .before) in omega (arith, s .pre .1, s .good)
 
 entry-at-requires : tie.Need-entry-at-requires Inv-loop μ-loop
-entry-at-requires c κs = let s = start-of (c .before) in (s .pre .0, omega (arith, s .pre .1 .0))
+entry-at-requires c κs = let s = start-of (c .before) in (s .pre .0, omega (arith, s .pre .1))
 
 put-line-requires : tie.Need-put-line-requires Inv-loop μ-loop
 put-line-requires c κs =
     let l = c .before .before .before in
     let s = start-of l in
-    omega (arith, s .pre .1 .1, l .loop .inv .1 .0, l .loop .inv .1 .1 .kept, c .before .before .loop-test .taken)
+    omega (arith, s .pre .2, l .loop .inv .1 .0, l .loop .inv .1 .1 .kept, c .before .before .loop-test .taken)
 
 add-i : tie.Need-add-i Inv-loop μ-loop
 add-i c = omega arith
@@ -72,8 +74,9 @@ loop-again c =
       omega (arith, h),
       (
         omega (arith, p .near, l .loop .inv .1 .0),
-        storing-step (now (a .out)) (a .at) (tableText (a .zoom) 0 (part-of s)) (l .loop .out) _ (l .loop .p) (w .put-line .result) _ (lineText (a .zoom) i (e .entry-at .result))
-            (tableText (a .zoom) (i + 1) (drop (i + 1) (part-of s))) 136 (l .loop .inv .1 .1)
+        storing-step (now (a .out)) (a .at) (tableText (a .zoom) 0 (part-of s)) (l .loop .out) _ (l .loop .p) (w .put-line .result) _
+            (lineText (a .zoom) i (e .entry-at .result)) (tableText (a .zoom) (i + 1) (drop (i + 1) (part-of s))) lineRoom
+            (l .loop .inv .1 .1)
             (line-next (a .start) (a .len) (rows-of s) (within s) (a .zoom) i (e .entry-at .result) h (e .entry-at .ensures)) p,
       ),
     )
@@ -86,8 +89,9 @@ returns c =
     let l = c .before in
     let s = start-of l in
     let a = s .args in
-    storing-end (now (a .out)) (a .at) (tableText (a .zoom) 0 (part-of s)) (l .loop .out) (l .loop .p) _ (136 * a .len) (l .loop .inv .1 .1)
-    (line-none (a .start) (a .len) (rows-of s) (within s) (a .zoom) (l .loop .i) (c .loop-test .left)) (omega (arith, l .loop .inv .0, l .loop .inv .1 .0))
+    storing-end (now (a .out)) (a .at) (tableText (a .zoom) 0 (part-of s)) (l .loop .out) (l .loop .p) _ (lineRoom * a .len)
+    (l .loop .inv .1 .1) (line-none (a .start) (a .len) (rows-of s) (within s) (a .zoom) (l .loop .i) (c .loop-test .left))
+    (omega (arith, l .loop .inv .0, l .loop .inv .1 .0))
 
 pub put-table-spec : {M : Type 1} → statement M
 put-table-spec =

@@ -9,9 +9,10 @@ use denote.Ref.{now}
 use lib.ListN.{length, getD}
 use Rattle.tables.specs.declared.State.{State}
 use Rattle.tables.specs.Entries.{Table}
-use Rattle.tables.specs.Rows.{rows, rows-length}
+use Rattle.tables.specs.Rows.{Cols, cols, rows, rows-length}
+use Rattle.tables.specs.Lent.{given}
 use Rattle.zooms.specs.Zooms.{joined}
-use Rattle.report.specs.Lines.{tableText, tablesText}
+use Rattle.report.specs.Lines.{lineRoom, tableText, tablesText}
 use Rattle.report.specs.Put.{Storing, storing-start, storing-step, storing-end}
 use Rattle.tables.specs.Columns.{heldAt}
 use Rattle.supercluster.specs.Held.{held, heldBy}
@@ -25,9 +26,10 @@ left-of s t z = held (s .starts) (s .lens) t (s .options .«min_zoom») (z - s .
 
 abbrev Inv-loop : tie.InvT-loop
 Inv-loop out₀ s x y seen id parent num low z₀ at₀ out z at =
+    let t = rows (cols x y seen id parent num) in
     (z ≤ s .options .«max_zoom» + 2)
-    × ((at + 136 * length (joined (left-of s (rows x y seen id parent num) z)) ≤ length out₀)
-    × Storing out₀ 0 (tablesText (s .options .«max_zoom» + 1) (heldBy s (rows x y seen id parent num))) out at (tablesText (z - 1) (left-of s (rows x y seen id parent num) z)))
+    × ((at + lineRoom * length (joined (left-of s t z)) ≤ length out₀)
+    × Storing out₀ 0 (tablesText (s .options .«max_zoom» + 1) (heldBy s t)) out at (tablesText (z - 1) (left-of s t z)))
 
 abbrev μ-loop : tie.MeasureT-loop
 μ-loop out₀ s x y seen id parent num low z₀ at₀ out z at = z - low
@@ -35,8 +37,14 @@ abbrev μ-loop : tie.MeasureT-loop
 abbrev start-of : tie.At-loop Inv-loop μ-loop → tie.Start Inv-loop μ-loop
 start-of l = l .before .before .before .before .before .before .before .before .before .before
 
+abbrev cols-of : tie.Start Inv-loop μ-loop → Cols
+cols-of s = let a = s .args in given (a .x) (a .y) (a .seen) (a .id) (a .parent) (a .num)
+
 abbrev rows-of : tie.Start Inv-loop μ-loop → Table
-rows-of s = let a = s .args in rows (now (a .x)) (now (a .y)) (now (a .seen)) (now (a .id)) (now (a .parent)) (now (a .num))
+rows-of s = rows (cols-of s)
+
+abbrev all-of : tie.Start Inv-loop μ-loop → List ℕ
+all-of s = tablesText (s .args .s .options .«max_zoom» + 1) (heldBy (s .args .s) (rows-of s))
 
 -- the zoom past the finest table is a number of eight bits
 past-top : (m : ℕ) → m ≤ 30 → Fits w8 (m + 2)
@@ -44,8 +52,9 @@ past-top m h = omega arith
 
 starts : (out : List ℕ) (s : State) (t : Table) → Holding s t (length out)
     → (s .options .«max_zoom» + 2 ≤ s .options .«max_zoom» + 2)
-    × ((0 + 136 * length (joined (left-of s t (s .options .«max_zoom» + 2))) ≤ length out)
-    × Storing out 0 (tablesText (s .options .«max_zoom» + 1) (heldBy s t)) out 0 (tablesText (s .options .«max_zoom» + 2 - 1) (left-of s t (s .options .«max_zoom» + 2))))
+    × ((0 + lineRoom * length (joined (left-of s t (s .options .«max_zoom» + 2))) ≤ length out)
+    × Storing out 0 (tablesText (s .options .«max_zoom» + 1) (heldBy s t)) out 0
+    (tablesText (s .options .«max_zoom» + 2 - 1) (left-of s t (s .options .«max_zoom» + 2))))
 starts out s t h =
     let top : s .options .«max_zoom» + 1 ≡ s .options .«max_zoom» + 2 - 1 = omega arith in
     let all = tablesText (s .options .«max_zoom» + 1) (heldBy s t) in (
@@ -66,9 +75,6 @@ loop-holds c =
 sub-z : tie.Need-sub-z Inv-loop μ-loop
 sub-z c = omega arith
 
-rows-long : (s : tie.Start Inv-loop μ-loop) → length (rows-of s) ≡ length (now (s .args .x))
-rows-long s = let a = s .args in rows-length (now (a .x)) (now (a .y)) (now (a .seen)) (now (a .id)) (now (a .parent)) (now (a .num))
-
 within : (s : tie.Start Inv-loop μ-loop) (z : ℕ) → s .args .s .options .«min_zoom» ≤ z → z < s .args .s .options .«max_zoom» + 2
     → getD (s .args .s .starts) z 0 + getD (s .args .s .lens) z 0 ≤ length (rows-of s)
 within s z = s .pre .1 .within z
@@ -80,8 +86,12 @@ put-held-requires c κs =
     let s = start-of l in
     let a = s .args in
     let e = within s (l .loop .z - 1) (omega (arith, t .loop-test .taken)) (omega (arith, t .loop-test .taken, l .loop .inv .0)) in
-    let n = held-long (a .s .starts) (a .s .lens) (rows-of s) (a .s .options .«min_zoom») (l .loop .z) (t .loop-test .taken) e in
-    (s .pre .0, (omega (arith, s .pre .1 .top, l .loop .inv .0, t .loop-test .taken), (omega (arith, e, rows-long s), omega (arith, n, l .loop .inv .1 .0, l .loop .inv .1 .1 .kept))))
+    let n = held-long (a .s .starts) (a .s .lens) (rows-of s) (a .s .options .«min_zoom») (l .loop .z) (t .loop-test .taken) e in (
+      s .pre .0,
+      omega (arith, s .pre .1 .top, l .loop .inv .0, t .loop-test .taken),
+      omega (arith, e, rows-length (cols-of s)),
+      omega (arith, n, l .loop .inv .1 .0, l .loop .inv .1 .1 .kept),
+    )
 
 loop-less : tie.Need-loop-less Inv-loop μ-loop
 loop-less c = omega arith
@@ -101,8 +111,10 @@ loop-again c =
       omega (arith, l .loop .inv .0),
       (
         omega (arith, n, p .near, l .loop .inv .1 .0),
-        storing-step (now (a .out)) 0 (tablesText (a .s .options .«max_zoom» + 1) (heldBy (a .s) (rows-of s))) (l .loop .out) _ (l .loop .at) (w .put-held .result) (tablesText (z - 1) (left-of (a .s) (rows-of s) z))
-            (tableText (z - 1) 0 (heldAt (a .s .starts) (a .s .lens) (rows-of s) (z - 1))) (tablesText (z - 1 - 1) (left-of (a .s) (rows-of s) (z - 1))) (136 * getD (a .s .lens) (z - 1) 0)
+        storing-step (now (a .out)) 0 (all-of s) (l .loop .out) _ (l .loop .at) (w .put-held .result)
+            (tablesText (z - 1) (left-of (a .s) (rows-of s) z))
+            (tableText (z - 1) 0 (heldAt (a .s .starts) (a .s .lens) (rows-of s) (z - 1)))
+            (tablesText (z - 1 - 1) (left-of (a .s) (rows-of s) (z - 1))) (lineRoom * getD (a .s .lens) (z - 1) 0)
             (l .loop .inv .1 .1) (text-step (a .s .starts) (a .s .lens) (rows-of s) (a .s .options .«min_zoom») z h) p,
       ),
     )
@@ -115,8 +127,9 @@ returns c =
     let l = c .before in
     let s = start-of l in
     let a = s .args in
-    storing-end (now (a .out)) 0 (tablesText (a .s .options .«max_zoom» + 1) (heldBy (a .s) (rows-of s))) (l .loop .out) (l .loop .at) (tablesText (l .loop .z - 1) (left-of (a .s) (rows-of s) (l .loop .z)))
-    (length (now (a .out))) (l .loop .inv .1 .1) (text-end (a .s .starts) (a .s .lens) (rows-of s) (a .s .options .«min_zoom») (l .loop .z) (c .loop-test .left))
+    storing-end (now (a .out)) 0 (all-of s) (l .loop .out) (l .loop .at)
+    (tablesText (l .loop .z - 1) (left-of (a .s) (rows-of s) (l .loop .z))) (length (now (a .out))) (l .loop .inv .1 .1)
+    (text-end (a .s .starts) (a .s .lens) (rows-of s) (a .s .options .«min_zoom») (l .loop .z) (c .loop-test .left))
     (omega (arith, l .loop .inv .1 .0))
 
 pub put-tables-spec : {M : Type 1} → statement M

@@ -6,47 +6,60 @@ use native.Mathlib.Omega.{arith}
 use borrow.Author.Needs.{needs}
 use denote.Ref.{now}
 use lib.ListN.{length}
-use lib.Ieee.{Float}
 use Rattle.listing.specs.declared.Parsed.{Parsed}
 use Rattle.listing.specs.declared.Head.{Head}
-use Rattle.listing.specs.Text.{Input, Parsing, Reads, Refuses, headIs, xsOf, ysOf}
+use Rattle.listing.specs.Text.{PointCols, pointCols, Parsing, Reads}
+use Rattle.listing.specs.Lent.{givenPoints}
 use Rattle.listing.specs.Values.{optionsOf}
 use Rattle.listing.specs.Whole.{Front, reads-front}
 use Rattle.zooms.specs.Zooms.{over}
-use Rattle.supercluster.specs.Build.{Lent, lent, loaded}
-use Rattle.report.specs.Report.{buildText, linesOf, lending, left, read, refused}
+use Rattle.supercluster.specs.Build.{Lent}
+use Rattle.supercluster.specs.Lent.{givenAll}
+use Rattle.report.specs.Report.{loadedBy, buildText, linesOf, lending, left, read, refused}
 use Rattle.report.specs.Put.{put-over}
 use Rattle.report.proofs.report.Statement.{statement}
 use Rattle.report.proofs.report.Tie as tie
 
+abbrev told-of : tie.After-report-read-arg14 → tie.After-h
+told-of c = c .before .before .before .before .before .before .before .before .before .before .before .before .before .before .before
+
 abbrev parse-of : tie.After-report-read-arg14 → tie.After-parse
-parse-of c = c .before .before .before .before .before .before .before .before .before .before .before .before .before .before .before .before .before
+parse-of c = told-of c .before .before
 
 abbrev start-of : tie.After-parse → tie.Start
 start-of p = p .before .before .before .before
 
--- the columns as they came
+-- the columns as they came, and those of the points as `parse` leaves them
 abbrev columns-of : tie.Start → Lent
-columns-of s = let a = s .args in lent (now (a .x)) (now (a .y)) (now (a .seen)) (now (a .id)) (now (a .parent)) (now (a .num)) (now (a .ids)) (now (a .coords)) (now (a .near))
+columns-of s = let a = s .args in givenAll (a .x) (a .y) (a .seen) (a .id) (a .parent) (a .num) (a .ids) (a .coords) (a .near)
+
+abbrev points-of : tie.Start → PointCols
+points-of s = givenPoints (s .args .px) (s .args .py)
+
+abbrev points-after : tie.After-parse → PointCols
+points-after p = let a = p .parse .last .1 in pointCols (a .0) (a .1 .0)
 
 abbrev head-of : tie.After-report-read-arg14 → Head
-head-of c = c .before .before .before .before .before .before .before .before .before .before .before .before .before .before .before .h .given .0 .0
+head-of c = told-of c .h .given .0 .0
+
+-- what `parse` tells, by its reply
+parsed : (p : tie.After-parse) (r : Parsed) → p .parse .result ≡ r
+    → let s = start-of p in Parsing (now (s .args .text)) (points-of s) r (points-after p)
+parsed p r e =
+    let s = start-of p in
+    subst (λ (k : Parsed). Parsing (now (s .args .text)) (points-of s) k (points-after p)) e (p .parse .ensures)
 
 -- what was read of a text of the form
-reads-of : (c : tie.After-report-read-arg14) → let p = parse-of c in let a = start-of p .args in Reads (now (a .text)) (now (a .px)) (now (a .py)) (head-of c) (p .parse .last .1 .0) (p .parse .last .1 .1 .0)
-reads-of c =
-    let p = parse-of c in
-    let a = start-of p .args in
-    subst (λ (k : Parsed). Parsing (now (a .text)) (now (a .px)) (now (a .py)) k (p .parse .last .1 .0) (p .parse .last .1 .1 .0))
-    (c .before .before .before .before .before .before .before .before .before .before .before .before .before .before .before .h .given .1) (p .parse .ensures)
+reads-of : (c : tie.After-report-read-arg14)
+    → let p = parse-of c in let s = start-of p in Reads (now (s .args .text)) (points-of s) (head-of c) (points-after p)
+reads-of c = parsed (parse-of c) _ (told-of c .h .given .1)
 
-front-of : (c : tie.After-report-read-arg14) → let p = parse-of c in let a = start-of p .args in Front (now (a .text)) (now (a .px)) (now (a .py)) (reads-of c .input) (head-of c) (p .parse .last .1 .0) (p .parse .last .1 .1 .0)
+front-of : (c : tie.After-report-read-arg14) → Front (reads-of c .input) (head-of c .count) (points-after (parse-of c))
 front-of c =
     let p = parse-of c in
-    let a = start-of p .args in
-    reads-front (now (a .text)) (now (a .px)) (now (a .py)) (head-of c) (p .parse .last .1 .0) (p .parse .last .1 .1 .0) (reads-of c)
-    (c .before .before .before .before .before .before .before .before .before .before .before .before .report-read-arg2 .given .0)
-    (c .before .before .before .before .before .before .before .before .before .before .report-read-arg4 .given .0)
+    let y = c .before .before .before .before .before .before .before .before .before .before in
+    reads-front _ _ (head-of c) (points-after p) (reads-of c)
+    (record { x = y .before .before .report-read-arg2 .given .0; y = y .report-read-arg4 .given .0 })
 
 parse-requires : tie.Need-parse-requires
 parse-requires c κs = search needs
@@ -64,35 +77,24 @@ returns : tie.Need-returns
 returns c =
     let t = c .before .before in
     let p = t .before .before in
-    let a = start-of p .args in
-    let r : Refuses (now (a .text)) (now (a .px)) (now (a .py)) (p .parse .last .1 .0) (p .parse .last .1 .1 .0) =
-    subst (λ (k : Parsed). Parsing (now (a .text)) (now (a .px)) (now (a .py)) k (p .parse .last .1 .0) (p .parse .last .1 .1 .0)) (t .enum-told .given .1) (p .parse .ensures) in
+    let r = parsed p _ (t .enum-told .given .1) in
     let o = put-over (c .put-refusal .ensures) (omega (arith, c .before .put-refusal-arg .given .0 .1)) in
-    refused (r .none) (o .0) (λ k. lending (r .same-x k) (r .same-y k) (columns-of (start-of p)) (o .1 k))
+    refused (r .none) (o .0) (λ k. lending (r .same k) (columns-of (start-of p)) (o .1 k))
 
 report-read-requires : tie.Need-report-read-requires
-report-read-requires c κs = let f = front-of c in (f .fits-x, f .fits-y)
-
--- what is printed for it, and what is left
-module _ (i : Input) (h : Head) (xs ys : List Float) (e : h ≡ headIs i) (ex : xs ≡ xsOf i) (ey : ys ≡ ysOf i) where
-  lines-are : buildText (optionsOf h) xs ys ≡ linesOf i
-  unfolding linesOf
-  lines-are = λ k. buildText (optionsOf (e k)) (ex k) (ey k)
-
-  columns-are : (l : Lent) → loaded (optionsOf h) xs ys l .columns ≡ loaded (optionsOf (headIs i)) (xsOf i) (ysOf i) l .columns
-  columns-are l = λ k. loaded (optionsOf (e k)) (ex k) (ey k) l .columns
+report-read-requires c κs = front-of c .fits
 
 returns-2 : tie.Need-returns-2
-unfolding left
+unfolding left linesOf
 returns-2 c =
     let r = reads-of (c .before) in
-    let f = front-of (c .before) in
+    let f = front-of (c .before) .is in
     let s = start-of (parse-of (c .before)) in
-    let t = lines-are (r .input) _ _ _ (r .head) (f .of-x) (f .of-y) in
-    let l = c .report-read .ensures .1 ∙ columns-are (r .input) _ _ _ (r .head) (f .of-x) (f .of-y) (columns-of s) in
+    let t : buildText (optionsOf (head-of (c .before))) _ ≡ linesOf (r .input) = λ k. buildText (optionsOf (r .head k)) (f k) in
+    let l = c .report-read .ensures .1 ∙ (λ k. loadedBy (optionsOf (r .head k)) (f k) (columns-of s) .columns) in
     let o = put-over (c .report-read .ensures .0) (omega arith) in
     let told = o .1 ∙ ap (λ (b : List ℕ). over b (now (s .args .out))) t in
-    read (r .input) (r .valid) (r .is) (o .0 ∙ ap length t) (λ k. lending (r .of-x k) (r .of-y k) (l k) (told k))
+    read (r .input) (r .valid) (r .is) (o .0 ∙ ap length t) (λ k. lending (r .stored k) (l k) (told k))
 
 pub report-spec : {M : Type 1} → statement M
 report-spec =

@@ -5,16 +5,19 @@ use Prim.Native.Nat.{ℕ}
 use native.Mathlib.Omega.{arith}
 use borrow.Author.Needs.{needs}
 use denote.Ref.{now}
-use lib.ListN.{length, take}
+use lib.ListN.{length}
 use lib.Seq.{length-take-le}
-use lib.Ieee.{Float}
 use Rattle.kdbush.specs.Reply.{buildNumber}
 use Rattle.tables.specs.declared.Options.{Options}
-use Rattle.supercluster.specs.Build.{Lent, lent, Outcome, loaded}
-use Rattle.report.specs.Lines.{refusalText}
-use Rattle.report.specs.Report.{buildText}
+use Rattle.tables.specs.Rows.{cols}
+use Rattle.supercluster.specs.Build.{Lent, lent, Outcome}
+use Rattle.supercluster.specs.Lent.{givenAll}
 use Rattle.supercluster.specs.Load.{rowsIn}
 use Rattle.listing.specs.Values.{optionsOf}
+use Rattle.listing.specs.Text.{PointCols, frontOf}
+use Rattle.listing.specs.Lent.{givenPoints}
+use Rattle.report.specs.Lines.{refusalText}
+use Rattle.report.specs.Report.{loadedBy, answerRoom, buildText}
 use Rattle.report.specs.Put.{Put, put-near}
 use Rattle.report.specs.Held.{Holding}
 use Rattle.report.specs.Built.{Sized, reply-is, refused-text, Printable, printable}
@@ -28,28 +31,31 @@ abbrev options-of : tie.After-load → Options
 options-of w = w .before .before .before .before .before .before .before .before .before .before .before .before .before .options .result
 
 -- the points that are read, and the columns as they came
-abbrev xs-of : tie.Start → List Float
-xs-of s = take (s .args .h .count) (now (s .args .xs))
-
-abbrev ys-of : tie.Start → List Float
-ys-of s = take (s .args .h .count) (now (s .args .ys))
+abbrev points-of : tie.Start → PointCols
+points-of s = let a = s .args in frontOf (a .h .count) (givenPoints (a .xs) (a .ys))
 
 abbrev columns-of : tie.Start → Lent
-columns-of s = let a = s .args in lent (now (a .x)) (now (a .y)) (now (a .seen)) (now (a .id)) (now (a .parent)) (now (a .num)) (now (a .ids)) (now (a .coords)) (now (a .near))
+columns-of s = let a = s .args in givenAll (a .x) (a .y) (a .seen) (a .id) (a .parent) (a .num) (a .ids) (a .coords) (a .near)
 
 -- and as `load` leaves them
 abbrev columns-after : tie.After-load → Lent
-columns-after w = let a = w .load .last .1 .1 .1 in lent (a .0) (a .1 .0) (a .1 .1 .0) (a .1 .1 .1 .0) (a .1 .1 .1 .1 .0) (a .1 .1 .1 .1 .1 .0) (a .1 .1 .1 .1 .1 .1 .0) (a .1 .1 .1 .1 .1 .1 .1 .0) (a .1 .1 .1 .1 .1 .1 .1 .1 .0)
+columns-after w =
+    let a = w .load .last .1 .1 .1 in
+    let i = a .1 .1 .1 .1 .1 .1 in
+    lent (cols (a .0) (a .1 .0) (a .1 .1 .0) (a .1 .1 .1 .0) (a .1 .1 .1 .1 .0) (a .1 .1 .1 .1 .1 .0)) (i .0) (i .1 .0) (i .1 .1 .0)
 
 sized : (w : tie.After-load) → Sized (columns-of (start-of w))
 sized w =
+    let x = w .before .before .before .before .before .before .before .before .before .load-arg3 .given .0 .1 in
     record {
-      x = w .before .before .before .before .before .before .before .before .before .load-arg3 .given .0 .1;
-      y = w .before .before .before .before .before .before .before .before .load-arg4 .given .0 .1;
-      seen = w .before .before .before .before .before .before .before .load-arg5 .given .0 .1;
-      id = w .before .before .before .before .before .before .load-arg6 .given .0 .1;
-      parent = w .before .before .before .before .before .load-arg7 .given .0 .1;
-      num = w .before .before .before .before .load-arg8 .given .0 .1;
+      x = x;
+      even = record {
+        ey = w .before .before .before .before .before .before .before .before .load-arg4 .given .0 .1 ∙ sym x;
+        es = w .before .before .before .before .before .before .before .load-arg5 .given .0 .1 ∙ sym x;
+        ei = w .before .before .before .before .before .before .load-arg6 .given .0 .1 ∙ sym x;
+        ep = w .before .before .before .before .before .load-arg7 .given .0 .1 ∙ sym x;
+        en = w .before .before .before .before .load-arg8 .given .0 .1 ∙ sym x;
+      };
       ids = w .before .before .before .load-arg9 .given .0 .1;
       coords = w .before .before .load-arg10 .given .0 .1;
       near = w .before .load-arg11 .given .0 .1;
@@ -62,10 +68,14 @@ cast-n : tie.Need-cast-n
 cast-n c = search needs
 
 slice-aggregate-load : tie.Need-slice-aggregate-load
-slice-aggregate-load c = let s = c .before .before .before .before .before in sym (length-take-le (s .args .h .count) (now (s .args .xs)) (s .pre .0))
+slice-aggregate-load c =
+    let s = c .before .before .before .before .before in
+    sym (length-take-le (s .args .h .count) (now (s .args .xs)) (s .pre .x))
 
 slice-aggregate-load-2 : tie.Need-slice-aggregate-load-2
-slice-aggregate-load-2 c = let s = c .before .before .before .before .before .before in sym (length-take-le (s .args .h .count) (now (s .args .ys)) (s .pre .1))
+slice-aggregate-load-2 c =
+    let s = c .before .before .before .before .before .before in
+    sym (length-take-le (s .args .h .count) (now (s .args .ys)) (s .pre .y))
 
 load-requires : tie.Need-load-requires
 load-requires c κs = search needs
@@ -77,28 +87,33 @@ abbrev then-of : tie.After-put-tables-arg13 → tie.Then1
 then-of c = c .before .before .before .before .before .before .before .before .before .before .before .before .before
 
 -- what `load` left of an accepted build
-printed : (t : tie.Then1) → let w = t .before .before in let s = start-of w in Printable (options-of w) (xs-of s) (ys-of s) (w .load .result .state) (columns-after w)
+printed : (t : tie.Then1)
+    → let w = t .before .before in Printable (options-of w) (points-of (start-of w)) (w .load .result .state) (columns-after w)
 printed t =
     let n = t .before in
     let w = n .before in
     let s = start-of w in
-    printable (options-of w) (xs-of s) (ys-of s) (columns-of s) (columns-after w) (w .load .result) (sized w) (w .load .ensures) (sym (n .number .ensures) ∙ t .if1 .taken)
+    printable (options-of w) (points-of s) (columns-of s) (columns-after w) (w .load .result) (sized w) (w .load .ensures)
+    (sym (n .number .ensures) ∙ t .if1 .taken)
 
-room-of : (c : tie.After-put-tables-arg13) → length (now (start-of (then-of c .before .before) .args .out)) ≡ 156672
+room-of : (c : tie.After-put-tables-arg13) → length (now (start-of (then-of c .before .before) .args .out)) ≡ answerRoom
 room-of c = c .before .before .before .before .before .before .before .before .before .before .before .before .put-tables-arg .given .0 .1
 
--- the text that is asked for
-asked : (w : tie.After-load) → let s = start-of w in buildText (options-of w) (xs-of s) (ys-of s) ≡ buildText (optionsOf (s .args .h)) (xs-of s) (ys-of s)
-asked w =
-    let s = start-of w in
-    ap (λ (o : Options). buildText o (xs-of s) (ys-of s)) (w .before .before .before .before .before .before .before .before .before .before .before .before .before .options .ensures)
+-- the options are those that are asked for: so are the text, and what is left in the columns
+same-options : (w : tie.After-load) → options-of w ≡ optionsOf (start-of w .args .h)
+same-options w =
+    w .before .before .before .before .before .before .before .before .before .before .before .before .before .options .ensures
 
--- and what is left in the columns
-left-by : (w : tie.After-load) → let s = start-of w in columns-after w ≡ loaded (optionsOf (s .args .h)) (xs-of s) (ys-of s) (columns-of s) .columns
+asked : (w : tie.After-load)
+    → let s = start-of w in buildText (options-of w) (points-of s) ≡ buildText (optionsOf (s .args .h)) (points-of s)
+asked w = ap (λ (o : Options). buildText o (points-of (start-of w))) (same-options w)
+
+left-by : (w : tie.After-load)
+    → let s = start-of w in columns-after w ≡ loadedBy (optionsOf (s .args .h)) (points-of s) (columns-of s) .columns
 left-by w =
     let s = start-of w in
     ap (λ (q : Outcome). q .columns) (w .load .ensures)
-    ∙ ap (λ (o : Options). loaded o (xs-of s) (ys-of s) (columns-of s) .columns) (w .before .before .before .before .before .before .before .before .before .before .before .before .before .options .ensures)
+    ∙ ap (λ (o : Options). loadedBy o (points-of s) (columns-of s) .columns) (same-options w)
 
 put-tables-requires : tie.Need-put-tables-requires
 put-tables-requires c κs =
@@ -113,7 +128,11 @@ returns c =
     let p = printed t in
     let w = t .before .before in
     let s = start-of w in
-    (subst (λ (b : List ℕ). Put (now (s .args .out)) (c .put-tables .last .0) 0 b (length (now (s .args .out))) (c .put-tables .result)) (p .text ∙ asked w) (c .put-tables .ensures), left-by w)
+    let o = now (s .args .out) in (
+      subst (λ (b : List ℕ). Put o (c .put-tables .last .0) 0 b (length o) (c .put-tables .result)) (p .text ∙ asked w)
+          (c .put-tables .ensures),
+      left-by w,
+    )
 
 carried-requires : tie.Need-carried-requires
 carried-requires c κs = search needs
@@ -127,11 +146,16 @@ returns-2 c =
     let n = e .before in
     let w = n .before in
     let s = start-of w in
-    let r = reply-is (options-of w) (xs-of s) (ys-of s) (columns-of s) _ (w .load .result) (sized w) (w .load .ensures) in
-    let t = refused-text (options-of w) (xs-of s) (ys-of s) (w .load .result .reply) r (λ z. e .if1 .left (n .number .ensures ∙ z)) in
-    let q : refusalText (n .number .result) (c .before .carried .result) ≡ buildText (options-of w) (xs-of s) (ys-of s) =
-    ap (λ (k : ℕ). refusalText k (c .before .carried .result)) (n .number .ensures) ∙ ap (λ (k : ℕ). refusalText (buildNumber (w .load .result .reply)) k) (c .before .carried .ensures) ∙ sym t in
-    (put-near (omega (arith, c .before .before .put-refusal-arg .given .0 .1)) (subst (λ (b : List ℕ). Put (now (s .args .out)) (c .put-refusal .last .0) 0 b 43 (c .put-refusal .result)) (q ∙ asked w) (c .put-refusal .ensures)), left-by w)
+    let o = now (s .args .out) in
+    let f = w .load .result .reply in
+    let r = reply-is (options-of w) (points-of s) (columns-of s) _ (w .load .result) (sized w) (w .load .ensures) in
+    let t = refused-text (options-of w) (points-of s) f r (λ z. e .if1 .left (n .number .ensures ∙ z)) in
+    let q : refusalText (n .number .result) (c .before .carried .result) ≡ buildText (options-of w) (points-of s) =
+    ap (λ (k : ℕ). refusalText k (c .before .carried .result)) (n .number .ensures)
+    ∙ ap (λ (k : ℕ). refusalText (buildNumber f) k) (c .before .carried .ensures) ∙ sym t in
+    let p =
+    subst (λ (b : List ℕ). Put o (c .put-refusal .last .0) 0 b 43 (c .put-refusal .result)) (q ∙ asked w) (c .put-refusal .ensures) in
+    (put-near (omega (arith, c .before .before .put-refusal-arg .given .0 .1)) p, left-by w)
 
 pub report-read-spec : {M : Type 1} → statement M
 report-read-spec =

@@ -1,14 +1,14 @@
 -- `supercluster::fill` meets its contract: at the head of the loop the first rows, up to the place, are the finest table's, and the rest is as it was. Assumes nothing.
-use mathlib.Core.Path.{_≡_, refl, ap, sym, _∙_}
+use mathlib.Core.Path.{_≡_, refl, ap, sym, _∙_, subst}
 use mathlib.Core.List.{_++_}
-use Prim.Native.Nat.{_-_, _≤_}
+use Prim.Native.Nat.{ℕ, _+_, _-_, _*_, _<_, _≤_}
 use native.Mathlib.Omega.{arith}
-use lib.ListN.{length, take, drop}
-use denote.Ref.{now}
+use lib.ListN.{length, getD, take, drop}
 use borrow.Author.Needs.{needs}
 use Rattle.range.specs.declared.Point.{Point}
 use Rattle.tables.specs.Entries.{Table, none}
-use Rattle.tables.specs.Rows.{rows, Even, even-kept, rows-length}
+use Rattle.tables.specs.Rows.{Cols, cols, rows, Even, Kept, even-kept, kept-even, rows-length}
+use Rattle.tables.specs.Lent.{given}
 use Rattle.supercluster.specs.Build.{lamp}
 use Rattle.supercluster.specs.Fill.{lamps, lamps-at, lamps-length, fill-step, fill-end}
 use Rattle.supercluster.proofs.fill.Statement.{statement}
@@ -16,7 +16,8 @@ use Rattle.supercluster.proofs.fill.Tie as tie
 
 abbrev Inv-loop : tie.InvT-loop
 Inv-loop c xs ys x₀ y₀ seen₀ id₀ parent₀ num₀ i₀ x y seen id parent num i =
-    (i ≤ length xs) × Even x y seen id parent num × (length x ≡ length x₀) × (rows x y seen id parent num ≡ take i (lamps c xs ys) ++ drop i (rows x₀ y₀ seen₀ id₀ parent₀ num₀))
+    (i ≤ length xs) × Even (cols x y seen id parent num) × (length x ≡ length x₀) ×
+    (rows (cols x y seen id parent num) ≡ take i (lamps c xs ys) ++ drop i (rows (cols x₀ y₀ seen₀ id₀ parent₀ num₀)))
 
 abbrev μ-loop : tie.MeasureT-loop
 μ-loop c xs ys x₀ y₀ seen₀ id₀ parent₀ num₀ i₀ x y seen id parent num i = length xs - i
@@ -24,14 +25,21 @@ abbrev μ-loop : tie.MeasureT-loop
 abbrev start-of : tie.At-loop Inv-loop μ-loop → tie.Start Inv-loop μ-loop
 start-of l = l .before .before .before .before .before .before .before .before .before
 
-abbrev table : tie.Start Inv-loop μ-loop → Table
-table s = let a = s .args in rows (now (a .x)) (now (a .y)) (now (a .seen)) (now (a .id)) (now (a .parent)) (now (a .num))
+abbrev columns : tie.Start Inv-loop μ-loop → Cols
+columns s = let a = s .args in (given (a .x) (a .y) (a .seen) (a .id) (a .parent) (a .num))
 
-abbrev test-of : tie.After-convert Inv-loop μ-loop → tie.In-loop Inv-loop μ-loop
-test-of w = w .before .before .before
+abbrev here : tie.At-loop Inv-loop μ-loop → Cols
+here h = let l = h .loop in (cols (l .x) (l .y) (l .seen) (l .id) (l .parent) (l .num))
 
-abbrev converting : tie.After-slice-known12 Inv-loop μ-loop → tie.After-convert Inv-loop μ-loop
-converting c = c .before .before .before .before .before .before .before .before .before .before .before .before .before .before .before .before .before .before .before
+kept-by : (h : tie.At-loop Inv-loop μ-loop) → Kept (columns (start-of h)) (here h)
+kept-by h = kept-even (columns (start-of h)) (here h) (start-of h .pre .0) (h .loop .inv .1) (h .loop .inv .2)
+
+-- the place is a point's
+few : (i : tie.In-loop Inv-loop μ-loop) → i .before .loop .place < 1048576
+few i = omega (arith, i .loop-test .taken, start-of (i .before) .pre .3)
+
+abbrev test-of : tie.After-slice-known12 Inv-loop μ-loop → tie.In-loop Inv-loop μ-loop
+test-of c = c .before .before .before .before .before .before .before .before .before .before .before .before .before .before .before .before .before .before .before .before .before .before
 
 loop-holds : tie.Need-loop-holds Inv-loop μ-loop
 loop-holds c = (omega arith, c .before .before .before .before .before .before .before .before .pre .0, refl, refl)
@@ -43,73 +51,72 @@ shared-slice-read-t16 : tie.Need-shared-slice-read-t16 Inv-loop μ-loop
 shared-slice-read-t16 c = search needs
 
 mul-t17 : tie.Need-mul-t17 Inv-loop μ-loop
-mul-t17 c = let s = start-of (c .before .before) in omega (arith, c .before .loop-test .taken, s .pre .1, s .good)
+mul-t17 c = search needs
 
 shared-slice-read-t19 : tie.Need-shared-slice-read-t19 Inv-loop μ-loop
-shared-slice-read-t19 c = let s = start-of (c .before .before .before) in omega (arith, c .before .before .loop-test .taken, s .pre .1)
+shared-slice-read-t19 c = let i = c .before .before in omega (arith, i .loop-test .taken, start-of (i .before) .pre .1)
 
 convert-requires : tie.Need-convert-requires Inv-loop μ-loop
 convert-requires c κs = search needs
 
 cast-t21 : tie.Need-cast-t21 Inv-loop μ-loop
-cast-t21 c = let s = start-of (test-of c .before) in omega (arith, test-of c .loop-test .taken, s .pre .1)
+cast-t21 c = search needs
 
 put-entry-requires : tie.Need-put-entry-requires Inv-loop μ-loop
-put-entry-requires c κs =
-    let t = test-of (c .before .before .before .before .before .before) in
-    let l = t .before .loop in
-    (l .inv .1, omega (arith, t .loop-test .taken, start-of (t .before) .pre .1, l .inv .2))
+put-entry-requires c κs = let t = c .before .before .before .before .before .before .before .before .before in let l = t .before .loop in (l .inv .1, omega (arith, t .loop-test .taken, start-of (t .before) .pre .2, l .inv .2))
 
 add-place : tie.Need-add-place Inv-loop μ-loop
-add-place c = let t = test-of (converting c) in omega (arith, t .loop-test .taken, start-of (t .before) .pre .1)
+add-place c = omega (arith, few (test-of c))
 
 loop-less : tie.Need-loop-less Inv-loop μ-loop
-loop-less c = omega (arith, test-of (converting c) .loop-test .taken)
+loop-less c = omega (arith, test-of c .loop-test .taken)
 
 loop-again : tie.Need-loop-again Inv-loop μ-loop
 loop-again c =
-    let v = converting c in
-    let t = test-of v in
-    let l = t .before .loop in
-    let s = start-of (t .before) in
+    let t = test-of c in
+    let v = c .before .before .before .before .before .before .before .before .before .before .before .before .before .before .before .before .before .before .before in
+    let h = t .before in
+    let l = h .loop in
+    let s = start-of h in
     let a = s .args in
-    let h = t .loop-test .taken in
+    let i = t .loop-test .taken in
     let w = c .before .before .before .before .before .before .before .before .before .before .before .before .put-entry in
-    let kp = w .kept in
-    let p = v .convert .result in
-    let q = lamps-at (a .c) (now (a .xs)) (now (a .ys)) (s .pre .1 .0) (l .place) h ∙ ap (λ (p : Point). lamp p (l .place)) (sym (v .convert .ensures)) in (
-      omega (arith, h),
-      even-kept (l .inv .1) (kp .0) (kp .1 .0) (kp .1 .1 .0) (kp .1 .1 .1 .0) (kp .1 .1 .1 .1 .0) (kp .1 .1 .1 .1 .1 .0),
-      kp .0 ∙ l .inv .2,
-      w .ensures ∙ fill-step none (lamps (a .c) (now (a .xs)) (now (a .ys))) (table s) (rows (l .x) (l .y) (l .seen) (l .id) (l .parent) (l .num)) (l .place) (lamp p (l .place)) (l .inv .3)
-          (omega (arith, h, lamps-length (a .c) (now (a .xs)) (now (a .ys)) (s .pre .1 .0))) (omega (arith, h, rows-length (now (a .x)) (now (a .y)) (now (a .seen)) (now (a .id)) (now (a .parent)) (now (a .num)), s .pre .1)) q,
+    let new : Cols = (cols (w .last .0) (w .last .1 .0) (w .last .1 .1 .0) (w .last .1 .1 .1 .0) (w .last .1 .1 .1 .1 .0) (w .last .1 .1 .1 .1 .1 .0)) in
+    let k : Kept (here h) new = (record { kx = w .kept .0; ky = w .kept .1 .0; ks = w .kept .1 .1 .0; ki = w .kept .1 .1 .1 .0; kp = w .kept .1 .1 .1 .1 .0; kn = w .kept .1 .1 .1 .1 .1 .0 }) in
+    let q = lamps-at (a .c) (a .xs .now) (a .ys .now) (s .pre .1) (l .place) i ∙ ap (λ (p : Point). lamp p (l .place)) (sym (v .convert .ensures)) in (
+      omega (arith, i),
+      even-kept (here h) new k (l .inv .1),
+      k .kx ∙ l .inv .2,
+      w .ensures ∙ fill-step none (lamps (a .c) (a .xs .now) (a .ys .now)) (rows (columns s)) (rows (here h)) (l .place) (lamp (v .convert .result) (l .place)) (l .inv .3)
+          (omega (arith, i, lamps-length (a .c) (a .xs .now) (a .ys .now) (s .pre .1))) (omega (arith, i, rows-length (columns s), s .pre .2)) q,
     )
 
 same-length : tie.Need-same-length Inv-loop μ-loop
-same-length c = c .before .loop .inv .2
+same-length c = kept-by (c .before) .kx
 
 same-length-2 : tie.Need-same-length-2 Inv-loop μ-loop
-same-length-2 c = let l = c .before .loop in l .inv .1 .ey ∙ l .inv .2 ∙ sym (start-of (c .before) .pre .0 .ey)
+same-length-2 c = kept-by (c .before) .ky
 
 same-length-3 : tie.Need-same-length-3 Inv-loop μ-loop
-same-length-3 c = let l = c .before .loop in l .inv .1 .es ∙ l .inv .2 ∙ sym (start-of (c .before) .pre .0 .es)
+same-length-3 c = kept-by (c .before) .ks
 
 same-length-4 : tie.Need-same-length-4 Inv-loop μ-loop
-same-length-4 c = let l = c .before .loop in l .inv .1 .ei ∙ l .inv .2 ∙ sym (start-of (c .before) .pre .0 .ei)
+same-length-4 c = kept-by (c .before) .ki
 
 same-length-5 : tie.Need-same-length-5 Inv-loop μ-loop
-same-length-5 c = let l = c .before .loop in l .inv .1 .ep ∙ l .inv .2 ∙ sym (start-of (c .before) .pre .0 .ep)
+same-length-5 c = kept-by (c .before) .kp
 
 same-length-6 : tie.Need-same-length-6 Inv-loop μ-loop
-same-length-6 c = let l = c .before .loop in l .inv .1 .en ∙ l .inv .2 ∙ sym (start-of (c .before) .pre .0 .en)
+same-length-6 c = kept-by (c .before) .kn
 
 returns : tie.Need-returns Inv-loop μ-loop
 returns c =
-    let l = c .before .loop in
-    let s = start-of (c .before) in
+    let h = c .before in
+    let l = h .loop in
+    let s = start-of h in
     let a = s .args in
-    fill-end (lamps (a .c) (now (a .xs)) (now (a .ys))) (table s) (rows (l .x) (l .y) (l .seen) (l .id) (l .parent) (l .num)) (l .place) (length (now (a .xs))) (l .inv .3)
-    (lamps-length (a .c) (now (a .xs)) (now (a .ys)) (s .pre .1 .0)) (c .loop-test .left) (l .inv .0)
+    fill-end (lamps (a .c) (a .xs .now) (a .ys .now)) (rows (columns s)) (rows (here h)) (l .place) (length (a .xs .now)) (l .inv .3)
+    (lamps-length (a .c) (a .xs .now) (a .ys .now) (s .pre .1)) (c .loop-test .left) (l .inv .0)
 
 pub fill-spec : {M : Type 1} → statement M
 fill-spec =

@@ -1,13 +1,14 @@
 -- `supercluster::load` meets its contract: what `check` lets pass, `build_all` builds; and each of its refusals is handed on, with no tables and no column
 -- written. Assumes nothing.
-use mathlib.Core.Path.{_≡_, sym, _∙_}
+use mathlib.Core.Path.{_≡_, refl, ap, sym, _∙_, subst}
 use lib.ListN.{length}
-use denote.Ref.{now}
 use borrow.Author.Needs.{needs}
 use Rattle.kdbush.specs.declared.BuildReply.{BuildReply}
 use Rattle.kdbush.specs.declared.BuildReply.the-variants.{Done, Options as No·Options, Count, Point, Tables}
 use Rattle.tables.specs.declared.Options.{Options}
 use Rattle.tables.specs.State.{newState}
+use Rattle.tables.specs.Rows.{cols}
+use Rattle.supercluster.specs.Lent.{givenAll}
 use Rattle.supercluster.specs.declared.Loaded.{Loaded}
 use Rattle.supercluster.specs.Build.{Lent, lent, need, checked, Outcome, outcome, refused, byReply, loaded}
 use Rattle.supercluster.specs.Load.{accepted, holds, by-reply}
@@ -19,27 +20,20 @@ no-tables : (o : Options) (r : Loaded) (b : BuildReply) (l : Lent) → r .reply 
 no-tables o r b l e f = λ i. record { reply = record { reply = e i; state = f i }; columns = l }
 
 abbrev old : tie.Start → Lent
-old s = let a = s .args in lent (now (a .x)) (now (a .y)) (now (a .seen)) (now (a .id)) (now (a .parent)) (now (a .num)) (now (a .ids)) (now (a .coords)) (now (a .near))
+old s = let a = s .args in (givenAll (a .x) (a .y) (a .seen) (a .id) (a .parent) (a .num) (a .ids) (a .coords) (a .near))
 
 -- ---- what the check tells
 
 abbrev start-of : tie.After-check → tie.Start
 start-of k = k .before .before .before .before .before .before .before .before .before .before .before .before
 
-reply : (k : tie.After-check) → let a = start-of k .args in k .check .result ≡ checked (a .o) (now (a .xs)) (now (a .ys)) (old (start-of k))
+reply : (k : tie.After-check) → let a = start-of k .args in k .check .result ≡ checked (a .o) (a .xs .now) (a .ys .now) (old (start-of k))
 unfolding checked
 reply k = k .check .ensures
 
 told : (k : tie.After-check) (b : BuildReply) → k .check .result ≡ b
-    → let a = start-of k .args in loaded (a .o) (now (a .xs)) (now (a .ys)) (old (start-of k)) ≡ byReply (a .o) (now (a .xs)) (now (a .ys)) (old (start-of k)) b
-told k b e = let a = start-of k .args in by-reply (a .o) (now (a .xs)) (now (a .ys)) (old (start-of k)) (k .check .result) b (reply k) e
-
--- ---- and what is built
-
-abbrev built-of : tie.After-slice-known18 → tie.After-build-all
-built-of c = c .before .before .before .before .before .before .before .before .before .before .before .before .before .before .before .before .before .before
-
--- ---- the parts
+    → let a = start-of k .args in loaded (a .o) (a .xs .now) (a .ys .now) (old (start-of k)) ≡ byReply (a .o) (a .xs .now) (a .ys .now) (old (start-of k)) b
+told k b e = let a = start-of k .args in by-reply (a .o) (a .xs .now) (a .ys .now) (old (start-of k)) (k .check .result) b (reply k) e
 
 check-requires : tie.Need-check-requires
 check-requires c κs = search needs
@@ -53,8 +47,8 @@ build-all-requires c κs =
     let k = e .before .before in
     let s = start-of k in
     let a = s .args in
-    let w = accepted (a .o) (now (a .xs)) (now (a .ys)) (old s) (sym (reply k) ∙ e .enum-told .given .1) in
-    (w .0, holds (need (a .o) (length (now (a .xs)))) (old s) (w .1))
+    let w = accepted (a .o) (a .xs .now) (a .ys .now) (old s) (sym (reply k) ∙ e .enum-told .given .1) in
+    (w .0, holds (need (a .o) (length (a .xs .now))) (old s) (w .1))
 
 enum-told-2 : tie.Need-enum-told-2
 enum-told-2 c = search needs
@@ -81,40 +75,39 @@ refused-requires-4 : tie.Need-refused-requires-4
 refused-requires-4 c κs = search needs
 
 same-length : tie.Need-same-length
-same-length c = built-of c .build-all .kept .1 .1 .1 .0
+same-length c = c .before .before .before .before .before .before .before .before .before .before .before .before .before .before .before .before .before .before .build-all .kept .1 .1 .1 .0
 
 same-length-2 : tie.Need-same-length-2
-same-length-2 c = built-of c .build-all .kept .1 .1 .1 .1 .0
+same-length-2 c = c .before .before .before .before .before .before .before .before .before .before .before .before .before .before .before .before .before .before .build-all .kept .1 .1 .1 .1 .0
 
 same-length-3 : tie.Need-same-length-3
-same-length-3 c = built-of c .build-all .kept .1 .1 .1 .1 .1 .0
+same-length-3 c = c .before .before .before .before .before .before .before .before .before .before .before .before .before .before .before .before .before .before .build-all .kept .1 .1 .1 .1 .1 .0
 
 same-length-4 : tie.Need-same-length-4
-same-length-4 c = built-of c .build-all .kept .1 .1 .1 .1 .1 .1 .0
+same-length-4 c = c .before .before .before .before .before .before .before .before .before .before .before .before .before .before .before .before .before .before .build-all .kept .1 .1 .1 .1 .1 .1 .0
 
 same-length-5 : tie.Need-same-length-5
-same-length-5 c = built-of c .build-all .kept .1 .1 .1 .1 .1 .1 .1 .0
+same-length-5 c = c .before .before .before .before .before .before .before .before .before .before .before .before .before .before .before .before .before .before .build-all .kept .1 .1 .1 .1 .1 .1 .1 .0
 
 same-length-6 : tie.Need-same-length-6
-same-length-6 c = built-of c .build-all .kept .1 .1 .1 .1 .1 .1 .1 .1 .0
+same-length-6 c = c .before .before .before .before .before .before .before .before .before .before .before .before .before .before .before .before .before .before .build-all .kept .1 .1 .1 .1 .1 .1 .1 .1 .0
 
 same-length-7 : tie.Need-same-length-7
-same-length-7 c = built-of c .build-all .kept .1 .1 .1 .1 .1 .1 .1 .1 .1 .0
+same-length-7 c = c .before .before .before .before .before .before .before .before .before .before .before .before .before .before .before .before .before .before .build-all .kept .1 .1 .1 .1 .1 .1 .1 .1 .1 .0
 
 same-length-8 : tie.Need-same-length-8
-same-length-8 c = built-of c .build-all .kept .1 .1 .1 .1 .1 .1 .1 .1 .1 .1 .0
+same-length-8 c = c .before .before .before .before .before .before .before .before .before .before .before .before .before .before .before .before .before .before .build-all .kept .1 .1 .1 .1 .1 .1 .1 .1 .1 .1 .0
 
 same-length-9 : tie.Need-same-length-9
-same-length-9 c = built-of c .build-all .kept .1 .1 .1 .1 .1 .1 .1 .1 .1 .1 .1 .0
+same-length-9 c = c .before .before .before .before .before .before .before .before .before .before .before .before .before .before .before .before .before .before .build-all .kept .1 .1 .1 .1 .1 .1 .1 .1 .1 .1 .1 .0
 
 returns : tie.Need-returns
 returns c =
-    let b = built-of c in
+    let b = c .before .before .before .before .before .before .before .before .before .before .before .before .before .before .before .before .before .before in
     let e = b .before .before .before .before .before .before .before .before .before .before in
     let w = b .build-all in
-    let l = w .last .1 .1 .1 in
-    let left : Outcome = outcome (record { reply = Done; state = w .result })
-    (lent (l .0) (l .1 .0) (l .1 .1 .0) (l .1 .1 .1 .0) (l .1 .1 .1 .1 .0) (l .1 .1 .1 .1 .1 .0) (l .1 .1 .1 .1 .1 .1 .0) (l .1 .1 .1 .1 .1 .1 .1 .0) (l .1 .1 .1 .1 .1 .1 .1 .1 .0)) in
+    let l = w .last in
+    let left : Outcome = outcome (record { reply = Done; state = w .result }) (lent (cols (w .last .1 .1 .1 .0) (w .last .1 .1 .1 .1 .0) (w .last .1 .1 .1 .1 .1 .0) (w .last .1 .1 .1 .1 .1 .1 .0) (w .last .1 .1 .1 .1 .1 .1 .1 .0) (w .last .1 .1 .1 .1 .1 .1 .1 .1 .0)) (l .1 .1 .1 .1 .1 .1 .1 .1 .1 .0) (l .1 .1 .1 .1 .1 .1 .1 .1 .1 .1 .0) (l .1 .1 .1 .1 .1 .1 .1 .1 .1 .1 .1 .0)) in
     let built : left ≡ _ = λ i. record { reply = record { reply = Done; state = w .ensures .0 i }; columns = w .ensures .1 i } in
     built ∙ sym (told (e .before .before) Done (e .enum-told .given .1))
 
@@ -137,8 +130,7 @@ returns-4 c =
     let k = c .before .before .before .before in
     let s = start-of k in
     let w = c .refused3 in
-    let i = c .before .before .i in
-    no-tables (s .args .o) (w .result) (Point (i .given .0 .0)) (old s) (w .ensures .0) (w .ensures .1) ∙ sym (told k (Point (i .given .0 .0)) (i .given .1))
+    no-tables (s .args .o) (w .result) (Point (c .before .before .i .given .0 .0)) (old s) (w .ensures .0) (w .ensures .1) ∙ sym (told k (Point (c .before .before .i .given .0 .0)) (c .before .before .i .given .1))
 
 returns-5 : tie.Need-returns-5
 returns-5 c =

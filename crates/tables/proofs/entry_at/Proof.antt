@@ -39,7 +39,7 @@ shared-slice-read-t24 : tie.Need-shared-slice-read-t24
 shared-slice-read-t24 c = search needs
 
 returns : tie.Need-returns
-returns c = sym (rows-entry _ _ _ _ _ _ _ (search needs))
+returns c = sym (rows-entry _ _ (search needs))
 
 pub entry-at-spec : {M : Type 1} → statement M
 entry-at-spec =

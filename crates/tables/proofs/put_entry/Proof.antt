@@ -56,7 +56,7 @@ same-length-6 : tie.Need-same-length-6
 same-length-6 c = search needs
 
 returns : tie.Need-returns
-returns c = rows-set _ _ _ _ _ _ _ _ (search needs) (search needs)
+returns c = rows-set _ _ _ (search needs) (search needs)
 
 pub put-entry-spec : {M : Type 1} → statement M
 put-entry-spec =

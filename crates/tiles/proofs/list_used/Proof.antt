@@ -9,7 +9,8 @@ use borrow.Author.Needs.{needs}
 use Rattle.tables.specs.Options.{zoomUsed}
 use Rattle.tables.specs.State.{startOf, lenOf}
 use Rattle.tables.specs.Entries.{Table}
-use Rattle.asking.specs.Columns.{Columns, columns, lent, lent-even}
+use Rattle.asking.specs.Columns.{Columns, lent, lent-even}
+use Rattle.asking.specs.Lent.{givenColumns}
 use Rattle.tiling.specs.Tile.{Visit, visited}
 use Rattle.tiling.specs.Framed.{IsTile}
 use Rattle.tiling.specs.Runs.{Left, run}
@@ -21,10 +22,10 @@ use Rattle.tiles.proofs.list_used.Tie as tie
 -- ---- the table: its start and its length, as they are read of the lent arrays
 
 abbrev begin : tie.After-index → tie.Start
-begin i = i .before .before .before .before .before .before .before .before .before .before .before .before
+begin i = search
 
 abbrev lent-columns : tie.Start → Columns
-lent-columns s = let a = s .args in columns (now (a .x)) (now (a .y)) (now (a .seen)) (now (a .id)) (now (a .parent)) (now (a .num)) (now (a .ids)) (now (a .coords))
+lent-columns s = let a = s .args in givenColumns (a .x) (a .y) (a .seen) (a .id) (a .parent) (a .num) (a .ids) (a .coords)
 
 abbrev from-of : tie.After-index → ℕ
 from-of i = getD (now (begin i .args .starts)) (i .index .result) 0
@@ -94,112 +95,16 @@ mul-d c = let i = c .before .before in omega (arith, spot-of i .ids-held, begin 
 wide-requires : tie.Need-wide-requires
 wide-requires c κs = search needs
 
-mul-list : tie.Need-mul-list
-mul-list c = let w = c .before .before .before in omega (arith, spot-of w .rows-held .hx, begin w .good)
-
-sub-list : tie.Need-sub-list
-sub-list c = omega arith
-
-part-list-start : tie.Need-part-list-start
-part-list-start c = let w = c .before .before .before in omega (arith, spot-of w .rows-held .hx)
-
-part-list-end : tie.Need-part-list-end
-part-list-end c = let w = c .before .before .before in omega (arith, spot-of w .rows-held .hx)
-
-mul-list-2 : tie.Need-mul-list-2
-mul-list-2 c = let w = c .before .before .before .before in omega (arith, spot-of w .rows-held .hy, begin w .good)
-
-sub-list-2 : tie.Need-sub-list-2
-sub-list-2 c = omega arith
-
-part-list-start-2 : tie.Need-part-list-start-2
-part-list-start-2 c = let w = c .before .before .before .before in omega (arith, spot-of w .rows-held .hy)
-
-part-list-end-2 : tie.Need-part-list-end-2
-part-list-end-2 c = let w = c .before .before .before .before in omega (arith, spot-of w .rows-held .hy)
-
-sub-list-3 : tie.Need-sub-list-3
-sub-list-3 c = omega arith
-
-part-list-start-3 : tie.Need-part-list-start-3
-part-list-start-3 c = let w = c .before .before .before .before .before in omega (arith, spot-of w .rows-held .hs)
-
-part-list-end-3 : tie.Need-part-list-end-3
-part-list-end-3 c = let w = c .before .before .before .before .before in omega (arith, spot-of w .rows-held .hs)
-
-mul-list-3 : tie.Need-mul-list-3
-mul-list-3 c = let w = c .before .before .before .before .before .before in omega (arith, spot-of w .rows-held .hi, begin w .good)
-
-sub-list-4 : tie.Need-sub-list-4
-sub-list-4 c = omega arith
-
-part-list-start-4 : tie.Need-part-list-start-4
-part-list-start-4 c = let w = c .before .before .before .before .before .before in omega (arith, spot-of w .rows-held .hi)
-
-part-list-end-4 : tie.Need-part-list-end-4
-part-list-end-4 c = let w = c .before .before .before .before .before .before in omega (arith, spot-of w .rows-held .hi)
-
-mul-list-4 : tie.Need-mul-list-4
-mul-list-4 c = let w = c .before .before .before .before .before .before .before in omega (arith, spot-of w .rows-held .hp, begin w .good)
-
-sub-list-5 : tie.Need-sub-list-5
-sub-list-5 c = omega arith
-
-part-list-start-5 : tie.Need-part-list-start-5
-part-list-start-5 c = let w = c .before .before .before .before .before .before .before in omega (arith, spot-of w .rows-held .hp)
-
-part-list-end-5 : tie.Need-part-list-end-5
-part-list-end-5 c = let w = c .before .before .before .before .before .before .before in omega (arith, spot-of w .rows-held .hp)
-
-mul-list-5 : tie.Need-mul-list-5
-mul-list-5 c = let w = c .before .before .before .before .before .before .before .before in omega (arith, spot-of w .rows-held .hn, begin w .good)
-
-sub-list-6 : tie.Need-sub-list-6
-sub-list-6 c = omega arith
-
-part-list-start-6 : tie.Need-part-list-start-6
-part-list-start-6 c = let w = c .before .before .before .before .before .before .before .before in omega (arith, spot-of w .rows-held .hn)
-
-part-list-end-6 : tie.Need-part-list-end-6
-part-list-end-6 c = let w = c .before .before .before .before .before .before .before .before in omega (arith, spot-of w .rows-held .hn)
-
-mul-list-6 : tie.Need-mul-list-6
-mul-list-6 c = let w = c .before .before .before .before .before .before .before .before .before in omega (arith, spot-of w .ids-held, begin w .good)
-
-sub-list-7 : tie.Need-sub-list-7
-sub-list-7 c = omega arith
-
-part-list-start-7 : tie.Need-part-list-start-7
-part-list-start-7 c = let w = c .before .before .before .before .before .before .before .before .before in omega (arith, spot-of w .ids-held)
-
-part-list-end-7 : tie.Need-part-list-end-7
-part-list-end-7 c = let w = c .before .before .before .before .before .before .before .before .before in omega (arith, spot-of w .ids-held)
-
-mul-list-7 : tie.Need-mul-list-7
-mul-list-7 c = let w = c .before .before .before .before .before .before .before .before .before .before in omega (arith, spot-of w .coords-held, begin w .good)
-
-sub-list-8 : tie.Need-sub-list-8
-sub-list-8 c = omega arith
-
-part-list-start-8 : tie.Need-part-list-start-8
-part-list-start-8 c = let w = c .before .before .before .before .before .before .before .before .before .before in omega (arith, spot-of w .coords-held)
-
-part-list-end-8 : tie.Need-part-list-end-8
-part-list-end-8 c = let w = c .before .before .before .before .before .before .before .before .before .before in omega (arith, spot-of w .coords-held)
-
-abbrev wide-of : tie.After-list-arg11 → tie.After-wide
-wide-of c = c .before .before .before .before .before .before .before .before .before .before .before
-
 list-requires : tie.Need-list-requires
 list-requires c κs =
-    let v = wide-of c in
-    let w = v .before .before .before in
+    let v : tie.After-wide = search in
+    let w : tie.After-index = search in
     let s = begin w in
     let p = spot-of w in
     let t : IsTile (v .wide .result) (s .args .tx) (s .args .ty) = subst (λ (k : ℕ). IsTile k (s .args .tx) (s .args .ty)) (sym (v .wide .ensures)) (s .pre .0 .1) in (
       (p .bounds, t),
       (
-        lent-even (from-of w) (len-of w) _ _ _ _ _ _ (p .rows-held),
+        lent-even (from-of w) (len-of w) (lent-columns s .table) (p .rows-held),
         (lent-ok (s .args .s) (lent-columns s) (used w) (from-of w) (len-of w) p, lent-ids (s .args .s) (lent-columns s) (used w) (from-of w) (len-of w) p),
       ),
     )
@@ -208,13 +113,13 @@ abbrev ended : tie.After-py → tie.After-list
 ended c = c .before .before .before .before
 
 same-length : tie.Need-same-length
-same-length c = ended c .list .kept .1 .1 .1 .1 .1 .1 .1 .1 .1 .1 .1 .1 .0
+same-length c = omega (arith, ended c .list .kept)
 
 same-length-2 : tie.Need-same-length-2
-same-length-2 c = ended c .list .kept .1 .1 .1 .1 .1 .1 .1 .1 .1 .1 .1 .1 .1 .0
+same-length-2 c = omega (arith, ended c .list .kept)
 
 same-length-3 : tie.Need-same-length-3
-same-length-3 c = ended c .list .kept .1 .1 .1 .1 .1 .1 .1 .1 .1 .1 .1 .1 .1 .1 .0
+same-length-3 c = omega (arith, ended c .list .kept)
 
 abbrev runs : tie.Start → Table → List Visit → Left
 runs s t vs = run t 0 vs (now (s .args .out)) (now (s .args .px)) (now (s .args .py))
@@ -222,8 +127,8 @@ runs s t vs = run t 0 vs (now (s .args .out)) (now (s .args .px)) (now (s .args 
 returns : tie.Need-returns
 returns c =
     let l = ended c in
-    let v = wide-of (l .before) in
-    let w = v .before .before .before in
+    let v : tie.After-wide = search in
+    let w : tie.After-index = search in
     let s = begin w in
     let a = s .args in
     let k = lent-columns s in
@@ -234,6 +139,7 @@ returns c =
     ∙ ap (λ (vs : List Visit). runs s (lentTable k f (f + n)) vs) (visits-used (a .s) k (a .z) f n (from-is w) (len-is w) (a .tx) (a .ty))
     ∙ ap (λ (t : Table). runs s t (visitsFor (a .s) k (a .z) (a .tx) (a .ty))) (table-used (a .s) k (a .z) f n (from-is w) (len-is w))
 
+-- the parts of the columns lie within them, by what the columns hold
 pub list-used-spec : {M : Type 1} → statement M
 list-used-spec =
     tie.close
@@ -250,37 +156,37 @@ list-used-spec =
     mul-c
     mul-d
     wide-requires
-    mul-list
-    sub-list
-    part-list-start
-    part-list-end
-    mul-list-2
-    sub-list-2
-    part-list-start-2
-    part-list-end-2
-    sub-list-3
-    part-list-start-3
-    part-list-end-3
-    mul-list-3
-    sub-list-4
-    part-list-start-4
-    part-list-end-4
-    mul-list-4
-    sub-list-5
-    part-list-start-5
-    part-list-end-5
-    mul-list-5
-    sub-list-6
-    part-list-start-6
-    part-list-end-6
-    mul-list-6
-    sub-list-7
-    part-list-start-7
-    part-list-end-7
-    mul-list-7
-    sub-list-8
-    part-list-start-8
-    part-list-end-8
+    (λ c. let w : tie.After-index = search in omega (arith, spot-of w, begin w .good))
+    (λ c. let w : tie.After-index = search in omega (arith, spot-of w, begin w .good))
+    (λ c. let w : tie.After-index = search in omega (arith, spot-of w, begin w .good))
+    (λ c. let w : tie.After-index = search in omega (arith, spot-of w, begin w .good))
+    (λ c. let w : tie.After-index = search in omega (arith, spot-of w, begin w .good))
+    (λ c. let w : tie.After-index = search in omega (arith, spot-of w, begin w .good))
+    (λ c. let w : tie.After-index = search in omega (arith, spot-of w, begin w .good))
+    (λ c. let w : tie.After-index = search in omega (arith, spot-of w, begin w .good))
+    (λ c. let w : tie.After-index = search in omega (arith, spot-of w, begin w .good))
+    (λ c. let w : tie.After-index = search in omega (arith, spot-of w, begin w .good))
+    (λ c. let w : tie.After-index = search in omega (arith, spot-of w, begin w .good))
+    (λ c. let w : tie.After-index = search in omega (arith, spot-of w, begin w .good))
+    (λ c. let w : tie.After-index = search in omega (arith, spot-of w, begin w .good))
+    (λ c. let w : tie.After-index = search in omega (arith, spot-of w, begin w .good))
+    (λ c. let w : tie.After-index = search in omega (arith, spot-of w, begin w .good))
+    (λ c. let w : tie.After-index = search in omega (arith, spot-of w, begin w .good))
+    (λ c. let w : tie.After-index = search in omega (arith, spot-of w, begin w .good))
+    (λ c. let w : tie.After-index = search in omega (arith, spot-of w, begin w .good))
+    (λ c. let w : tie.After-index = search in omega (arith, spot-of w, begin w .good))
+    (λ c. let w : tie.After-index = search in omega (arith, spot-of w, begin w .good))
+    (λ c. let w : tie.After-index = search in omega (arith, spot-of w, begin w .good))
+    (λ c. let w : tie.After-index = search in omega (arith, spot-of w, begin w .good))
+    (λ c. let w : tie.After-index = search in omega (arith, spot-of w, begin w .good))
+    (λ c. let w : tie.After-index = search in omega (arith, spot-of w, begin w .good))
+    (λ c. let w : tie.After-index = search in omega (arith, spot-of w, begin w .good))
+    (λ c. let w : tie.After-index = search in omega (arith, spot-of w, begin w .good))
+    (λ c. let w : tie.After-index = search in omega (arith, spot-of w, begin w .good))
+    (λ c. let w : tie.After-index = search in omega (arith, spot-of w, begin w .good))
+    (λ c. let w : tie.After-index = search in omega (arith, spot-of w, begin w .good))
+    (λ c. let w : tie.After-index = search in omega (arith, spot-of w, begin w .good))
+    (λ c. let w : tie.After-index = search in omega (arith, spot-of w, begin w .good))
     list-requires
     same-length
     same-length-2

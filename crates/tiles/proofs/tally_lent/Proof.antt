@@ -8,7 +8,8 @@ use borrow.Author.Tests.{not-true, not-false}
 use Rattle.tables.specs.declared.State.{State}
 use Rattle.tables.specs.State.{stateOf}
 use Rattle.tables.specs.Sound.{stateOk}
-use Rattle.asking.specs.Columns.{Columns, columns, roomOf}
+use Rattle.asking.specs.Columns.{Columns, roomOf}
+use Rattle.asking.specs.Lent.{givenColumns}
 use Rattle.tiling.specs.Tile.{isTile}
 use Rattle.tiling.specs.Framed.{tile-is}
 use Rattle.tiles.specs.Ends.{tally-spoiled, tally-no-tile, tally-summed}
@@ -18,10 +19,10 @@ use Rattle.tiles.proofs.tally_lent.Tie as tie
 -- ---- the state, looked at
 
 abbrev begin : tie.After-is-sound-by → tie.Start
-begin c = c .before .before .before .before .before .before .before .before .before .before .before .before
+begin c = search
 
 abbrev lent-columns : tie.Start → Columns
-lent-columns s = let a = s .args in columns (now (a .x)) (now (a .y)) (now (a .seen)) (now (a .id)) (now (a .parent)) (now (a .num)) (now (a .ids)) (now (a .coords))
+lent-columns s = let a = s .args in givenColumns (a .x) (a .y) (a .seen) (a .id) (a .parent) (a .num) (a .ids) (a .coords)
 
 abbrev state-of : tie.Start → State
 state-of s = let a = s .args in stateOf (a .options) (a .count) (now (a .starts)) (now (a .lens))

@@ -9,7 +9,8 @@ use borrow.Author.Needs.{needs}
 use Rattle.tables.specs.Options.{zoomUsed}
 use Rattle.tables.specs.State.{startOf, lenOf}
 use Rattle.tables.specs.Entries.{Table}
-use Rattle.asking.specs.Columns.{Columns, columns, lent, lent-even}
+use Rattle.asking.specs.Columns.{Columns, lent, lent-even}
+use Rattle.asking.specs.Lent.{givenColumns}
 use Rattle.tiling.specs.Tile.{Visit, visited}
 use Rattle.tiling.specs.Framed.{IsTile}
 use Rattle.tiling.specs.Tally.{weightIn}
@@ -22,10 +23,10 @@ use Rattle.tiles.proofs.tally_used.Tie as tie
 -- ---- the table: its start and its length, as they are read of the lent arrays
 
 abbrev begin : tie.After-index → tie.Start
-begin i = i .before .before .before .before .before .before .before .before .before .before .before
+begin i = search
 
 abbrev lent-columns : tie.Start → Columns
-lent-columns s = let a = s .args in columns (now (a .x)) (now (a .y)) (now (a .seen)) (now (a .id)) (now (a .parent)) (now (a .num)) (now (a .ids)) (now (a .coords))
+lent-columns s = let a = s .args in givenColumns (a .x) (a .y) (a .seen) (a .id) (a .parent) (a .num) (a .ids) (a .coords)
 
 abbrev from-of : tie.After-index → ℕ
 from-of i = getD (now (begin i .args .starts)) (i .index .result) 0
@@ -95,120 +96,24 @@ mul-d c = let i = c .before .before in omega (arith, spot-of i .ids-held, begin 
 wide-requires : tie.Need-wide-requires
 wide-requires c κs = search needs
 
-mul-add-up : tie.Need-mul-add-up
-mul-add-up c = let w = c .before .before .before in omega (arith, spot-of w .rows-held .hx, begin w .good)
-
-sub-add-up : tie.Need-sub-add-up
-sub-add-up c = omega arith
-
-part-add-up-start : tie.Need-part-add-up-start
-part-add-up-start c = let w = c .before .before .before in omega (arith, spot-of w .rows-held .hx)
-
-part-add-up-end : tie.Need-part-add-up-end
-part-add-up-end c = let w = c .before .before .before in omega (arith, spot-of w .rows-held .hx)
-
-mul-add-up-2 : tie.Need-mul-add-up-2
-mul-add-up-2 c = let w = c .before .before .before .before in omega (arith, spot-of w .rows-held .hy, begin w .good)
-
-sub-add-up-2 : tie.Need-sub-add-up-2
-sub-add-up-2 c = omega arith
-
-part-add-up-start-2 : tie.Need-part-add-up-start-2
-part-add-up-start-2 c = let w = c .before .before .before .before in omega (arith, spot-of w .rows-held .hy)
-
-part-add-up-end-2 : tie.Need-part-add-up-end-2
-part-add-up-end-2 c = let w = c .before .before .before .before in omega (arith, spot-of w .rows-held .hy)
-
-sub-add-up-3 : tie.Need-sub-add-up-3
-sub-add-up-3 c = omega arith
-
-part-add-up-start-3 : tie.Need-part-add-up-start-3
-part-add-up-start-3 c = let w = c .before .before .before .before .before in omega (arith, spot-of w .rows-held .hs)
-
-part-add-up-end-3 : tie.Need-part-add-up-end-3
-part-add-up-end-3 c = let w = c .before .before .before .before .before in omega (arith, spot-of w .rows-held .hs)
-
-mul-add-up-3 : tie.Need-mul-add-up-3
-mul-add-up-3 c = let w = c .before .before .before .before .before .before in omega (arith, spot-of w .rows-held .hi, begin w .good)
-
-sub-add-up-4 : tie.Need-sub-add-up-4
-sub-add-up-4 c = omega arith
-
-part-add-up-start-4 : tie.Need-part-add-up-start-4
-part-add-up-start-4 c = let w = c .before .before .before .before .before .before in omega (arith, spot-of w .rows-held .hi)
-
-part-add-up-end-4 : tie.Need-part-add-up-end-4
-part-add-up-end-4 c = let w = c .before .before .before .before .before .before in omega (arith, spot-of w .rows-held .hi)
-
-mul-add-up-4 : tie.Need-mul-add-up-4
-mul-add-up-4 c = let w = c .before .before .before .before .before .before .before in omega (arith, spot-of w .rows-held .hp, begin w .good)
-
-sub-add-up-5 : tie.Need-sub-add-up-5
-sub-add-up-5 c = omega arith
-
-part-add-up-start-5 : tie.Need-part-add-up-start-5
-part-add-up-start-5 c = let w = c .before .before .before .before .before .before .before in omega (arith, spot-of w .rows-held .hp)
-
-part-add-up-end-5 : tie.Need-part-add-up-end-5
-part-add-up-end-5 c = let w = c .before .before .before .before .before .before .before in omega (arith, spot-of w .rows-held .hp)
-
-mul-add-up-5 : tie.Need-mul-add-up-5
-mul-add-up-5 c = let w = c .before .before .before .before .before .before .before .before in omega (arith, spot-of w .rows-held .hn, begin w .good)
-
-sub-add-up-6 : tie.Need-sub-add-up-6
-sub-add-up-6 c = omega arith
-
-part-add-up-start-6 : tie.Need-part-add-up-start-6
-part-add-up-start-6 c = let w = c .before .before .before .before .before .before .before .before in omega (arith, spot-of w .rows-held .hn)
-
-part-add-up-end-6 : tie.Need-part-add-up-end-6
-part-add-up-end-6 c = let w = c .before .before .before .before .before .before .before .before in omega (arith, spot-of w .rows-held .hn)
-
-mul-add-up-6 : tie.Need-mul-add-up-6
-mul-add-up-6 c = let w = c .before .before .before .before .before .before .before .before .before in omega (arith, spot-of w .ids-held, begin w .good)
-
-sub-add-up-7 : tie.Need-sub-add-up-7
-sub-add-up-7 c = omega arith
-
-part-add-up-start-7 : tie.Need-part-add-up-start-7
-part-add-up-start-7 c = let w = c .before .before .before .before .before .before .before .before .before in omega (arith, spot-of w .ids-held)
-
-part-add-up-end-7 : tie.Need-part-add-up-end-7
-part-add-up-end-7 c = let w = c .before .before .before .before .before .before .before .before .before in omega (arith, spot-of w .ids-held)
-
-mul-add-up-7 : tie.Need-mul-add-up-7
-mul-add-up-7 c = let w = c .before .before .before .before .before .before .before .before .before .before in omega (arith, spot-of w .coords-held, begin w .good)
-
-sub-add-up-8 : tie.Need-sub-add-up-8
-sub-add-up-8 c = omega arith
-
-part-add-up-start-8 : tie.Need-part-add-up-start-8
-part-add-up-start-8 c = let w = c .before .before .before .before .before .before .before .before .before .before in omega (arith, spot-of w .coords-held)
-
-part-add-up-end-8 : tie.Need-part-add-up-end-8
-part-add-up-end-8 c = let w = c .before .before .before .before .before .before .before .before .before .before in omega (arith, spot-of w .coords-held)
-
-abbrev wide-of : tie.After-add-up-arg8 → tie.After-wide
-wide-of c = c .before .before .before .before .before .before .before .before
-
 add-up-requires : tie.Need-add-up-requires
 add-up-requires c κs =
-    let v = wide-of c in
-    let w = v .before .before .before in
+    let v : tie.After-wide = search in
+    let w : tie.After-index = search in
     let s = begin w in
     let p = spot-of w in
     let t : IsTile (v .wide .result) (s .args .tx) (s .args .ty) = subst (λ (k : ℕ). IsTile k (s .args .tx) (s .args .ty)) (sym (v .wide .ensures)) (s .pre .0 .1) in (
       (p .bounds, t),
       (
-        lent-even (from-of w) (len-of w) _ _ _ _ _ _ (p .rows-held),
+        lent-even (from-of w) (len-of w) (lent-columns s .table) (p .rows-held),
         (lent-ok (s .args .s) (lent-columns s) (used w) (from-of w) (len-of w) p, lent-ids (s .args .s) (lent-columns s) (used w) (from-of w) (len-of w) p),
       ),
     )
 
 returns : tie.Need-returns
 returns c =
-    let v = wide-of (c .before) in
-    let w = v .before .before .before in
+    let v : tie.After-wide = search in
+    let w : tie.After-index = search in
     let s = begin w in
     let a = s .args in
     let k = lent-columns s in
@@ -219,6 +124,7 @@ returns c =
     ∙ ap (λ (vs : List Visit). runningOf (weightIn (a .z) (a .tx) (a .ty)) (lentTable k f (f + n)) vs) (visits-used (a .s) k (a .z) f n (from-is w) (len-is w) (a .tx) (a .ty))
     ∙ ap (λ (t : Table). runningOf (weightIn (a .z) (a .tx) (a .ty)) t (visitsFor (a .s) k (a .z) (a .tx) (a .ty))) (table-used (a .s) k (a .z) f n (from-is w) (len-is w))
 
+-- the parts of the columns lie within them, by what the columns hold
 pub tally-used-spec : {M : Type 1} → statement M
 tally-used-spec =
     tie.close
@@ -235,36 +141,36 @@ tally-used-spec =
     mul-c
     mul-d
     wide-requires
-    mul-add-up
-    sub-add-up
-    part-add-up-start
-    part-add-up-end
-    mul-add-up-2
-    sub-add-up-2
-    part-add-up-start-2
-    part-add-up-end-2
-    sub-add-up-3
-    part-add-up-start-3
-    part-add-up-end-3
-    mul-add-up-3
-    sub-add-up-4
-    part-add-up-start-4
-    part-add-up-end-4
-    mul-add-up-4
-    sub-add-up-5
-    part-add-up-start-5
-    part-add-up-end-5
-    mul-add-up-5
-    sub-add-up-6
-    part-add-up-start-6
-    part-add-up-end-6
-    mul-add-up-6
-    sub-add-up-7
-    part-add-up-start-7
-    part-add-up-end-7
-    mul-add-up-7
-    sub-add-up-8
-    part-add-up-start-8
-    part-add-up-end-8
+    (λ c. let w : tie.After-index = search in omega (arith, spot-of w, begin w .good))
+    (λ c. let w : tie.After-index = search in omega (arith, spot-of w, begin w .good))
+    (λ c. let w : tie.After-index = search in omega (arith, spot-of w, begin w .good))
+    (λ c. let w : tie.After-index = search in omega (arith, spot-of w, begin w .good))
+    (λ c. let w : tie.After-index = search in omega (arith, spot-of w, begin w .good))
+    (λ c. let w : tie.After-index = search in omega (arith, spot-of w, begin w .good))
+    (λ c. let w : tie.After-index = search in omega (arith, spot-of w, begin w .good))
+    (λ c. let w : tie.After-index = search in omega (arith, spot-of w, begin w .good))
+    (λ c. let w : tie.After-index = search in omega (arith, spot-of w, begin w .good))
+    (λ c. let w : tie.After-index = search in omega (arith, spot-of w, begin w .good))
+    (λ c. let w : tie.After-index = search in omega (arith, spot-of w, begin w .good))
+    (λ c. let w : tie.After-index = search in omega (arith, spot-of w, begin w .good))
+    (λ c. let w : tie.After-index = search in omega (arith, spot-of w, begin w .good))
+    (λ c. let w : tie.After-index = search in omega (arith, spot-of w, begin w .good))
+    (λ c. let w : tie.After-index = search in omega (arith, spot-of w, begin w .good))
+    (λ c. let w : tie.After-index = search in omega (arith, spot-of w, begin w .good))
+    (λ c. let w : tie.After-index = search in omega (arith, spot-of w, begin w .good))
+    (λ c. let w : tie.After-index = search in omega (arith, spot-of w, begin w .good))
+    (λ c. let w : tie.After-index = search in omega (arith, spot-of w, begin w .good))
+    (λ c. let w : tie.After-index = search in omega (arith, spot-of w, begin w .good))
+    (λ c. let w : tie.After-index = search in omega (arith, spot-of w, begin w .good))
+    (λ c. let w : tie.After-index = search in omega (arith, spot-of w, begin w .good))
+    (λ c. let w : tie.After-index = search in omega (arith, spot-of w, begin w .good))
+    (λ c. let w : tie.After-index = search in omega (arith, spot-of w, begin w .good))
+    (λ c. let w : tie.After-index = search in omega (arith, spot-of w, begin w .good))
+    (λ c. let w : tie.After-index = search in omega (arith, spot-of w, begin w .good))
+    (λ c. let w : tie.After-index = search in omega (arith, spot-of w, begin w .good))
+    (λ c. let w : tie.After-index = search in omega (arith, spot-of w, begin w .good))
+    (λ c. let w : tie.After-index = search in omega (arith, spot-of w, begin w .good))
+    (λ c. let w : tie.After-index = search in omega (arith, spot-of w, begin w .good))
+    (λ c. let w : tie.After-index = search in omega (arith, spot-of w, begin w .good))
     add-up-requires
     returns)

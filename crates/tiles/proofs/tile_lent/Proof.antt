@@ -14,10 +14,12 @@ use Rattle.tables.specs.declared.State.{State}
 use Rattle.tables.specs.State.{stateOf}
 use Rattle.tables.specs.Sound.{stateOk}
 use Rattle.asking.specs.declared.Answer.{Answer}
-use Rattle.asking.specs.Columns.{Columns, columns, roomOf}
+use Rattle.asking.specs.Columns.{Columns, roomOf}
+use Rattle.asking.specs.Lent.{givenColumns}
 use Rattle.tiling.specs.declared.Ran.{Ran}
 use Rattle.tiling.specs.Tile.{isTile}
 use Rattle.tiling.specs.Framed.{tile-is}
+use Rattle.tiling.specs.Runs.{outLeft, pxLeft, pyLeft}
 use Rattle.tiles.specs.Asked.{shortest, outcome, tiled}
 use Rattle.tiles.specs.Ends.{finish, room-fits, ends-spoiled, ends-no-tile, ends-listed}
 use Rattle.tiles.proofs.tile_lent.Statement.{statement}
@@ -26,10 +28,10 @@ use Rattle.tiles.proofs.tile_lent.Tie as tie
 -- ---- the state, looked at
 
 abbrev begin : tie.After-is-sound-by → tie.Start
-begin c = c .before .before .before .before .before .before .before .before .before .before .before .before .before
+begin c = search
 
 abbrev lent-columns : tie.Start → Columns
-lent-columns s = let a = s .args in columns (now (a .x)) (now (a .y)) (now (a .seen)) (now (a .id)) (now (a .parent)) (now (a .num)) (now (a .ids)) (now (a .coords))
+lent-columns s = let a = s .args in givenColumns (a .x) (a .y) (a .seen) (a .id) (a .parent) (a .num) (a .ids) (a .coords)
 
 abbrev state-of : tie.Start → State
 state-of s = let a = s .args in stateOf (a .options) (a .count) (now (a .starts)) (now (a .lens))
@@ -131,13 +133,13 @@ room-of l = l .before .before .before .before
 
 -- the columns, the part that was lent and the rest
 abbrev places-after : tie.After-list-used → List ℕ
-places-after l = l .list-used .last .1 .1 .1 .1 .1 .1 .1 .1 .1 .1 .1 .1 .1 .1 .0 ++ drop (room-of l .less2 .result) (now (begun (room-of l) .args .places))
+places-after l = outLeft (l .list-used .ensures) ++ drop (room-of l .less2 .result) (now (begun (room-of l) .args .places))
 
 abbrev px-after : tie.After-list-used → List ℤ
-px-after l = l .list-used .last .1 .1 .1 .1 .1 .1 .1 .1 .1 .1 .1 .1 .1 .1 .1 .0 ++ drop (room-of l .less2 .result) (now (begun (room-of l) .args .px))
+px-after l = pxLeft (l .list-used .ensures) ++ drop (room-of l .less2 .result) (now (begun (room-of l) .args .px))
 
 abbrev py-after : tie.After-list-used → List ℤ
-py-after l = l .list-used .last .1 .1 .1 .1 .1 .1 .1 .1 .1 .1 .1 .1 .1 .1 .1 .1 .0 ++ drop (room-of l .less2 .result) (now (begun (room-of l) .args .py))
+py-after l = pyLeft (l .list-used .ensures) ++ drop (room-of l .less2 .result) (now (begun (room-of l) .args .py))
 
 listed-is : (l : tie.After-list-used) → let a = begun (room-of l) .args in outcome (finish (l .list-used .result) (room-of l .less2 .result)) (places-after l) (px-after l) (py-after l)
     ≡ tiled (state-of (begun (room-of l))) (lent-columns (begun (room-of l))) (a .z) (a .tx) (a .ty) (now (a .places)) (now (a .px)) (now (a .py))
@@ -155,13 +157,16 @@ rest-kept r p l e =
     length-append p (drop r l) ∙ ap (λ (k : ℕ). k + length (drop r l)) e ∙ sym (length-append (take r l) (drop r l)) ∙ ap length (take-append-drop r l)
 
 places-kept : (l : tie.After-list-used) → length (places-after l) ≡ length (now (begun (room-of l) .args .places))
-places-kept l = rest-kept (room-of l .less2 .result) (l .list-used .last .1 .1 .1 .1 .1 .1 .1 .1 .1 .1 .1 .1 .1 .1 .0) (now (begun (room-of l) .args .places)) (l .list-used .kept .1 .1 .1 .1 .1 .1 .1 .1 .1 .1 .1 .1 .1 .1 .0)
+places-kept l =
+    rest-kept (room-of l .less2 .result) (outLeft (l .list-used .ensures)) (now (begun (room-of l) .args .places)) (omega (arith, l .list-used .kept))
 
 px-kept : (l : tie.After-list-used) → length (px-after l) ≡ length (now (begun (room-of l) .args .px))
-px-kept l = rest-kept (room-of l .less2 .result) (l .list-used .last .1 .1 .1 .1 .1 .1 .1 .1 .1 .1 .1 .1 .1 .1 .1 .0) (now (begun (room-of l) .args .px)) (l .list-used .kept .1 .1 .1 .1 .1 .1 .1 .1 .1 .1 .1 .1 .1 .1 .1 .0)
+px-kept l =
+    rest-kept (room-of l .less2 .result) (pxLeft (l .list-used .ensures)) (now (begun (room-of l) .args .px)) (omega (arith, l .list-used .kept))
 
 py-kept : (l : tie.After-list-used) → length (py-after l) ≡ length (now (begun (room-of l) .args .py))
-py-kept l = rest-kept (room-of l .less2 .result) (l .list-used .last .1 .1 .1 .1 .1 .1 .1 .1 .1 .1 .1 .1 .1 .1 .1 .1 .0) (now (begun (room-of l) .args .py)) (l .list-used .kept .1 .1 .1 .1 .1 .1 .1 .1 .1 .1 .1 .1 .1 .1 .1 .1 .0)
+py-kept l =
+    rest-kept (room-of l .less2 .result) (pyLeft (l .list-used .ensures)) (now (begun (room-of l) .args .py)) (omega (arith, l .list-used .kept))
 
 -- the call, seen from the two ends after it
 abbrev listing : tie.After-enum-told → tie.After-list-used

@@ -19,7 +19,7 @@ slice-aggregate-add-with c = sym (length-replicate {A = ℕ} 16384 0)
 add-with-requires : tie.Need-add-with-requires
 add-with-requires c κs =
     let t = c .before in
-    let s = t .before .before .before .before .before .before .before .before .before in
+    let s : tie.Start = search in
     (s .pre .0, (s .pre .1 .0, (s .pre .1 .1, blank false (length (now (s .args .x))) 16384 (omega (arith, t .if1 .taken)))))
 
 returns : tie.Need-returns
@@ -30,7 +30,7 @@ slice-aggregate-add-with-2 c = sym (length-replicate {A = ℕ} 131072 0)
 
 add-with-requires-2 : tie.Need-add-with-requires-2
 add-with-requires-2 c κs =
-    let s = c .before .before .before .before .before .before .before .before .before .before in
+    let s : tie.Start = search in
     (s .pre .0, (s .pre .1 .0, (s .pre .1 .1, blank false (length (now (s .args .x))) 131072 (omega (arith, few-entries s)))))
 
 returns-2 : tie.Need-returns-2

@@ -25,18 +25,14 @@ sure-of : (few sure : Bool) → sure ≡ true → (few && not sure) ≡ false
 sure-of true sure e = rw e
 sure-of false sure e = refl
 
-abbrev lent-start : tie.After-shared-slice-known8 → tie.Start
-lent-start c = c .before .before .before .before .before .before .before .before
-
--- past the first test
 abbrev begin : tie.After-marks → tie.Start
-begin c = lent-start (c .before .before .before)
+begin c = search
 
 is-crowded-requires : tie.Need-is-crowded-requires
-is-crowded-requires c κs = let s = lent-start c in omega (arith, s .pre .0 .1 .z-to)
+is-crowded-requires c κs = let s : tie.Start = search in omega (arith, s .pre .0 .1 .z-to)
 
 add-all-requires : tie.Need-add-all-requires
-add-all-requires c κs = lent-start (c .before .before) .pre
+add-all-requires c κs = let s : tie.Start = search in s .pre
 
 returns : tie.Need-returns
 returns c = c .add-all .ensures

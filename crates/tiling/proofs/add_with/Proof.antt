@@ -10,22 +10,26 @@ use borrow.Author.Tests.{not-true, not-false}
 use Rattle.kdslots.specs.Bounds.{coords-is}
 use Rattle.tables.specs.declared.Entry.{Entry}
 use Rattle.tables.specs.Entries.{Table}
-use Rattle.tables.specs.Rows.{rows, rows-length}
+use Rattle.tables.specs.Rows.{Cols, rows, rows-length}
+use Rattle.tables.specs.Lent.{given}
 use Rattle.tiling.specs.declared.Running.{Running}
 use Rattle.tiling.specs.Tile.{Visit, here, east, west, visits, visited}
 use Rattle.tiling.specs.Three.{here-whole, east-whole, west-whole, own-range}
 use Rattle.tiling.specs.declared.Home.{Home}
 use Rattle.tiling.specs.Tally.{weightIn}
 use Rattle.tiling.specs.Home.{edgesOf, weightBy, weight-home}
-use Rattle.tiling.specs.Counting.{counted, counted-same, placesIn, runningOf}
+use Rattle.tiling.specs.Counting.{marksHeld, counted, counted-same, placesIn, runningOf}
 use Rattle.tiling.specs.Told.{Blank, counted-is, After, tally-first, tally-second, tally-third}
 use Rattle.tiling.proofs.add_with.Statement.{statement}
 use Rattle.tiling.proofs.add_with.Tie as tie
 
 -- ---- the start
 
+abbrev columns : tie.Start → Cols
+columns s = let a = s .args in given (a .x) (a .y) (a .seen) (a .id) (a .parent) (a .num)
+
 abbrev table : tie.Start → Table
-table s = let a = s .args in rows (now (a .x)) (now (a .y)) (now (a .seen)) (now (a .id)) (now (a .parent)) (now (a .num))
+table s = rows (columns s)
 
 -- what an entry counts in the tile
 abbrev weight : tie.Start → Entry → ℕ
@@ -41,7 +45,7 @@ abbrev west-of : tie.Start → List Visit
 west-of s = let a = s .args in visits (west (a .o) (a .z) (a .tx) (a .ty)) (table s) (now (a .ids)) (now (a .coords))
 
 long : (s : tie.Start) → length (table s) ≡ length (now (s .args .x))
-long s = let a = s .args in rows-length (now (a .x)) (now (a .y)) (now (a .seen)) (now (a .id)) (now (a .parent)) (now (a .num))
+long s = rows-length (columns s)
 
 few : (s : tie.Start) → length (now (s .args .x)) ≤ 1048576
 few s = let a = s .args in coords-is (a .o .«node_size») (length (now (a .x))) (length (now (a .coords))) (s .pre .1 .1 .0 .0) .n-to
@@ -59,14 +63,14 @@ abbrev here-made : tie.After-tally-by → tie.After-search-here
 here-made c = c .before .before
 
 abbrev begin : tie.After-tally-by → tie.Start
-begin c = here-made c .before .before .before .before .before .before .before .before .before .before .before
+begin c = search
 
 abbrev marks-1 : tie.After-tally-by → List ℕ
-marks-1 c = c .tally-by .last .1 .1 .1 .1 .1 .1 .1 .1 .1 .1 .1 .1 .0
+marks-1 c = marksHeld (c .tally-by .ensures .0)
 
 -- they are as many
 kept-1 : (c : tie.After-tally-by) → length (marks-1 c) ≡ length (now (begin c .args .marks))
-kept-1 c = c .tally-by .kept .1 .1 .1 .1 .1 .1 .1 .1 .1 .1 .1 .1 .0
+kept-1 c = omega (arith, c .tally-by .kept)
 
 -- by the edges is by the floor
 abbrev home-by : tie.After-tally-by → Home
@@ -91,14 +95,14 @@ tallied-here c =
     ∙ by-floor c 0 0 (placesIn (here-of s)) (now (a .marks))
 
 home-of-requires : tie.Need-home-of-requires
-home-of-requires c κs = let s = c .before .before .before .before .before .before .before .before .before in omega (arith, s .pre .0 .1 .z-to)
+home-of-requires c κs = let s : tie.Start = search in omega (arith, s .pre .0 .1 .z-to)
 
 search-here-requires : tie.Need-search-here-requires
-search-here-requires c κs = let s = c .before .before .before .before .before .before .before .before .before .before in omega (arith, s .pre .0 .1 .z-to)
+search-here-requires c κs = let s : tie.Start = search in omega (arith, s .pre .0 .1 .z-to)
 
 tally-by-requires : tie.Need-tally-by-requires
 tally-by-requires c κs =
-    let s = c .before .before .before .before .before .before .before .before .before .before .before .before in
+    let s : tie.Start = search in
     (s .pre .1 .0, (omega (arith, s .pre .1 .1 .0 .1, s .pre .1 .1 .1 .reach), omega (arith, few s)))
 
 same-length : tie.Need-same-length
@@ -139,10 +143,10 @@ abbrev east-made : tie.After-tally-by2 → tie.After-search-east
 east-made c = c .before .before
 
 abbrev marks-2 : tie.After-tally-by2 → List ℕ
-marks-2 c = c .tally-by2 .last .1 .1 .1 .1 .1 .1 .1 .1 .1 .1 .1 .1 .0
+marks-2 c = marksHeld (c .tally-by2 .ensures .0)
 
 kept-2 : (c : tie.After-tally-by2) → length (marks-2 c) ≡ length (now (begin (one-of (east-made c)) .args .marks))
-kept-2 c = c .tally-by2 .kept .1 .1 .1 .1 .1 .1 .1 .1 .1 .1 .1 .1 .0 ∙ kept-1 (one-of (east-made c))
+kept-2 c = omega (arith, c .tally-by2 .kept, kept-1 (one-of (east-made c)))
 
 tallied-east : (c : tie.After-tally-by2) → let l = one-of (east-made c) in
     After (begin l .args .few) (weight (begin l)) (table (begin l)) (l .tally-by .result) (east-of (begin l)) (marks-1 l) (c .tally-by2 .result) (marks-2 c)
@@ -201,7 +205,7 @@ abbrev west-made : tie.After-tally-by3 → tie.After-search-west
 west-made c = c .before .before
 
 same-length-4 : tie.Need-same-length-4
-same-length-4 c = let d = c .before .before in d .tally-by3 .kept .1 .1 .1 .1 .1 .1 .1 .1 .1 .1 .1 .1 .0 ∙ kept-2 (two-of (west-made d))
+same-length-4 c = let d = c .before .before in omega (arith, d .tally-by3 .kept, kept-2 (two-of (west-made d)))
 
 returns-4 : tie.Need-returns-4
 unfolding visited

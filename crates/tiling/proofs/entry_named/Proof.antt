@@ -8,19 +8,23 @@ use borrow.Author.Tests.{not-true, not-false}
 use Rattle.floats.specs.Unit.{in01}
 use Rattle.tables.specs.declared.Entry.{Entry}
 use Rattle.tables.specs.Entries.{Table, entry}
-use Rattle.tables.specs.Rows.{rows, rows-length}
+use Rattle.tables.specs.Rows.{Cols, rows, rows-length}
+use Rattle.tables.specs.Lent.{given}
 use Rattle.tiling.specs.Turns.{named-out, named-x, named-y, named-is}
 use Rattle.tiling.proofs.entry_named.Statement.{statement}
 use Rattle.tiling.proofs.entry_named.Tie as tie
 
 abbrev begin : tie.After-index → tie.Start
-begin w = w .before .before .before .before .before .before .before
+begin w = search
+
+abbrev columns : tie.After-index → Cols
+columns w = let a = begin w .args in given (a .x) (a .y) (a .seen) (a .id) (a .parent) (a .num)
 
 abbrev table : tie.After-index → Table
-table w = let a = begin w .args in rows (now (a .x)) (now (a .y)) (now (a .seen)) (now (a .id)) (now (a .parent)) (now (a .num))
+table w = rows (columns w)
 
 long : (w : tie.After-index) → length (table w) ≡ length (now (begin w .args .x))
-long w = let a = begin w .args in rows-length (now (a .x)) (now (a .y)) (now (a .seen)) (now (a .id)) (now (a .parent)) (now (a .num))
+long w = rows-length (columns w)
 
 -- the entry that was read is the one at p
 read : (w : tie.After-entry-at) → w .entry-at .result ≡ entry (table (w .before .before)) (begin (w .before .before) .args .p)

@@ -10,18 +10,22 @@ use borrow.Author.Needs.{needs}
 use borrow.Author.Tests.{not-true}
 use Rattle.kdslots.specs.Bounds.{coords-is}
 use Rattle.tables.specs.Entries.{Table}
-use Rattle.tables.specs.Rows.{rows, rows-length}
+use Rattle.tables.specs.Rows.{Cols, rows, rows-length}
+use Rattle.tables.specs.Lent.{given}
 use Rattle.tiling.specs.declared.Ran.{Ran}
 use Rattle.tiling.specs.Tile.{Visit, here, east, west, visits, visited}
-use Rattle.tiling.specs.Runs.{left, run}
+use Rattle.tiling.specs.Runs.{left, outLeft, pxLeft, pyLeft, run}
 use Rattle.tiling.specs.Three.{here-may, east-may, west-may, here-whole, east-whole, west-whole, own-range, listed-few, first-ends, second-ends, third-ends}
 use Rattle.tiling.proofs.list.Statement.{statement}
 use Rattle.tiling.proofs.list.Tie as tie
 
 -- ---- the start
 
+abbrev columns : tie.Start → Cols
+columns s = let a = s .args in given (a .x) (a .y) (a .seen) (a .id) (a .parent) (a .num)
+
 abbrev table : tie.Start → Table
-table s = let a = s .args in rows (now (a .x)) (now (a .y)) (now (a .seen)) (now (a .id)) (now (a .parent)) (now (a .num))
+table s = rows (columns s)
 
 abbrev here-of : tie.Start → List Visit
 here-of s = let a = s .args in visits (here (a .o) (a .z) (a .tx) (a .ty)) (table s) (now (a .ids)) (now (a .coords))
@@ -33,7 +37,7 @@ abbrev west-of : tie.Start → List Visit
 west-of s = let a = s .args in visits (west (a .o) (a .z) (a .tx) (a .ty)) (table s) (now (a .ids)) (now (a .coords))
 
 long : (s : tie.Start) → length (table s) ≡ length (now (s .args .x))
-long s = let a = s .args in rows-length (now (a .x)) (now (a .y)) (now (a .seen)) (now (a .id)) (now (a .parent)) (now (a .num))
+long s = rows-length (columns s)
 
 few : (s : tie.Start) → length (now (s .args .x)) ≤ 1048576
 few s = let a = s .args in coords-is (a .o .«node_size») (length (now (a .x))) (length (now (a .coords))) (s .pre .1 .1 .0) .n-to
@@ -44,17 +48,17 @@ abbrev here-made : tie.After-list-by → tie.After-search-here
 here-made c = c .before .before .before .before
 
 abbrev begin : tie.After-list-by → tie.Start
-begin c = here-made c .before .before .before .before .before .before .before .before .before .before
+begin c = search
 
 -- the columns after it
 abbrev out-1 : tie.After-list-by → List ℕ
-out-1 c = c .list-by .last .1 .1 .1 .1 .1 .1 .1 .1 .1 .1 .0
+out-1 c = outLeft (c .list-by .ensures)
 
 abbrev px-1 : tie.After-list-by → List ℤ
-px-1 c = c .list-by .last .1 .1 .1 .1 .1 .1 .1 .1 .1 .1 .1 .0
+px-1 c = pxLeft (c .list-by .ensures)
 
 abbrev py-1 : tie.After-list-by → List ℤ
-py-1 c = c .list-by .last .1 .1 .1 .1 .1 .1 .1 .1 .1 .1 .1 .1 .0
+py-1 c = pyLeft (c .list-by .ensures)
 
 listed-here : (c : tie.After-list-by)
     → left (c .list-by .result) (out-1 c) (px-1 c) (py-1 c) ≡ run (table (begin c)) 0 (here-of (begin c)) (now (begin c .args .out)) (now (begin c .args .px)) (now (begin c .args .py))
@@ -67,12 +71,12 @@ listed-here c =
     (here-whole (a .o) (a .z) (a .tx) (a .ty) (p .0 .0) (p .0 .1) (here-made c .search-here .result) (table s) (length (now (a .x))) (now (a .ids)) (now (a .coords)) (long s) (p .1 .1 .0) (here-made c .search-here .ensures))
 
 search-here-requires : tie.Need-search-here-requires
-search-here-requires c κs = let s = c .before .before .before .before .before .before .before .before .before in omega (arith, s .pre .0 .1 .z-to)
+search-here-requires c κs = let s : tie.Start = search in omega (arith, s .pre .0 .1 .z-to)
 
 list-by-requires : tie.Need-list-by-requires
 list-by-requires c κs =
     let h = c .before .before .before in
-    let s = h .before .before .before .before .before .before .before .before .before .before in
+    let s : tie.Start = search in
     let a = s .args in
     let p = s .pre in
     (here-may (a .o) (a .z) (a .tx) (a .ty) (p .0 .0) (p .0 .1) (h .search-here .result) (h .search-here .ensures), (p .1 .0, omega (arith, p .1 .1 .1, few s)))
@@ -88,13 +92,13 @@ abbrev one-ended : tie.After-enum-told → tie.After-list-by
 one-ended c = c .before .before .before .before .before .before
 
 same-length : tie.Need-same-length
-same-length c = one-ended c .list-by .kept .1 .1 .1 .1 .1 .1 .1 .1 .1 .1 .0
+same-length c = omega (arith, one-ended c .list-by .kept)
 
 same-length-2 : tie.Need-same-length-2
-same-length-2 c = one-ended c .list-by .kept .1 .1 .1 .1 .1 .1 .1 .1 .1 .1 .1 .0
+same-length-2 c = omega (arith, one-ended c .list-by .kept)
 
 same-length-3 : tie.Need-same-length-3
-same-length-3 c = one-ended c .list-by .kept .1 .1 .1 .1 .1 .1 .1 .1 .1 .1 .1 .1 .0
+same-length-3 c = omega (arith, one-ended c .list-by .kept)
 
 returns : tie.Need-returns
 unfolding visited
@@ -119,13 +123,13 @@ abbrev here-ended : tie.Then1 → tie.After-list-by
 here-ended c = all-here c .before .before .before .before .before .before
 
 same-length-4 : tie.Need-same-length-4
-same-length-4 c = here-ended c .list-by .kept .1 .1 .1 .1 .1 .1 .1 .1 .1 .1 .0
+same-length-4 c = omega (arith, here-ended c .list-by .kept)
 
 same-length-5 : tie.Need-same-length-5
-same-length-5 c = here-ended c .list-by .kept .1 .1 .1 .1 .1 .1 .1 .1 .1 .1 .1 .0
+same-length-5 c = omega (arith, here-ended c .list-by .kept)
 
 same-length-6 : tie.Need-same-length-6
-same-length-6 c = here-ended c .list-by .kept .1 .1 .1 .1 .1 .1 .1 .1 .1 .1 .1 .1 .0
+same-length-6 c = omega (arith, here-ended c .list-by .kept)
 
 returns-2 : tie.Need-returns-2
 returns-2 c =
@@ -150,13 +154,13 @@ abbrev one-of : tie.After-search-east → tie.After-list-by
 one-of c = one-goes c .before .before .before .before .before .before
 
 abbrev out-2 : tie.After-list-by2 → List ℕ
-out-2 c = c .list-by2 .last .1 .1 .1 .1 .1 .1 .1 .1 .1 .1 .0
+out-2 c = outLeft (c .list-by2 .ensures)
 
 abbrev px-2 : tie.After-list-by2 → List ℤ
-px-2 c = c .list-by2 .last .1 .1 .1 .1 .1 .1 .1 .1 .1 .1 .1 .0
+px-2 c = pxLeft (c .list-by2 .ensures)
 
 abbrev py-2 : tie.After-list-by2 → List ℤ
-py-2 c = c .list-by2 .last .1 .1 .1 .1 .1 .1 .1 .1 .1 .1 .1 .1 .0
+py-2 c = pyLeft (c .list-by2 .ensures)
 
 -- how many it listed
 abbrev count-1 : tie.After-search-east → ℕ
@@ -207,13 +211,13 @@ abbrev two-ended : tie.After-enum-told2 → tie.After-list-by2
 two-ended c = c .before .before .before .before .before .before
 
 same-length-7 : tie.Need-same-length-7
-same-length-7 c = let l = two-ended c in l .list-by2 .kept .1 .1 .1 .1 .1 .1 .1 .1 .1 .1 .0 ∙ one-of (east-made l) .list-by .kept .1 .1 .1 .1 .1 .1 .1 .1 .1 .1 .0
+same-length-7 c = let l = two-ended c in omega (arith, l .list-by2 .kept, one-of (east-made l) .list-by .kept)
 
 same-length-8 : tie.Need-same-length-8
-same-length-8 c = let l = two-ended c in l .list-by2 .kept .1 .1 .1 .1 .1 .1 .1 .1 .1 .1 .1 .0 ∙ one-of (east-made l) .list-by .kept .1 .1 .1 .1 .1 .1 .1 .1 .1 .1 .1 .0
+same-length-8 c = let l = two-ended c in omega (arith, l .list-by2 .kept, one-of (east-made l) .list-by .kept)
 
 same-length-9 : tie.Need-same-length-9
-same-length-9 c = let l = two-ended c in l .list-by2 .kept .1 .1 .1 .1 .1 .1 .1 .1 .1 .1 .1 .1 .0 ∙ one-of (east-made l) .list-by .kept .1 .1 .1 .1 .1 .1 .1 .1 .1 .1 .1 .1 .0
+same-length-9 c = let l = two-ended c in omega (arith, l .list-by2 .kept, one-of (east-made l) .list-by .kept)
 
 returns-3 : tie.Need-returns-3
 unfolding visited
@@ -269,19 +273,19 @@ same-length-10 : tie.Need-same-length-10
 same-length-10 c =
     let l = all-ended c in
     let m = two-of (west-made l) in
-    l .list-by3 .kept .1 .1 .1 .1 .1 .1 .1 .1 .1 .1 .0 ∙ m .list-by2 .kept .1 .1 .1 .1 .1 .1 .1 .1 .1 .1 .0 ∙ one-of (east-made m) .list-by .kept .1 .1 .1 .1 .1 .1 .1 .1 .1 .1 .0
+    omega (arith, l .list-by3 .kept, m .list-by2 .kept, one-of (east-made m) .list-by .kept)
 
 same-length-11 : tie.Need-same-length-11
 same-length-11 c =
     let l = all-ended c in
     let m = two-of (west-made l) in
-    l .list-by3 .kept .1 .1 .1 .1 .1 .1 .1 .1 .1 .1 .1 .0 ∙ m .list-by2 .kept .1 .1 .1 .1 .1 .1 .1 .1 .1 .1 .1 .0 ∙ one-of (east-made m) .list-by .kept .1 .1 .1 .1 .1 .1 .1 .1 .1 .1 .1 .0
+    omega (arith, l .list-by3 .kept, m .list-by2 .kept, one-of (east-made m) .list-by .kept)
 
 same-length-12 : tie.Need-same-length-12
 same-length-12 c =
     let l = all-ended c in
     let m = two-of (west-made l) in
-    l .list-by3 .kept .1 .1 .1 .1 .1 .1 .1 .1 .1 .1 .1 .1 .0 ∙ m .list-by2 .kept .1 .1 .1 .1 .1 .1 .1 .1 .1 .1 .1 .1 .0 ∙ one-of (east-made m) .list-by .kept .1 .1 .1 .1 .1 .1 .1 .1 .1 .1 .1 .1 .0
+    omega (arith, l .list-by3 .kept, m .list-by2 .kept, one-of (east-made m) .list-by .kept)
 
 returns-4 : tie.Need-returns-4
 unfolding visited

@@ -15,7 +15,8 @@ use Rattle.kdwalk.specs.Reply.{walk}
 use Rattle.kdwalk.specs.Walk.{walk-length}
 use Rattle.kdwalk.specs.Pages.{aheadOf, ahead-begun, next-slot, below-next, walk-below}
 use Rattle.tables.specs.Entries.{Table}
-use Rattle.tables.specs.Rows.{rows}
+use Rattle.tables.specs.Rows.{Cols, cols, rows}
+use Rattle.tables.specs.Lent.{given}
 use Rattle.tiling.specs.Tile.{Visit, visitsOf}
 use Rattle.tiling.specs.Runs.{left, run}
 use Rattle.tiling.specs.Turns.{walked, walked-none, walked-made, run-none, named-fine, turn-end, turn-bad, turn-next}
@@ -27,8 +28,8 @@ abbrev Inv-loop : tie.InvT-loop
 Inv-loop g x y seen id parent num ids coords at out₀ px₀ py₀ q size n k₀ page₀ pages₀ out px py k page pages =
     (length out ≡ length out₀) × (length px ≡ length px₀) × (length py ≡ length py₀) × AllBelow n (aheadOf q size n coords page pages)
     × (k + length (aheadOf q size n coords page pages) ≤ at + n)
-    × (run (rows x y seen id parent num) k (visitsOf g (places ids (aheadOf q size n coords page pages))) out px py
-    ≡ run (rows x y seen id parent num) at (visitsOf g (places ids (walk q size n coords))) out₀ px₀ py₀)
+    × (run (rows (cols x y seen id parent num)) k (visitsOf g (places ids (aheadOf q size n coords page pages))) out px py
+    ≡ run (rows (cols x y seen id parent num)) at (visitsOf g (places ids (walk q size n coords))) out₀ px₀ py₀)
     × (length page ≡ 16)
 
 abbrev μ-loop : tie.MeasureT-loop
@@ -46,10 +47,13 @@ abbrev asked-of : Loop → tie.Else1 Inv-loop μ-loop
 asked-of l = l .before .before
 
 abbrev begin : Loop → Start
-begin l = asked-of l .before .before .before .before .before .before .before .before .before .before .before
+begin l = search
+
+abbrev columns : Start → Cols
+columns s = let a = s .args in given (a .x) (a .y) (a .seen) (a .id) (a .parent) (a .num)
 
 abbrev table : Start → Table
-table s = let a = s .args in rows (now (a .x)) (now (a .y)) (now (a .seen)) (now (a .id)) (now (a .parent)) (now (a .num))
+table s = rows (columns s)
 
 abbrev slots : Start → List ℕ → Pages → List ℕ
 slots s = let a = s .args in aheadOf (a .g .query) (a .g .«node_size») (length (now (a .x))) (now (a .coords))
@@ -123,7 +127,7 @@ read-of c = known-of c .before .before .before
 
 returns : tie.Need-returns Inv-loop μ-loop
 returns c =
-    let s = c .before .before .before .before .before .before .before .before .before .before .before in
+    let s : Start = search in
     let a = s .args in
     run-none (table s) (a .at) (now (a .out)) (now (a .px)) (now (a .py))
     ∙ ap (λ (vs : List Visit). run (table s) (a .at) vs (now (a .out)) (now (a .px)) (now (a .py)))
@@ -134,7 +138,7 @@ begin-requires c κs = search needs
 
 loop-holds : tie.Need-loop-holds Inv-loop μ-loop
 loop-holds c =
-    let s = c .before .before .before .before .before .before .before .before .before .before .before .before in
+    let s : Start = search in
     let a = s .args in
     let w = walk (a .g .query) (a .g .«node_size») (length (now (a .x))) (now (a .coords)) in
     let h : slots s _ (c .begin .result) ≡ w = ap (slots s _) (c .begin .ensures) ∙ ahead-begun (a .g .query) (a .g .«node_size») (length (now (a .x))) (now (a .coords)) _ in (

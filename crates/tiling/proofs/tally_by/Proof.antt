@@ -16,11 +16,12 @@ use Rattle.kdwalk.specs.Reply.{walk}
 use Rattle.kdwalk.specs.Walk.{walk-length}
 use Rattle.kdwalk.specs.Pages.{aheadOf, ahead-begun, next-slot, below-next, walk-below}
 use Rattle.tables.specs.Entries.{Table}
-use Rattle.tables.specs.Rows.{rows}
+use Rattle.tables.specs.Rows.{Cols, cols, rows}
+use Rattle.tables.specs.Lent.{given}
 use Rattle.tiling.specs.Tile.{Visit}
 use Rattle.tiling.specs.Turns.{walked, walked-none, walked-made}
 use Rattle.tiling.specs.Home.{weightBy}
-use Rattle.tiling.specs.Counting.{Held, heldOf, placesIn, places-of, counted, counted-none, counted-sure, count-end, count-stop, count-next}
+use Rattle.tiling.specs.Counting.{Held, heldOf, marksHeld, placesIn, places-of, counted, counted-none, counted-sure, count-end, count-stop, count-next}
 use Rattle.tiling.proofs.Ends.{no-more}
 use Rattle.tiling.proofs.tally_by.Statement.{statement}
 use Rattle.tiling.proofs.tally_by.Tie as tie
@@ -29,8 +30,8 @@ abbrev Inv-loop : tie.InvT-loop
 Inv-loop h x y seen id parent num ids coords few marks₀ a₀ q size n page₀ pages₀ marks a page pages =
     AllBelow n (aheadOf q size n coords page pages) × (a .count + length (aheadOf q size n coords page pages) ≤ a₀ .count + n)
     × (a .sum ≤ a .count * 4294967295)
-    × (counted few (weightBy h) (rows x y seen id parent num) (a .count) (a .sum) (places ids (aheadOf q size n coords page pages)) marks
-    ≡ counted few (weightBy h) (rows x y seen id parent num) (a₀ .count) (a₀ .sum) (places ids (walk q size n coords)) marks₀)
+    × (counted few (weightBy h) (rows (cols x y seen id parent num)) (a .count) (a .sum) (places ids (aheadOf q size n coords page pages)) marks
+    ≡ counted few (weightBy h) (rows (cols x y seen id parent num)) (a₀ .count) (a₀ .sum) (places ids (walk q size n coords)) marks₀)
     × (length page ≡ 16) × (length marks ≡ length marks₀) × (a .whole ≡ true) × (a .sure ≡ true)
 
 abbrev μ-loop : tie.MeasureT-loop
@@ -49,10 +50,13 @@ abbrev asked-of : Loop → tie.Else1 Inv-loop μ-loop
 asked-of l = l .before .before
 
 abbrev begin : Loop → Start
-begin l = asked-of l .before .before .before .before .before .before .before .before .before .before .before
+begin l = search
+
+abbrev columns : Start → Cols
+columns s = let a = s .args in given (a .x) (a .y) (a .seen) (a .id) (a .parent) (a .num)
 
 abbrev table : Start → Table
-table s = let a = s .args in rows (now (a .x)) (now (a .y)) (now (a .seen)) (now (a .id)) (now (a .parent)) (now (a .num))
+table s = rows (columns s)
 
 abbrev slots : Start → List ℕ → Pages → List ℕ
 slots s = let a = s .args in aheadOf (a .g .query) (a .g .«node_size») (length (now (a .x))) (now (a .coords))
@@ -131,7 +135,7 @@ abbrev loop-at : Counted → Loop
 loop-at c = head-of (found-of c)
 
 abbrev marks-of : Counted → List ℕ
-marks-of c = c .tally-one .last .1 .1 .1 .1 .1 .1 .1 .1 .1 .1 .0
+marks-of c = marksHeld (c .tally-one .ensures .0)
 
 one : (c : Counted) → let l = loop-at c in let s = begin l in
     heldOf (c .tally-one .result) (marks-of c) ≡ of-places s (l .loop .a .count) (l .loop .a .sum)
@@ -142,7 +146,7 @@ one c = c .tally-one .ensures .0
 
 returns : tie.Need-returns Inv-loop μ-loop
 returns c =
-    let s = c .before .before .before .before .before .before .before .before .before .before .before in
+    let s : Start = search in
     let a = s .args in (
       counted-none (a .few) (weightBy (a .h)) (table s) (a .r .count) (a .r .sum) (now (a .marks))
           ∙ ap (of-visits s) (sym (walked-none (a .g) (length (now (a .x))) (now (a .ids)) (now (a .coords))
@@ -156,7 +160,7 @@ begin-requires c κs = search needs
 
 loop-holds : tie.Need-loop-holds Inv-loop μ-loop
 loop-holds c =
-    let s = c .before .before .before .before .before .before .before .before .before .before .before .before in
+    let s : Start = search in
     let a = s .args in
     let w = walk (a .g .query) (a .g .«node_size») (length (now (a .x))) (now (a .coords)) in
     let h : slots s _ (c .begin .result) ≡ w = ap (slots s _) (c .begin .ensures)
@@ -217,7 +221,7 @@ abbrev counted-at : tie.After-struct-known2 Inv-loop μ-loop → Counted
 counted-at c = c .before .before .before
 
 length-at : (c : Counted) → length (marks-of c) ≡ length (now (begin (loop-at c) .args .marks))
-length-at c = c .tally-one .kept .1 .1 .1 .1 .1 .1 .1 .1 .1 .1 .0 ∙ loop-at c .loop .inv .5
+length-at c = omega (arith, c .tally-one .kept, loop-at c .loop .inv .5)
 
 same-length-2 : tie.Need-same-length-2 Inv-loop μ-loop
 same-length-2 c = length-at (counted-at (c .before))

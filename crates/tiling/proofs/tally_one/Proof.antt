@@ -9,7 +9,8 @@ use denote.Ref.{now}
 use borrow.Author.Needs.{needs}
 use Rattle.tables.specs.declared.Entry.{Entry}
 use Rattle.tables.specs.Entries.{Table, entry}
-use Rattle.tables.specs.Rows.{rows, rows-length}
+use Rattle.tables.specs.Rows.{Cols, rows, rows-length}
+use Rattle.tables.specs.Lent.{given}
 use Rattle.tiling.specs.Tile.{listable}
 use Rattle.tiling.specs.Turns.{named-bad, named-at, named-fine}
 use Rattle.tiling.specs.Marks.{marked}
@@ -19,11 +20,14 @@ use Rattle.tiling.specs.Told.{mark-below}
 use Rattle.tiling.proofs.tally_one.Statement.{statement}
 use Rattle.tiling.proofs.tally_one.Tie as tie
 
+abbrev columns : tie.Start → Cols
+columns s = let a = s .args in given (a .x) (a .y) (a .seen) (a .id) (a .parent) (a .num)
+
 abbrev table : tie.Start → Table
-table s = let a = s .args in rows (now (a .x)) (now (a .y)) (now (a .seen)) (now (a .id)) (now (a .parent)) (now (a .num))
+table s = rows (columns s)
 
 abbrev named-start : tie.After-entry-named → tie.Start
-named-start c = c .before .before .before .before .before .before .before .before
+named-start c = search
 
 -- ---- the entry is there
 
@@ -58,7 +62,7 @@ reached c =
     let s = begin k in
     let a = s .args in
     let f = named-fine (table s) (a .p) (entry-of k) (sym (k .before .before .before .entry-named .ensures) ∙ k .before .e .given .1) in
-    let l = rows-length (now (a .x)) (now (a .y)) (now (a .seen)) (now (a .id)) (now (a .parent)) (now (a .num)) in
+    let l = rows-length (columns s) in
     let b = mark-below (a .few) (length (now (a .x))) (a .p) (omega (arith, f .inside, l)) in
     omega (arith, b, mark-is c, s .pre .1 .0)
 
@@ -83,7 +87,7 @@ doubt-is c =
 -- ---- the parts
 
 entry-named-requires : tie.Need-entry-named-requires
-entry-named-requires c κs = c .before .before .before .before .before .before .before .pre .0
+entry-named-requires c κs = let s : tie.Start = search in s .pre .0
 
 enum-known-e : tie.Need-enum-known-e
 enum-known-e c = search needs

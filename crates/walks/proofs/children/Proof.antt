@@ -1,24 +1,46 @@
 -- `walks::children` meets its contract: the id leads to a refusal, or to a ring, whose children are the answer. Assumes nothing.
 use mathlib.Core.Path.{refl}
-use Prim.Native.Nat.{_+_}
+use mathlib.Core.List.{List}
+use Prim.Native.Nat.{ℕ}
 use borrow.Author.Needs.{needs}
 use denote.Ref.{now}
-use Rattle.asking.specs.Columns.{Columns, columns}
-use Rattle.kids.specs.Next.{Lent, lent-ring}
-use Rattle.walks.proofs.Led.{lent-all, reached}
+use Rattle.asking.specs.Columns.{Columns, held}
+use Rattle.asking.specs.Lent.{givenColumns}
+use Rattle.kids.specs.Next.{ring-room}
+use Rattle.walks.proofs.Led.{Led, reached, Looked}
 use Rattle.walks.proofs.GivesChildren.{children-refused, gives-spoiled, gives-none, gives-some}
 use Rattle.walks.proofs.children.Statement.{statement}
 use Rattle.walks.proofs.children.Tie as tie
 
-abbrev start-of : tie.After-find-target → tie.Start
-start-of f = f .before .before .before .before .before .before .before .before .before .before .before
+-- where the id leads
+module _ (f : tie.After-find-target) where
+  abbrev start : tie.Start
+  start = f .before .before .before .before .before .before .before .before .before .before .before
 
-abbrev cols : tie.After-find-target → Columns
-cols f = let a = start-of f .args in columns (now (a .x)) (now (a .y)) (now (a .seen)) (now (a .id)) (now (a .parent)) (now (a .num)) (now (a .ids)) (now (a .coords))
+  abbrev lent : Columns
+  lent = let a = start .args in givenColumns (a .x) (a .y) (a .seen) (a .id) (a .parent) (a .num) (a .ids) (a .coords)
 
--- where the target is a place
+  led : Led (start .args .s) lent (start .args .cid) (f .before .room .result) (f .find-target .result)
+  led = record { room = f .before .room .ensures; target = f .find-target .ensures }
+
+-- to a place
 abbrev found : tie.After-table → tie.After-find-target
 found d = d .before .before
+
+-- whose children are listed
+module _ (l : tie.After-list-kids) where
+  abbrev ring : tie.After-ring-of
+  ring = l .before .before
+
+  abbrev at : tie.After-table
+  at = ring .before .before
+
+  abbrev column : List ℕ
+  column = l .list-kids .last .1 .1 .1 .1 .1 .1 .1 .1 .1 .1 .0
+
+  looked : let a = start (found at) .args in let p = at .table .given .0 in
+      Looked (a .s) (lent (found at)) (a .cid) (p .0) (p .1 .0) (ring .ring-of .result) (now (a .out)) (l .list-kids .result) column
+  looked = record { ring = ring .ring-of .ensures; listed = l .list-kids .ensures }
 
 room-requires : tie.Need-room-requires
 room-requires c κs = tt
@@ -40,27 +62,17 @@ enum-known-table c = search needs
 
 ring-of-requires : tie.Need-ring-of-requires
 ring-of-requires c κs =
-    let d = c .before in
-    let f = found d in
-    let a = start-of f .args in
-    let r = f .before .room in (
-      reached (a .s) (cols f) (a .cid) (r .result) (r .ensures) (f .find-target .result) (f .find-target .ensures) _ _ (d .table .given .1),
-      lent-all (a .s) (cols f) (a .cid) (r .result) (r .ensures) .entries,
-    )
-
--- the columns reach over the ring
-lent-here : (c : tie.After-ring-of) → let g = c .ring-of .result in Lent (g .start + g .len) (cols (found (c .before .before)))
-lent-here c =
-    let d = c .before .before in
-    let f = found d in
-    let a = start-of f .args in
-    let r = f .before .room in
-    lent-ring (a .s) (cols f) (r .result) _ _ (c .ring-of .result)
-    (reached (a .s) (cols f) (a .cid) (r .result) (r .ensures) (f .find-target .result) (f .find-target .ensures) _ _ (d .table .given .1))
-    (lent-all (a .s) (cols f) (a .cid) (r .result) (r .ensures)) (c .ring-of .ensures)
+    let f = found (c .before) in
+    let r = reached (led f) _ _ (c .before .table .given .1) in
+    (r .0, held (lent f) _ (r .1))
 
 list-kids-requires : tie.Need-list-kids-requires
-list-kids-requires c κs = lent-here (c .before)
+list-kids-requires c κs =
+    let g = c .before in
+    let d = g .before .before in
+    let f = found d in
+    let r = reached (led f) _ _ (d .table .given .1) in
+    ring-room (start f .args .s) (lent f) _ _ _ (g .ring-of .result) (r .0) (r .1) (g .ring-of .ensures)
 
 enum-told-4 : tie.Need-enum-told-4
 enum-told-4 c = search needs
@@ -75,37 +87,19 @@ returns : tie.Need-returns
 returns c =
     let m = c .before .before in
     let l = m .before .before .before .before in
-    let g = l .before .before in
-    let d = g .before .before in
-    let f = found d in
-    let a = start-of f .args in
-    let r = f .before .room in
-    gives-none (a .s) (cols f) (a .cid) (r .result) (r .ensures) (f .find-target .result) (f .find-target .ensures) _ _ (d .table .given .1) (g .ring-of .result) (g .ring-of .ensures)
-    (l .list-kids .result) (now (a .out)) _ (l .list-kids .ensures .0) (l .list-kids .ensures .1) _ (m .k .given .1) (c .if1 .taken)
+    gives-none (led (found (at l))) (at l .table .given .1) (looked l) _ (m .k .given .1) (c .if1 .taken)
 
 fit-requires : tie.Need-fit-requires
 fit-requires c κs = tt
 
 returns-2 : tie.Need-returns-2
-returns-2 c =
-    let f = c .before .before in
-    let a = start-of f .args in
-    let r = f .before .room in
-    children-refused (a .s) (cols f) (a .cid) (r .result) (r .ensures) (f .find-target .result) (f .find-target .ensures) _ _ (c .enum-told .given .1) refl (now (a .out))
+returns-2 c = let f = c .before .before in children-refused (led f) _ _ (c .enum-told .given .1) refl (now (start f .args .out))
 
 returns-3 : tie.Need-returns-3
-returns-3 c =
-    let f = c .before .before in
-    let a = start-of f .args in
-    let r = f .before .room in
-    children-refused (a .s) (cols f) (a .cid) (r .result) (r .ensures) (f .find-target .result) (f .find-target .ensures) _ _ (c .enum-told2 .given .1) refl (now (a .out))
+returns-3 c = let f = c .before .before in children-refused (led f) _ _ (c .enum-told2 .given .1) refl (now (start f .args .out))
 
 returns-4 : tie.Need-returns-4
-returns-4 c =
-    let f = c .before .before in
-    let a = start-of f .args in
-    let r = f .before .room in
-    children-refused (a .s) (cols f) (a .cid) (r .result) (r .ensures) (f .find-target .result) (f .find-target .ensures) _ _ (c .enum-told3 .given .1) refl (now (a .out))
+returns-4 c = let f = c .before .before in children-refused (led f) _ _ (c .enum-told3 .given .1) refl (now (start f .args .out))
 
 same-length-2 : tie.Need-same-length-2
 same-length-2 c = search needs
@@ -113,13 +107,7 @@ same-length-2 c = search needs
 returns-5 : tie.Need-returns-5
 returns-5 c =
     let l = c .before .before .before .before in
-    let g = l .before .before in
-    let d = g .before .before in
-    let f = found d in
-    let a = start-of f .args in
-    let r = f .before .room in
-    gives-spoiled (a .s) (cols f) (a .cid) (r .result) (r .ensures) (f .find-target .result) (f .find-target .ensures) _ _ (d .table .given .1) (g .ring-of .result) (g .ring-of .ensures)
-    (l .list-kids .result) (now (a .out)) _ (l .list-kids .ensures .0) (l .list-kids .ensures .1) (c .enum-told4 .given .1)
+    gives-spoiled (led (found (at l))) (at l .table .given .1) (looked l) (c .enum-told4 .given .1)
 
 same-length-3 : tie.Need-same-length-3
 same-length-3 c = search needs
@@ -128,13 +116,8 @@ returns-6 : tie.Need-returns-6
 returns-6 c =
     let m = c .before .before .before in
     let l = m .before .before .before .before in
-    let g = l .before .before in
-    let d = g .before .before in
-    let f = found d in
-    let a = start-of f .args in
-    let r = f .before .room in
-    gives-some (a .s) (cols f) (a .cid) (r .result) (r .ensures) (f .find-target .result) (f .find-target .ensures) _ _ (d .table .given .1) (g .ring-of .result) (g .ring-of .ensures)
-    (l .list-kids .result) (now (a .out)) _ (l .list-kids .ensures .0) (l .list-kids .ensures .1) _ (m .k .given .1) (c .before .if1 .left) (c .fit .result) (c .fit .ensures)
+    gives-some (led (found (at l))) (at l .table .given .1) (looked l) _ (m .k .given .1) (c .before .if1 .left)
+    (c .fit .result) (c .fit .ensures)
 
 pub children-spec : {M : Type 1} → statement M
 children-spec =

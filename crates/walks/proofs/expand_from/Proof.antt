@@ -4,6 +4,7 @@ use mathlib.Core.Path.{refl}
 use Prim.Native.Nat.{_+_, _-_, _≤_}
 use native.Mathlib.Omega.{arith}
 use borrow.Author.Needs.{needs}
+use Rattle.tables.specs.Rows.{cols}
 use Rattle.tables.specs.Sound.{given}
 use Rattle.asking.specs.declared.Target.the-variants.{At as Target·At}
 use Rattle.asking.specs.Columns.{columns}
@@ -16,35 +17,39 @@ use Rattle.walks.proofs.expand_from.Tie as tie
 
 abbrev Inv-loop : tie.InvT-loop
 Inv-loop s cap x y seen id parent num ids coords cid table origin top z₀ of₀ at₀ from₀ first₀ z of at from first =
-    Climbing s (columns x y seen id parent num ids coords) cap (s .options .«max_zoom»)
-    (expand s (columns x y seen id parent num ids coords) (s .options .«max_zoom» + 1 - (table - 1)) (Target·At table origin) cid (table - 1) true) z of at from first
+    let c = columns (cols x y seen id parent num) ids coords in
+    let top = s .options .«max_zoom» in
+    Climbing s c cap top (expand s c (top + 1 - (table - 1)) (Target·At table origin) cid (table - 1) true) z of at from first
 
 abbrev μ-loop : tie.MeasureT-loop
 μ-loop s cap x y seen id parent num ids coords cid table origin top z₀ of₀ at₀ from₀ first₀ z of at from first = s .options .«max_zoom» + 1 - z
 
+abbrev Start : Type 0
+Start = tie.Start Inv-loop μ-loop
+
 abbrev Loop : Type 0
 Loop = tie.At-loop Inv-loop μ-loop
 
-abbrev start-of : Loop → tie.Start Inv-loop μ-loop
-start-of w = w .before .before .before .before .before .before .before .before .before .before .before
+abbrev start : Loop → Start
+start w = w .before .before .before .before .before .before .before .before .before .before .before
 
 -- the zoom at the loop's head
-small : (w : Loop) → (w .loop .z ≤ start-of w .args .s .options .«max_zoom») × (start-of w .args .s .options .«max_zoom» ≤ 30)
-small w = let s = start-of w in (w .loop .inv .low, given (s .args .s) (s .args .cap) (s .pre .0 .good) .zoom-to)
+small : (w : Loop) → (w .loop .z ≤ start w .args .s .options .«max_zoom») × (start w .args .s .options .«max_zoom» ≤ 30)
+small w = let s = start w in (w .loop .inv .low, given (s .args .s) (s .args .cap) (s .pre .0 .good) .zoom-to)
 
 cast-top : tie.Need-cast-top Inv-loop μ-loop
 cast-top c = search needs
 
 sub-z : tie.Need-sub-z Inv-loop μ-loop
-sub-z c = let n = near (c .before .before .before .before .before .before .before .before .before .before .pre .0) in omega (arith, n .some)
+sub-z c = let s : Start = search in omega (arith, near (s .pre .0) .some)
 
 loop-holds : tie.Need-loop-holds Inv-loop μ-loop
 loop-holds c =
-    let r = c .before .before .before .before .before .before .before .before .before .before .pre .0 in
-    record { reach = r; low = omega (arith, r .high); whole = refl }
+    let s : Start = search in
+    record { reach = s .pre .0; low = omega (arith, s .pre .0 .high); whole = refl }
 
 fetch-requires : tie.Need-fetch-requires Inv-loop μ-loop
-fetch-requires c κs = (c .loop .inv .reach, start-of c .pre .1)
+fetch-requires c κs = (c .loop .inv .reach, start c .pre .1)
 
 enum-told : tie.Need-enum-told Inv-loop μ-loop
 enum-told c = search needs
@@ -107,7 +112,8 @@ returns-6 c =
     let n = c .before in
     let d = n .before .before .before in
     let f = d .before .before in
-    turn-lost _ _ _ _ _ _ _ _ _ _ (f .before .loop .inv) _ (f .fetch .ensures) _ (d .child .given .1) (n .before .if2 .left) (n .go-on .result) (n .go-on .ensures) (no-place (n .go-on .result) (c .match2 .keys2))
+    turn-lost _ _ _ _ _ _ _ _ _ _ (f .before .loop .inv) _ (f .fetch .ensures) _ (d .child .given .1) (n .before .if2 .left)
+    (n .go-on .result) (n .go-on .ensures) (no-place (n .go-on .result) (c .match2 .keys2))
 
 loop-less : tie.Need-loop-less Inv-loop μ-loop
 loop-less c = omega (arith, small (c .before .before .before .before .before .before .before .before .before))
@@ -117,7 +123,8 @@ loop-again c =
     let n = c .before .before .before in
     let d = n .before .before .before in
     let f = d .before .before in
-    turn-on _ _ _ _ _ _ _ _ _ _ (f .before .loop .inv) _ (f .fetch .ensures) _ (d .child .given .1) (n .before .if2 .left) (n .go-on .result) (n .go-on .ensures) _ _ (c .before .to .given .1)
+    turn-on _ _ _ _ _ _ _ _ _ _ (f .before .loop .inv) _ (f .fetch .ensures) _ (d .child .given .1) (n .before .if2 .left)
+    (n .go-on .result) (n .go-on .ensures) _ _ (c .before .to .given .1)
 
 pub expand-from-spec : {M : Type 1} → statement M
 expand-from-spec =

@@ -1,37 +1,48 @@
 -- `walks::fetch` meets its contract: the column of one holds the sole child, where there is one. Assumes nothing.
-use mathlib.Core.Path.{refl}
-use mathlib.Core.List.{[], _∷_}
-use Prim.Native.Nat.{_+_, _<_}
+use mathlib.Core.List.{List, [], _∷_}
+use Prim.Native.Nat.{ℕ, _+_, _<_, _≤_}
 use native.Mathlib.Omega.{arith}
 use borrow.Author.Needs.{needs}
 use lib.ListN.{getD}
-use denote.Ref.{now}
-use Rattle.asking.specs.Columns.{Columns, columns}
-use Rattle.kids.specs.Next.{Lent, lent-ring}
+use Rattle.asking.specs.Columns.{Columns, roomOf, held}
+use Rattle.asking.specs.Lent.{givenColumns}
+use Rattle.kids.specs.Next.{index-room, ring-room}
+use Rattle.walks.proofs.Led.{Looked}
 use Rattle.walks.proofs.Fetching.{fetch-spoiled, fetch-nobody, fetch-others, fetch-below, fetch-cluster, fetch-lamp}
 use Rattle.walks.proofs.fetch.Statement.{statement}
 use Rattle.walks.proofs.fetch.Tie as tie
 
-abbrev start-of : tie.After-ring-of → tie.Start
-start-of g = g .before .before .before .before .before .before .before .before .before
+abbrev lent : tie.Start → Columns
+lent s = let a = s .args in givenColumns (a .x) (a .y) (a .seen) (a .id) (a .parent) (a .num) (a .ids) (a .coords)
 
-abbrev cols : tie.After-ring-of → Columns
-cols g = let a = start-of g .args in columns (now (a .x)) (now (a .y)) (now (a .seen)) (now (a .id)) (now (a .parent)) (now (a .num)) (now (a .ids)) (now (a .coords))
+module _ (g : tie.After-ring-of) where
+  abbrev start : tie.Start
+  start = g .before .before .before .before .before .before .before .before .before
 
--- the columns reach over the ring
-lent-here : (c : tie.After-ring-of) → let g = c .ring-of .result in Lent (g .start + g .len) (cols c)
-lent-here c =
-    let s = start-of c in
-    lent-ring (s .args .s) (cols c) (s .args .cap) (s .args .table) (s .args .origin) (c .ring-of .result) (s .pre .0) (s .pre .1) (c .ring-of .ensures)
+  -- the columns reach over the ring
+  reach : g .ring-of .result .start + g .ring-of .result .len ≤ roomOf (lent start)
+  reach = ring-room (start .args .s) (lent start) _ _ _ (g .ring-of .result) (start .pre .0) (start .pre .1) (g .ring-of .ensures)
+
+-- where the children are listed
+module _ (l : tie.After-list-kids) where
+  abbrev ring : tie.After-ring-of
+  ring = l .before .before
+
+  abbrev column : List ℕ
+  column = l .list-kids .last .1 .1 .1 .1 .1 .1 .1 .1 .1 .1 .0
+
+  looked : let a = start ring .args in
+      Looked (a .s) (lent (start ring)) (a .cid) (a .table) (a .origin) (ring .ring-of .result) (0 ∷ []) (l .list-kids .result) column
+  looked = record { ring = ring .ring-of .ensures; listed = l .list-kids .ensures }
 
 ring-of-requires : tie.Need-ring-of-requires
-ring-of-requires c κs = let s = c .before .before .before .before .before .before .before .before in (s .pre .0, s .pre .1 .entries)
+ring-of-requires c κs = let s : tie.Start = search in (s .pre .0, held (lent s) _ (s .pre .1))
 
 slice-aggregate-list-kids : tie.Need-slice-aggregate-list-kids
 slice-aggregate-list-kids c = search needs
 
 list-kids-requires : tie.Need-list-kids-requires
-list-kids-requires c κs = lent-here (c .before)
+list-kids-requires c κs = reach (c .before)
 
 enum-told : tie.Need-enum-told
 enum-told c = search needs
@@ -39,76 +50,48 @@ enum-told c = search needs
 enum-known-k : tie.Need-enum-known-k
 enum-known-k c = search needs
 
--- where the children are listed
-abbrev listed : tie.After-k → tie.After-list-kids
-listed d = d .before .before .before
-
-abbrev ring : tie.After-k → tie.After-ring-of
-ring d = listed d .before .before
+-- how many there are
+abbrev of : tie.After-k → tie.After-list-kids
+of d = d .before .before .before
 
 returns : tie.Need-returns
-returns c =
-    let d = c .before .before in
-    let l = listed d .list-kids in
-    let g = ring d in
-    let a = start-of g .args in
-    fetch-nobody (a .s) (cols g) (a .cid) (a .table) (a .origin) (g .ring-of .result) (g .ring-of .ensures) (l .result) _ (l .ensures .0) (l .ensures .1) _ (d .k .given .1) (c .if1 .taken)
+returns c = let d = c .before .before in fetch-nobody (looked (of d)) _ (d .k .given .1) (c .if1 .taken)
 
 returns-2 : tie.Need-returns-2
-returns-2 c =
-    let d = c .before .before .before in
-    let l = listed d .list-kids in
-    let g = ring d in
-    let a = start-of g .args in
-    fetch-others (a .s) (cols g) (a .cid) (a .table) (a .origin) (g .ring-of .result) (g .ring-of .ensures) (l .result) _ (l .ensures .0) (l .ensures .1) _ (d .k .given .1) (c .if2 .taken)
+returns-2 c = let d = c .before .before .before in fetch-others (looked (of d)) _ (d .k .given .1) (c .if2 .taken)
 
 -- the sole child is a place of the table
-below : (c : tie.Else2) → let d = c .before .before .before in getD (listed d .list-kids .last .1 .1 .1 .1 .1 .1 .1 .1 .1 .1 .0) 0 0 < ring d .ring-of .result .len
-below c =
-    let d = c .before .before .before in
-    let l = listed d .list-kids in
-    let g = ring d in
-    let a = start-of g .args in
-    fetch-below (a .s) (cols g) (a .cid) (a .table) (a .origin) (g .ring-of .result) (g .ring-of .ensures) (l .result) _ (l .ensures .0) (l .ensures .1) _ (d .k .given .1) (c .before .if1 .left) (c .if2 .left)
+below : (c : tie.Else2) → let l = of (c .before .before .before) in getD (column l) 0 0 < ring l .ring-of .result .len
+below c = let d = c .before .before .before in fetch-below (looked (of d)) _ (d .k .given .1) (c .before .if1 .left) (c .if2 .left)
 
 array-read-p : tie.Need-array-read-p
 array-read-p c = search needs
 
 cast-p : tie.Need-cast-p
 cast-p c =
-    let g = ring (c .before .before .before) in
-    omega (arith, below c, lent-here g .places, start-of g .good .1 .1 .1 .1 .1 .1 .1 .1 .0)
+    let g = ring (of (c .before .before .before)) in
+    omega (arith, below c, index-room (lent (start g)) _ (reach g) .0, start g .good)
 
 entry-in-requires : tie.Need-entry-in-requires
-entry-in-requires c κs = (lent-here (ring (c .before .before .before)) .entries, below c)
+entry-in-requires c κs = let g = ring (of (c .before .before .before)) in (held (lent (start g)) _ (reach g), below c)
 
 returns-3 : tie.Need-returns-3
 returns-3 c =
     let n = c .before .before in
     let b = n .before in
     let d = b .before .before .before in
-    let l = listed d .list-kids in
-    let g = ring d in
-    let a = start-of g .args in
-    fetch-cluster (a .s) (cols g) (a .cid) (a .table) (a .origin) (g .ring-of .result) (g .ring-of .ensures) (l .result) _ (l .ensures .0) (l .ensures .1) _ (d .k .given .1) (b .before .if1 .left) (b .if2 .left)
+    fetch-cluster (looked (of d)) _ (d .k .given .1) (b .before .if1 .left) (b .if2 .left)
     (n .entry-in .result) (n .entry-in .ensures) (c .if3 .taken)
 
 returns-4 : tie.Need-returns-4
-returns-4 c =
-    let n = c .before .before .before in
-    let g = n .before .before in
-    let a = start-of g .args in
-    fetch-spoiled (a .s) (cols g) (a .cid) (a .table) (a .origin) (g .ring-of .result) (g .ring-of .ensures) (n .list-kids .result) _ (n .list-kids .ensures .0) (n .list-kids .ensures .1) (c .enum-told .given .1)
+returns-4 c = fetch-spoiled (looked (c .before .before .before)) (c .enum-told .given .1)
 
 returns-5 : tie.Need-returns-5
 returns-5 c =
     let n = c .before .before in
     let b = n .before in
     let d = b .before .before .before in
-    let l = listed d .list-kids in
-    let g = ring d in
-    let a = start-of g .args in
-    fetch-lamp (a .s) (cols g) (a .cid) (a .table) (a .origin) (g .ring-of .result) (g .ring-of .ensures) (l .result) _ (l .ensures .0) (l .ensures .1) _ (d .k .given .1) (b .before .if1 .left) (b .if2 .left)
+    fetch-lamp (looked (of d)) _ (d .k .given .1) (b .before .if1 .left) (b .if2 .left)
     (n .entry-in .result) (n .entry-in .ensures) (c .if3 .left)
 
 pub fetch-spec : {M : Type 1} → statement M

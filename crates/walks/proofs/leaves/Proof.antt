@@ -2,17 +2,31 @@
 use mathlib.Core.Path.{refl}
 use borrow.Author.Needs.{needs}
 use denote.Ref.{now}
-use Rattle.asking.specs.Columns.{Columns, columns}
-use Rattle.walks.proofs.Led.{lent-all, reached}
+use Rattle.asking.specs.Columns.{Columns}
+use Rattle.asking.specs.Lent.{givenColumns}
+use Rattle.walks.proofs.Led.{Led, reached}
 use Rattle.walks.proofs.GivesLeaves.{leaves-refused, gives-none, gives-broke, gives-childless, gives-went}
 use Rattle.walks.proofs.leaves.Statement.{statement}
 use Rattle.walks.proofs.leaves.Tie as tie
 
-abbrev start-of : tie.After-find-target → tie.Start
-start-of f = f .before .before .before .before .before .before .before .before .before .before .before
+-- where the id leads
+module _ (f : tie.After-find-target) where
+  abbrev start : tie.Start
+  start = f .before .before .before .before .before .before .before .before .before .before .before
 
-abbrev cols : tie.After-find-target → Columns
-cols f = let a = start-of f .args in columns (now (a .x)) (now (a .y)) (now (a .seen)) (now (a .id)) (now (a .parent)) (now (a .num)) (now (a .ids)) (now (a .coords))
+  abbrev lent : Columns
+  lent = let a = start .args in givenColumns (a .x) (a .y) (a .seen) (a .id) (a .parent) (a .num) (a .ids) (a .coords)
+
+  led : Led (start .args .s) lent (start .args .cid) (f .before .room .result) (f .find-target .result)
+  led = record { room = f .before .room .ensures; target = f .find-target .ensures }
+
+-- to a place from which the lamps are walked over
+module _ (w : tie.After-walk-into) where
+  abbrev at : tie.After-table
+  at = w .before .before .before .before
+
+  abbrev found : tie.After-find-target
+  found = at .before .before
 
 room-requires : tie.Need-room-requires
 room-requires c κs = tt
@@ -33,34 +47,18 @@ enum-known-table : tie.Need-enum-known-table
 enum-known-table c = search needs
 
 list-none-requires : tie.Need-list-none-requires
-list-none-requires c κs =
-    let d = c .before .before in
-    let f = d .before .before in
-    let a = start-of f .args in
-    let r = f .before .room in (
-      reached (a .s) (cols f) (a .cid) (r .result) (r .ensures) (f .find-target .result) (f .find-target .ensures) _ _ (d .table .given .1),
-      lent-all (a .s) (cols f) (a .cid) (r .result) (r .ensures),
-    )
+list-none-requires c κs = let d = c .before .before in reached (led (d .before .before)) _ _ (d .table .given .1)
 
 returns : tie.Need-returns
 returns c =
-    let m = c .before in
-    let d = m .before .before in
-    let f = d .before .before in
-    let a = start-of f .args in
-    let r = f .before .room in
-    gives-none (a .s) (cols f) (a .cid) (a .limit) (a .offset) (r .result) (r .ensures) (f .find-target .result) (f .find-target .ensures) _ _ (d .table .given .1)
-    (m .if1 .taken) (now (a .out)) (c .list-none .result) (c .list-none .ensures)
-
-walk-into-requires : tie.Need-walk-into-requires
-walk-into-requires c κs =
     let d = c .before .before .before in
     let f = d .before .before in
-    let a = start-of f .args in
-    let r = f .before .room in (
-      reached (a .s) (cols f) (a .cid) (r .result) (r .ensures) (f .find-target .result) (f .find-target .ensures) _ _ (d .table .given .1),
-      lent-all (a .s) (cols f) (a .cid) (r .result) (r .ensures),
-    )
+    let a = start f .args in
+    gives-none (led f) (a .limit) (a .offset) _ _ (d .table .given .1) (c .before .if1 .taken) (now (a .out)) (c .list-none .result)
+    (c .list-none .ensures)
+
+walk-into-requires : tie.Need-walk-into-requires
+walk-into-requires c κs = let d = c .before .before .before in reached (led (d .before .before)) _ _ (d .table .given .1)
 
 enum-told-4 : tie.Need-enum-told-4
 enum-told-4 c = search needs
@@ -77,66 +75,54 @@ fit-requires c κs = tt
 returns-2 : tie.Need-returns-2
 returns-2 c =
     let f = c .before .before in
-    let a = start-of f .args in
-    let r = f .before .room in
-    leaves-refused (a .s) (cols f) (a .cid) (a .limit) (a .offset) (r .result) (r .ensures) (f .find-target .result) (f .find-target .ensures) _ _ (c .enum-told .given .1) refl (now (a .out))
+    let a = start f .args in
+    leaves-refused (led f) (a .limit) (a .offset) _ _ (c .enum-told .given .1) refl (now (a .out))
 
 returns-3 : tie.Need-returns-3
 returns-3 c =
     let f = c .before .before in
-    let a = start-of f .args in
-    let r = f .before .room in
-    leaves-refused (a .s) (cols f) (a .cid) (a .limit) (a .offset) (r .result) (r .ensures) (f .find-target .result) (f .find-target .ensures) _ _ (c .enum-told2 .given .1) refl (now (a .out))
+    let a = start f .args in
+    leaves-refused (led f) (a .limit) (a .offset) _ _ (c .enum-told2 .given .1) refl (now (a .out))
 
 returns-4 : tie.Need-returns-4
 returns-4 c =
     let f = c .before .before in
-    let a = start-of f .args in
-    let r = f .before .room in
-    leaves-refused (a .s) (cols f) (a .cid) (a .limit) (a .offset) (r .result) (r .ensures) (f .find-target .result) (f .find-target .ensures) _ _ (c .enum-told3 .given .1) refl (now (a .out))
+    let a = start f .args in
+    leaves-refused (led f) (a .limit) (a .offset) _ _ (c .enum-told3 .given .1) refl (now (a .out))
 
 same-length : tie.Need-same-length
-same-length c = c .before .before .before .before .walk-into .kept .1 .1 .1 .1 .1 .1 .1 .1 .1 .1 .1 .1 .1 .0
+same-length c = search needs
 
 returns-5 : tie.Need-returns-5
 returns-5 c =
     let w = c .before .before .before .before in
-    let e = w .before .before in
-    let d = e .before .before in
-    let f = d .before .before in
-    let a = start-of f .args in
-    let r = f .before .room in
-    gives-broke (a .s) (cols f) (a .cid) (a .limit) (a .offset) (r .result) (r .ensures) (f .find-target .result) (f .find-target .ensures) _ _ (d .table .given .1)
-    (e .if1 .left) (w .walk-into .result) (now (a .out)) _ (w .walk-into .ensures) _ (c .enum-told4 .given .1)
+    let f = found w in
+    let a = start f .args in
+    gives-broke (led f) (a .limit) (a .offset) _ _ (at w .table .given .1) (w .before .before .if1 .left)
+    (w .walk-into .result) (now (a .out)) _ (w .walk-into .ensures) _ (c .enum-told4 .given .1)
 
 same-length-2 : tie.Need-same-length-2
-same-length-2 c = c .before .before .before .before .walk-into .kept .1 .1 .1 .1 .1 .1 .1 .1 .1 .1 .1 .1 .1 .0
+same-length-2 c = search needs
 
 returns-6 : tie.Need-returns-6
 returns-6 c =
     let w = c .before .before .before .before in
-    let e = w .before .before in
-    let d = e .before .before in
-    let f = d .before .before in
-    let a = start-of f .args in
-    let r = f .before .room in
-    gives-childless (a .s) (cols f) (a .cid) (a .limit) (a .offset) (r .result) (r .ensures) (f .find-target .result) (f .find-target .ensures) _ _ (d .table .given .1)
-    (e .if1 .left) (w .walk-into .result) (now (a .out)) _ (w .walk-into .ensures) _ (c .enum-told5 .given .1)
+    let f = found w in
+    let a = start f .args in
+    gives-childless (led f) (a .limit) (a .offset) _ _ (at w .table .given .1) (w .before .before .if1 .left)
+    (w .walk-into .result) (now (a .out)) _ (w .walk-into .ensures) _ (c .enum-told5 .given .1)
 
 same-length-3 : tie.Need-same-length-3
-same-length-3 c = c .before .before .before .before .before .before .walk-into .kept .1 .1 .1 .1 .1 .1 .1 .1 .1 .1 .1 .1 .1 .0
+same-length-3 c = search needs
 
 returns-7 : tie.Need-returns-7
 returns-7 c =
     let m = c .before .before in
     let w = m .before .before .before .before in
-    let e = w .before .before in
-    let d = e .before .before in
-    let f = d .before .before in
-    let a = start-of f .args in
-    let r = f .before .room in
-    gives-went (a .s) (cols f) (a .cid) (a .limit) (a .offset) (r .result) (r .ensures) (f .find-target .result) (f .find-target .ensures) _ _ (d .table .given .1)
-    (e .if1 .left) (w .walk-into .result) (now (a .out)) _ (w .walk-into .ensures) _ (m .w .given .1) (c .fit .result) (c .fit .ensures)
+    let f = found w in
+    let a = start f .args in
+    gives-went (led f) (a .limit) (a .offset) _ _ (at w .table .given .1) (w .before .before .if1 .left)
+    (w .walk-into .result) (now (a .out)) _ (w .walk-into .ensures) _ (m .w .given .1) (c .fit .result) (c .fit .ensures)
 
 pub leaves-spec : {M : Type 1} → statement M
 leaves-spec =

@@ -1,225 +1,274 @@
--- `zoom::scan_one` meets its contract: an entry that was seen leaves the scan as it is; another is marked, its neighbours are listed, and the visit is the
--- definition's. Assumes nothing.
-use mathlib.Core.Path.{_≡_, refl, ap, sym, _∙_, subst}
+-- `zoom::scan_one` meets its contract: one that is seen is passed by, and what the visit of a marked entry leaves is the definition's scan. Assumes
+-- nothing.
+use mathlib.Core.Path.{_≡_, refl, ap, sym, subst}
 use mathlib.Core.List.{List}
 use Prim.Native.Nat.{ℕ, _+_, _^_, _<_, _≤_}
 use native.Mathlib.Omega.{arith}
-use lib.ListN.{length, getD, set, take, length-set}
-use lib.Seq.{length-take-le, getD-take}
-use lib.Ieee.{Float, nan}
-use denote.Ref.{now}
+use lib.ListN.{length, getD, set, take}
+use lib.Seq.{getD-take, length-take-le}
+use lib.Ieee.{Float}
 use borrow.Author.Needs.{needs}
+use Rattle.kdslots.specs.declared.Query.{Query}
 use Rattle.kdslots.specs.declared.Query.the-variants.{Within}
 use Rattle.kdslots.specs.All.{AllBelow}
 use Rattle.kdslots.specs.Members.{Distinct}
 use Rattle.tables.specs.declared.Entry.{Entry}
 use Rattle.tables.specs.Entries.{Table, entry, none, marked}
-use Rattle.tables.specs.Rows.{rows, row, even-mark, rows-entry, rows-length, rows-mark}
+use Rattle.tables.specs.Lent.{given}
+use Rattle.tables.specs.Rows.{Cols, rows, Kept, withSeen, rows-length, rows-mark, even-mark, kept-mark, kept-then}
+use Rattle.zoom.specs.Back.{lastCols, keptCols}
+use Rattle.zoom.specs.Zoom.{numOf}
+use Rattle.zoom.specs.Keeps.{all-at}
 use Rattle.zoom.specs.Near.{nearOf, Placed}
 use Rattle.zoom.specs.Notes.{Tells, noted-at}
-use Rattle.zoom.specs.Keeps.{all-at}
-use Rattle.zoom.specs.Visit.{marked-room, marked-unseenNum, scanned, passed}
+use Rattle.zoom.specs.Visit.{marked-room, marked-fits, scanned, passed}
 use Rattle.zoom.proofs.scan_one.Statement.{statement}
 use Rattle.zoom.proofs.scan_one.Tie as tie
 
 -- ---- what is known at the start
 
+abbrev columns : tie.Start → Cols
+columns s = let a = s .args in (given (a .x) (a .y) (a .seen) (a .id) (a .parent) (a .num))
+
 abbrev table : tie.Start → Table
-table s = let a = s .args in rows (now (a .x)) (now (a .y)) (now (a .seen)) (now (a .id)) (now (a .parent)) (now (a .num))
+table s = rows (columns s)
 
 abbrev near-of : tie.Start → Float → Float → List ℕ
-near-of s = let a = s .args in nearOf (a .node-size) (a .len) (now (a .ids)) (now (a .coords)) (a .r)
-
-abbrev places : tie.Start → List ℕ
-places s = let a = s .args in near-of s (getD (now (a .x)) (a .i) nan) (getD (now (a .y)) (a .i) nan)
-
-long : (s : tie.Start) → length (table s) ≡ length (now (s .args .x))
-long s = let a = s .args in rows-length (now (a .x)) (now (a .y)) (now (a .seen)) (now (a .id)) (now (a .parent)) (now (a .num))
-
-here : (s : tie.Start) → s .args .i < s .args .len
-here s = s .pre .1 .0 .3
+near-of s = let a = s .args in nearOf (a .node-size) (a .len) (a .ids .now) (a .coords .now) (a .r)
 
 len-in : (s : tie.Start) → s .args .len ≤ length (table s)
-len-in s = let room = s .pre .1 .1 .1 .0 .0 in omega (arith, room, long s)
+len-in s = omega (arith, s .pre .7, rows-length (columns s))
 
-few-in : (s : tie.Start) → s .args .len ≤ 1048576
-few-in s = let p = s .pre .1 .1 .1 .1 in omega (arith, p .0, p .1)
+inside : (s : tie.Start) → s .args .i < length (s .args .x .now)
+inside s = omega (arith, s .pre .4, s .pre .7)
 
-inside : (s : tie.Start) → s .args .i < length (now (s .args .x))
-inside s = omega (arith, here s, len-in s, long s)
+abbrev now-marked : tie.Start → Cols
+now-marked s = withSeen (columns s) (set (s .args .seen .now) (s .args .i) (s .args .z))
 
-at-i : (s : tie.Start) → entry (table s) (s .args .i) ≡ row (now (s .args .x)) (now (s .args .y)) (now (s .args .seen)) (now (s .args .id)) (now (s .args .parent)) (now (s .args .num)) (s .args .i)
-at-i s = let a = s .args in rows-entry (now (a .x)) (now (a .y)) (now (a .seen)) (now (a .id)) (now (a .parent)) (now (a .num)) (a .i) (inside s)
-
-mark-i : (s : tie.Start) → rows (now (s .args .x)) (now (s .args .y)) (set (now (s .args .seen)) (s .args .i) (s .args .z)) (now (s .args .id)) (now (s .args .parent)) (now (s .args .num))
-    ≡ set (table s) (s .args .i) (marked (s .args .z) (entry (table s) (s .args .i)))
-mark-i s = let a = s .args in rows-mark (now (a .x)) (now (a .y)) (now (a .seen)) (now (a .id)) (now (a .parent)) (now (a .num)) (a .i) (s .pre .0) (inside s) (a .z)
+mark-i : (s : tie.Start) → rows (now-marked s) ≡ set (table s) (s .args .i) (marked (s .args .z) (entry (table s) (s .args .i)))
+mark-i s = rows-mark (columns s) (s .args .i) (s .pre .0) (inside s) (s .args .z)
 
 placed-i : (s : tie.Start) → Placed (entry (table s) (s .args .i))
 placed-i s =
     let a = s .args in
-    subst (λ (e : Entry). Placed e) (getD-take (a .len) (table s) (a .i) none (here s))
-    (all-at Placed (take (a .len) (table s)) (a .i) (s .pre .1 .1 .0 .0) (omega (arith, length-take-le (a .len) (table s) (len-in s), here s)))
+    subst (λ (e : Entry). Placed e) (getD-take (a .len) (table s) (a .i) none (s .pre .4))
+    (all-at Placed (take (a .len) (table s)) (a .i) (s .pre .5) (rw (length-take-le (a .len) (table s) (len-in s)) (s .pre .4)))
 
-below-of : (s : tie.Start) → AllBelow (s .args .len) (places s)
-below-of s = let a = s .args in s .pre .1 .0 .0 .below (Within (getD (now (a .x)) (a .i) nan) (getD (now (a .y)) (a .i) nan) (a .r))
+-- ---- and once the entry is read
 
-few : (s : tie.Start) → length (places s) ≤ s .args .len
-few s = let a = s .args in s .pre .1 .0 .0 .short (Within (getD (now (a .x)) (a .i) nan) (getD (now (a .y)) (a .i) nan) (a .r))
+abbrev start-of : tie.After-entry-at → tie.Start
+start-of c = c .before .before .before .before .before .before .before .before .before .before .before .before .before
+    .before .before .before
 
--- ---- and at the branch of an entry that is not passed by; the calls, seen from later places
+abbrev places : tie.After-entry-at → List ℕ
+places c = near-of (start-of c) (c .entry-at .result .x) (c .entry-at .result .y)
 
-abbrev start-of : tie.Else1 → tie.Start
-start-of e = e .before .before .before .before .before .before .before .before .before .before .before
+abbrev question : tie.After-entry-at → Query
+question c = Within (c .entry-at .result .x) (c .entry-at .result .y) (start-of c .args .r)
 
+below-of : (c : tie.After-entry-at) → AllBelow (start-of c .args .len) (places c)
+below-of c = start-of c .pre .1 .below (question c)
+
+few : (c : tie.After-entry-at) → length (places c) ≤ start-of c .args .len
+few c = start-of c .pre .1 .short (question c)
+
+once : (c : tie.After-entry-at) → Distinct (places c)
+once c = start-of c .pre .1 .once (question c)
+
+-- ---- the branch of an entry that is not passed by
+
+abbrev reading : tie.Else1 → tie.After-entry-at
+reading e = e .before .before
+
+unseen-i : (e : tie.Else1) → let s = start-of (reading e) in s .args .z < entry (table s) (s .args .i) .seen
+unseen-i e = rw (reading e .entry-at .ensures) at (e .if1 .left)
+
+-- the entry's note is one of the column
+note-in : (c : tie.After-wide) → let a = start-of (reading (c .before)) .args in
+    (c .wide .result ≡ a .n) × (a .n + a .i < length (a .near .now))
+note-in c = let s = start-of (reading (c .before)) in (c .wide .ensures, omega (arith, s .pre .3, s .pre .4))
+
+-- the search, and how many it found
 abbrev else-of : tie.After-neighbours → tie.Else1
-else-of w = w .before .before .before .before .before .before
+else-of w = w .before .before .before .before
+
+abbrev listed : tie.After-neighbours → List ℕ
+listed w = w .neighbours .last .1 .1 .0
+
+fits : (w : tie.After-neighbours) → w .neighbours .result ≤ length (listed w)
+fits w =
+    let r = reading (else-of w) in
+    omega (arith, w .neighbours .ensures .0 .count, few r, start-of r .pre .3, w .neighbours .kept .1 .1 .0)
+
+-- they are the neighbours
+front-of : (w : tie.After-neighbours) → take (w .neighbours .result) (listed w) ≡ places (reading (else-of w))
+front-of w = w .neighbours .ensures .0 .front
+
+-- the visit
+abbrev visiting : tie.After-slice-known15 → tie.After-visit-one
+visiting c = c .before .before .before .before .before .before .before .before .before .before .before .before
 
 abbrev listing : tie.After-visit-one → tie.After-neighbours
 listing v = v .before .before .before .before .before .before .before .before .before .before
 
-abbrev visiting : tie.After-slice-known18 → tie.After-visit-one
-visiting c = c .before .before .before .before .before .before .before .before .before .before .before .before
+kept-by : (c : tie.After-visit-one) → Kept (columns (start-of (reading (else-of (listing c))))) (lastCols (c .visit-one .last))
+kept-by c =
+    let s = start-of (reading (else-of (listing c))) in
+    let new = lastCols (c .visit-one .last) in
+    kept-then (columns s) (now-marked s) new (keptCols (now-marked s) new (c .visit-one .kept)) (kept-mark (columns s) (s .args .i) (s .args .z))
 
-unseen-i : (e : tie.Else1) → start-of e .args .z < entry (table (start-of e)) (start-of e .args .i) .seen
-unseen-i e = rw (at-i (start-of e)) (e .if1 .left)
+entry-at-requires : tie.Need-entry-at-requires
+entry-at-requires c κs =
+    let s = c .before .before .before .before .before .before .before .before .before .before .before .before .before .before .before in
+    (s .pre .0, inside s)
 
--- ---- the parts
+same-length : tie.Need-same-length
+same-length c = refl
 
-slice-read-if1 : tie.Need-slice-read-if1
-slice-read-if1 c = let s = c .before .before .before .before .before .before .before .before .before .before in omega (arith, inside s, s .pre .0 .es)
+same-length-2 : tie.Need-same-length-2
+same-length-2 c = refl
+
+same-length-3 : tie.Need-same-length-3
+same-length-3 c = refl
+
+same-length-4 : tie.Need-same-length-4
+same-length-4 c = refl
+
+same-length-5 : tie.Need-same-length-5
+same-length-5 c = refl
+
+same-length-6 : tie.Need-same-length-6
+same-length-6 c = refl
 
 returns : tie.Need-returns
 returns c =
-    let s = c .before .before .before .before .before .before .before .before .before .before .before in
+    let s = c .before .before .before .before .before .before .before .before .before .before .before .before .before .before
+    .before .before .before .before in
     let a = s .args in
-    (λ j. refl, passed (a .n) (a .least) (a .z) (near-of s) (table s) (a .len) (a .done) (a .i) (here s) (rw (at-i s) (c .if1 .taken)) (omega (arith, s .pre .1 .1 .1 .0 .0, long s)))
+    let u = rw (c .before .before .entry-at .ensures) at (c .if1 .taken) in
+    let h : a .len + a .done ≤ length (table s) = omega (arith, s .pre .7, rows-length (columns s)) in
+    (λ j. refl, passed (a .n) (a .least) (a .z) (near-of s) (table s) (a .len) (a .done) (a .i) (s .pre .4) u h)
 
 slice-write-seen : tie.Need-slice-write-seen
-slice-write-seen c = let s = start-of c in omega (arith, inside s, s .pre .0 .es)
-
-mul-qx : tie.Need-mul-qx
-mul-qx c = let s = start-of c in omega (arith, here s, few-in s)
-
-slice-read-qx : tie.Need-slice-read-qx
-slice-read-qx c = inside (start-of (c .before))
-
-mul-qy : tie.Need-mul-qy
-mul-qy c = let s = start-of (c .before) in omega (arith, here s, few-in s)
-
-slice-read-qy : tie.Need-slice-read-qy
-slice-read-qy c = let s = start-of (c .before .before) in omega (arith, inside s, s .pre .0 .ey)
+slice-write-seen c =
+    let s = c .before .before .before .before .before .before .before .before .before .before .before .before .before .before
+    .before .before .before .before in
+    omega (arith, inside s, s .pre .0 .es)
 
 wide-requires : tie.Need-wide-requires
 wide-requires c κs = search needs
 
--- the entry's note is one of the column
-note-in : (c : tie.After-wide) → let s = start-of (c .before .before .before) in (c .wide .result ≡ s .args .n) × (s .args .n + s .args .i < length (now (s .args .near)))
-note-in c = let s = start-of (c .before .before .before) in (c .wide .ensures, omega (arith, here s, s .pre .1 .0 .2))
-
 add-note : tie.Need-add-note
-add-note c = let s = start-of (c .before .before .before) in omega (arith, note-in c .0, here s, s .pre .1 .1 .1 .1)
+add-note c =
+    let s = c .before .before .before .before .before .before .before .before .before .before .before .before .before .before
+    .before .before .before .before .before in
+    omega (arith, note-in c .0, s .pre .4, s .pre .8, s .pre .9)
 
 mul-note : tie.Need-mul-note
-mul-note c = let s = start-of (c .before .before .before) in omega (arith, note-in c .0, here s, s .pre .1 .1 .1 .1)
+mul-note c =
+    let s = c .before .before .before .before .before .before .before .before .before .before .before .before .before .before
+    .before .before .before .before .before in
+    omega (arith, note-in c .0, s .pre .4, s .pre .8, s .pre .9)
 
 slice-read-note : tie.Need-slice-read-note
 slice-read-note c = omega (arith, note-in (c .before) .0, note-in (c .before) .1)
 
 neighbours-requires : tie.Need-neighbours-requires
 neighbours-requires c κs =
-    let w = c .before .before in
-    let s = start-of (w .before .before .before) in
-    let p = s .pre .1 .0 in
-    let f = placed-i s in
-    let a = s .args in (
-      (p .0, p .1, omega (arith, p .2, s .pre .1 .1 .1 .1 .0), p .3, few-in s),
+    let w = c .before .before .wide in
+    let s = c .before .before .before .before .before .before .before .before .before .before .before .before .before
+    .before .before .before .before .before .before .before .before in
+    let r = c .before .before .before .before .before .entry-at in
+    let a = s .args in
+    let p = s .pre in
+    let f : Placed (r .result) = rw (r .ensures) (placed-i s) in (
+      (p .1, p .2, omega (arith, p .3), p .4, omega (arith, p .8, p .9)),
       (
-        (rw (at-i s) at (f .0), rw (at-i s) at (f .1)),
-        subst (λ (k : ℕ). Tells (a .i) (getD (now (a .near)) (k + a .i) 0) (places s)) (sym (w .wide .ensures))
-            (noted-at (a .n) (a .len) (near-of s) (now (a .near)) (table s) (a .i) _ (s .pre .1 .1 .0 .1) (here s) (at-i s)),
+        f,
+        subst (λ (k : ℕ). Tells (a .i) (getD (a .near .now) (k + a .i) 0) (places (c .before .before .before .before
+            .before))) (sym (w .ensures))
+            (noted-at (a .n) (a .len) (near-of s) (a .near .now) (table s) (a .i) (r .result) (p .6) (p .4) (sym (r .ensures))),
       ),
     )
 
 slice-reshare-prefix-visit-one : tie.Need-slice-reshare-prefix-visit-one
-slice-reshare-prefix-visit-one c =
-    let w = c .before .before .before .before .before .before .before .before in
-    let s = start-of (else-of w) in
-    omega (arith, w .neighbours .ensures .0 .count, few s, s .pre .1 .0 .2, s .pre .1 .1 .1 .1 .0, w .neighbours .kept .1 .1 .0)
+slice-reshare-prefix-visit-one c = fits (c .before .before .before .before .before .before .before .before)
 
 slice-aggregate-visit-one : tie.Need-slice-aggregate-visit-one
 slice-aggregate-visit-one c =
     let w = c .before .before .before .before .before .before .before .before .before in
-    let s = start-of (else-of w) in
-    sym (length-take-le (w .neighbours .result) (w .neighbours .last .1 .1 .0) (omega (arith, w .neighbours .ensures .0 .count, few s, s .pre .1 .0 .2, s .pre .1 .1 .1 .1 .0, w .neighbours .kept .1 .1 .0)))
+    sym (length-take-le (w .neighbours .result) (listed w) (fits w))
 
 visit-one-requires : tie.Need-visit-one-requires
 visit-one-requires c κs =
     let w = c .before .before .before .before .before .before .before .before .before in
     let e = else-of w in
-    let s = start-of e in
+    let r = reading e in
+    let s = start-of r in
     let a = s .args in
-    let l = places s in
-    let fr : take (w .neighbours .result) (w .neighbours .last .1 .1 .0) ≡ l = w .neighbours .ensures .0 .front in
-    let o : Distinct l = s .pre .1 .0 .0 .once (Within (getD (now (a .x)) (a .i) nan) (getD (now (a .y)) (a .i) nan) (a .r)) in
-    let q : entry (table s) (a .i) .num ≡ getD (now (a .num)) (a .i) 0 = ap (λ (v : Entry). v .num) (at-i s) in (
-      even-mark (a .i) (a .z) (s .pre .0),
-      (
-        rw fr (below-of s),
-        (
-          (here s, rw (mark-i s) (marked-room (table s) (a .len) (a .done) (a .z) (a .i) (here s) (len-in s) (unseen-i e) (length (now (a .x))) (s .pre .1 .1 .1 .0 .0))),
-          (rw (mark-i s, fr, ← q) (marked-unseenNum (table s) (a .len) (a .done) (a .z) (a .i) (here s) (len-in s) (unseen-i e) (2 ^ 32) l (below-of s) o (s .pre .1 .1 .1 .0 .1)), (few-in s, s .pre .1 .1 .1 .1 .1, s .pre .1 .1 .1 .1 .2)),
-        ),
-      ),
+    let p = s .pre in
+    let t = table s in
+    let l = places r in
+    let fits = marked-fits t (a .len) (a .done) (a .z) (a .i) (p .4) (len-in s) (unseen-i e) numOf (λ e q. refl) (2 ^ 32) l (below-of r) (once r) in (
+      even-mark (columns s) (a .i) (a .z) (p .0),
+      rw (front-of w) (below-of r),
+      p .4,
+      rw (mark-i s) (marked-room t (a .len) (a .done) (a .z) (a .i) (p .4) (len-in s) (unseen-i e) (length (a .x .now)) (p .7)),
+      omega (arith, p .8, p .9),
+      p .9,
+      p .10,
+      rw (mark-i s, front-of w) (fits (p .11)),
     )
 
-same-length : tie.Need-same-length
-same-length c = visiting c .visit-one .kept .0
-
-same-length-2 : tie.Need-same-length-2
-same-length-2 c = visiting c .visit-one .kept .1 .0
-
-same-length-3 : tie.Need-same-length-3
-same-length-3 c = visiting c .visit-one .kept .1 .1 .0 ∙ (let a = start-of (else-of (listing (visiting c))) .args in length-set (now (a .seen)) (a .i) (a .z))
-
-same-length-4 : tie.Need-same-length-4
-same-length-4 c = visiting c .visit-one .kept .1 .1 .1 .0
-
-same-length-5 : tie.Need-same-length-5
-same-length-5 c = visiting c .visit-one .kept .1 .1 .1 .1 .0
-
-same-length-6 : tie.Need-same-length-6
-same-length-6 c = visiting c .visit-one .kept .1 .1 .1 .1 .1 .0
-
 same-length-7 : tie.Need-same-length-7
-same-length-7 c = listing (visiting c) .neighbours .kept .1 .1 .0
+same-length-7 c = kept-by (visiting c) .kx
+
+same-length-8 : tie.Need-same-length-8
+same-length-8 c = kept-by (visiting c) .ky
+
+same-length-9 : tie.Need-same-length-9
+same-length-9 c = kept-by (visiting c) .ks
+
+same-length-10 : tie.Need-same-length-10
+same-length-10 c = kept-by (visiting c) .ki
+
+same-length-11 : tie.Need-same-length-11
+same-length-11 c = kept-by (visiting c) .kp
+
+same-length-12 : tie.Need-same-length-12
+same-length-12 c = kept-by (visiting c) .kn
+
+same-length-13 : tie.Need-same-length-13
+same-length-13 c = listing (visiting c) .neighbours .kept .1 .1 .0
 
 returns-2 : tie.Need-returns-2
 returns-2 c =
     let v = visiting c in
     let w = listing v in
     let e = else-of w in
-    let s = start-of e in
+    let r = reading e in
+    let s = start-of r in
     let a = s .args in
-    let l = places s in
-    let fr : take (w .neighbours .result) (w .neighbours .last .1 .1 .0) ≡ l = w .neighbours .ensures .0 .front in
-    let le : near-of s (entry (table s) (a .i) .x) (entry (table s) (a .i) .y) ≡ l = rw (at-i s) in (
+    let le : near-of s (entry (table s) (a .i) .x) (entry (table s) (a .i) .y) ≡ places r
+    = sym (ap (λ (q : Entry). near-of s (q .x) (q .y)) (r .entry-at .ensures)) in
+    let visited = rw (mark-i s, front-of w) at (v .visit-one .ensures) in (
       w .neighbours .ensures .1,
-      scanned (a .n) (a .least) (a .z) (near-of s) (table s) (a .len) (a .done) (a .i) (here s) (unseen-i e) _ _
-          (rw le (rw (mark-i s, fr) at (v .visit-one .ensures))),
+      scanned (a .n) (a .least) (a .z) (near-of s) (table s) (a .len) (a .done) (a .i) (s .pre .4) (unseen-i e) _ _ (rw le visited),
     )
 
 pub scan-one-spec : {M : Type 1} → statement M
 scan-one-spec =
     tie.close
     (tie.spec
-    slice-read-if1
+    entry-at-requires
+    same-length
+    same-length-2
+    same-length-3
+    same-length-4
+    same-length-5
+    same-length-6
     returns
     slice-write-seen
-    mul-qx
-    slice-read-qx
-    mul-qy
-    slice-read-qy
     wide-requires
     add-note
     mul-note
@@ -228,11 +277,11 @@ scan-one-spec =
     slice-reshare-prefix-visit-one
     slice-aggregate-visit-one
     visit-one-requires
-    same-length
-    same-length-2
-    same-length-3
-    same-length-4
-    same-length-5
-    same-length-6
     same-length-7
+    same-length-8
+    same-length-9
+    same-length-10
+    same-length-11
+    same-length-12
+    same-length-13
     returns-2)

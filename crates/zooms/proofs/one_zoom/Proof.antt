@@ -1,13 +1,14 @@
 -- `zooms::one_zoom` meets its contract: what holds between two zooms gives what the scan and the index ask, and the scan and the index together advance
 -- the tables by one. Assumes nothing.
-use Prim.Native.Nat.{suc, _+_, _-_, _≤_}
+use Prim.Native.Nat.{ℕ, suc, _+_, _-_, _*_, _^_, _<_, _≤_}
 use native.Mathlib.Omega.{arith}
-use lib.ListN.{length}
-use denote.Ref.{now}
+use lib.ListN.{length, drop, take}
+use borrow.Author.Needs.{needs}
 use Rattle.tables.specs.Entries.{Table}
-use Rattle.tables.specs.Rows.{rows, Even, even-kept}
-use Rattle.zoom.specs.Near.{Radius}
+use Rattle.tables.specs.Rows.{Cols, cols, rows, Even, Kept, even-kept}
+use Rattle.tables.specs.Lent.{given}
 use Rattle.zooms.specs.Zooms.{Plan, planOf}
+use Rattle.zoom.specs.Near.{Radius}
 use Rattle.zooms.specs.Running.{Running, cur-promised}
 use Rattle.zooms.specs.OwnPlace.{cur-slotted, cur-owned}
 use Rattle.zooms.specs.Zooming.{Zoomed, z-few, step-room, step-light, step-radius, step-placed, made-some, made-few, made-body, scanned, inside-made, advanced}
@@ -19,59 +20,53 @@ use Rattle.zooms.proofs.one_zoom.Tie as tie
 abbrev plan : tie.Start → Plan
 plan s = planOf (s .args .o) (s .args .n)
 
+abbrev columns : tie.Start → Cols
+columns s = let a = s .args in (given (a .x) (a .y) (a .seen) (a .id) (a .parent) (a .num))
+
 abbrev table : tie.Start → Table
-table s = let a = s .args in rows (now (a .x)) (now (a .y)) (now (a .seen)) (now (a .id)) (now (a .parent)) (now (a .num))
+table s = rows (columns s)
 
-low : (s : tie.Start) → s .args .o .«min_zoom» ≤ s .args .z
-low s = s .pre .1 .0 .1
-
-running : (s : tie.Start) → let a = s .args in Running (plan s) (length (now (a .x))) (suc (a .z - a .o .«min_zoom»)) (a .start) (a .len) (table s) (now (a .ids)) (now (a .coords))
-running s = s .pre .1 .1
+running : (s : tie.Start) → let a = s .args in Running (plan s) (length (a .x .now)) (suc (a .z - a .o .«min_zoom»)) (a .start) (a .len) (table s) (a .ids .now) (a .coords .now)
+running s = s .pre .3
 
 few : (s : tie.Start) → s .args .z ≤ 30
-few s = let a = s .args in z-few (plan s) (length (now (a .x))) (a .z) (a .start) (a .len) (table s) (now (a .ids)) (now (a .coords)) (low s) (running s)
+few s = let a = s .args in z-few (plan s) (length (a .x .now)) (a .z) (a .start) (a .len) (table s) (a .ids .now) (a .coords .now) (s .pre .2) (running s)
 
-room : (s : tie.Start) → s .args .start + s .args .len + s .args .len ≤ length (now (s .args .x))
-room s = let a = s .args in step-room (plan s) (length (now (a .x))) (a .z) (a .start) (a .len) (table s) (now (a .ids)) (now (a .coords)) (low s) (running s)
+room : (s : tie.Start) → s .args .start + s .args .len + s .args .len ≤ length (s .args .x .now)
+room s = let a = s .args in step-room (plan s) (length (a .x .now)) (a .z) (a .start) (a .len) (table s) (a .ids .now) (a .coords .now) (s .pre .2) (running s)
 
 -- ---- and after the scan
 
 abbrev start-of : tie.After-zoom-step → tie.Start
 start-of w = w .before .before .before .before .before .before .before .before .before .before .before .before .before .before .before .before .before .before .before .before
 
-abbrev step-of : tie.After-index-part-arg4 → tie.After-zoom-step
-step-of c = c .before .before .before .before .before .before .before .before .before .before .before .before .before .before .before .before .before .before
+abbrev came : tie.After-zoom-step → Cols
+came c = let w = c .zoom-step in (cols (w .last .0) (w .last .1 .0) (w .last .1 .1 .0) (w .last .1 .1 .1 .0) (w .last .1 .1 .1 .1 .0) (w .last .1 .1 .1 .1 .1 .0))
 
-abbrev indexed-of : tie.After-slice-known18 → tie.After-index-part
-indexed-of c = c .before .before .before .before
+kept-by : (c : tie.After-zoom-step) → Kept (columns (start-of c)) (came c)
+kept-by c = let w = c .zoom-step in (record { kx = w .kept .0; ky = w .kept .1 .0; ks = w .kept .1 .1 .0; ki = w .kept .1 .1 .1 .0; kp = w .kept .1 .1 .1 .1 .0; kn = w .kept .1 .1 .1 .1 .1 .0 })
 
-abbrev new-table : tie.After-zoom-step → Table
-new-table w = let l = w .zoom-step .last in rows (l .0) (l .1 .0) (l .1 .1 .0) (l .1 .1 .1 .0) (l .1 .1 .1 .1 .0) (l .1 .1 .1 .1 .1 .0)
+even : (w : tie.After-zoom-step) → Even (came w)
+even w = even-kept (columns (start-of w)) (came w) (kept-by w) (start-of w .pre .0)
 
-even : (w : tie.After-zoom-step) → let l = w .zoom-step .last in Even (l .0) (l .1 .0) (l .1 .1 .0) (l .1 .1 .1 .0) (l .1 .1 .1 .1 .0) (l .1 .1 .1 .1 .1 .0)
-even w = let k = w .zoom-step .kept in even-kept (start-of w .pre .0) (k .0) (k .1 .0) (k .1 .1 .0) (k .1 .1 .1 .0) (k .1 .1 .1 .1 .0) (k .1 .1 .1 .1 .1 .0)
-
-zoomed : (w : tie.After-zoom-step) → let a = start-of w .args in Zoomed (plan (start-of w)) (a .z) (a .start) (a .len) (w .zoom-step .result) (table (start-of w)) (new-table w)
+zoomed : (w : tie.After-zoom-step) → let a = start-of w .args in Zoomed (plan (start-of w)) (a .z) (a .start) (a .len) (w .zoom-step .result) (table (start-of w)) (rows (came w))
 zoomed w =
     let s = start-of w in
     let a = s .args in
     let r = w .before .before .before .before .before .before .before .before .before .before .radius-at in
-    scanned (plan s) (length (now (a .x))) (a .z) (a .start) (a .len) (table s) (now (a .ids)) (now (a .coords)) (low s) (running s) (r .result) (r .ensures)
-    (new-table w) (w .zoom-step .result) (w .zoom-step .ensures)
+    scanned (plan s) (length (a .x .now)) (a .z) (a .start) (a .len) (table s) (a .ids .now) (a .coords .now) (s .pre .2) (running s) (r .result) (r .ensures) (rows (came w)) (w .zoom-step .result) (w .zoom-step .ensures)
 
 some : (w : tie.After-zoom-step) → 1 ≤ w .zoom-step .result
-some w =
-    let s = start-of w in
-    let a = s .args in
-    omega (arith, zoomed w .count, made-some (plan s) (length (now (a .x))) (a .z) (a .start) (a .len) (table s) (now (a .ids)) (now (a .coords)) (low s) (running s))
+some w = let s = start-of w in let a = s .args in omega (arith, zoomed w .count, made-some (plan s) (length (a .x .now)) (a .z) (a .start) (a .len) (table s) (a .ids .now) (a .coords .now) (s .pre .2) (running s))
 
 short : (w : tie.After-zoom-step) → w .zoom-step .result ≤ start-of w .args .len
-short w =
-    let s = start-of w in
-    let a = s .args in
-    omega (arith, zoomed w .count, made-few (plan s) (length (now (a .x))) (a .z) (a .start) (a .len) (table s) (now (a .ids)) (now (a .coords)) (low s) (running s))
+short w = let s = start-of w in let a = s .args in omega (arith, zoomed w .count, made-few (plan s) (length (a .x .now)) (a .z) (a .start) (a .len) (table s) (a .ids .now) (a .coords .now) (s .pre .2) (running s))
 
--- ---- the parts
+abbrev indexed-of : tie.After-slice-known18 → tie.After-index-part
+indexed-of c = c .before .before .before .before
+
+abbrev step-of : tie.After-index-part → tie.After-zoom-step
+step-of c = c .before .before .before .before .before .before .before .before .before .before .before .before .before .before .before .before .before .before .before
 
 radius-at-requires : tie.Need-radius-at-requires
 radius-at-requires c κs = omega (arith, few (c .before .before .before .before .before .before .before .before .before))
@@ -80,73 +75,60 @@ zoom-step-requires : tie.Need-zoom-step-requires
 zoom-step-requires c κs =
     let s = c .before .before .before .before .before .before .before .before .before .before .before .before .before .before .before .before .before .before .before in
     let a = s .args in
-    let m = length (now (a .x)) in
     let r = running s in
     let rad = c .before .before .before .before .before .before .before .before .before .radius-at in
-    let radius : Radius (rad .result) = rw (rad .ensures) (step-radius (plan s) m (a .z) (a .start) (a .len) (table s) (now (a .ids)) (now (a .coords)) (low s) r) in (
+    let radius : Radius (rad .result) = rw (rad .ensures) (step-radius (plan s) (length (a .x .now)) (a .z) (a .start) (a .len) (table s) (a .ids .now) (a .coords .now) (s .pre .2) (running s)) in (
       s .pre .0,
-      (
-        (
-          cur-promised (plan s) m (suc (a .z - a .o .«min_zoom»)) (a .start) (a .len) (table s) (now (a .ids)) (now (a .coords)) r,
-          radius,
-        ),
-        (
-          (
-            step-placed (plan s) m (a .z) (a .start) (a .len) (table s) (now (a .ids)) (now (a .coords)) (low s) r,
-            cur-slotted (plan s) m (suc (a .z - a .o .«min_zoom»)) (a .start) (a .len) (table s) (now (a .ids)) (now (a .coords)) r,
-          ),
-          (
-            cur-owned (plan s) m (suc (a .z - a .o .«min_zoom»)) (a .start) (a .len) (table s) (now (a .ids)) (now (a .coords)) r (rad .result) (radius .0),
-            (
-              (omega (arith, room s, r .ids-long), omega (arith, room s, r .co-long), omega (arith, r .len-few, s .pre .1 .0 .0), room s),
-              (
-                step-light (plan s) m (a .z) (a .start) (a .len) (table s) (now (a .ids)) (now (a .coords)) (low s) r,
-                (omega (arith, room s, r .M-few), r .len-few, r .able .few, few s),
-              ),
-            ),
-          ),
-        ),
-      ),
+      cur-promised (plan s) (length (a .x .now)) (suc (a .z - a .o .«min_zoom»)) (a .start) (a .len) (table s) (a .ids .now) (a .coords .now) r,
+      radius,
+      step-placed (plan s) (length (a .x .now)) (a .z) (a .start) (a .len) (table s) (a .ids .now) (a .coords .now) (s .pre .2) (running s),
+      omega (arith, room s, r .ids-long),
+      omega (arith, room s, r .co-long),
+      omega (arith, r .len-few, s .pre .1),
+      room s,
+      step-light (plan s) (length (a .x .now)) (a .z) (a .start) (a .len) (table s) (a .ids .now) (a .coords .now) (s .pre .2) (running s),
+      omega (arith, room s, r .M-few),
+      r .len-few,
+      r .able .few,
+      few s,
+      cur-slotted (plan s) (length (a .x .now)) (suc (a .z - a .o .«min_zoom»)) (a .start) (a .len) (table s) (a .ids .now) (a .coords .now) r,
+      cur-owned (plan s) (length (a .x .now)) (suc (a .z - a .o .«min_zoom»)) (a .start) (a .len) (table s) (a .ids .now) (a .coords .now) r (rad .result) (radius .0),
     )
 
 add-next : tie.Need-add-next
-add-next c =
-    let s = c .before .before .before .before .before .before .before .before .before .before .before .before .before .before .before .before .before .before .before .before .before .before .before .before .before .before .before .before .before .before .before .before .before .before in
-    omega (arith, room s, running s .M-few)
+add-next c = let s = c .before .before .before .before .before .before .before .before .before .before .before .before .before .before .before .before .before .before .before .before .before .before .before .before .before .before .before .before .before .before .before .before .before .before in omega (arith, room s, running s .M-few)
 
 index-part-requires : tie.Need-index-part-requires
 index-part-requires c κs =
-    let w = step-of c in
+    let w = c .before .before .before .before .before .before .before .before .before .before .before .before .before .before .before .before .before .before in
     let s = start-of w in
     let a = s .args in
-    let l = w .zoom-step .last in
     let r = running s in
     let h = short w in (
       (some w, omega (arith, h, r .len-few, r .able .few), omega (arith, room s, r .M-few), r .able .size-from, r .able .size-to),
       (
         (even w .ey, omega (arith, h, room s, w .zoom-step .kept .0), omega (arith, h, room s, r .ids-long), omega (arith, h, room s, r .co-long)),
-        inside-made (plan s) (a .z) (a .start) (a .len) (w .zoom-step .result) (table s) (l .0) (l .1 .0) (l .1 .1 .0) (l .1 .1 .1 .0) (l .1 .1 .1 .1 .0) (l .1 .1 .1 .1 .1 .0) (even w) (zoomed w)
-            (made-body (plan s) (length (now (a .x))) (a .z) (a .start) (a .len) (table s) (now (a .ids)) (now (a .coords)) (low s) r),
+        inside-made (plan s) (a .z) (a .start) (a .len) (w .zoom-step .result) (table s) (came w) (even w) (zoomed w) (made-body (plan s) (length (a .x .now)) (a .z) (a .start) (a .len) (table s) (a .ids .now) (a .coords .now) (s .pre .2) (running s)),
       ),
     )
 
 same-length : tie.Need-same-length
-same-length c = step-of (indexed-of c .before) .zoom-step .kept .0
+same-length c = kept-by (step-of (indexed-of c)) .kx
 
 same-length-2 : tie.Need-same-length-2
-same-length-2 c = step-of (indexed-of c .before) .zoom-step .kept .1 .0
+same-length-2 c = kept-by (step-of (indexed-of c)) .ky
 
 same-length-3 : tie.Need-same-length-3
-same-length-3 c = step-of (indexed-of c .before) .zoom-step .kept .1 .1 .0
+same-length-3 c = kept-by (step-of (indexed-of c)) .ks
 
 same-length-4 : tie.Need-same-length-4
-same-length-4 c = step-of (indexed-of c .before) .zoom-step .kept .1 .1 .1 .0
+same-length-4 c = kept-by (step-of (indexed-of c)) .ki
 
 same-length-5 : tie.Need-same-length-5
-same-length-5 c = step-of (indexed-of c .before) .zoom-step .kept .1 .1 .1 .1 .0
+same-length-5 c = kept-by (step-of (indexed-of c)) .kp
 
 same-length-6 : tie.Need-same-length-6
-same-length-6 c = step-of (indexed-of c .before) .zoom-step .kept .1 .1 .1 .1 .1 .0
+same-length-6 c = kept-by (step-of (indexed-of c)) .kn
 
 same-length-7 : tie.Need-same-length-7
 same-length-7 c = indexed-of c .index-part .kept .1 .1 .0
@@ -155,18 +137,17 @@ same-length-8 : tie.Need-same-length-8
 same-length-8 c = indexed-of c .index-part .kept .1 .1 .1 .0
 
 same-length-9 : tie.Need-same-length-9
-same-length-9 c = step-of (indexed-of c .before) .zoom-step .kept .1 .1 .1 .1 .1 .1 .1 .1 .0
+same-length-9 c = step-of (indexed-of c) .zoom-step .kept .1 .1 .1 .1 .1 .1 .1 .1 .0
 
 returns : tie.Need-returns
 returns c =
     let i = indexed-of c in
-    let w = step-of (i .before) in
+    let w = step-of i in
     let s = start-of w in
     let a = s .args in
-    let l = w .zoom-step .last in
     let x = i .index-part in
-    advanced (plan s) (a .z) (a .start) (a .len) (w .zoom-step .result) (table s) (l .0) (l .1 .0) (l .1 .1 .0) (l .1 .1 .1 .0) (l .1 .1 .1 .1 .0) (l .1 .1 .1 .1 .1 .0) (even w) (zoomed w)
-    (now (a .ids)) (x .last .1 .1 .0) (now (a .coords)) (x .last .1 .1 .1 .0) (x .ensures .0) (x .ensures .1)
+    advanced (plan s) (a .z) (a .start) (a .len) (w .zoom-step .result) (table s) (came w) (even w) (zoomed w)
+    (a .ids .now) (x .last .1 .1 .0) (a .coords .now) (x .last .1 .1 .1 .0) (x .ensures .0) (x .ensures .1)
 
 pub one-zoom-spec : {M : Type 1} → statement M
 one-zoom-spec =

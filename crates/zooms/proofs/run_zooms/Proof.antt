@@ -1,14 +1,15 @@
 -- `zooms::run_zooms` meets its contract: at the head of the loop the table of zoom z stands indexed, and what is written with what is left to write is the
 -- whole. Assumes nothing.
 use mathlib.Core.Path.{_≡_, refl, ap, sym, _∙_, subst}
-use Prim.Native.Nat.{ℕ, suc, _+_, _-_, _≤_}
+use Prim.Native.Nat.{ℕ, suc, _+_, _-_, _*_, _^_, _<_, _≤_}
 use native.Mathlib.Omega.{arith}
-use lib.ListN.{length}
-use denote.Ref.{now}
+use lib.ListN.{length, drop, take}
+use borrow.Author.Needs.{needs}
 use Rattle.tables.specs.declared.State.{State}
 use Rattle.tables.specs.Columns.{part}
 use Rattle.tables.specs.Entries.{Table}
-use Rattle.tables.specs.Rows.{rows, Even, even-kept, rows-length}
+use Rattle.tables.specs.Rows.{Cols, cols, rows, Even, Kept, even-kept, kept-even, rows-length}
+use Rattle.tables.specs.Lent.{given}
 use Rattle.zooms.specs.Zooms.{Plan, planOf, zoomsOf}
 use Rattle.zooms.specs.Running.{Running}
 use Rattle.zooms.specs.Progress.{wholeOf, Progress}
@@ -18,10 +19,10 @@ use Rattle.zooms.proofs.run_zooms.Tie as tie
 
 abbrev Inv-loop : tie.InvT-loop
 Inv-loop x₀ y₀ seen₀ id₀ parent₀ num₀ ids₀ coords₀ near₀ n o low st₀ z₀ start₀ len₀ x y seen id parent num ids coords near st z start len =
-    Even x y seen id parent num × (length x ≡ length x₀) × (length near ≡ length near₀) × (o .«min_zoom» ≤ z) ×
-    Running (planOf o n) (length x₀) (z - o .«min_zoom») start len (rows x y seen id parent num) ids coords ×
-    Progress (planOf o n) (wholeOf (planOf o n) (z₀ - o .«min_zoom») (part 0 len₀ (rows x₀ y₀ seen₀ id₀ parent₀ num₀)) (st₀ .starts) (st₀ .lens))
-    (rows x₀ y₀ seen₀ id₀ parent₀ num₀) ids₀ coords₀ (z - o .«min_zoom») start len (rows x y seen id parent num) ids coords (st .starts) (st .lens) ×
+    Even (cols x y seen id parent num) × (length x ≡ length x₀) × (length near ≡ length near₀) × (o .«min_zoom» ≤ z) ×
+    Running (planOf o n) (length x₀) (z - o .«min_zoom») start len (rows (cols x y seen id parent num)) ids coords ×
+    Progress (planOf o n) (wholeOf (planOf o n) (z₀ - o .«min_zoom») (part 0 len₀ (rows (cols x₀ y₀ seen₀ id₀ parent₀ num₀))) (st₀ .starts) (st₀ .lens))
+    (rows (cols x₀ y₀ seen₀ id₀ parent₀ num₀)) ids₀ coords₀ (z - o .«min_zoom») start len (rows (cols x y seen id parent num)) ids coords (st .starts) (st .lens) ×
     (st .options ≡ st₀ .options) × (st .count ≡ st₀ .count)
 
 abbrev μ-loop : tie.MeasureT-loop
@@ -32,8 +33,8 @@ abbrev μ-loop : tie.MeasureT-loop
 abbrev start-of : tie.At-loop Inv-loop μ-loop → tie.Start Inv-loop μ-loop
 start-of h = h .before .before .before .before .before .before .before .before .before .before .before .before
 
-abbrev test-of : tie.After-one-zoom-arg9 Inv-loop μ-loop → tie.In-loop Inv-loop μ-loop
-test-of c = c .before .before .before .before .before .before .before .before .before
+abbrev test-of : tie.After-one-zoom Inv-loop μ-loop → tie.In-loop Inv-loop μ-loop
+test-of c = c .before .before .before .before .before .before .before .before .before .before
 
 abbrev zoom-of : tie.After-slice-known18 Inv-loop μ-loop → tie.After-one-zoom Inv-loop μ-loop
 zoom-of c = c .before .before .before .before .before .before .before .before .before .before .before .before .before .before .before .before .before .before
@@ -41,48 +42,55 @@ zoom-of c = c .before .before .before .before .before .before .before .before .b
 abbrev plan : tie.Start Inv-loop μ-loop → Plan
 plan s = planOf (s .args .s .options) (s .args .n)
 
+abbrev columns : tie.Start Inv-loop μ-loop → Cols
+columns s = let a = s .args in (given (a .x) (a .y) (a .seen) (a .id) (a .parent) (a .num))
+
 abbrev first : tie.Start Inv-loop μ-loop → Table
-first s = let a = s .args in rows (now (a .x)) (now (a .y)) (now (a .seen)) (now (a .id)) (now (a .parent)) (now (a .num))
+first s = rows (columns s)
+
+abbrev here : tie.At-loop Inv-loop μ-loop → Cols
+here h = let l = h .loop in (cols (l .x) (l .y) (l .seen) (l .id) (l .parent) (l .num))
 
 abbrev table : tie.At-loop Inv-loop μ-loop → Table
-table h = let l = h .loop in rows (l .x) (l .y) (l .seen) (l .id) (l .parent) (l .num)
+table h = rows (here h)
+
+abbrev came : tie.After-one-zoom Inv-loop μ-loop → Cols
+came c = let w = c .one-zoom in (cols (w .last .0) (w .last .1 .0) (w .last .1 .1 .0) (w .last .1 .1 .1 .0) (w .last .1 .1 .1 .1 .0) (w .last .1 .1 .1 .1 .1 .0))
 
 abbrev next : tie.After-one-zoom Inv-loop μ-loop → Table
-next w = let l = w .one-zoom .last in rows (l .0) (l .1 .0) (l .1 .1 .0) (l .1 .1 .1 .0) (l .1 .1 .1 .1 .0) (l .1 .1 .1 .1 .1 .0)
+next w = rows (came w)
+
+kept-zoom : (c : tie.After-one-zoom Inv-loop μ-loop) → Kept (here (test-of c .before)) (came c)
+kept-zoom c = let w = c .one-zoom in (record { kx = w .kept .0; ky = w .kept .1 .0; ks = w .kept .1 .1 .0; ki = w .kept .1 .1 .1 .0; kp = w .kept .1 .1 .1 .1 .0; kn = w .kept .1 .1 .1 .1 .1 .0 })
+
+kept-by : (h : tie.At-loop Inv-loop μ-loop) → Kept (columns (start-of h)) (here h)
+kept-by h = kept-even (columns (start-of h)) (here h) (start-of h .pre .0) (h .loop .inv .0) (h .loop .inv .1)
 
 -- ---- what is known before a zoom, and after it
 
 ready : (c : tie.In-loop Inv-loop μ-loop) → let l = c .before .loop in let s = start-of (c .before) in
-    Running (plan s) (length (now (s .args .x))) (suc (l .z - 1 - s .args .s .options .«min_zoom»)) (l .start) (l .len) (table (c .before)) (l .ids) (l .coords)
+    Running (plan s) (length (s .args .x .now)) (suc (l .z - 1 - s .args .s .options .«min_zoom»)) (l .start) (l .len) (table (c .before)) (l .ids) (l .coords)
 ready c =
     let s = start-of (c .before) in
     let l = c .before .loop in
-    turn-ready (plan s) (length (now (s .args .x))) (l .z) (l .start) (l .len) (table (c .before)) (l .ids) (l .coords) (c .loop-test .taken) (l .inv .4)
+    turn-ready (plan s) (length (s .args .x .now)) (l .z) (l .start) (l .len) (table (c .before)) (l .ids) (l .coords) (c .loop-test .taken) (l .inv .4)
 
-same : (w : tie.After-one-zoom Inv-loop μ-loop) → length (next w) ≡ length (table (test-of (w .before) .before))
-same w =
-    let l = test-of (w .before) .before .loop in
-    let q = w .one-zoom .last in
-    rows-length (q .0) (q .1 .0) (q .1 .1 .0) (q .1 .1 .1 .0) (q .1 .1 .1 .1 .0) (q .1 .1 .1 .1 .1 .0) ∙ w .one-zoom .kept .0
-    ∙ sym (rows-length (l .x) (l .y) (l .seen) (l .id) (l .parent) (l .num))
+same : (w : tie.After-one-zoom Inv-loop μ-loop) → length (next w) ≡ length (table (test-of w .before))
+same w = rows-length (came w) ∙ kept-zoom w .kx ∙ sym (rows-length (here (test-of w .before)))
 
-moved : (w : tie.After-one-zoom Inv-loop μ-loop) → let c = test-of (w .before) in let l = c .before .loop in let s = start-of (c .before) in let q = w .one-zoom .last in
-    Running (plan s) (length (now (s .args .x))) (l .z - 1 - s .args .s .options .«min_zoom») (l .start + l .len) (w .one-zoom .result) (next w) (q .1 .1 .1 .1 .1 .1 .0) (q .1 .1 .1 .1 .1 .1 .1 .0)
+moved : (w : tie.After-one-zoom Inv-loop μ-loop) → let c = test-of w in let l = c .before .loop in let s = start-of (c .before) in let q = w .one-zoom .last in
+    Running (plan s) (length (s .args .x .now)) (l .z - 1 - s .args .s .options .«min_zoom») (l .start + l .len) (w .one-zoom .result) (next w) (q .1 .1 .1 .1 .1 .1 .0) (q .1 .1 .1 .1 .1 .1 .1 .0)
 moved w =
-    let c = test-of (w .before) in
+    let c = test-of w in
     let s = start-of (c .before) in
     let l = c .before .loop in
     let z = w .one-zoom in
     let q = z .last in
-    turn-running (plan s) (length (now (s .args .x))) (l .z) (l .start) (l .len) (table (c .before)) (l .ids) (l .coords) (c .loop-test .taken) (l .inv .4)
+    turn-running (plan s) (length (s .args .x .now)) (l .z) (l .start) (l .len) (table (c .before)) (l .ids) (l .coords) (c .loop-test .taken) (l .inv .4)
     (z .result) (next w) (q .1 .1 .1 .1 .1 .1 .0) (q .1 .1 .1 .1 .1 .1 .1 .0) (z .ensures) (same w) (z .kept .1 .1 .1 .1 .1 .1 .0) (z .kept .1 .1 .1 .1 .1 .1 .1 .0)
 
--- ---- the parts
-
 add-z : tie.Need-add-z Inv-loop μ-loop
-add-z c =
-    let s = c .before .before .before .before .before .before .before .before .before .before .before in
-    omega (arith, s .pre .1 .1 .0 .low-few, s .pre .1 .0 .1)
+add-z c = let s = c .before .before .before .before .before .before .before .before .before .before .before in omega (arith, s .pre .3 .low-few, s .pre .2)
 
 loop-holds : tie.Need-loop-holds Inv-loop μ-loop
 loop-holds c =
@@ -91,9 +99,9 @@ loop-holds c =
       s .pre .0,
       refl,
       refl,
-      s .pre .1 .0 .1,
-      s .pre .1 .1 .0,
-      turn-start (plan s) (a .s .options .«max_zoom» + 1) (a .n) (first s) (now (a .ids)) (now (a .coords)) (a .s .starts) (a .s .lens) (s .pre .1 .0 .1) (s .pre .1 .1 .1 .0) (s .pre .1 .1 .1 .1),
+      s .pre .2,
+      s .pre .3,
+      turn-start (plan s) (a .s .options .«max_zoom» + 1) (a .n) (first s) (a .ids .now) (a .coords .now) (a .s .starts) (a .s .lens) (s .pre .2) (s .pre .4) (s .pre .5),
       refl,
       refl,
     )
@@ -103,38 +111,37 @@ sub-z c = omega (arith, c .loop-test .taken)
 
 one-zoom-requires : tie.Need-one-zoom-requires Inv-loop μ-loop
 one-zoom-requires c κs =
-    let t = test-of c in
+    let t = c .before .before .before .before .before .before .before .before .before in
     let s = start-of (t .before) in
     let l = t .before .loop in (
       l .inv .0,
-      (
-        (omega (arith, l .inv .2, s .pre .1 .0 .0), omega (arith, t .loop-test .taken)),
-        subst (λ (q : ℕ). Running (plan s) q (suc (l .z - 1 - s .args .s .options .«min_zoom»)) (l .start) (l .len) (table (t .before)) (l .ids) (l .coords)) (sym (l .inv .1)) (ready t),
-      ),
+      omega (arith, l .inv .2, s .pre .1),
+      omega (arith, t .loop-test .taken),
+      subst (λ (q : ℕ). Running (plan s) q (suc (l .z - 1 - s .args .s .options .«min_zoom»)) (l .start) (l .len) (table (t .before)) (l .ids) (l .coords)) (sym (l .inv .1)) (ready t),
     )
 
 add-start : tie.Need-add-start Inv-loop μ-loop
-add-start c = let r = test-of (zoom-of c .before) .before .loop .inv .4 in omega (arith, r .room, r .M-few)
+add-start c = let r = test-of (zoom-of c) .before .loop .inv .4 in omega (arith, r .room, r .M-few)
 
 cast-with-table : tie.Need-cast-with-table Inv-loop μ-loop
-cast-with-table c = let l = test-of (zoom-of c .before) .before .loop in omega (arith, l .inv .4 .low-few, l .inv .3)
+cast-with-table c = let l = test-of (zoom-of c) .before .loop in omega (arith, l .inv .4 .low-few, l .inv .3)
 
 cast-with-table-2 : tie.Need-cast-with-table-2 Inv-loop μ-loop
-cast-with-table-2 c = let r = test-of (zoom-of c .before) .before .loop .inv .4 in omega (arith, r .room, r .M-few)
+cast-with-table-2 c = let r = test-of (zoom-of c) .before .loop .inv .4 in omega (arith, r .room, r .M-few)
 
 cast-with-table-3 : tie.Need-cast-with-table-3 Inv-loop μ-loop
 cast-with-table-3 c = let r = moved (zoom-of c) in omega (arith, r .len-few, r .able .few)
 
 with-table-requires : tie.Need-with-table-requires Inv-loop μ-loop
-with-table-requires c κs = let l = test-of (zoom-of c .before) .before .loop in omega (arith, l .inv .4 .low-few, l .inv .3)
+with-table-requires c κs = let l = test-of (zoom-of c) .before .loop in omega (arith, l .inv .4 .low-few, l .inv .3)
 
 loop-less : tie.Need-loop-less Inv-loop μ-loop
-loop-less c = omega (arith, test-of (zoom-of (c .before) .before) .loop-test .taken)
+loop-less c = omega (arith, test-of (zoom-of (c .before)) .loop-test .taken)
 
 loop-again : tie.Need-loop-again Inv-loop μ-loop
 loop-again c =
     let w = zoom-of (c .before) in
-    let t = test-of (w .before) in
+    let t = test-of w in
     let s = start-of (t .before) in
     let a = s .args in
     let l = t .before .loop in
@@ -142,42 +149,42 @@ loop-again c =
     let q = z .last in
     let k = z .kept in
     let e = c .with-table .ensures in (
-      even-kept (l .inv .0) (k .0) (k .1 .0) (k .1 .1 .0) (k .1 .1 .1 .0) (k .1 .1 .1 .1 .0) (k .1 .1 .1 .1 .1 .0),
+      even-kept (here (t .before)) (came w) (kept-zoom w) (l .inv .0),
       k .0 ∙ l .inv .1,
       k .1 .1 .1 .1 .1 .1 .1 .1 .0 ∙ l .inv .2,
       omega (arith, t .loop-test .taken),
       moved w,
-      turn-progress (plan s) (length (now (a .x))) (l .z) (l .start) (l .len) (table (t .before)) (l .ids) (l .coords) (t .loop-test .taken) (l .inv .4)
+      turn-progress (plan s) (length (a .x .now)) (l .z) (l .start) (l .len) (table (t .before)) (l .ids) (l .coords) (t .loop-test .taken) (l .inv .4)
           (z .result) (next w) (q .1 .1 .1 .1 .1 .1 .0) (q .1 .1 .1 .1 .1 .1 .1 .0) (z .ensures) (same w) (k .1 .1 .1 .1 .1 .1 .0) (k .1 .1 .1 .1 .1 .1 .1 .0)
-          (wholeOf (plan s) (zoomsOf (a .s .options)) (part 0 (a .n) (first s)) (a .s .starts) (a .s .lens)) (first s) (now (a .ids)) (now (a .coords))
+          (wholeOf (plan s) (zoomsOf (a .s .options)) (part 0 (a .n) (first s)) (a .s .starts) (a .s .lens)) (first s) (a .ids .now) (a .coords .now)
           (l .st .starts) (l .st .lens) (c .with-table .result .starts) (c .with-table .result .lens) (l .inv .5) (ap (λ (v : State). v .starts) e) (ap (λ (v : State). v .lens) e),
       ap (λ (v : State). v .options) e ∙ l .inv .6,
       ap (λ (v : State). v .count) e ∙ l .inv .7,
     )
 
 same-length : tie.Need-same-length Inv-loop μ-loop
-same-length c = c .before .loop .inv .1
+same-length c = kept-by (c .before) .kx
 
 same-length-2 : tie.Need-same-length-2 Inv-loop μ-loop
-same-length-2 c = let v = c .before .loop .inv in v .0 .ey ∙ v .1 ∙ sym (start-of (c .before) .pre .0 .ey)
+same-length-2 c = kept-by (c .before) .ky
 
 same-length-3 : tie.Need-same-length-3 Inv-loop μ-loop
-same-length-3 c = let v = c .before .loop .inv in v .0 .es ∙ v .1 ∙ sym (start-of (c .before) .pre .0 .es)
+same-length-3 c = kept-by (c .before) .ks
 
 same-length-4 : tie.Need-same-length-4 Inv-loop μ-loop
-same-length-4 c = let v = c .before .loop .inv in v .0 .ei ∙ v .1 ∙ sym (start-of (c .before) .pre .0 .ei)
+same-length-4 c = kept-by (c .before) .ki
 
 same-length-5 : tie.Need-same-length-5 Inv-loop μ-loop
-same-length-5 c = let v = c .before .loop .inv in v .0 .ep ∙ v .1 ∙ sym (start-of (c .before) .pre .0 .ep)
+same-length-5 c = kept-by (c .before) .kp
 
 same-length-6 : tie.Need-same-length-6 Inv-loop μ-loop
-same-length-6 c = let v = c .before .loop .inv in v .0 .en ∙ v .1 ∙ sym (start-of (c .before) .pre .0 .en)
+same-length-6 c = kept-by (c .before) .kn
 
 same-length-7 : tie.Need-same-length-7 Inv-loop μ-loop
-same-length-7 c = c .before .loop .inv .4 .ids-long ∙ sym (start-of (c .before) .pre .1 .1 .0 .ids-long)
+same-length-7 c = c .before .loop .inv .4 .ids-long ∙ sym (start-of (c .before) .pre .3 .ids-long)
 
 same-length-8 : tie.Need-same-length-8 Inv-loop μ-loop
-same-length-8 c = c .before .loop .inv .4 .co-long ∙ sym (start-of (c .before) .pre .1 .1 .0 .co-long)
+same-length-8 c = c .before .loop .inv .4 .co-long ∙ sym (start-of (c .before) .pre .3 .co-long)
 
 same-length-9 : tie.Need-same-length-9 Inv-loop μ-loop
 same-length-9 c = c .before .loop .inv .2
@@ -187,7 +194,7 @@ returns c =
     let s = start-of (c .before) in
     let a = s .args in
     let l = c .before .loop in
-    turn-end (plan s) (length (now (a .x))) (l .z) (zoomsOf (a .s .options)) (l .start) (l .len) (a .n) (table (c .before)) (l .ids) (l .coords) (first s) (now (a .ids)) (now (a .coords))
+    turn-end (plan s) (length (a .x .now)) (l .z) (zoomsOf (a .s .options)) (l .start) (l .len) (a .n) (table (c .before)) (l .ids) (l .coords) (first s) (a .ids .now) (a .coords .now)
     (a .s) (l .st) (c .loop-test .left) (l .inv .4) (l .inv .5) (l .inv .6) (l .inv .7)
 
 pub run-zooms-spec : {M : Type 1} → statement M

@@ -1,23 +1,19 @@
 -- `zooms::zoom_step` meets its contract: the columns are lent from `start` on, where the scan's table stands at 0, and the index's own part of its
 -- columns is lent. Assumes nothing.
-use mathlib.Core.Path.{_≡_, sym}
-use Prim.Native.Nat.{_+_, _-_, _*_}
+use mathlib.Core.Path.{_≡_, refl, ap, sym, _∙_, subst}
+use Prim.Native.Nat.{ℕ, suc, _+_, _-_, _*_, _^_, _<_, _≤_}
 use native.Mathlib.Omega.{arith}
-use lib.ListN.{length, drop}
-use denote.Ref.{now}
+use lib.ListN.{length, drop, take}
 use borrow.Author.Needs.{needs}
-use Rattle.tables.specs.Rows.{rows}
-use Rattle.tables.specs.Columns.{from, from-length, rows-from, even-from}
-use Rattle.zooms.specs.Parts.{put-long}
-use Rattle.zooms.specs.Step.{stepped}
+use Rattle.tables.specs.Rows.{Cols, cols, rows, Kept, each, each2}
+use Rattle.tables.specs.Lent.{given}
+use Rattle.tables.specs.Columns.{from, back, from-length, rows-from, even-from}
+use Rattle.zooms.specs.Step.{stepped, kept-back}
 use Rattle.zooms.proofs.zoom_step.Statement.{statement}
 use Rattle.zooms.proofs.zoom_step.Tie as tie
 
-abbrev start-of : tie.After-cluster-arg9 → tie.Start
-start-of c = c .before .before .before .before .before .before .before .before .before .before .before .before .before .before .before .before .before .before
-
-abbrev scan-of : tie.After-slice-known14 → tie.After-cluster
-scan-of c = c .before .before .before .before .before .before .before .before .before .before .before .before .before .before
+abbrev columns : tie.Start → Cols
+columns s = let a = s .args in (given (a .x) (a .y) (a .seen) (a .id) (a .parent) (a .num))
 
 -- the lent parts of the index's columns
 ids-part : (s : tie.Start) → s .args .start + s .args .len - s .args .start ≡ s .args .len
@@ -27,10 +23,28 @@ co-part : (s : tie.Start) → (s .args .start + s .args .len) * 2 - s .args .sta
 co-part s = omega arith
 
 -- the rows of the lent columns
-lent-rows : (s : tie.Start) → let a = s .args in let f = a .start in
-    rows (from f (now (a .x))) (from f (now (a .y))) (from f (now (a .seen))) (from f (now (a .id))) (from f (now (a .parent))) (from f (now (a .num)))
-    ≡ drop f (rows (now (a .x)) (now (a .y)) (now (a .seen)) (now (a .id)) (now (a .parent)) (now (a .num)))
-lent-rows s = let a = s .args in rows-from (a .start) (now (a .x)) (now (a .y)) (now (a .seen)) (now (a .id)) (now (a .parent)) (now (a .num))
+abbrev lent : tie.Start → Cols
+lent s = each (λ A l. from (s .args .start) l) (columns s)
+
+lent-rows : (s : tie.Start) → rows (lent s) ≡ drop (s .args .start) (rows (columns s))
+lent-rows s = rows-from (s .args .start) (columns s)
+
+-- after the scan
+abbrev scan-of : tie.After-slice-known14 → tie.After-cluster
+scan-of c = c .before .before .before .before .before .before .before .before .before .before .before .before .before .before
+
+abbrev start-of : tie.After-cluster → tie.Start
+start-of c = c .before .before .before .before .before .before .before .before .before .before .before .before .before .before .before .before .before .before .before
+
+abbrev came : tie.After-cluster → Cols
+came c = let w = c .cluster in (cols (w .last .0) (w .last .1 .0) (w .last .1 .1 .0) (w .last .1 .1 .1 .0) (w .last .1 .1 .1 .1 .0) (w .last .1 .1 .1 .1 .1 .0))
+
+kept-by : (c : tie.After-cluster) → Kept (columns (start-of c)) (each2 (λ A l q. back (start-of c .args .start) l q) (columns (start-of c)) (came c))
+kept-by c =
+    let s = start-of c in
+    let w = c .cluster in
+    let k : Kept (lent s) (came c) = (record { kx = w .kept .0; ky = w .kept .1 .0; ks = w .kept .1 .1 .0; ki = w .kept .1 .1 .1 .0; kp = w .kept .1 .1 .1 .1 .0; kn = w .kept .1 .1 .1 .1 .1 .0 }) in
+    kept-back (s .args .start) (columns s) (came c) k
 
 add-end : tie.Need-add-end
 add-end c = search needs
@@ -136,38 +150,40 @@ part-cluster-end-8 c = search needs
 
 cluster-requires : tie.Need-cluster-requires
 cluster-requires c κs =
-    let s = start-of c in
+    let s = c .before .before .before .before .before .before .before .before .before .before .before .before .before .before .before .before .before .before in
     let a = s .args in
-    let p = s .pre .1 in
-    let room = p .1 .1 .1 .0 in
-    let few = p .1 .1 .1 .1 .1 in (
-      even-from (a .start) (now (a .x)) (now (a .y)) (now (a .seen)) (now (a .id)) (now (a .parent)) (now (a .num)) (s .pre .0),
-      (
-        (rw (ids-part s, co-part s) (p .0 .0), p .0 .1, room .2, omega (arith, from-length (a .start) (now (a .x)), room .3)),
-        (
-          (rw (lent-rows s) (p .1 .0 .0), rw (ids-part s, co-part s, lent-rows s) (p .1 .0 .1)),
-          (rw (ids-part s, co-part s) (p .1 .1 .0), (rw (lent-rows s) (p .1 .1 .1 .1 .0), (few .1, few .2, few .3))),
-        ),
-      ),
+    let p = s .pre in (
+      even-from (a .start) (columns s) (p .0),
+      rw (ids-part s, co-part s) (p .1),
+      p .2,
+      p .6,
+      omega (arith, from-length (a .start) (a .x .now), p .7),
+      rw (lent-rows s) (p .3),
+      rw (ids-part s, co-part s, lent-rows s) (p .13),
+      rw (ids-part s, co-part s) (p .14),
+      p .10,
+      p .11,
+      p .12,
+      rw (lent-rows s) (p .8),
     )
 
 same-length : tie.Need-same-length
-same-length c = let w = scan-of c in let a = start-of (w .before) .args in put-long (a .start) (length (now (a .x)) - a .start) (w .cluster .last .0) (now (a .x)) (w .cluster .kept .0)
+same-length c = kept-by (scan-of c) .kx
 
 same-length-2 : tie.Need-same-length-2
-same-length-2 c = let w = scan-of c in let a = start-of (w .before) .args in put-long (a .start) (length (now (a .y)) - a .start) (w .cluster .last .1 .0) (now (a .y)) (w .cluster .kept .1 .0)
+same-length-2 c = kept-by (scan-of c) .ky
 
 same-length-3 : tie.Need-same-length-3
-same-length-3 c = let w = scan-of c in let a = start-of (w .before) .args in put-long (a .start) (length (now (a .seen)) - a .start) (w .cluster .last .1 .1 .0) (now (a .seen)) (w .cluster .kept .1 .1 .0)
+same-length-3 c = kept-by (scan-of c) .ks
 
 same-length-4 : tie.Need-same-length-4
-same-length-4 c = let w = scan-of c in let a = start-of (w .before) .args in put-long (a .start) (length (now (a .id)) - a .start) (w .cluster .last .1 .1 .1 .0) (now (a .id)) (w .cluster .kept .1 .1 .1 .0)
+same-length-4 c = kept-by (scan-of c) .ki
 
 same-length-5 : tie.Need-same-length-5
-same-length-5 c = let w = scan-of c in let a = start-of (w .before) .args in put-long (a .start) (length (now (a .parent)) - a .start) (w .cluster .last .1 .1 .1 .1 .0) (now (a .parent)) (w .cluster .kept .1 .1 .1 .1 .0)
+same-length-5 c = kept-by (scan-of c) .kp
 
 same-length-6 : tie.Need-same-length-6
-same-length-6 c = let w = scan-of c in let a = start-of (w .before) .args in put-long (a .start) (length (now (a .num)) - a .start) (w .cluster .last .1 .1 .1 .1 .1 .0) (now (a .num)) (w .cluster .kept .1 .1 .1 .1 .1 .0)
+same-length-6 c = kept-by (scan-of c) .kn
 
 same-length-7 : tie.Need-same-length-7
 same-length-7 c = scan-of c .cluster .kept .1 .1 .1 .1 .1 .1 .1 .1 .0
@@ -175,12 +191,10 @@ same-length-7 c = scan-of c .cluster .kept .1 .1 .1 .1 .1 .1 .1 .1 .0
 returns : tie.Need-returns
 returns c =
     let w = scan-of c in
-    let s = start-of (w .before) in
+    let s = start-of w in
     let a = s .args in
-    let l = w .cluster .last in
-    stepped (a .start) (now (a .x)) (now (a .y)) (now (a .seen)) (now (a .id)) (now (a .parent)) (now (a .num)) (s .pre .0) (omega (arith, s .pre .1 .1 .1 .1 .0 .3))
-    (l .0) (l .1 .0) (l .1 .1 .0) (l .1 .1 .1 .0) (l .1 .1 .1 .1 .0) (l .1 .1 .1 .1 .1 .0)
-    (a .len) (w .cluster .result) _ (rw (sym (lent-rows s)) (rw (ids-part s, co-part s) at (w .cluster .ensures)))
+    stepped (a .start) (columns s) (came w) (s .pre .0) (omega (arith, s .pre .7)) (a .len) (w .cluster .result) _
+    (rw (sym (lent-rows s)) (rw (ids-part s, co-part s) at (w .cluster .ensures)))
 
 pub zoom-step-spec : {M : Type 1} → statement M
 zoom-step-spec =

@@ -1,0 +1,61 @@
+-- What a build is given, as one record: every law on a build takes that, and that the build is accepted. And the points as the finest table has them.
+-- Assumes nothing.
+use mathlib.Core.Path.{_≡_}
+use mathlib.Core.List.{List}
+use Prim.Native.Nat.{ℕ, _<_}
+use lib.ListN.{length, getD}
+use lib.Ieee.{Float, nan}
+use Rattle.range.specs.Range.{converted}
+use Rattle.tables.specs.declared.Entry.{Entry}
+use Rattle.tables.specs.declared.Options.{Options}
+use Rattle.tables.specs.Entries.{Table, entry}
+use Rattle.zooms.specs.Zooms.{Plan, planOf}
+use Rattle.supercluster.specs.Build.{lamp, tablesOf}
+use Rattle.supercluster.specs.Fill.{lamps, lamps-length, lamps-at}
+use Rattle.supercluster.specs.Ready.{Accepted as Accepts}
+
+-- the options and the points
+pub record Given : Type 0 where
+  pub options : Options
+  pub xs : List Float
+  pub ys : List Float
+
+abbrev pub given : Options → List Float → List Float → Given
+given o xs ys = record { options = o; xs = xs; ys = ys }
+
+-- the build is accepted
+abbrev pub Accepted : Given → Type 0
+Accepted G = Accepts (G .options) (G .xs) (G .ys)
+
+-- how many points there are
+abbrev pub points : Given → ℕ
+points G = length (G .xs)
+
+-- the zooms from the smallest to the largest
+abbrev pub minZ : Given → ℕ
+minZ G = G .options .«min_zoom»
+
+abbrev pub maxZ : Given → ℕ
+maxZ G = G .options .«max_zoom»
+
+abbrev pub plan : Given → Plan
+plan G = planOf (G .options) (points G)
+
+-- every table, the finest first
+abbrev pub tablesBy : Given → List Table
+tablesBy G = tablesOf (G .options) (G .xs) (G .ys)
+
+-- the points as entries, in order
+abbrev pub lampsIn : Given → Table
+lampsIn G = lamps (G .options .«coordinate_system») (G .xs) (G .ys)
+
+-- the point k
+abbrev pub lampOf : Given → ℕ → Entry
+lampOf G k = lamp (converted (G .options .«coordinate_system») (record { x = getD (G .xs) k nan; y = getD (G .ys) k nan })) k
+
+module _ (G : Given) (a : Accepted G) where
+  pub lampsIn-length : length (lampsIn G) ≡ points G
+  lampsIn-length = lamps-length (G .options .«coordinate_system») (G .xs) (G .ys) (a .same)
+
+  pub lampsIn-at : (k : ℕ) → k < points G → entry (lampsIn G) k ≡ lampOf G k
+  lampsIn-at = lamps-at (G .options .«coordinate_system») (G .xs) (G .ys) (a .same)

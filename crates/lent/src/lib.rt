@@ -1,0 +1,1 @@
+// How contracts speak of what is lent: definitions only, in specs.
