@@ -4,11 +4,15 @@ use crate::{
     clock::timed,
     points::{clustered, in_order, uniform, Points},
     rounds::{measured, Found, Side},
-    table, Size,
+    table::Times,
+    Size,
 };
 use ported::{Lent, Reply, NO_SLOT};
 use splitmix::Splitmix;
 use std::f64::consts::PI;
+
+/// The sides beside the port.
+const TIMES: Times = Times(&["untouched", "patched"]);
 
 /// The usual node size.
 const NODE_SIZE: usize = 64;
@@ -40,7 +44,7 @@ pub fn run(size: &Size) -> Result<(), String> {
     let mut source = Splitmix(1);
     println!("{} points, node_size {NODE_SIZE}, {} rounds", size.points, size.rounds);
     println!();
-    table::head("answers");
+    TIMES.head("answers");
     let uniform = uniform(size.points, &mut source);
     build("build, uniform", &uniform, size)?;
     build("build, clustered", &clustered(size.points, &mut source), size)?;
@@ -124,7 +128,7 @@ fn build(what: &str, points: &Points, size: &Size) -> Result<(), String> {
         Side::new("patched", || patched_build(points)),
     ];
     let measured = measured(size.rounds, &mut sides).map_err(|why| format!("{what}: {why}"))?;
-    table::line(what, "", 1, &measured.times);
+    TIMES.line(what, "", 1, &measured.times);
     Ok(())
 }
 
@@ -224,6 +228,6 @@ fn searches(
     let mut sides = [Side::new("port", port), Side::new("untouched", rust)];
     let measured = measured(size.rounds, &mut sides).map_err(|why| format!("{what}: {why}"))?;
     let answers = measured.found.count as f64 / queries as f64;
-    table::line(what, &format!("{answers:.1}"), queries, &measured.times);
+    TIMES.line(what, &format!("{answers:.1}"), queries, &measured.times);
     Ok(())
 }

@@ -5,16 +5,23 @@ use crate::{
     memory::{self, Peak},
     points::{Points, Shape, SHAPES},
     rounds::{measured, median, Found, Side},
-    table, Size,
+    table::{self, Times},
+    Size,
 };
 use builds::Row;
+use columns::Entry;
+use geojson::{Feature, JsonObject, JsonValue};
 use options::{Options, USUAL};
-use ported::{Columns, State, ZOOMS};
+use ported::{needed, Columns, State, ZOOMS};
 use std::{cell::Cell, iter};
 
-/// The two sides, whose memory is measured too.
+/// The sides whose memory is measured too; of the last one each feature carries its energy as a property.
 const PORT: &str = "port";
 const UNTOUCHED: &str = "untouched";
+const FIGURES: &str = "untouched with energies";
+
+/// The sides beside the port.
+const TIMES: Times = Times(&[UNTOUCHED, "patched", FIGURES]);
 
 /// How long a load of so many points took.
 struct Took {
@@ -33,7 +40,7 @@ pub fn run(size: &Size) -> Result<(), String> {
          min_points {min_points}"
     );
     println!();
-    table::head("entries");
+    TIMES.head("entries");
     let mut took = Vec::new();
     for shape in SHAPES {
         let loads = iter::once(&size.small).chain(size.loads);
@@ -66,10 +73,10 @@ fn growth(took: &[(Shape, Vec<Took>)]) {
     }
 }
 
-/// Up to so many points the patched Rust is measured too.
+/// Up to so many points the patched Rust is measured too, and features that carry their energy.
 const PATCHED_UP_TO: usize = 100_000;
 
-/// One line: so many points loaded by both sides, and by the patched Rust where there are not too many.
+/// One line: so many points loaded by both sides, and by the others where there are not too many.
 fn times(shape: Shape, count: usize, rounds: usize) -> Result<Took, String> {
     let what = named(shape, count);
     let points = shape.points(count);
@@ -80,9 +87,10 @@ fn times(shape: Shape, count: usize, rounds: usize) -> Result<Took, String> {
     ];
     if count <= PATCHED_UP_TO {
         sides.push(Side::new("patched", || patched_load(&points)));
+        sides.push(Side::new(FIGURES, || figures_load(&points)));
     }
     let measured = measured(rounds, &mut sides).map_err(|why| format!("{what}: {why}"))?;
-    table::line(&what, &entries.get().to_string(), 1, &measured.times);
+    TIMES.line(&what, &entries.get().to_string(), 1, &measured.times);
     let [port, untouched] = [0, 1].map(|side| median(&measured.times[side]));
     Ok(Took { count, entries: entries.get(), port, untouched })
 }
@@ -94,10 +102,10 @@ fn named(shape: Shape, count: usize) -> String {
 
 /// The port's tables of these points in new columns, and how many entries they have.
 fn port_loaded(points: &Points) -> (Columns, usize) {
-    let mut columns = Columns::zeros(&USUAL, points.xs.len());
+    let mut columns = Columns::zeros(needed(&USUAL, points.xs.len()));
     let [mut starts, mut lens] = [[0; ZOOMS]; 2];
     let state = State { starts: &mut starts, lens: &mut lens };
-    let reply = ported::load(&USUAL, &points.xs, &points.ys, columns.lent(), state);
+    let reply = ported::load(&USUAL, &points.given(), columns.lent(), state);
     assert_eq!(reply.number, 0, "a build that is accepted");
     (columns, lens.iter().map(|length| *length as usize).sum())
 }
@@ -106,24 +114,36 @@ fn port_loaded(points: &Points) -> (Columns, usize) {
 fn port_load(points: &Points, entries: &Cell<usize>) -> (Found, u64) {
     let ((columns, length), nanoseconds) = timed(|| port_loaded(points));
     entries.set(length);
-    let row = |at: usize| Row {
-        x: columns.x[at],
-        y: columns.y[at],
-        seen: columns.seen[at],
-        id: columns.id[at],
-        parent: columns.parent[at],
-        num: columns.num[at],
-        slot_id: columns.ids[at],
-        slot: [columns.coords[2 * at], columns.coords[2 * at + 1]],
-    };
+    let lent = columns.tables.lent();
+    // The Rust knows of no energies: those of all tables have to be the points' once for each.
+    let row = |at: usize| Row { entry: Entry { energy: 0, ..lent.entry(at) }, slot: lent.slot(at) };
+    let sum = |energies: &[u64]| energies.iter().map(|energy| u128::from(*energy)).sum::<u128>();
+    let tables = USUAL.tables() as u128;
+    assert_eq!(sum(&lent.energy[..length]), tables * sum(&points.energies), "energies");
     (found((0..length).map(row), points.xs.len(), true), nanoseconds)
 }
 
+/// The points as features; each with its energy as a property.
+fn features_with_energies(points: &Points) -> Vec<Feature> {
+    let mut features = features(points);
+    for (feature, energy) in features.iter_mut().zip(&points.energies) {
+        let mut properties = JsonObject::new();
+        properties.insert("energy".to_string(), JsonValue::from(*energy as usize));
+        feature.properties = Some(properties);
+    }
+    features
+}
+
+/// The points as features.
+fn features(points: &Points) -> Vec<Feature> {
+    builds::features(&points.xs, &points.ys)
+}
+
 macro_rules! rust_load {
-    ($side:ident, $module:ident, $in_order:literal) => {
+    ($side:ident, $module:ident, $features:ident, $in_order:literal) => {
         /// The Rust's build as a side of the measurement; the features are made before.
         fn $side(points: &Points) -> (Found, u64) {
-            let features = builds::features(&points.xs, &points.ys);
+            let features = $features(points);
             let (rust, nanoseconds) = timed(|| {
                 let mut rust = builds::$module::unloaded(&USUAL);
                 rust.load(features).expect("points that are loaded");
@@ -136,22 +156,18 @@ macro_rules! rust_load {
     };
 }
 
-rust_load!(untouched_load, untouched, false);
-rust_load!(patched_load, patched, true);
+rust_load!(untouched_load, untouched, features, false);
+rust_load!(patched_load, patched, features, true);
+rust_load!(figures_load, untouched, features_with_energies, false);
 
 /// What a build left: how many points all tables hold, the entries of the finest one, and every entry and
 /// slot in its order. The window block changes the order of the slots, and by that the last bits of a centre.
 fn found(rows: impl Iterator<Item = Row>, finest: usize, in_order: bool) -> Found {
     let (mut count, mut members, mut order) = (0, 0_u64, 0_u64);
-    for (at, row) in rows.enumerate() {
-        let entry = mixed(&[
-            row.x.to_bits(),
-            row.y.to_bits(),
-            u64::from(row.seen) << 32 | u64::from(row.num),
-            u64::from(row.id) << 32 | u64::from(row.parent),
-        ]);
-        let slot = [u64::from(row.slot_id), row.slot[0].to_bits(), row.slot[1].to_bits()];
-        count += row.num as usize;
+    for (at, Row { entry, slot }) in rows.enumerate() {
+        count += entry.num as usize;
+        let entry = mixed(&entry.words());
+        let slot = [u64::from(slot.place), slot.at[0].to_bits(), slot.at[1].to_bits()];
         if at < finest {
             members = members.wrapping_add(entry);
         }
@@ -168,10 +184,13 @@ fn mixed(words: &[u64]) -> u64 {
     })
 }
 
-/// One line: the memory of both sides, each in a process of its own.
+/// Two lines: the memory of the port and of the Rust, each in a process of its own, without energies in its features and
+/// with them.
 fn peaks(shape: Shape, count: usize) -> Result<(), String> {
     let of = |side: &str| memory::of_process(&["peak", side, shape.name(), &count.to_string()]);
-    table::memory_line(&named(shape, count), of(PORT)?, of(UNTOUCHED)?);
+    let (port, what) = (of(PORT)?, named(shape, count));
+    table::memory_line(&what, port, of(UNTOUCHED)?);
+    table::memory_line(&format!("{what}, features with energies"), port, of(FIGURES)?);
     Ok(())
 }
 
@@ -184,8 +203,11 @@ pub fn peak(side: &str, shape: &str, count: &str) -> Option<Peak> {
             let loaded = port_loaded(&points);
             (points, loaded)
         })),
-        UNTOUCHED => {
-            let features = builds::features(&points.xs, &points.ys);
+        UNTOUCHED | FIGURES => {
+            let features = match side {
+                UNTOUCHED => features(&points),
+                _ => features_with_energies(&points),
+            };
             drop(points);
             Some(memory::peak(features, |features| {
                 let mut rust = builds::untouched::unloaded(&USUAL);

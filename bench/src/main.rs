@@ -49,6 +49,7 @@ fn main() -> ExitCode {
     let size = match words.as_slice() {
         [] => WHOLE,
         ["--quick"] => QUICK,
+        ["--load"] => return ended(load::run(&WHOLE)),
         ["--questions"] => return ended(questions::run(&WHOLE)),
         ["--effort"] => return ended(effort::run(&WHOLE)),
         // What the benchmark runs of itself, in a process of its own.
@@ -84,6 +85,6 @@ fn peak(side: &str, shape: &str, count: &str) -> ExitCode {
 }
 
 fn usage() -> ExitCode {
-    eprintln!("usage: bench [--quick | --questions | --effort]");
+    eprintln!("usage: bench [--quick | --load | --questions | --effort]");
     ExitCode::from(2)
 }

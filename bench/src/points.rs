@@ -1,11 +1,28 @@
 //! The points that are measured with, all within [0,1].
 
+use columns::Given;
+use options::MOST_ENERGY;
 use splitmix::Splitmix;
 
-/// The columns of the points.
+/// The columns of the points, and their energies.
 pub struct Points {
     pub xs: Vec<f64>,
     pub ys: Vec<f64>,
+    pub energies: Vec<u64>,
+}
+
+impl Points {
+    /// These points, with energies by a generator of their own.
+    fn of(xs: Vec<f64>, ys: Vec<f64>) -> Points {
+        let mut source = Splitmix(7);
+        let energies = xs.iter().map(|_| source.below(MOST_ENERGY + 1)).collect();
+        Points { xs, ys, energies }
+    }
+
+    /// The points as a build is given them.
+    pub fn given(&self) -> Given<'_> {
+        Given { xs: &self.xs, ys: &self.ys, energies: &self.energies }
+    }
 }
 
 /// How points lie that tables are built of.
@@ -44,28 +61,28 @@ impl Shape {
 pub fn uniform(count: usize, source: &mut Splitmix) -> Points {
     let xs = (0..count).map(|_| source.unit()).collect();
     let ys = (0..count).map(|_| source.unit()).collect();
-    Points { xs, ys }
+    Points::of(xs, ys)
 }
 
 /// Points close to one of a hundred centres each, the closer the more of them.
 pub fn clustered(count: usize, source: &mut Splitmix) -> Points {
     let centres = uniform(100, source);
-    let mut points = Points { xs: Vec::new(), ys: Vec::new() };
+    let (mut xs, mut ys) = (Vec::new(), Vec::new());
     for _ in 0..count {
         let centre = source.below(100) as usize;
         let spread = 0.05 * source.unit() * source.unit();
         let mut near = |at: f64| (at + spread * (2.0 * source.unit() - 1.0)).clamp(0.0, 1.0);
-        points.xs.push(near(centres.xs[centre]));
-        points.ys.push(near(centres.ys[centre]));
+        xs.push(near(centres.xs[centre]));
+        ys.push(near(centres.ys[centre]));
     }
-    points
+    Points::of(xs, ys)
 }
 
 /// Points in a square of a side of 2^-21: the radius of zoom 16 is 40 / (512 * 2^16), more than its diagonal.
 fn crowded(count: usize, source: &mut Splitmix) -> Points {
-    let Points { xs, ys } = uniform(count, source);
+    let Points { xs, ys, .. } = uniform(count, source);
     let drawn = |column: Vec<f64>| column.into_iter().map(|at| 0.5 + at / 2_097_152.0).collect();
-    Points { xs: drawn(xs), ys: drawn(ys) }
+    Points::of(drawn(xs), drawn(ys))
 }
 
 /// The same points in order of x.
@@ -73,5 +90,5 @@ pub fn in_order(points: &Points) -> Points {
     let mut order: Vec<usize> = (0..points.xs.len()).collect();
     order.sort_by(|a, b| points.xs[*a].total_cmp(&points.xs[*b]));
     let column = |column: &[f64]| order.iter().map(|at| column[*at]).collect();
-    Points { xs: column(&points.xs), ys: column(&points.ys) }
+    Points::of(column(&points.xs), column(&points.ys))
 }

@@ -7,14 +7,22 @@ use crate::{
     clock::timed,
     points::{Points, SHAPES},
     rounds::{measured, Found, Side},
-    table, Size,
+    table::Times,
+    Size,
 };
-use builds::untouched::{unloaded, Supercluster};
+use builds::{
+    data,
+    untouched::{unloaded, Supercluster},
+};
+use columns::Columns;
 use options::USUAL;
 use oracle_untouched::KDBush;
-use ported::{Asked, Columns, Lent, State, ZOOMS};
+use ported::{needed, Asked, Lent, State, ZOOMS};
 use splitmix::Splitmix;
 use std::f64::consts::PI;
+
+/// The sides beside the port.
+const TIMES: Times = Times(&["untouched"]);
 
 /// About how many answers a box or a ring has, and how many of them are in one measurement.
 pub const AREAS: [[usize; 2]; 4] = [[1, 20_000], [12, 10_000], [200, 2_000], [3_000, 200]];
@@ -53,7 +61,7 @@ pub fn run(size: &Size) -> Result<(), String> {
             println!();
             println!("questions to a build of {count} points, {}", shape.name());
             println!();
-            table::head("answers");
+            TIMES.head("answers");
             let both = Both::of(&shape.points(*count));
             let bench = Bench { both, count: *count, rounds: *rounds, fewer: size.fewer };
             bench.run()?;
@@ -65,11 +73,12 @@ pub fn run(size: &Size) -> Result<(), String> {
 impl Both {
     /// These points, built by the port.
     pub fn of(points: &Points) -> Both {
-        let mut columns = Columns::zeros(&USUAL, points.xs.len());
+        let mut columns = ported::Columns::zeros(needed(&USUAL, points.xs.len()));
         let [mut starts, mut lens] = [[0; ZOOMS]; 2];
         let state = State { starts: &mut starts, lens: &mut lens };
-        let reply = ported::load(&USUAL, &points.xs, &points.ys, columns.lent(), state);
+        let reply = ported::load(&USUAL, &points.given(), columns.lent(), state);
         assert_eq!(reply.number, 0, "a build that is accepted");
+        let columns = columns.tables;
         let mut rust = unloaded(&USUAL);
         rust.points = builds::features(&points.xs, &points.ys);
         for zoom in usize::from(USUAL.min_zoom)..=usize::from(FINEST) {
@@ -80,10 +89,9 @@ impl Both {
 
     /// The build as the port is lent it.
     pub fn asked(&self) -> Asked<'_> {
-        let Columns { x, y, seen, id, parent, num, ids, coords, .. } = &self.columns;
         let (starts, lens) = (&self.starts, &self.lens);
         let count = self.lens[usize::from(FINEST)];
-        Asked { options: &USUAL, count, starts, lens, x, y, seen, id, parent, num, ids, coords }
+        Asked { options: &USUAL, count, starts, lens, columns: self.columns.lent() }
     }
 
     /// The index of the finest table.
@@ -114,18 +122,8 @@ fn tree(columns: &Columns, start: usize, length: usize) -> KDBush {
     let end = start + length;
     tree.ids = columns.ids[start..end].iter().map(|place| *place as usize).collect();
     tree.coords = columns.coords[2 * start..2 * end].to_vec();
-    for at in start..end {
-        let seen = match columns.seen[at] {
-            u8::MAX => f64::INFINITY,
-            seen => f64::from(seen),
-        };
-        let parent = match columns.parent[at] {
-            u32::MAX => -1.0,
-            parent => f64::from(parent),
-        };
-        let [id, num] = [columns.id[at], columns.num[at]].map(f64::from);
-        tree.data.extend([columns.x[at], columns.y[at], seen, id, parent, num]);
-    }
+    let lent = columns.lent();
+    tree.data = (start..end).flat_map(|at| data(&lent.entry(at))).collect();
     tree
 }
 
@@ -255,7 +253,7 @@ impl Bench {
         ];
         let measured = measured(self.rounds, &mut sides).map_err(|why| format!("{what}: {why}"))?;
         let answers = measured.found.count as f64 / questions.len() as f64;
-        table::line(what, &format!("{answers:.1}"), questions.len(), &measured.times);
+        TIMES.line(what, &format!("{answers:.1}"), questions.len(), &measured.times);
         Ok(())
     }
 }

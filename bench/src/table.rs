@@ -2,28 +2,30 @@
 
 use crate::{memory::Peak, rounds::median};
 
-/// The head of a table of times, with the name of what is counted; what is printed can stand in a page as it
-/// is.
-pub fn head(counted: &str) {
-    println!("| | {counted} | port | untouched | port / untouched | patched | port / patched |");
-    println!("|---|---|---|---|---|---|---|");
-}
+/// A table of times: the names of the sides that stand beside the port. What is printed can stand in a page as it is.
+pub struct Times(pub &'static [&'static str]);
 
-/// One line: what was measured, what was counted, how many pieces of work are in one measurement, and the
-/// nanoseconds of port, untouched and perhaps patched, round by round.
-pub fn line(what: &str, counted: &str, pieces: usize, times: &[Vec<u64>]) {
-    let time = |side: &[u64]| shown(median(side) as f64 / pieces as f64);
-    let (port, untouched) = (&times[0], &times[1]);
-    let (patched, beside_patched) = match times.get(2) {
-        Some(patched) => (time(patched), ratio(port, patched)),
-        None => (String::new(), String::new()),
-    };
-    println!(
-        "| {what} | {counted} | {} | {} | {} | {patched} | {beside_patched} |",
-        time(port),
-        time(untouched),
-        ratio(port, untouched)
-    );
+impl Times {
+    /// The head, with the name of what is counted.
+    pub fn head(&self, counted: &str) {
+        let other = |other: &&str| format!(" {other} | port / {other} |");
+        let others: String = self.0.iter().map(other).collect();
+        println!("| | {counted} | port |{others}");
+        println!("|---|---|---|{}", "---|---|".repeat(self.0.len()));
+    }
+
+    /// One line: what was measured, what was counted, how many pieces of work are in one measurement, and the
+    /// nanoseconds of the port and of the others, round by round. The last ones may not have been measured.
+    pub fn line(&self, what: &str, counted: &str, pieces: usize, times: &[Vec<u64>]) {
+        let time = |side: &[u64]| shown(median(side) as f64 / pieces as f64);
+        let port = &times[0];
+        let beside = |at: usize| match times.get(at) {
+            Some(other) => format!(" {} | {} |", time(other), ratio(port, other)),
+            None => "  |  |".to_string(),
+        };
+        let others: String = (1..=self.0.len()).map(beside).collect();
+        println!("| {what} | {counted} | {} |{others}", time(port));
+    }
 }
 
 /// The head of a table of times of a box within an effort, and of the box without one.

@@ -33,7 +33,7 @@ use Rattle.zooms.specs.Running.{slots-promised}
 use Rattle.supercluster.specs.Build.{Lent, need}
 use Rattle.supercluster.specs.Load.{Holds}
 use Rattle.supercluster.specs.Right.{Right}
-use Rattle.builds.specs.Given.{Given, Accepted, points, minZ, maxZ}
+use Rattle.builds.specs.Given.{Given, Accepted, points, minZ, maxZ, energyIn}
 use Rattle.builds.specs.Came.{tableAt as built}
 use Rattle.builds.specs.RightAt.{right-at}
 use Rattle.lamps.specs.Owner.{answersAt}
@@ -61,7 +61,7 @@ module _ (G : Given) (a : Accepted G) (l : Lent) (r : Holds (need (G .options) (
     abbrev size : ℕ
     size = G .options .«node_size»
 
-    r-t : Right (points G) (built G t)
+    r-t : Right (points G) (energyIn G) (built G t)
     r-t = right-at G a t (omega arith) k
 
     promised : Promised size (length (built G t)) (slotsOf size (built G t) .ids) (slotsOf size (built G t) .co)

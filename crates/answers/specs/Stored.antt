@@ -10,7 +10,6 @@ use borrow.Author.Tests.{le-leb, eq-eqb}
 use lib.ListN.{length, getD, take, drop, length-append, length-map}
 use lib.Seq.{drop-drop, drop-append-seam, take-append-seam}
 use lib.Ieee.{Float}
-use Rattle.kdbush.specs.declared.BuildReply.the-variants.{Done}
 use Rattle.kdslots.specs.All.{All, all-map}
 use Rattle.tables.specs.declared.Entry.{Entry}
 use Rattle.tables.specs.declared.State.{State}
@@ -25,17 +24,18 @@ use Rattle.groups.specs.Sums.{below}
 use Rattle.asking.specs.Columns.{Columns, columns, roomOf, tableAt, idsAt, coordsAt}
 use Rattle.zooms.specs.Zooms.{Plan, run, slotsOf, zoomsOf, joined, joinedIds, joinedCo, over}
 use Rattle.zooms.specs.Running.{slots-ids, slots-co}
+use Rattle.supercluster.specs.declared.LoadReply.the-variants.{Done}
 use Rattle.supercluster.specs.Build.{tablesOf, stateOf, Lent, Outcome, written, need, checked, byReply, loaded}
 use Rattle.supercluster.specs.Held.{Laid, held, built-laid, built-held}
 use Rattle.supercluster.specs.Load.{Holds, accepted, holds, replies, rowsIn}
 use Rattle.supercluster.specs.Over.{over-length}
 use Rattle.supercluster.specs.Right.{Right, tables-right, tables-count, tables-room}
-use Rattle.builds.specs.Given.{Given, Accepted, points, minZ, maxZ, plan, tablesBy, lampsIn, lampsIn-length}
+use Rattle.builds.specs.Given.{Given, Accepted, points, minZ, maxZ, plan, tablesBy, lampsIn, energyIn, lampsIn-length}
 use Rattle.builds.specs.Came.{tableAt as built}
 
 -- ---- what a question is lent of a build
 
--- the eight columns of the nine that a build leaves
+-- those of the columns that a build leaves which a question is lent
 abbrev pub columnsOf : Lent → Columns
 columnsOf l = columns (l .table) (l .ids) (l .coords)
 
@@ -48,7 +48,7 @@ columnsBy G l = columnsOf (written (G .options .«node_size») (points G) (table
 
 -- what `load` replies and leaves
 abbrev pub loadedBy : Given → Lent → Outcome
-loadedBy G l = loaded (G .options) (G .xs) (G .ys) l
+loadedBy G l = loaded (G .options) (G .xs) (G .ys) (G .energies) l
 
 -- ---- tables that are recorded one after the other
 
@@ -124,16 +124,16 @@ held-at ss ll t low (suc k) (suc i) h =
 
 -- ---- the check of the state
 
-laid-packed : (s : State) (cap : ℕ) (ts : List Table) (at : ℕ) → Laid (s .starts) (s .lens) (s .options .«min_zoom») at ts → All (Right (s .count)) ts
-    → at + length (joined ts) ≤ cap → packed s cap (length ts) at ≡ true
+laid-packed : (s : State) (cap e : ℕ) (ts : List Table) (at : ℕ) → Laid (s .starts) (s .lens) (s .options .«min_zoom») at ts
+    → All (Right (s .count) e) ts → at + length (joined ts) ≤ cap → packed s cap (length ts) at ≡ true
 unfolding Laid All joined packed
-laid-packed s cap [] at d w h = le-leb at cap (omega arith)
-laid-packed s cap (t ∷ ts) at d w h =
+laid-packed s cap e [] at d w h = le-leb at cap (omega arith)
+laid-packed s cap e (t ∷ ts) at d w h =
     let z = s .options .«min_zoom» + length ts in
     let l = d .1 in
     let a = w .0 .some in
     let b = w .0 .few in
-    let r = laid-packed s cap ts (at + length t) (d .2) (w .1) (omega (arith, length-append t (joined ts))) in
+    let r = laid-packed s cap e ts (at + length t) (d .2) (w .1) (omega (arith, length-append t (joined ts))) in
     let n : packed s cap (length ts) (at + lenOf s z) ≡ true = ap (λ (k : ℕ). packed s cap (length ts) (at + k)) l ∙ r in
     rw (eq-eqb (startOf s z) at (d .0), le-leb 1 (lenOf s z) (omega arith), le-leb (lenOf s z) (s .count) (omega arith), n)
 
@@ -156,14 +156,14 @@ module _ (G : Given) (a : Accepted G) where
   size = G .options .«node_size»
 
   -- what supercluster says of them
-  rights : All (Right (points G)) Ts
-  rights = tables-right (G .options) (G .xs) (G .ys) a
+  rights : All (Right (points G) (energyIn G)) Ts
+  rights = tables-right (G .options) (G .xs) (G .ys) (G .energies) a
 
   how-many : length Ts ≡ suc (zoomsOf (G .options))
-  how-many = tables-count (G .options) (G .xs) (G .ys)
+  how-many = tables-count (G .options) (G .xs) (G .ys) (G .energies)
 
   recorded : Laid (S .starts) (S .lens) (minZ G) 0 Ts
-  recorded = built-laid (G .options) (G .xs) (G .ys) a
+  recorded = built-laid (G .options) (G .xs) (G .ys) (G .energies) a
 
   -- the index of each table is as long as the table
   record Slots (t : Table) : Type 0 where
@@ -173,7 +173,7 @@ module _ (G : Given) (a : Accepted G) where
   slots-long : All Slots Ts
   slots-long =
       let b = options-are (G .options) (a .options) in
-      all-map (Right (points G)) Slots
+      all-map (Right (points G) (energyIn G)) Slots
       (λ t r.
       let m : length t ≤ 1048576 = omega (arith, r .few, a .few) in
       record { ids = slots-ids size t (b .size-from) (b .size-to) (r .some) m (r .unit); co = slots-co size t (b .size-from) (b .size-to) (r .some) m (r .unit) ∙ (omega arith) })
@@ -229,7 +229,7 @@ module _ (G : Given) (a : Accepted G) where
     C = columnsBy G l
 
     fits : length (joined Ts) ≤ need (G .options) (points G)
-    fits = tables-room (G .options) (G .xs) (G .ys) a
+    fits = tables-room (G .options) (G .xs) (G .ys) (G .energies) a
 
     -- a column of the tables, over one that holds them
     wide : {A : Type 0} (f : Entry → A) (d : List A) → need (G .options) (points G) ≤ length d
@@ -249,7 +249,7 @@ module _ (G : Given) (a : Accepted G) where
         both n _ _ (both n _ _ (both n _ _ (wide (λ e. e .x) (c .x) (r .hx)) (wide (λ e. e .y) (c .y) (r .hy)))
         (both n _ _ (wide (λ e. e .seen) (c .seen) (r .hs)) (wide (λ e. e .id) (c .id) (r .hi))))
         (both n _ _ (both n _ _ (wide (λ e. e .parent) (c .parent) (r .hp)) (wide (λ e. e .num) (c .num) (r .hn)))
-        (both n _ _ k (half n (length (C .coords)) t)))
+        (both n _ _ (wide (λ e. e .energy) (c .energy) (r .hw)) (both n _ _ k (half n (length (C .coords)) t))))
 
     -- the state passes its check
     pub state-sound : stateOk (stateBy G) (roomOf (columnsBy G l)) ≡ true
@@ -260,7 +260,7 @@ module _ (G : Given) (a : Accepted G) where
         let n : tableCount (G .options) ≡ length Ts = omega (arith, b .zooms, how-many) in
         let f : lenOf S (maxZ G + 1) ≡ points G = long-is (maxZ G + 1) (omega (arith, b .zooms)) (omega arith) ∙ finest-long in
         let p : packed S cap (tableCount (G .options)) 0 ≡ true =
-        ap (λ (k : ℕ). packed S cap k 0) n ∙ laid-packed S cap Ts 0 recorded rights (omega (arith, fits, room)) in
+        ap (λ (k : ℕ). packed S cap k 0) n ∙ laid-packed S cap (energyIn G) Ts 0 recorded rights (omega (arith, fits, room)) in
         rw (a .options, le-leb 1 (points G) (a .some), le-leb (points G) 1048576 (a .few), eq-eqb _ _ f, p)
 
     -- the table of each zoom
@@ -271,7 +271,7 @@ module _ (G : Given) (a : Accepted G) where
         let i = maxZ G + 1 - z in
         let e : minZ G + (m - 1 - i) ≡ z = omega arith in
         ap (heldAt (S .starts) (S .lens) R) (sym e) ∙ sym (held-at (S .starts) (S .lens) R (minZ G) m i (omega arith))
-        ∙ ap (λ (ts : List Table). getD ts i []) (built-held (G .options) (G .xs) (G .ys) a l) ∙ of
+        ∙ ap (λ (ts : List Table). getD ts i []) (built-held (G .options) (G .xs) (G .ys) (G .energies) a l) ∙ of
       where
         R : Table
         R = rowsIn (written (G .options .«node_size») (points G) (tablesBy G) l)
@@ -312,7 +312,7 @@ pub of-load : (P : State → Columns → Type 0) (G : Given) (l : Lent)
 unfolding loaded
 of-load P G l f e =
     let o = G .options in
-    let d = sym (replies o (G .xs) (G .ys) l (checked o (G .xs) (G .ys) l)) ∙ e in
-    let a = accepted o (G .xs) (G .ys) l d in
-    subst (λ (x : Outcome). P (x .reply .state) (columnsOf (x .columns))) (sym (ap (byReply o (G .xs) (G .ys) l) d))
+    let d = sym (replies o (G .xs) (G .ys) (G .energies) l (checked o (G .xs) (G .ys) (G .energies) l)) ∙ e in
+    let a = accepted o (G .xs) (G .ys) (G .energies) l d in
+    subst (λ (x : Outcome). P (x .reply .state) (columnsOf (x .columns))) (sym (ap (byReply o (G .xs) (G .ys) (G .energies) l) d))
     (f (a .0) (holds (need o (points G)) l (a .1)))

@@ -1,4 +1,4 @@
--- The eight lent columns of a question, and the parts of them that hold the table of one zoom. Of a table that stands in them the parts are as long as the
+-- The nine lent columns of a question, and the parts of them that hold the table of one zoom. Of a table that stands in them the parts are as long as the
 -- table, and what is lent of the columns from its start to its end is the table. Assumes nothing.
 use mathlib.Core.Path.{_≡_, refl, ap, sym, _∙_, subst}
 use mathlib.Core.List.{List}
@@ -31,7 +31,7 @@ indexRoom ids coords = min (length ids) (length coords / 2)
 abbrev pub roomOf : Columns → ℕ
 roomOf c =
     min (min (min (length (c .table .x)) (length (c .table .y))) (min (length (c .table .seen)) (length (c .table .id))))
-    (min (min (length (c .table .parent)) (length (c .table .num))) (indexRoom (c .ids) (c .coords)))
+    (min (min (length (c .table .parent)) (length (c .table .num))) (min (length (c .table .energy)) (indexRoom (c .ids) (c .coords))))
 
 -- the table of zoom z, and its index: the places of the slots, and their coordinates
 abbrev pub tableAt : State → Columns → ℕ → Table
@@ -53,6 +53,7 @@ pub record Held (n : ℕ) (c : Cols) : Type 0 where
   pub hi : n ≤ length (c .id)
   pub hp : n ≤ length (c .parent)
   pub hn : n ≤ length (c .num)
+  pub hw : n ≤ length (c .energy)
 
 low : (a b n : ℕ) → n ≤ min a b → n ≤ a
 low a b n h = omega arith
@@ -66,14 +67,15 @@ held c n h =
     let xy = low _ _ n a in
     let si = high _ _ n a in
     let pn = low _ _ n (high _ _ n h) in
-    record { hx = low _ _ n xy; hy = high _ _ n xy; hs = low _ _ n si; hi = high _ _ n si; hp = low _ _ n pn; hn = high _ _ n pn }
+    let wi = high _ _ n (high _ _ n h) in
+    record { hx = low _ _ n xy; hy = high _ _ n xy; hs = low _ _ n si; hi = high _ _ n si; hp = low _ _ n pn; hn = high _ _ n pn; hw = low _ _ n wi }
 
 pub held-fewer : {c : Cols} (m n : ℕ) → m ≤ n → Held n c → Held m c
 held-fewer m n l h =
-    record { hx = omega arith; hy = omega arith; hs = omega arith; hi = omega arith; hp = omega arith; hn = omega arith }
+    record { hx = omega arith; hy = omega arith; hs = omega arith; hi = omega arith; hp = omega arith; hn = omega arith; hw = omega arith }
 
 pub room-index : (c : Columns) (n : ℕ) → n ≤ roomOf c → n ≤ indexRoom (c .ids) (c .coords)
-room-index c n h = high _ _ n (high _ _ n h)
+room-index c n h = high _ _ n (high _ _ n (high _ _ n h))
 
 pub index-held : (ids : List ℕ) (coords : List Float) (n : ℕ) → n ≤ indexRoom ids coords → (n ≤ length ids) × (2 * n ≤ length coords)
 index-held ids coords n h =
@@ -94,6 +96,7 @@ even-part a n c h =
       ei = part-long a n (c .id) (h .hi) ∙ e;
       ep = part-long a n (c .parent) (h .hp) ∙ e;
       en = part-long a n (c .num) (h .hn) ∙ e;
+      ew = part-long a n (c .energy) (h .hw) ∙ e;
     }
 
 -- ---- a column as it is lent, from a up to e

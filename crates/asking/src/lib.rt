@@ -106,7 +106,7 @@ pub fn index_room(ids: &[u32], coords: &[f64]) -> usize
     less(ids.len(), coords.len() / 2)
 }
 
-// How many entries the eight lent columns hold.
+// How many entries the nine lent columns hold.
 pub fn room(
     x: &[f64],
     y: &[f64],
@@ -114,17 +114,19 @@ pub fn room(
     id: &[u32],
     parent: &[u32],
     num: &[u32],
+    energy: &[u64],
     ids: &[u32],
     coords: &[f64],
 ) -> usize
-    ensures { λ r. ⌜ r ≡ roomOf (lentColumns x y seen id parent num ids coords) ⌝ }
+    ensures { λ r. ⌜ r ≡ roomOf (lentColumns x y seen id parent num energy ids coords) ⌝ }
 {
     let a = less(x.len(), y.len());
     let b = less(seen.len(), id.len());
     let c = less(parent.len(), num.len());
     let d = less(a, b);
-    let e = less(c, index_room(ids, coords));
-    less(d, e)
+    let e = less(energy.len(), index_room(ids, coords));
+    let f = less(c, e);
+    less(d, f)
 }
 
 // The entry at the place p of the table of len entries that starts at `start` of the columns.
@@ -137,10 +139,11 @@ pub fn entry_in(
     id: &[u32],
     parent: &[u32],
     num: &[u32],
+    energy: &[u64],
     p: usize,
 ) -> Entry
-    requires { ⌜ Held (start + len) (given x y seen id parent num) × (p < len) ⌝ }
-    ensures { λ r. let c = lentCols x y seen id parent num in ⌜ r ≡ entry (part start len (rows (c .entry))) p ⌝ }
+    requires { ⌜ Held (start + len) (given x y seen id parent num energy) × (p < len) ⌝ }
+    ensures { λ r. let c = lentCols x y seen id parent num energy in ⌜ r ≡ entry (part start len (rows (c .entry))) p ⌝ }
 {
     let end = start + len;
     tables::entry_at(
@@ -150,6 +153,7 @@ pub fn entry_in(
         &id[start..end],
         &parent[start..end],
         &num[start..end],
+        &energy[start..end],
         p,
     )
 }
@@ -244,17 +248,18 @@ pub fn ring_of(
     id: &[u32],
     parent: &[u32],
     num: &[u32],
+    energy: &[u64],
 ) -> Ring
     requires { ⌜ Reached s cap table origin ⌝ }
-    requires { ⌜ Held cap (given x y seen id parent num) ⌝ }
+    requires { ⌜ Held cap (given x y seen id parent num energy) ⌝ }
     ensures { λ r.
-        let c = lentCols x y seen id parent num in
+        let c = lentCols x y seen id parent num energy in
         ⌜ r ≡ ringOf s (part (startOf s table) (lenOf s table) (rows (c .entry))) table origin ⌝ }
 {
     let o = s.options;
     let start = s.start_of(table);
     let len = s.len_of(table);
-    let e = entry_in(start, len, x, y, seen, id, parent, num, origin);
+    let e = entry_in(start, len, x, y, seen, id, parent, num, energy, origin);
     let radius = tables::radius_at(o.radius, o.extent, (table - 1) as u8);
     Ring {
         start,

@@ -9,23 +9,26 @@ use Rattle.range.specs.Range.{converted}
 use Rattle.tables.specs.declared.Entry.{Entry}
 use Rattle.tables.specs.declared.Options.{Options}
 use Rattle.tables.specs.Entries.{Table, entry}
+use Rattle.zoom.specs.Lamps.{sumOf}
+use Rattle.zoom.specs.Zoom.{energyOf}
 use Rattle.zooms.specs.Zooms.{Plan, planOf}
 use Rattle.supercluster.specs.Build.{lamp, tablesOf}
 use Rattle.supercluster.specs.Fill.{lamps, lamps-length, lamps-at}
 use Rattle.supercluster.specs.Ready.{Accepted as Accepts}
 
--- the options and the points
+-- the options, and the points with their energies
 pub record Given : Type 0 where
   pub options : Options
   pub xs : List Float
   pub ys : List Float
+  pub energies : List ℕ
 
-abbrev pub given : Options → List Float → List Float → Given
-given o xs ys = record { options = o; xs = xs; ys = ys }
+abbrev pub given : Options → List Float → List Float → List ℕ → Given
+given o xs ys ws = record { options = o; xs = xs; ys = ys; energies = ws }
 
 -- the build is accepted
 abbrev pub Accepted : Given → Type 0
-Accepted G = Accepts (G .options) (G .xs) (G .ys)
+Accepted G = Accepts (G .options) (G .xs) (G .ys) (G .energies)
 
 -- how many points there are
 abbrev pub points : Given → ℕ
@@ -43,19 +46,26 @@ plan G = planOf (G .options) (points G)
 
 -- every table, the finest first
 abbrev pub tablesBy : Given → List Table
-tablesBy G = tablesOf (G .options) (G .xs) (G .ys)
+tablesBy G = tablesOf (G .options) (G .xs) (G .ys) (G .energies)
 
 -- the points as entries, in order
 abbrev pub lampsIn : Given → Table
-lampsIn G = lamps (G .options .«coordinate_system») (G .xs) (G .ys)
+lampsIn G = lamps (G .options .«coordinate_system») (G .xs) (G .ys) (G .energies)
 
--- the point k
+-- what their energies add up to
+abbrev pub energyIn : Given → ℕ
+energyIn G = sumOf energyOf (lampsIn G)
+
+-- the energy of the point k, and the point
+abbrev pub energyAt : Given → ℕ → ℕ
+energyAt G k = getD (G .energies) k 0
+
 abbrev pub lampOf : Given → ℕ → Entry
-lampOf G k = lamp (converted (G .options .«coordinate_system») (record { x = getD (G .xs) k nan; y = getD (G .ys) k nan })) k
+lampOf G k = lamp (converted (G .options .«coordinate_system») (record { x = getD (G .xs) k nan; y = getD (G .ys) k nan })) (energyAt G k) k
 
 module _ (G : Given) (a : Accepted G) where
   pub lampsIn-length : length (lampsIn G) ≡ points G
-  lampsIn-length = lamps-length (G .options .«coordinate_system») (G .xs) (G .ys) (a .same)
+  lampsIn-length = lamps-length (G .options .«coordinate_system») (G .xs) (G .ys) (G .energies) (a .same)
 
   pub lampsIn-at : (k : ℕ) → k < points G → entry (lampsIn G) k ≡ lampOf G k
-  lampsIn-at = lamps-at (G .options .«coordinate_system») (G .xs) (G .ys) (a .same)
+  lampsIn-at = lamps-at (G .options .«coordinate_system») (G .xs) (G .ys) (G .energies) (a .same)

@@ -63,8 +63,8 @@ module _ (G : Given) (a : Accepted G) where
       let ps = convertedAll (G .options .«coordinate_system») (G .xs) (G .ys) in
       let l = lampsIn-length G a in
       record {
-        fine = finest-fine ps 0 (maxZ G + 1) (omega (arith, high)) (a .inside);
-        lamps = finest-total ps 0 ∙ l;
+        fine = finest-fine ps (G .energies) 0 (maxZ G + 1) (omega (arith, high)) (a .inside);
+        lamps = finest-total ps (G .energies) 0 ∙ l;
         few = omega (arith, l);
         lone = all-of Lone (lampsIn G) none (λ i h. ap (λ (e : Entry). e .parent) (lampsIn-at G a i (omega (arith, l, h))));
       }
@@ -75,7 +75,7 @@ module _ (G : Given) (a : Accepted G) where
       down (λ z. Coming (plan G) z (came G z)) (minZ G) (maxZ G + 1)
       (subst (λ (t : Table). Coming (plan G) (maxZ G + 1) t) (sym (came-first G)) first)
       (λ z h k c. subst (λ (t : Table). Coming (plan G) z t) (sym (came-next G z (omega arith)))
-      (coming-next (plan G) (able (G .options) (G .xs) (G .ys) a) z (came G (suc z)) (omega (arith, high)) c))
+      (coming-next (plan G) (able (G .options) (G .xs) (G .ys) (G .energies) a) z (came G (suc z)) (omega (arith, high)) c))
 
   -- each zoom, one after the other as `run` has them
   pub run-of-build : Stepwise (plan G) (zoomsOf (G .options)) (lampsIn G)
@@ -83,7 +83,7 @@ module _ (G : Given) (a : Accepted G) where
       let t = high in
       let l = low in
       let e : maxZ G + 1 ≡ minZ G + zoomsOf (G .options) = omega arith in
-      run-grouped (plan G) (able (G .options) (G .xs) (G .ys) a) (zoomsOf (G .options)) (lampsIn G) (omega arith)
+      run-grouped (plan G) (able (G .options) (G .xs) (G .ys) (G .energies) a) (zoomsOf (G .options)) (lampsIn G) (omega arith)
       (subst (λ (z : ℕ). Coming (plan G) z (lampsIn G)) e first)
 
   -- each zoom, by its number
@@ -91,7 +91,7 @@ module _ (G : Given) (a : Accepted G) where
   unfolding groupsBy
   groups-of-build z h k =
       let T = came G (suc z) in
-      let g = zoom-grouped (plan G) (able (G .options) (G .xs) (G .ys) a) z (came G (suc z)) (omega (arith, high))
+      let g = zoom-grouped (plan G) (able (G .options) (G .xs) (G .ys) (G .energies) a) z (came G (suc z)) (omega (arith, high))
       (came-coming (suc z) (omega arith) (omega arith)) in
       record {
         own = g .own;

@@ -13,3 +13,4 @@ pub mod Parents
 pub mod Identities
 pub mod MadeOnce
 pub mod Born
+pub mod Energies

@@ -1,15 +1,16 @@
--- What supercluster shows of each table of an accepted build, by table number: its entries lie from 0 to 1 and count one lamp or more, it counts the lamps, once
--- each, and it has 1 to N entries. Assumes nothing.
+-- What supercluster shows of each table of an accepted build, by table number: its entries lie from 0 to 1 and count one lamp or more, it
+-- counts the lamps, once each, its energies add up to those given, and it has 1 to N entries. Assumes nothing.
 use mathlib.Core.List.{[]}
 use Prim.Native.Nat.{ℕ, _+_, _-_, _≤_}
 use native.Mathlib.Omega.{arith}
 use Rattle.kdslots.specs.All.{all-getD}
 use Rattle.supercluster.specs.Right.{Right, tables-right, tables-count}
-use Rattle.builds.specs.Given.{Given, Accepted, points, minZ, maxZ, tablesBy}
+use Rattle.builds.specs.Given.{Given, Accepted, points, minZ, maxZ, tablesBy, energyIn}
 use Rattle.builds.specs.Came.{tableAt}
 
-pub right-at : (G : Given) → Accepted G → (z : ℕ) → minZ G ≤ z → z ≤ maxZ G + 1 → Right (points G) (tableAt G z)
+pub right-at : (G : Given) → Accepted G → (z : ℕ) → minZ G ≤ z → z ≤ maxZ G + 1 → Right (points G) (energyIn G) (tableAt G z)
 unfolding tableAt
 right-at G a z h k =
-    let l = tables-count (G .options) (G .xs) (G .ys) in all-getD (Right (points G)) (tablesBy G) (maxZ G + 1 - z) []
-    (tables-right (G .options) (G .xs) (G .ys) a) (omega arith)
+    let l = tables-count (G .options) (G .xs) (G .ys) (G .energies) in
+    all-getD (Right (points G) (energyIn G)) (tablesBy G) (maxZ G + 1 - z) []
+    (tables-right (G .options) (G .xs) (G .ys) (G .energies) a) (omega arith)

@@ -6,7 +6,7 @@ use mathlib.Core.Bool.{true, false}
 use Prim.Native.Nat.{ℕ}
 use lib.Ieee.{Float}
 use Rattle.range.specs.declared.CoordinateSystem.{CoordinateSystem}
-use Rattle.kdbush.specs.declared.BuildReply.the-variants.{Done}
+use Rattle.supercluster.specs.declared.LoadReply.the-variants.{Done}
 use Rattle.tables.specs.declared.State.{State}
 use Rattle.asking.specs.Columns.{Columns}
 use Rattle.boxplan.specs.Rule.{boxOk}

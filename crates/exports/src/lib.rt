@@ -345,12 +345,14 @@ pub extern "C" fn supercluster_load(
     longitude_strips_only: bool,
     xs: &[f64],
     ys: &[f64],
+    energies: &[u64],
     x: &mut [f64],
     y: &mut [f64],
     seen: &mut [u8],
     id: &mut [u32],
     parent: &mut [u32],
     num: &mut [u32],
+    energy: &mut [u64],
     ids: &mut [u32],
     coords: &mut [f64],
     near: &mut [u32],
@@ -361,9 +363,9 @@ pub extern "C" fn supercluster_load(
     ensures { λ r.
         let o = given «min_zoom» «max_zoom» «min_points» radius extent «node_size» cartesian «min_x» «min_y» «max_x» «max_y»
         «offset_given» offset «scale_given» scale «longitude_strips_only» in
-        let l = lentAll x y seen id parent num ids coords near in
+        let l = lentAll x y seen id parent num energy ids coords near in
         ⌜ laid (replied r (new carried) (new starts) (new lens)) (l .exit)
-        ≡ laidOf (loaded o (old xs) (old ys) (l .entry)) (old starts) (old lens) ⌝ }
+        ≡ laidOf (loaded o (old xs) (old ys) (old energies) (l .entry)) (old starts) (old lens) ⌝ }
 {
     let o = options(
         min_zoom,
@@ -383,7 +385,22 @@ pub extern "C" fn supercluster_load(
         scale,
         longitude_strips_only,
     );
-    let loaded = supercluster::load(o, xs, ys, x, y, seen, id, parent, num, ids, coords, near);
+    let loaded = supercluster::load(
+        o,
+        xs,
+        ys,
+        energies,
+        x,
+        y,
+        seen,
+        id,
+        parent,
+        num,
+        energy,
+        ids,
+        coords,
+        near,
+    );
     tell(loaded, starts, lens, carried)
 }
 
@@ -608,6 +625,7 @@ pub extern "C" fn supercluster_children(
     id: &[u32],
     parent: &[u32],
     num: &[u32],
+    energy: &[u64],
     ids: &[u32],
     coords: &[f64],
     cid: u32,
@@ -618,7 +636,7 @@ pub extern "C" fn supercluster_children(
         let o = given «min_zoom» «max_zoom» «min_points» radius extent «node_size» cartesian «min_x» «min_y» «max_x» «max_y»
         «offset_given» offset «scale_given» scale «longitude_strips_only» in
         let s = stateOf o count (old starts) (old lens) in
-        let c = lentColumns x y seen id parent num ids coords in
+        let c = lentColumns x y seen id parent num energy ids coords in
         ⌜ told r (new carried) (new out) ≡ toldOf (childrenOf s c cid) (old out) ⌝ }
 {
     let o = options(
@@ -640,7 +658,20 @@ pub extern "C" fn supercluster_children(
         longitude_strips_only,
     );
     let s = state(o, count, starts, lens);
-    let r = walks::children(s, x, y, seen, id, parent, num, ids, coords, cid, out);
+    let r = walks::children(
+        s,
+        x,
+        y,
+        seen,
+        id,
+        parent,
+        num,
+        energy,
+        ids,
+        coords,
+        cid,
+        out,
+    );
     *carried = r.carried();
     r.number()
 }
@@ -673,6 +704,7 @@ pub extern "C" fn supercluster_leaves(
     id: &[u32],
     parent: &[u32],
     num: &[u32],
+    energy: &[u64],
     ids: &[u32],
     coords: &[f64],
     cid: u32,
@@ -685,7 +717,7 @@ pub extern "C" fn supercluster_leaves(
         let o = given «min_zoom» «max_zoom» «min_points» radius extent «node_size» cartesian «min_x» «min_y» «max_x» «max_y»
         «offset_given» offset «scale_given» scale «longitude_strips_only» in
         let s = stateOf o count (old starts) (old lens) in
-        let c = lentColumns x y seen id parent num ids coords in
+        let c = lentColumns x y seen id parent num energy ids coords in
         ⌜ told r (new carried) (new out) ≡ toldOf (leavesOf s c cid limit skip) (old out) ⌝ }
 {
     let o = options(
@@ -715,6 +747,7 @@ pub extern "C" fn supercluster_leaves(
         id,
         parent,
         num,
+        energy,
         ids,
         coords,
         cid,
@@ -754,6 +787,7 @@ pub extern "C" fn supercluster_expansion_zoom(
     id: &[u32],
     parent: &[u32],
     num: &[u32],
+    energy: &[u64],
     ids: &[u32],
     coords: &[f64],
     cid: u32,
@@ -763,7 +797,7 @@ pub extern "C" fn supercluster_expansion_zoom(
         let o = given «min_zoom» «max_zoom» «min_points» radius extent «node_size» cartesian «min_x» «min_y» «max_x» «max_y»
         «offset_given» offset «scale_given» scale «longitude_strips_only» in
         let s = stateOf o count (old starts) (old lens) in
-        let c = lentColumns x y seen id parent num ids coords in
+        let c = lentColumns x y seen id parent num energy ids coords in
         ⌜ said r (new carried) ≡ zoomSaid (zoomOf s c cid) ⌝ }
 {
     let o = options(
@@ -785,7 +819,7 @@ pub extern "C" fn supercluster_expansion_zoom(
         longitude_strips_only,
     );
     let s = state(o, count, starts, lens);
-    let r = walks::expansion_zoom(s, x, y, seen, id, parent, num, ids, coords, cid);
+    let r = walks::expansion_zoom(s, x, y, seen, id, parent, num, energy, ids, coords, cid);
     *carried = r.carried() as usize;
     r.number()
 }
@@ -818,6 +852,7 @@ pub extern "C" fn supercluster_tile(
     id: &[u32],
     parent: &[u32],
     num: &[u32],
+    energy: &[u64],
     ids: &[u32],
     coords: &[f64],
     z: u8,
@@ -832,7 +867,7 @@ pub extern "C" fn supercluster_tile(
         let o = given «min_zoom» «max_zoom» «min_points» radius extent «node_size» cartesian «min_x» «min_y» «max_x» «max_y»
         «offset_given» offset «scale_given» scale «longitude_strips_only» in
         let s = stateOf o count (old starts) (old lens) in
-        let c = lentColumns x y seen id parent num ids coords in
+        let c = lentColumns x y seen id parent num energy ids coords in
         ⌜ tileTold r (new carried) (new places) (new px) (new py)
         ≡ tileOf (tiled s c z «tile_x» «tile_y» (old places) (old px) (old py)) ⌝ }
 {
@@ -865,6 +900,7 @@ pub extern "C" fn supercluster_tile(
         id,
         parent,
         num,
+        energy,
         ids,
         coords,
         z,
@@ -906,6 +942,7 @@ pub extern "C" fn supercluster_tally(
     id: &[u32],
     parent: &[u32],
     num: &[u32],
+    energy: &[u64],
     ids: &[u32],
     coords: &[f64],
     z: u8,
@@ -917,7 +954,7 @@ pub extern "C" fn supercluster_tally(
         let o = given «min_zoom» «max_zoom» «min_points» radius extent «node_size» cartesian «min_x» «min_y» «max_x» «max_y»
         «offset_given» offset «scale_given» scale «longitude_strips_only» in
         let s = stateOf o count (old starts) (old lens) in
-        let c = lentColumns x y seen id parent num ids coords in
+        let c = lentColumns x y seen id parent num energy ids coords in
         ⌜ said r (new carried) ≡ tallySaid (tallied s c z «tile_x» «tile_y») ⌝ }
 {
     let o = options(
@@ -949,6 +986,7 @@ pub extern "C" fn supercluster_tally(
         id,
         parent,
         num,
+        energy,
         ids,
         coords,
         z,

@@ -11,7 +11,7 @@ use Rattle.kdslots.specs.Keep.{keep}
 use Rattle.tables.specs.declared.Entry.{Entry}
 use Rattle.tables.specs.Entries.{Table, entry, unseen, marked, under}
 use Rattle.tables.specs.Ids.{clusterId}
-use Rattle.zoom.specs.Zoom.{numOf, absorbed, centre, enough}
+use Rattle.zoom.specs.Zoom.{numOf, energyOf, absorbed, centre, enough}
 use Rattle.groups.specs.Sums.{sum, range}
 
 -- ---- groups
@@ -106,7 +106,9 @@ weighedAt z near d i c = weighed c d (mul binary64 (c (entry d i)) (float (entry
 
 -- the cluster's entry
 abbrev pub centreAt : ℕ → ℕ → (ℕ → List ℕ) → Table → ℕ → Entry
-centreAt n z near d i = centre (absorbed d (weighedAt z near d i (λ e. e .x)) (weighedAt z near d i (λ e. e .y))) (clusterId n z i) (total z near d i)
+centreAt n z near d i =
+    centre (absorbed d (weighedAt z near d i (λ e. e .x)) (weighedAt z near d i (λ e. e .y)) (sumAt energyOf z near d i))
+    (clusterId n z i) (total z near d i)
 
 -- the groups that it gives: one cluster, or a copy of it and of each other
 abbrev pub groupsAt : ℕ → ℕ → (ℕ → List ℕ) → Bool → Table → ℕ → List Group

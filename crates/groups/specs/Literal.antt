@@ -17,8 +17,8 @@ use Rattle.tables.specs.declared.Entry.{Entry}
 use Rattle.tables.specs.Entries.{Table, entry, none, marked, under}
 use Rattle.tables.specs.Ids.{clusterId}
 use Rattle.zoom.specs.Steps.{totalOf, visit-made, visit-left, scan-seen, scan-visit}
-use Rattle.zoom.specs.Lamps.{Carried}
-use Rattle.zoom.specs.Zoom.{numOf, moreOf, Absorbed, absorbed, absorb, started, centre, Scan, made, enough, visit, scanOne, scanFrom, cluster}
+use Rattle.zoom.specs.Lamps.{Carried, energy-carried}
+use Rattle.zoom.specs.Zoom.{numOf, energyOf, moreOf, Absorbed, absorbed, absorb, started, centre, Scan, made, enough, visit, scanOne, scanFrom, cluster}
 use Rattle.groups.specs.Sums.{hit, sum-ext, range}
 use Rattle.groups.specs.Counts.{distinct-count, in-count, count-distinct}
 use Rattle.groups.specs.Groups.{Group, copied, entryOf, unseenAt, markedAt, took, turn, change, sweep, others, sumAt, total, joins, weighed, centreAt, groupsAt, after, turning, groupsFrom, around, groupsOf}
@@ -132,13 +132,21 @@ module _ (n least z len : ℕ) (near : ℕ → List ℕ) (A : Answers len near) 
   abbrev grown : Absorbed
   grown = absorb z (clusterId n z i) (started (markedAt z i d) (marked z (entry d i))) (near i)
 
+  near-distinct : Distinct (near i)
+  near-distinct = count-distinct (near i) (λ j. A .single i j i<len)
+
   centre-is : centre grown (clusterId n z i) (total z near d i) ≡ centreAt n z near d i
   centre-is =
       let p = clusterId n z i in
-      let s = started (markedAt z i d) (marked z (entry d i)) in
+      let M = markedAt z i d in
+      let s = started M (marked z (entry d i)) in
       let a = absorb-sums z p s (near i) (λ j. A .single i j i<len) in
-      ap₂ (λ (a b : Float). centre (absorbed d a b) p (total z near d i)) (a .0 ∙ sum-is (λ e. e .x) (λ e. refl) (s .sx))
-      (a .1 ∙ sum-is (λ e. e .y) (λ e. refl) (s .sy))
+      let x = a .0 ∙ sum-is (λ e. e .x) (λ e. refl) (s .sx) in
+      let y = a .1 ∙ sum-is (λ e. e .y) (λ e. refl) (s .sy) in
+      let w : grown .se ≡ sumAt energyOf z near d i =
+      ap (λ (e : Entry). absorb z p (started M e) (near i) .se) (sym own)
+      ∙ energy-carried .sums z p i (near i) M near-distinct ∙ more-at energyOf (energy-carried .marks) in
+      λ k. centre (absorbed d (x k) (y k) (w k)) p (total z near d i)
 
   -- what the cluster carries: the sum of what the place and the others do
   pub centre-carries : (f : Entry → ℕ) → Carried f → f (centreAt n z near d i) ≡ sumAt f z near d i
@@ -147,7 +155,7 @@ module _ (n least z len : ℕ) (near : ℕ → List ℕ) (A : Answers len near) 
       let M = markedAt z i d in
       let whole : centre (absorb z p (started M (entry M i)) (near i)) p (totalOf z (near i) i M) ≡ centreAt n z near d i =
       ap₂ (λ (w : Entry) (t : ℕ). centre (absorb z p (started M w) (near i)) p t) own total-is ∙ centre-is in
-      sym (ap f whole) ∙ C .sums z p i (near i) M (count-distinct (near i) (λ j. A .single i j i<len)) ∙ more-at f (C .marks)
+      sym (ap f whole) ∙ C .sums z p i (near i) M near-distinct ∙ more-at f (C .marks)
 
   made-is : (nx : Table) → made i grown nx (clusterId n z i) (total z near d i) ≡ scanAfter n z near true d i nx
   made-is nx =

@@ -39,16 +39,17 @@ pub fn next_child(
     id: &[u32],
     parent: &[u32],
     num: &[u32],
+    energy: &[u64],
     ids: &[u32],
     coords: &[f64],
     cid: u32,
     page: &mut [usize],
     from: Pages,
 ) -> Child
-    requires { let c = givenColumns x y seen id parent num ids coords in ⌜ g .start + g .len ≤ roomOf c ⌝ }
+    requires { let c = givenColumns x y seen id parent num energy ids coords in ⌜ g .start + g .len ≤ roomOf c ⌝ }
     requires { ⌜ AllBelow (g .len) (aheadIn g (now coords) (now page) from) ⌝ }
     ensures { λ r.
-        let c = lentColumns x y seen id parent num ids coords in
+        let c = lentColumns x y seen id parent num energy ids coords in
         ⌜ childIn g (old coords) (new page) r ≡ nextIn g c cid (aheadIn g (old coords) (old page) from) ⌝ }
 {
     let start = g.start;
@@ -66,7 +67,18 @@ pub fn next_child(
         if len <= place as usize {
             return Child::Spoiled;
         }
-        let entry = asking::entry_in(start, len, x, y, seen, id, parent, num, place as usize);
+        let entry = asking::entry_in(
+            start,
+            len,
+            x,
+            y,
+            seen,
+            id,
+            parent,
+            num,
+            energy,
+            place as usize,
+        );
         if entry.parent == cid {
             return Child::At {
                 pages,
@@ -87,14 +99,15 @@ pub fn list_kids(
     id: &[u32],
     parent: &[u32],
     num: &[u32],
+    energy: &[u64],
     ids: &[u32],
     coords: &[f64],
     cid: u32,
     out: &mut [u32],
 ) -> Kids
-    requires { let c = givenColumns x y seen id parent num ids coords in ⌜ g .start + g .len ≤ roomOf c ⌝ }
+    requires { let c = givenColumns x y seen id parent num energy ids coords in ⌜ g .start + g .len ≤ roomOf c ⌝ }
     ensures { λ r.
-        let c = lentColumns x y seen id parent num ids coords in
+        let c = lentColumns x y seen id parent num energy ids coords in
         ⌜ Listed g c cid (old out) r (new out) ⌝ }
 {
     let start = g.start;
@@ -114,7 +127,18 @@ pub fn list_kids(
         if n <= place as usize {
             return Kids::Spoiled;
         }
-        let entry = asking::entry_in(start, n, x, y, seen, id, parent, num, place as usize);
+        let entry = asking::entry_in(
+            start,
+            n,
+            x,
+            y,
+            seen,
+            id,
+            parent,
+            num,
+            energy,
+            place as usize,
+        );
         if entry.parent == cid {
             asking::put_at(out, k, place);
             k += 1;

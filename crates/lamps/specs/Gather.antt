@@ -4,7 +4,8 @@ use mathlib.Core.Path.{_≡_, refl, sym, ap, ap₂, _∙_}
 use mathlib.Core.Logic.{inr, ⊎-elim}
 use mathlib.Core.Bool.{Bool}
 use mathlib.Core.List.{List, [], _∷_, _++_, List·Permᴰ}
-use Prim.Native.Nat.{ℕ, zero, suc, _≤_, _<_}
+use Prim.Native.Nat.{ℕ, zero, suc, _*_, _≤_, _<_}
+use native.Mathlib.Nat.{suc-mul}
 use native.Mathlib.Omega.{arith}
 use lib.ListN.{length}
 use Rattle.kdslots.specs.Keep.{keep}
@@ -20,12 +21,14 @@ sum-none f (k ∷ ks) h =
     omega arith
 
 -- as many ones as the list is long
-pub sum-ones : (f : ℕ → ℕ) (ks : List ℕ) → ((k : ℕ) → 0 < count k ks → f k ≡ 1) → sum f ks ≡ length ks
-sum-ones f [] h = refl
-sum-ones f (k ∷ ks) h =
-    let a : f k ≡ 1 = h k (count-head k ks) in
-    let b = sum-ones f ks (λ j l. h j (omega arith)) in
-    omega arith
+pub sum-ones : (ks : List ℕ) → sum (λ k. 1) ks ≡ length ks
+sum-ones [] = refl
+sum-ones (k ∷ ks) = let a = sum-ones ks in omega arith
+
+-- numbers of at most B each
+pub sum-bound : (B : ℕ) (f : ℕ → ℕ) → ((k : ℕ) → f k ≤ B) → (ks : List ℕ) → sum f ks ≤ length ks * B
+sum-bound B f h [] = omega arith
+sum-bound B f h (k ∷ ks) = let a = h k in let b = sum-bound B f h ks in let c = suc-mul (length ks) B in omega arith
 
 -- ---- lists put together
 

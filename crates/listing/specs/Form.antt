@@ -15,7 +15,7 @@ use Rattle.listing.specs.declared.Parsed.the-variants.{Read, Refused}
 use Rattle.listing.specs.declared.Point.{Point}
 use Rattle.listing.specs.declared.Point.the-variants.{Stands, Missing}
 use Rattle.listing.specs.Scan.{lineOf}
-use Rattle.listing.specs.Text.{minZoomKey, maxZoomKey, minPointsKey, radiusKey, extentKey, nodeSizeKey, countKey, xKey, yKey}
+use Rattle.listing.specs.Text.{minZoomKey, maxZoomKey, minPointsKey, radiusKey, extentKey, nodeSizeKey, countKey, xKey, yKey, whKey}
 use Rattle.listing.specs.Text.{Place, PointCols, putPoints}
 
 -- what a line was read as goes on, or all ends with `other`; the same of a point
@@ -24,7 +24,7 @@ eachValue (Number v next) other f = f v (next .at)
 eachValue Bad other f = other
 
 abbrev pub eachPoint : {A : Type 0} → Point → A → (Place → ℕ → A) → A
-eachPoint (Stands x y next) other f = f (record { x = x; y = y }) (next .at)
+eachPoint (Stands x y wh next) other f = f (record { x = x; y = y; wh = wh }) (next .at)
 eachPoint Missing other f = other
 
 -- the first seven lines
@@ -44,7 +44,8 @@ unfoldable pub pointOf : List ℕ → ℕ → Point
 pointOf s at =
     eachValue (lineOf s at xKey 9999999) Missing (λ x p.
     eachValue (lineOf s p yKey 9999999) Missing (λ y q.
-    Stands x y (record { at = q })))
+    eachValue (lineOf s q whKey 9999999) Missing (λ wh r.
+    Stands x y wh (record { at = r }))))
 
 -- n points stand at `at`, and then nothing
 unfoldable pub pointsOk : ℕ → List ℕ → ℕ → Bool

@@ -5,7 +5,8 @@ use Prim.Native.Nat.{ℕ, _+_, _≤_}
 use native.Mathlib.Omega.{arith}
 use lib.ListN.{length, drop, length-append}
 use Rattle.listing.specs.Reading.{line-read, line-length, after}
-use Rattle.listing.specs.Text.{line, minZoomKey, maxZoomKey, minPointsKey, radiusKey, extentKey, nodeSizeKey, countKey, xKey, yKey, Place, Input, pointsText, text, Small, Valid}
+use Rattle.listing.specs.Text.{line, minZoomKey, maxZoomKey, minPointsKey, radiusKey, extentKey, nodeSizeKey, countKey, xKey, yKey, whKey}
+use Rattle.listing.specs.Text.{Place, Input, pointsText, text, Small, Valid}
 
 -- two lines of one key that begin one text: their numbers are equal, and what follows them
 module _ (key : List ℕ) (v w : ℕ) (t u : List ℕ) (e : line key v ++ t ≡ line key w ++ u) (hv : v ≤ 9999999) (hw : w ≤ 9999999) where
@@ -36,8 +37,9 @@ points-one (p ∷ ps) [] s r e = absurd (line-some xKey (p .x) _ (sym e))
 points-one (p ∷ ps) (q ∷ qs) s r e =
     let a = line-one xKey (p .x) (q .x) _ _ e (s .0 .0) (r .0 .0) in
     let b = line-one yKey (p .y) (q .y) _ _ (a .1) (s .0 .1) (r .0 .1) in
-    let c = points-one ps qs (s .1) (r .1) (b .1) in
-    λ i. record { x = a .0 i; y = b .0 i } ∷ c i
+    let w = line-one whKey (p .wh) (q .wh) _ _ (b .1) (s .0 .2) (r .0 .2) in
+    let c = points-one ps qs (s .1) (r .1) (w .1) in
+    λ i. record { x = a .0 i; y = b .0 i; wh = w .0 i } ∷ c i
 
 pub text-one : (i j : Input) → Valid i → Valid j → text i ≡ text j → i ≡ j
 text-one i j v w e =

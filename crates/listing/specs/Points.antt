@@ -9,26 +9,28 @@ use borrow.Author.Tests.{eq-eqb, eqb-true}
 use lib.ListN.{length, drop, length-drop, drop-of-length-le}
 use Rattle.listing.specs.declared.Point.{Point}
 use Rattle.listing.specs.declared.Point.the-variants.{Stands, Missing}
-use Rattle.listing.specs.Text.{line, xKey, yKey, Place, PointCols, putPoints, pointText, pointsText, Small}
+use Rattle.listing.specs.Text.{line, xKey, yKey, whKey, Place, PointCols, putPoints, pointText, pointsText, Small}
 use Rattle.listing.specs.Form.{eachPoint, pointOf, pointsOk, filled}
 use Rattle.listing.specs.Lines.{Left, past, goes-on, got}
 
 -- the lines of a point that is left are read, and what follows them is left
 pub record PointRead (s : List ℕ) (at : ℕ) (p : Place) (t : List ℕ) : Type 0 where
   pub to : ℕ
-  pub reads : pointOf s at ≡ Stands (p .x) (p .y) (record { at = to })
+  pub reads : pointOf s at ≡ Stands (p .x) (p .y) (p .wh) (record { at = to })
   pub rest : Left s to t
 
-pub point-read : (s : List ℕ) (at : ℕ) (p : Place) (t : List ℕ) → Left s at (pointText p t) → (p .x ≤ 9999999) × (p .y ≤ 9999999)
-    → PointRead s at p t
+pub point-read : (s : List ℕ) (at : ℕ) (p : Place) (t : List ℕ) → Left s at (pointText p t)
+    → (p .x ≤ 9999999) × (p .y ≤ 9999999) × (p .wh ≤ 9999999) → PointRead s at p t
 unfolding pointOf
 point-read s at p t wx h =
     let wy = past s at xKey (p .x) _ wx in
+    let we = past s _ yKey (p .y) _ wy in
     record {
-      to = at + length (line xKey (p .x)) + length (line yKey (p .y));
+      to = at + length (line xKey (p .x)) + length (line yKey (p .y)) + length (line whKey (p .wh));
       reads = goes-on s at xKey (p .x) _ wx 9999999 (h .0) (omega arith) _ _
-          ∙ goes-on s _ yKey (p .y) t wy 9999999 (h .1) (omega arith) _ _;
-      rest = past s _ yKey (p .y) t wy;
+          ∙ goes-on s _ yKey (p .y) _ wy 9999999 (h .1) (omega arith) _ _
+          ∙ goes-on s _ whKey (p .wh) t we 9999999 (h .2) (omega arith) _ _;
+      rest = past s _ whKey (p .wh) t we;
     }
 
 -- what the parser's two walks over the points find where the points stand
@@ -72,10 +74,11 @@ points-end (suc n) s at e =
     let go : Point → Bool = λ q. eachPoint q false (λ _ k. pointsOk n s k) in
     let x = got s at xKey 9999999 Missing _ go true false-not e in
     let y = got s (x .to) yKey 9999999 Missing _ go true false-not (x .goes) in
-    let r = points-end n s (y .to) (y .goes) in
+    let w = got s (y .to) whKey 9999999 Missing _ go true false-not (y .goes) in
+    let r = points-end n s (w .to) (w .goes) in
     record {
-      ps = record { x = x .num; y = y .num } ∷ r .ps;
+      ps = record { x = x .num; y = y .num; wh = w .num } ∷ r .ps;
       count = ap suc (r .count);
-      is = x .is _ (y .is _ (r .is));
-      small = ((x .small, y .small), r .small);
+      is = x .is _ (y .is _ (w .is _ (r .is)));
+      small = ((x .small, y .small, w .small), r .small);
     }

@@ -1,4 +1,5 @@
--- 01's text of the table lister: the writing of an input, key=value line by line, and what it is to read a text. Definitions only.
+-- 01's text of the table lister, with 02's line of each point's energy: the writing of an input, key=value line by line, and what it is
+-- to read a text. Definitions only.
 use mathlib.Core.List.{List, [], _∷_, _++_, map}
 use mathlib.Core.Path.{_≡_}
 use Prim.Native.Nat.{ℕ, _+_, _≤_}
@@ -41,16 +42,20 @@ xKey = bytes "x="
 abbrev pub yKey : List ℕ
 yKey = bytes "y="
 
+abbrev pub whKey : List ℕ
+whKey = bytes "wh="
+
 -- ---- the writing of an input
 
 -- a line: the key with its `=`, the number, the line's end
 unfoldable pub line : List ℕ → ℕ → List ℕ
 line key v = key ++ (decimalOf 7 v ++ (10 ∷ []))
 
--- a point, in 65,536ths
+-- a point: where it is, in 65,536ths, and its energy in watt-hours
 pub record Place : Type 0 where
   pub x : ℕ
   pub y : ℕ
+  pub wh : ℕ
 
 pub record Input : Type 0 where
   pub minZoom : ℕ
@@ -63,7 +68,7 @@ pub record Input : Type 0 where
 
 -- the lines of a point, and then t
 abbrev pub pointText : Place → List ℕ → List ℕ
-pointText p t = line xKey (p .x) ++ (line yKey (p .y) ++ t)
+pointText p t = line xKey (p .x) ++ (line yKey (p .y) ++ (line whKey (p .wh) ++ t))
 
 unfoldable pub pointsText : List Place → List ℕ
 pointsText [] = []
@@ -82,7 +87,7 @@ text i =
 -- each number of a point has at most seven digits
 abbrev pub Small : List Place → Type 0
 Small [] = Unit
-Small (p ∷ ps) = ((p .x ≤ 9999999) × (p .y ≤ 9999999)) × Small ps
+Small (p ∷ ps) = ((p .x ≤ 9999999) × (p .y ≤ 9999999) × (p .wh ≤ 9999999)) × Small ps
 
 -- 01's bounds of a text
 pub record Valid (i : Input) : Type 0 where
@@ -122,35 +127,43 @@ xOf p = coordOf (p .x)
 abbrev pub yOf : Place → Float
 yOf p = coordOf (p .y)
 
+abbrev pub whOf : Place → ℕ
+whOf p = p .wh
+
 abbrev pub xsOf : Input → List Float
 xsOf i = map xOf (i .points)
 
 abbrev pub ysOf : Input → List Float
 ysOf i = map yOf (i .points)
 
+abbrev pub energiesOf : Input → List ℕ
+energiesOf i = map whOf (i .points)
+
 -- the columns that points are read into
 pub record PointCols : Type 0 where
   pub xs : List Float
   pub ys : List Float
+  pub energies : List ℕ
 
-abbrev pub pointCols : List Float → List Float → PointCols
-pointCols xs ys = record { xs = xs; ys = ys }
+abbrev pub pointCols : List Float → List Float → List ℕ → PointCols
+pointCols xs ys energies = record { xs = xs; ys = ys; energies = energies }
 
 -- those of an input
 abbrev pub pointsOf : Input → PointCols
-pointsOf i = pointCols (xsOf i) (ysOf i)
+pointsOf i = pointCols (xsOf i) (ysOf i) (energiesOf i)
 
 -- the first n of each, and that each holds n
 abbrev pub frontOf : ℕ → PointCols → PointCols
-frontOf n c = pointCols (take n (c .xs)) (take n (c .ys))
+frontOf n c = pointCols (take n (c .xs)) (take n (c .ys)) (take n (c .energies))
 
 pub record Fits (n : ℕ) (c : PointCols) : Type 0 where
   pub x : n ≤ length (c .xs)
   pub y : n ≤ length (c .ys)
+  pub energy : n ≤ length (c .energies)
 
 -- the columns with points from the place k on, and elsewhere what they held
 abbrev pub putPoints : PointCols → ℕ → List Place → PointCols
-putPoints c k ps = pointCols (sets (c .xs) k (map xOf ps)) (sets (c .ys) k (map yOf ps))
+putPoints c k ps = pointCols (sets (c .xs) k (map xOf ps)) (sets (c .ys) k (map yOf ps)) (sets (c .energies) k (map whOf ps))
 
 -- s is the writing of an input; its head is h, and the columns hold its points and past them what they held
 pub record Reads (s : List ℕ) (c : PointCols) (h : Head) (c′ : PointCols) : Type 0 where

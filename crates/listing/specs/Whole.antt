@@ -13,7 +13,7 @@ use Rattle.listing.specs.declared.Head.{Head}
 use Rattle.listing.specs.declared.Parsed.{Parsed}
 use Rattle.listing.specs.declared.Parsed.the-variants.{Read, Refused}
 use Rattle.listing.specs.Text.{Place, Input, pointsText, headText, headIs, text, Valid}
-use Rattle.listing.specs.Text.{PointCols, pointCols, pointsOf, frontOf, Fits, putPoints, Reads, Parsing, xOf, yOf}
+use Rattle.listing.specs.Text.{PointCols, pointCols, pointsOf, frontOf, Fits, putPoints, Reads, Parsing, xOf, yOf, whOf}
 use Rattle.listing.specs.Form.{headOf, pointsOk, withPoints, parsedOf, filledBy}
 use Rattle.listing.specs.Points.{Found, points-read, points-end}
 use Rattle.listing.specs.OneInput.{text-one}
@@ -120,6 +120,7 @@ pub record Front (i : Input) (n : ℕ) (c : PointCols) : Type 0 where
 pub record Wide (c : PointCols) : Type 0 where
   pub x : length (c .xs) ≡ 1152
   pub y : length (c .ys) ≡ 1152
+  pub energy : length (c .energies) ≡ 1152
 
 front : {A : Type 0} (f : Place → A) (ps : List Place) (n : ℕ) (d d′ : List A) → d′ ≡ sets d 0 (map f ps)
     → n ≡ length ps → n ≤ length d′ → take n d′ ≡ map f ps
@@ -132,7 +133,13 @@ pub reads-front : (s : List ℕ) (c : PointCols) (h : Head) (c′ : PointCols) (
 reads-front s c h c′ p w =
     let n : h .count ≡ length (p .input .points) = ap (λ (k : Head). k .count) (p .head) in
     let ps = p .input .points in
-    let f : Fits (h .count) c′ = record { x = omega (arith, n, p .valid .count, w .x); y = omega (arith, n, p .valid .count, w .y) } in
+    let f : Fits (h .count) c′ =
+    record {
+      x = omega (arith, n, p .valid .count, w .x);
+      y = omega (arith, n, p .valid .count, w .y);
+      energy = omega (arith, n, p .valid .count, w .energy);
+    } in
     let ex = front xOf ps (h .count) (c .xs) (c′ .xs) (ap (λ (d : PointCols). d .xs) (p .stored)) n (f .x) in
     let ey = front yOf ps (h .count) (c .ys) (c′ .ys) (ap (λ (d : PointCols). d .ys) (p .stored)) n (f .y) in
-    record { is = λ k. pointCols (ex k) (ey k); fits = f }
+    let ee = front whOf ps (h .count) (c .energies) (c′ .energies) (ap (λ (d : PointCols). d .energies) (p .stored)) n (f .energy) in
+    record { is = λ k. pointCols (ex k) (ey k) (ee k); fits = f }

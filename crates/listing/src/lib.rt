@@ -1,4 +1,4 @@
-// The text that the table lister reads: 01's lines of options and points.
+// The text that the table lister reads: 01's lines of options and points, and 02's line of a point's energy.
 // Proved: a text is accepted with these values if and only if it is the writing of these values, and every other text is refused and leaves the columns as they
 // were. Nothing is asked of the caller. Assumed: nothing.
 use range::CoordinateSystem;
@@ -46,7 +46,12 @@ pub enum Parsed {
 
 // The numbers of a point's lines and the place past these, or no such lines.
 pub enum Point {
-    Stands { x: u32, y: u32, next: Cursor },
+    Stands {
+        x: u32,
+        y: u32,
+        wh: u32,
+        next: Cursor,
+    },
     Missing,
 }
 
@@ -195,7 +200,10 @@ fn read_point(s: &[u8], from: Cursor) -> Point
     let Value::Number { v: y, next: c2 } = line(s, c1, b"y=", 9999999) else {
         return Point::Missing;
     };
-    Point::Stands { x, y, next: c2 }
+    let Value::Number { v: wh, next: c3 } = line(s, c2, b"wh=", 9999999) else {
+        return Point::Missing;
+    };
+    Point::Stands { x, y, wh, next: c3 }
 }
 
 // Whether n points stand at the cursor, and then nothing.
@@ -205,7 +213,13 @@ fn points_ok(s: &[u8], from: Cursor, n: u32) -> bool
     let mut at = from.at;
     let mut left = n;
     while 0 < left {
-        let Point::Stands { x: _, y: _, next } = read_point(s, Cursor { at }) else {
+        let Point::Stands {
+            x: _,
+            y: _,
+            wh: _,
+            next,
+        } = read_point(s, Cursor { at })
+        else {
             return false;
         };
         at = next.at;
@@ -222,19 +236,27 @@ pub fn coordinate(k: u32) -> f64
 }
 
 // Writes the n points at the cursor to the columns.
-fn fill(s: &[u8], from: Cursor, n: u32, xs: &mut [f64; 1152], ys: &mut [f64; 1152])
+fn fill(
+    s: &[u8],
+    from: Cursor,
+    n: u32,
+    xs: &mut [f64; 1152],
+    ys: &mut [f64; 1152],
+    energies: &mut [u64; 1152],
+)
     requires { ⌜ n ≤ 1152 ⌝ }
-    ensures { λ _. let c = lentPoints xs ys in ⌜ c .exit ≡ filled n (old s) (from .at) 0 (c .entry) ⌝ }
+    ensures { λ _. let c = lentPoints xs ys energies in ⌜ c .exit ≡ filled n (old s) (from .at) 0 (c .entry) ⌝ }
 {
     let mut at = from.at;
     let mut left = n;
     let mut i: usize = 0;
     while 0 < left {
-        let Point::Stands { x, y, next } = read_point(s, Cursor { at }) else {
+        let Point::Stands { x, y, wh, next } = read_point(s, Cursor { at }) else {
             return;
         };
         xs[i] = coordinate(x);
         ys[i] = coordinate(y);
+        energies[i] = wh as u64;
         at = next.at;
         i += 1;
         left -= 1;
@@ -242,8 +264,13 @@ fn fill(s: &[u8], from: Cursor, n: u32, xs: &mut [f64; 1152], ys: &mut [f64; 115
 }
 
 // Reads a text: its numbers, and its points into the columns; or refuses it, and writes nothing.
-pub fn parse(s: &[u8], xs: &mut [f64; 1152], ys: &mut [f64; 1152]) -> Parsed
-    ensures { λ r. let c = lentPoints xs ys in ⌜ Parsing (old s) (c .entry) r (c .exit) ⌝ }
+pub fn parse(
+    s: &[u8],
+    xs: &mut [f64; 1152],
+    ys: &mut [f64; 1152],
+    energies: &mut [u64; 1152],
+) -> Parsed
+    ensures { λ r. let c = lentPoints xs ys energies in ⌜ Parsing (old s) (c .entry) r (c .exit) ⌝ }
 {
     if 65536 < s.len() {
         return Parsed::Refused;
@@ -256,7 +283,7 @@ pub fn parse(s: &[u8], xs: &mut [f64; 1152], ys: &mut [f64; 1152]) -> Parsed
     if !points_ok(s, c, n) {
         return Parsed::Refused;
     }
-    fill(s, c, n, xs, ys);
+    fill(s, c, n, xs, ys, energies);
     Parsed::Read(h)
 }
 

@@ -13,7 +13,7 @@ use Rattle.range.specs.declared.DataRange.{DataRange}
 use Rattle.range.specs.declared.CoordinateSystem.the-variants.{Cartesian}
 use Rattle.range.specs.Range.{smallerOf, largerOf, normalized}
 use Rattle.kdslots.specs.Keep.{keep}
-use Rattle.kdbush.specs.declared.BuildReply.the-variants.{Done}
+use Rattle.supercluster.specs.declared.LoadReply.the-variants.{Done}
 use Rattle.tables.specs.declared.State.{State}
 use Rattle.asking.specs.Asked.{Asked, told}
 use Rattle.asking.specs.Columns.{Columns}

@@ -1,16 +1,17 @@
--- Demand 3: one owner for every lamp. What is said here is said of a state and its columns, as `load` replies and leaves them and as a question is lent them:
--- their tables, `tableAt s c z` from the finest, max_zoom + 1, down to min_zoom, and what `leaves` answers of them. That it holds of every accepted build is shown in
--- Proved, and is what this crate's `load` ensures. Definitions only.
+-- Demand 3: one owner for every lamp; and the energies of 02, #108, by owner. What is said here is said of a state and its columns, as
+-- `load` replies and leaves them and as a question is lent them: their tables, `tableAt s c z` from the finest, max_zoom + 1, down to
+-- min_zoom, and what `leaves` answers of them. That it holds of every accepted build is shown in Proved, and is what this crate's `load`
+-- ensures. Definitions only.
 use mathlib.Core.Path.{_≡_}
 use mathlib.Core.Logic.{_↔_}
 use mathlib.Core.Bool.{true}
 use mathlib.Core.List.{List}
-use Prim.Native.Nat.{ℕ, suc, _+_, _<_, _≤_}
+use Prim.Native.Nat.{ℕ, suc, _+_, _^_, _<_, _≤_}
 use lib.Dec.{eqb}
-use lib.ListN.{length, take}
+use lib.ListN.{length, getD, take}
 use Rattle.tables.specs.declared.State.{State}
 use Rattle.tables.specs.Entries.{entry}
-use Rattle.groups.specs.Sums.{one, sum, count, range}
+use Rattle.groups.specs.Sums.{gate, one, sum, count, range}
 use Rattle.asking.specs.Asked.{told}
 use Rattle.asking.specs.Columns.{Columns, tableAt}
 use Rattle.walks.specs.Leaves.{leavesOf}
@@ -35,8 +36,8 @@ pub record Owned (n : ℕ) (own : ℕ → ℕ) (j : ℕ) (ls : List ℕ) : Type 
   -- nothing else is in it
   pub only : (l : ℕ) → n ≤ l → count l ls ≡ 0
 
--- own z l is the place in table z of the one owner of the lamp l
-pub record Owners (s : State) (c : Columns) (own : ℕ → ℕ → ℕ) : Type 0 where
+-- own z l is the place in table z of the one owner of the lamp l; ws are the energies that the build was given, by lamp
+pub record Owners (s : State) (c : Columns) (ws : List ℕ) (own : ℕ → ℕ → ℕ) : Type 0 where
   -- in the finest table a lamp owns itself
   pub first : (l : ℕ) → own (s .options .«max_zoom» + 1) l ≡ l
   -- the owner is an entry of the table
@@ -48,6 +49,14 @@ pub record Owners (s : State) (c : Columns) (own : ℕ → ℕ → ℕ) : Type 0
   pub counts : (z j : ℕ) → Between s z → j < length (tableAt s c z) → entry (tableAt s c z) j .num ≡ sum (λ l. one (eqb (own z l) j)) (range 0 (s .count))
   -- the entries of a table own all lamps together
   pub together : (z : ℕ) → Between s z → sum (λ j. entry (tableAt s c z) j .num) (range 0 (length (tableAt s c z))) ≡ s .count
+  -- an entry's energy is the sum of the given energies over the lamps that it owns
+  pub energy : (z j : ℕ) → Between s z → j < length (tableAt s c z)
+      → entry (tableAt s c z) j .energy ≡ sum (λ l. gate (eqb (own z l) j) (getD ws l 0)) (range 0 (s .count))
+  -- in every table the energies sum to the lamps' total
+  pub energies : (z : ℕ) → Between s z
+      → sum (λ j. entry (tableAt s c z) j .energy) (range 0 (length (tableAt s c z))) ≡ sum (λ l. getD ws l 0) (range 0 (s .count))
+  -- which is at most 2^60: no sum of energies passes the largest u64
+  pub light : sum (λ l. getD ws l 0) (range 0 (s .count)) ≤ 2 ^ 60
   -- lamps that share an owner share one at every smaller zoom
   pub shares : (z w l m : ℕ) → Between s z → w ≤ z → own z l ≡ own z m → own w l ≡ own w m
   -- a cluster's leaves with offset 0 and a limit of at least its num are the lamps that it owns, each once

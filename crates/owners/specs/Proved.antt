@@ -9,22 +9,22 @@ use borrow.Author.Tests.{le-leb, eq-eqb, ne-eqb}
 use lib.Dec.{eqb}
 use lib.ListN.{length, take, drop, length-take, length-drop, drop-of-length-le}
 use lib.Seq.{take-all, take-take, take-nil}
-use Rattle.kdbush.specs.declared.BuildReply.the-variants.{Done}
+use Rattle.supercluster.specs.declared.LoadReply.the-variants.{Done}
 use Rattle.tables.specs.declared.State.{State}
 use Rattle.tables.specs.Entries.{Table, entry}
-use Rattle.groups.specs.Sums.{one, sum, count, range, below}
+use Rattle.groups.specs.Sums.{one, sum, count, range, below, gate}
 use Rattle.asking.specs.declared.Answer.the-variants.{Listed}
 use Rattle.asking.specs.Asked.{Asked, told, answerOf, columnOf}
 use Rattle.asking.specs.Columns.{Columns, tableAt}
 use Rattle.walks.specs.Leaves.{leavesOf}
 use Rattle.supercluster.specs.Build.{Lent, Outcome, need}
 use Rattle.supercluster.specs.Load.{Holds}
-use Rattle.builds.specs.Given.{Given, given, Accepted, points, minZ, maxZ}
+use Rattle.builds.specs.Given.{Given, given, Accepted, points, minZ, maxZ, energyAt}
 use Rattle.builds.specs.Came.{tableAt as built}
 use Rattle.builds.specs.Identities.{Known, identities}
 use Rattle.lamps.specs.Owner.{up, owner, lampsOf}
 use Rattle.lamps.specs.Owners.{owner-first, owner-in, owns, owns-none, owners-share}
-use Rattle.lamps.specs.Carries.{lamps-long, num-owned, nums-together}
+use Rattle.lamps.specs.Carries.{lamps-long, num-owned, nums-together, energy-owned, energies-together, energies-few}
 use Rattle.lamps.specs.Climb.{owner-climbs}
 use Rattle.lamps.specs.Gather.{gather-ext}
 use Rattle.answers.specs.Stored.{columnsOf, stateBy, columnsBy, loadedBy, table-is, of-load}
@@ -187,7 +187,7 @@ module _ (G : Given) (a : Accepted G) (l : Lent) (r : Holds (need (G .options) (
         }
 
   -- demand 3 of a build
-  owners : Owners (stateBy G) (columnsBy G l) (owner G)
+  owners : Owners (stateBy G) (columnsBy G l) (G .energies) (owner G)
   owners =
       record {
         first = owner-first G;
@@ -197,6 +197,11 @@ module _ (G : Given) (a : Accepted G) (l : Lent) (r : Holds (need (G .options) (
             (num-owned G a z (b .low) (b .high) j (in-built z j b h));
         together = λ z b. subst (λ (t : Table). sum (λ j. entry t j .num) (range 0 (length t)) ≡ points G) (is z b)
             (nums-together G a z (b .low) (b .high));
+        energy = λ z j b h. subst (λ (t : Table). entry t j .energy ≡ sum (λ k. gate (eqb (owner G z k) j) (energyAt G k))
+            (range 0 (points G))) (is z b) (energy-owned G a z (b .low) (b .high) j (in-built z j b h));
+        energies = λ z b. subst (λ (t : Table). sum (λ j. entry t j .energy) (range 0 (length t)) ≡ sum (energyAt G) (range 0 (points G)))
+            (is z b) (energies-together G a z (b .low) (b .high));
+        light = energies-few G a;
         shares = λ z w k m b h e. owners-share G z w (b .high) h k m e;
         leaves = all-leaves;
         prefix = fewer;
@@ -216,12 +221,12 @@ module _ (G : Given) (a : Accepted G) (l : Lent) (r : Holds (need (G .options) (
 
 -- what `load` replies and leaves has one owner for every lamp, where it replies no refusal
 pub one-owner : (G : Given) (l : Lent) → loadedBy G l .reply .reply ≡ Done
-    → Owners (loadedBy G l .reply .state) (columnsOf (loadedBy G l .columns)) (owner G)
-one-owner G l e = of-load (λ s c. Owners s c (owner G)) G l (λ a r. owners G a l r) e
+    → Owners (loadedBy G l .reply .state) (columnsOf (loadedBy G l .columns)) (G .energies) (owner G)
+one-owner G l e = of-load (λ s c. Owners s c (G .energies) (owner G)) G l (λ a r. owners G a l r) e
 
 -- so of any outcome that meets the contract of `load`
 pub outcome-owners : (G : Given) (l : Lent) (x : Outcome) → x ≡ loadedBy G l → x .reply .reply ≡ Done
-    → Owners (x .reply .state) (columnsOf (x .columns)) (owner G)
+    → Owners (x .reply .state) (columnsOf (x .columns)) (G .energies) (owner G)
 outcome-owners G l x e d =
-    subst (λ (v : Outcome). Owners (v .reply .state) (columnsOf (v .columns)) (owner G)) (sym e)
+    subst (λ (v : Outcome). Owners (v .reply .state) (columnsOf (v .columns)) (G .energies) (owner G)) (sym e)
     (one-owner G l (ap (λ (v : Outcome). v .reply .reply) (sym e) ∙ d))

@@ -2,7 +2,7 @@
 use supercluster::Loaded;
 use tables::Options;
 ghost use mathlib.Core.Path.{_≡_};
-ghost use Rattle.kdbush.specs.declared.BuildReply.the-variants.{Done};
+ghost use Rattle.supercluster.specs.declared.LoadReply.the-variants.{Done};
 ghost use Rattle.lent.specs.Lent.{old};
 ghost use Rattle.supercluster.specs.Build.{outcome, loaded};
 ghost use Rattle.supercluster.specs.Lent.{lentAll};
@@ -16,22 +16,40 @@ pub fn load(
     o: Options,
     xs: &[f64],
     ys: &[f64],
+    energies: &[u64],
     x: &mut [f64],
     y: &mut [f64],
     seen: &mut [u8],
     id: &mut [u32],
     parent: &mut [u32],
     num: &mut [u32],
+    energy: &mut [u64],
     ids: &mut [u32],
     coords: &mut [f64],
     near: &mut [u32],
 ) -> Loaded
     ensures { λ r.
-        let l = lentAll x y seen id parent num ids coords near in
-        ⌜ outcome r (l .exit) ≡ loaded o (old xs) (old ys) (l .entry) ⌝ }
+        let l = lentAll x y seen id parent num energy ids coords near in
+        ⌜ outcome r (l .exit) ≡ loaded o (old xs) (old ys) (old energies) (l .entry) ⌝ }
     ensures { λ r.
-        let l = lentAll x y seen id parent num ids coords near in
-        ⌜ ((r .reply ≡ Done) → Owners (r .state) (columnsOf (l .exit)) (owner (given o (old xs) (old ys)))) ⌝ }
+        let l = lentAll x y seen id parent num energy ids coords near in
+        ⌜ ((r .reply ≡ Done) → Owners (r .state) (columnsOf (l .exit)) (old energies)
+        (owner (given o (old xs) (old ys) (old energies)))) ⌝ }
 {
-    supercluster::load(o, xs, ys, x, y, seen, id, parent, num, ids, coords, near)
+    supercluster::load(
+        o,
+        xs,
+        ys,
+        energies,
+        x,
+        y,
+        seen,
+        id,
+        parent,
+        num,
+        energy,
+        ids,
+        coords,
+        near,
+    )
 }

@@ -6,21 +6,20 @@ use Prim.Native.Nat.{ℕ, _+_, _-_}
 use native.Mathlib.Omega.{arith}
 use lib.ListN.{length, replicate, drop, set, length-set, length-replicate}
 use lib.Seq.{take-all, drop-length}
-use Rattle.kdbush.specs.declared.BuildReply.{BuildReply}
-use Rattle.kdbush.specs.declared.BuildReply.the-variants.{Done, Options as No·Options, Count, Point, Tables}
-use Rattle.kdbush.specs.Reply.{buildNumber}
 use Rattle.kdbush.specs.Run.{filled}
 use Rattle.tables.specs.declared.State.{State}
 use Rattle.tables.specs.Entries.{Table}
 use Rattle.tables.specs.State.{stateOf}
 use Rattle.zooms.specs.Zooms.{starts, lens}
-use Rattle.supercluster.specs.Build.{Lent}
+use Rattle.supercluster.specs.declared.LoadReply.{LoadReply}
+use Rattle.supercluster.specs.declared.LoadReply.the-variants.{Done, Options as No·Options, Count, Point, Energy, Tables}
+use Rattle.supercluster.specs.Build.{Lent, loadNumber}
 use Rattle.answers.specs.Stored.{columnsOf, stateBy, loadedBy, of-load}
 use Rattle.lamps.specs.Owner.{owner}
 use Rattle.owners.specs.Owners.{Owners}
 use Rattle.owners.specs.Proved.{one-owner}
 use Rattle.listing.specs.Values.{optionsOf}
-use Rattle.listing.specs.Text.{Input, headIs, xsOf, ysOf}
+use Rattle.listing.specs.Text.{Input, headIs, xsOf, ysOf, energiesOf}
 use Rattle.report.specs.Report.{Lending, left}
 use Rattle.exports.specs.Laid.{Laid, replied, laid, laidOf}
 use Rattle.builds.specs.Given.{Given, given, points, maxZ, tablesBy}
@@ -42,11 +41,12 @@ lens-long z [] l = refl
 lens-long z (t ∷ ts) l = lens-long (z - 1) ts (set l z (length t)) ∙ length-set l z (length t)
 
 -- only a build that is not refused has the number 0
-zero-done : (r : BuildReply) → buildNumber r ≡ 0 → r ≡ Done
+zero-done : (r : LoadReply) → loadNumber r ≡ 0 → r ≡ Done
 zero-done Done e = refl
 zero-done No·Options e = absurd (omega (arith, e))
 zero-done Count e = absurd (omega (arith, e))
 zero-done (Point i) e = absurd (omega (arith, e))
+zero-done (Energy i) e = absurd (omega (arith, e))
 zero-done Tables e = absurd (omega (arith, e))
 
 module _ (G : Given) (l : Lent) where
@@ -58,7 +58,7 @@ module _ (G : Given) (l : Lent) where
   -- owner for every lamp in the columns that it leaves
   pub c-name-owners : (number carried : ℕ) (starts lens starts′ lens′ : List ℕ) (c : Lent) → length starts ≡ 32 → length lens ≡ 32
       → laid (replied number carried starts′ lens′) c ≡ laidOf (loadedBy G l) starts lens → number ≡ 0
-      → Owners (stateOf (G .options) (points G) starts′ lens′) (columnsOf c) (owner G)
+      → Owners (stateOf (G .options) (points G) starts′ lens′) (columnsOf c) (G .energies) (owner G)
   c-name-owners number carried ss ns ss′ ns′ c hs hn e z =
       let done : loadedBy G l .reply .reply ≡ Done = zero-done _ (sym (ap (λ (q : Laid). q .told .number) e) ∙ z) in
       let s = state-is done in
@@ -69,18 +69,19 @@ module _ (G : Given) (l : Lent) where
       let b : ns′ ≡ stateBy G .lens =
       ap (λ (q : Laid). q .told .lens) e ∙ ap (λ (t : State). filled (t .lens) ns) s
       ∙ filled-whole _ ns (hn ∙ sym (lens-long (maxZ G + 1) (tablesBy G) (replicate 32 0) ∙ r)) in
-      subst (λ (k : Lent). Owners (stateOf (G .options) (points G) ss′ ns′) (columnsOf k) (owner G)) (sym (ap (λ (q : Laid). q .columns) e))
-      (subst (λ (t : State). Owners t (columnsOf (loadedBy G l .columns)) (owner G))
+      subst (λ (k : Lent). Owners (stateOf (G .options) (points G) ss′ ns′) (columnsOf k) (G .energies) (owner G))
+      (sym (ap (λ (q : Laid). q .columns) e))
+      (subst (λ (t : State). Owners t (columnsOf (loadedBy G l .columns)) (G .energies) (owner G))
       (s ∙ ap₂ (λ (u v : List ℕ). stateOf (G .options) (points G) u v) (sym a) (sym b)) (one-owner G l done))
 
 -- what the lister's build of an input is given
 abbrev pub givenBy : Input → Given
-givenBy i = given (optionsOf (headIs i)) (xsOf i) (ysOf i)
+givenBy i = given (optionsOf (headIs i)) (xsOf i) (ysOf i) (energiesOf i)
 
 -- the lister: where the build of an input is not refused, it has one owner for every lamp in the columns that `report` leaves and prints
 pub lister-owners : (i : Input) (d : Lending) → loadedBy (givenBy i) (d .columns) .reply .reply ≡ Done
-    → Owners (stateBy (givenBy i)) (columnsOf (left i d .columns)) (owner (givenBy i))
+    → Owners (stateBy (givenBy i)) (columnsOf (left i d .columns)) (energiesOf i) (owner (givenBy i))
 unfolding left
 lister-owners i d e =
-    subst (λ (t : State). Owners t (columnsOf (loadedBy (givenBy i) (d .columns) .columns)) (owner (givenBy i)))
+    subst (λ (t : State). Owners t (columnsOf (loadedBy (givenBy i) (d .columns) .columns)) (energiesOf i) (owner (givenBy i)))
     (state-is (givenBy i) (d .columns) e) (one-owner (givenBy i) (d .columns) e)

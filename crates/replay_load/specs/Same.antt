@@ -6,7 +6,7 @@ use lib.Dec.{eqb}
 use lib.ListN.{length, drop, replicate}
 use lib.Ieee.{Float}
 use Rattle.vectors.specs.Words.{agreeing}
-use Rattle.vectors.specs.Same.{samePlaces, sameFloats, doneIs}
+use Rattle.vectors.specs.Same.{samePlaces, sameFloats}
 use Rattle.range.specs.declared.Setting.{Setting}
 use Rattle.range.specs.declared.Setting.the-variants.{Given, Derived}
 use Rattle.range.specs.declared.DataRange.{DataRange}
@@ -14,7 +14,7 @@ use Rattle.range.specs.declared.CoordinateSystem.{CoordinateSystem}
 use Rattle.range.specs.declared.CoordinateSystem.the-variants.{LatLng, Cartesian}
 use Rattle.tables.specs.declared.Options.{Options}
 use Rattle.tables.specs.declared.State.{State}
-use Rattle.supercluster.specs.Build.{Lent, Outcome, loaded}
+use Rattle.supercluster.specs.Build.{Lent, Outcome, loadNumber, loaded}
 
 -- a column with zeros in its first n
 abbrev pub zerosIn : ℕ → List ℕ → List ℕ
@@ -63,11 +63,12 @@ agreesWith o n starts lens want got =
     let w = want .table in
     let g = got .columns in
     let t = g .table in
-    doneIs (got .reply .reply) && sameState o n starts lens (got .reply .state)
+    eqb (loadNumber (got .reply .reply)) 0 && sameState o n starts lens (got .reply .state)
     && sameFloats (w .x) (t .x) && sameFloats (w .y) (t .y) && samePlaces (w .seen) (t .seen)
-    && samePlaces (w .id) (t .id) && samePlaces (w .parent) (t .parent) && samePlaces (w .num) (t .num)
+    && samePlaces (w .id) (t .id) && samePlaces (w .parent) (t .parent)
+    && samePlaces (w .num) (t .num) && samePlaces (w .energy) (t .energy)
     && samePlaces (want .ids) (g .ids) && sameFloats (want .coords) (g .coords) && samePlaces (want .near) (g .near)
 
 -- the build of these points in these columns
-unfoldable pub loadsTo : Options → List Float → List Float → List ℕ → List ℕ → Lent → Lent → Bool
-loadsTo o xs ys starts lens want columns = agreesWith o (length xs) starts lens want (loaded o xs ys columns)
+unfoldable pub loadsTo : Options → List Float → List Float → List ℕ → List ℕ → List ℕ → Lent → Lent → Bool
+loadsTo o xs ys energies starts lens want columns = agreesWith o (length xs) starts lens want (loaded o xs ys energies columns)

@@ -2,7 +2,8 @@
 // A vector is a line of standard input: words of 16 lowercase hexadecimal digits, a space after each, and a line end after the last.
 //     min_zoom max_zoom min_points radius extent node_size cartesian min_x min_y max_x max_y offset_given offset scale_given scale
 //     longitude_strips_only, as `stored` reads these,
-//     n, n times `x y`, m, m times `x y seen id parent num slot_id slot_x slot_y`, `start len` for each zoom from min_zoom to max_zoom + 1
+//     n, n times `x y`, n energies, m, m times `x y seen id parent num energy slot_id slot_x slot_y`,
+//     `start len` for each zoom from min_zoom to max_zoom + 1
 // The n points are built in columns that are filled with old contents. Expected are the m entries of all tables, the slots of their indexes
 // at the same positions, zeros in the first 2n of `near`, the old contents past all of these, and in the state the options, n, and zeros as start and
 // length of the other zooms.
@@ -48,6 +49,8 @@ const OLD: u32 = 0xa5a5_a5a5;
 
 const OLD_BYTE: u8 = 0xa5;
 
+const OLD_LONG: u64 = 0xa5a5_a5a5_a5a5_a5a5;
+
 // Reads an entry.
 fn read_entry() -> Given {
     let Pattern::Bits(x) = vectors::next_bits(false) else {
@@ -68,6 +71,9 @@ fn read_entry() -> Given {
     let Place::Is(num) = vectors::next_place(false) else {
         return Given::Bad;
     };
+    let Pattern::Bits(energy) = vectors::next_bits(false) else {
+        return Given::Bad;
+    };
     Given::Entry(Entry {
         x: vectors::float_of(x),
         y: vectors::float_of(y),
@@ -75,6 +81,7 @@ fn read_entry() -> Given {
         id,
         parent,
         num,
+        energy,
     })
 }
 
@@ -87,10 +94,11 @@ fn read_entries(
     id: &mut [u32],
     parent: &mut [u32],
     num: &mut [u32],
+    energy: &mut [u64],
     ids: &mut [u32],
     coords: &mut [f64],
 ) -> bool
-    requires { let c = given x y seen id parent num in
+    requires { let c = given x y seen id parent num energy in
         ⌜ Even c × (m ≤ length (c .x)) × (m ≤ length (now ids)) × (2 * m ≤ length (now coords)) ⌝ }
 {
     let mut good = true;
@@ -99,7 +107,7 @@ fn read_entries(
         let Given::Entry(e) = read_entry() else {
             return false;
         };
-        tables::put_entry(x, y, seen, id, parent, num, i, e);
+        tables::put_entry(x, y, seen, id, parent, num, energy, i, e);
         good = good & vectors::read_slot(ids, coords, i);
         i += 1;
     }
@@ -219,6 +227,7 @@ fn loads(
     o: Options,
     xs: &[f64],
     ys: &[f64],
+    energies: &[u64],
     starts: &[u32],
     lens: &[u32],
     want_x: &[f64],
@@ -227,6 +236,7 @@ fn loads(
     want_id: &[u32],
     want_parent: &[u32],
     want_num: &[u32],
+    want_energy: &[u64],
     want_ids: &[u32],
     want_coords: &[f64],
     want_near: &[u32],
@@ -236,19 +246,36 @@ fn loads(
     id: &mut [u32],
     parent: &mut [u32],
     num: &mut [u32],
+    energy: &mut [u64],
     ids: &mut [u32],
     coords: &mut [f64],
     near: &mut [u32],
 ) -> bool
     ensures { λ r.
-        let want = lentAll «want_x» «want_y» «want_seen» «want_id» «want_parent» «want_num» «want_ids» «want_coords» «want_near» in
-        let l = lentAll x y seen id parent num ids coords near in
-        ⌜ r ≡ loadsTo o (old xs) (old ys) (old starts) (old lens) (want .entry) (l .entry) ⌝ }
+        let want = lentAll «want_x» «want_y» «want_seen» «want_id» «want_parent» «want_num» «want_energy»
+        «want_ids» «want_coords» «want_near» in
+        let l = lentAll x y seen id parent num energy ids coords near in
+        ⌜ r ≡ loadsTo o (old xs) (old ys) (old energies) (old starts) (old lens) (want .entry) (l .entry) ⌝ }
 {
-    let built = supercluster::load(o, xs, ys, x, y, seen, id, parent, num, ids, coords, near);
+    let built = supercluster::load(
+        o,
+        xs,
+        ys,
+        energies,
+        x,
+        y,
+        seen,
+        id,
+        parent,
+        num,
+        energy,
+        ids,
+        coords,
+        near,
+    );
     let reply = built.reply;
     let state = built.state;
-    vectors::is_done(reply)
+    (reply.number() == 0)
         & same_state(o, xs.len(), starts, lens, state)
         & vectors::same_floats(want_x, x)
         & vectors::same_floats(want_y, y)
@@ -256,6 +283,7 @@ fn loads(
         & vectors::same_places(want_id, id)
         & vectors::same_places(want_parent, parent)
         & vectors::same_places(want_num, num)
+        & vectors::same_numbers(want_energy, energy)
         & vectors::same_places(want_ids, ids)
         & vectors::same_floats(want_coords, coords)
         & vectors::same_places(want_near, near)
@@ -266,6 +294,7 @@ fn replay_load(
     o: Options,
     xs: &[f64],
     ys: &[f64],
+    energies: &[u64],
     starts: &[u32],
     lens: &[u32],
     want_x: &[f64],
@@ -274,6 +303,7 @@ fn replay_load(
     want_id: &[u32],
     want_parent: &[u32],
     want_num: &[u32],
+    want_energy: &[u64],
     want_ids: &[u32],
     want_coords: &[f64],
     want_near: &[u32],
@@ -284,6 +314,7 @@ fn replay_load(
     let mut id = [OLD; 1152];
     let mut parent = [OLD; 1152];
     let mut num = [OLD; 1152];
+    let mut energy = [OLD_LONG; 1152];
     let mut ids = [OLD; 1152];
     let mut coords = [-1.5; 2304];
     let mut near = [OLD; 1152];
@@ -291,6 +322,7 @@ fn replay_load(
         o,
         xs,
         ys,
+        energies,
         starts,
         lens,
         want_x,
@@ -299,6 +331,7 @@ fn replay_load(
         want_id,
         want_parent,
         want_num,
+        want_energy,
         want_ids,
         want_coords,
         want_near,
@@ -308,6 +341,7 @@ fn replay_load(
         &mut id,
         &mut parent,
         &mut num,
+        &mut energy,
         &mut ids,
         &mut coords,
         &mut near,
@@ -324,12 +358,14 @@ fn replay_state(
     max_zoom: usize,
     xs: &[f64],
     ys: &[f64],
+    energies: &[u64],
     x: &[f64],
     y: &[f64],
     seen: &[u8],
     id: &[u32],
     parent: &[u32],
     num: &[u32],
+    energy: &[u64],
     ids: &[u32],
     coords: &[f64],
 ) -> Verdict
@@ -346,6 +382,7 @@ fn replay_state(
         o,
         xs,
         ys,
+        energies,
         &starts,
         &lens,
         x,
@@ -354,6 +391,7 @@ fn replay_state(
         id,
         parent,
         num,
+        energy,
         ids,
         coords,
         &near,
@@ -361,7 +399,14 @@ fn replay_state(
 }
 
 // Reads what is expected of a build of points, and builds them.
-fn replay_tables(o: Options, min_zoom: usize, max_zoom: usize, xs: &[f64], ys: &[f64]) -> Verdict
+fn replay_tables(
+    o: Options,
+    min_zoom: usize,
+    max_zoom: usize,
+    xs: &[f64],
+    ys: &[f64],
+    energies: &[u64],
+) -> Verdict
     requires { ⌜ («max_zoom» ≤ 30) × (length (now xs) ≤ 64) ⌝ }
 {
     let Count::Is(m) = vectors::next_count(1152, false) else {
@@ -373,6 +418,7 @@ fn replay_tables(o: Options, min_zoom: usize, max_zoom: usize, xs: &[f64], ys: &
     let mut id = [OLD; 1152];
     let mut parent = [OLD; 1152];
     let mut num = [OLD; 1152];
+    let mut energy = [OLD_LONG; 1152];
     let mut ids = [OLD; 1152];
     let mut coords = [-1.5; 2304];
     if !read_entries(
@@ -383,6 +429,7 @@ fn replay_tables(o: Options, min_zoom: usize, max_zoom: usize, xs: &[f64], ys: &
         &mut id,
         &mut parent,
         &mut num,
+        &mut energy,
         &mut ids,
         &mut coords,
     ) {
@@ -394,12 +441,14 @@ fn replay_tables(o: Options, min_zoom: usize, max_zoom: usize, xs: &[f64], ys: &
         max_zoom,
         xs,
         ys,
+        energies,
         &x,
         &y,
         &seen,
         &id,
         &parent,
         &num,
+        &energy,
         &ids,
         &coords,
     )
@@ -420,10 +469,14 @@ fn replay_points(min_zoom: usize, max_zoom: usize) -> Verdict
     }
     let mut xs = [0.0; 64];
     let mut ys = [0.0; 64];
+    let mut energies = [0u64; 64];
     if !vectors::read_points(n, &mut xs, &mut ys) {
         return Verdict::Malformed;
     }
-    replay_tables(o, min_zoom, max_zoom, &xs[..n], &ys[..n])
+    if !vectors::read_numbers(n, &mut energies) {
+        return Verdict::Malformed;
+    }
+    replay_tables(o, min_zoom, max_zoom, &xs[..n], &ys[..n], &energies[..n])
 }
 
 // Replays the case that begins with this word.

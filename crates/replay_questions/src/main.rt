@@ -1,8 +1,8 @@
 // Replays test vectors of the questions to a build, and says whether the answers are those that the vectors expect.
 // A vector is a line of standard input: words of 16 lowercase hexadecimal digits, a space after each, and a line end after the last.
-//     min_zoom max_zoom, the options as `stored` reads them, n, 32 starts, 32 lengths, eight columns, k, k questions
-// The columns are x, y, seen, id, parent, num, ids and coords, each with its length before it: 64 at the most, of coords 128. They are asked as they stand, so that
-// states that no build made are among them.
+//     min_zoom max_zoom, the options as `stored` reads them, n, 32 starts, 32 lengths, nine columns, k, k questions
+// The columns are x, y, seen, id, parent, num, energy, ids and coords, each with its length before it: 64 at the most, of coords 128.
+// They are asked as they stand, so that states that no build made are among them.
 // A question is its kind, its numbers, the reply's number, and what the reply carries; k is 64 at the most.
 //     0 zoom w south e n | 1 zoom x y radius | 2 id | 3 id limit offset, and then: room number carried m, m places
 //     4 id | 6 z x y, and then: number carried
@@ -127,12 +127,13 @@ fn ask(
     id: &[u32],
     parent: &[u32],
     num: &[u32],
+    energy: &[u64],
     ids: &[u32],
     coords: &[f64],
     out: &mut [u32],
 ) -> Answer
     ensures { λ r.
-        let c = lentColumns x y seen id parent num ids coords in
+        let c = lentColumns x y seen id parent num energy ids coords in
         let a = askedOf q s c in
         ⌜ (r ≡ answerOf a (length (old out))) × (new out ≡ columnOf a (old out)) ⌝ }
 {
@@ -151,7 +152,20 @@ fn ask(
             radius,
         } => { boxes::list_ring(s, ids, coords, zoom, cx, cy, radius, out) }
         Listing::Children(cid) => {
-            walks::children(s, x, y, seen, id, parent, num, ids, coords, cid, out)
+            walks::children(
+                s,
+                x,
+                y,
+                seen,
+                id,
+                parent,
+                num,
+                energy,
+                ids,
+                coords,
+                cid,
+                out,
+            )
         }
         Listing::Leaves {
             id: cid,
@@ -166,6 +180,7 @@ fn ask(
                 id,
                 parent,
                 num,
+                energy,
                 ids,
                 coords,
                 cid,
@@ -187,6 +202,7 @@ fn lists(
     id: &[u32],
     parent: &[u32],
     num: &[u32],
+    energy: &[u64],
     ids: &[u32],
     coords: &[f64],
     reply: Reply,
@@ -194,10 +210,10 @@ fn lists(
     out: &mut [u32],
 ) -> bool
     ensures { λ r.
-        let c = lentColumns x y seen id parent num ids coords in
+        let c = lentColumns x y seen id parent num energy ids coords in
         ⌜ r ≡ listsTo reply (old want) (askedOf q s c) (old out) ⌝ }
 {
-    let a = ask(q, s, x, y, seen, id, parent, num, ids, coords, out);
+    let a = ask(q, s, x, y, seen, id, parent, num, energy, ids, coords, out);
     same_reply(reply, a.number(), long(a.carried())) & vectors::same_places(want, out)
 }
 
@@ -210,16 +226,17 @@ fn finds_zoom(
     id: &[u32],
     parent: &[u32],
     num: &[u32],
+    energy: &[u64],
     ids: &[u32],
     coords: &[f64],
     cid: u32,
     reply: Reply,
 ) -> bool
     ensures { λ r.
-        let c = lentColumns x y seen id parent num ids coords in
+        let c = lentColumns x y seen id parent num energy ids coords in
         ⌜ r ≡ zoomsTo reply (zoomOf s c cid) ⌝ }
 {
-    let e = walks::expansion_zoom(s, x, y, seen, id, parent, num, ids, coords, cid);
+    let e = walks::expansion_zoom(s, x, y, seen, id, parent, num, energy, ids, coords, cid);
     same_reply(reply, e.number(), wide(e.carried()))
 }
 
@@ -232,16 +249,31 @@ fn adds_up(
     id: &[u32],
     parent: &[u32],
     num: &[u32],
+    energy: &[u64],
     ids: &[u32],
     coords: &[f64],
     t: Tile,
     reply: Reply,
 ) -> bool
     ensures { λ r.
-        let c = lentColumns x y seen id parent num ids coords in
+        let c = lentColumns x y seen id parent num energy ids coords in
         ⌜ r ≡ sumsTo reply (tallied s c (t .z) (t .x) (t .y)) ⌝ }
 {
-    let a = tiles::tally(s, x, y, seen, id, parent, num, ids, coords, t.z, t.x, t.y);
+    let a = tiles::tally(
+        s,
+        x,
+        y,
+        seen,
+        id,
+        parent,
+        num,
+        energy,
+        ids,
+        coords,
+        t.z,
+        t.x,
+        t.y,
+    );
     same_reply(reply, a.number(), a.value())
 }
 
@@ -270,6 +302,7 @@ fn lists_tile(
     id: &[u32],
     parent: &[u32],
     num: &[u32],
+    energy: &[u64],
     ids: &[u32],
     coords: &[f64],
     t: Tile,
@@ -282,7 +315,7 @@ fn lists_tile(
     py: &mut [i64],
 ) -> bool
     ensures { λ r.
-        let c = lentColumns x y seen id parent num ids coords in
+        let c = lentColumns x y seen id parent num energy ids coords in
         let a = tiled s c (t .z) (t .x) (t .y) (old places) (old px) (old py) in
         ⌜ r ≡ tilesTo reply (old want) (old «want_x») (old «want_y») a ⌝ }
 {
@@ -294,6 +327,7 @@ fn lists_tile(
         id,
         parent,
         num,
+        energy,
         ids,
         coords,
         t.z,
@@ -452,6 +486,7 @@ fn replay_listed(
     id: &[u32],
     parent: &[u32],
     num: &[u32],
+    energy: &[u64],
     ids: &[u32],
     coords: &[f64],
     room: usize,
@@ -480,6 +515,7 @@ fn replay_listed(
             id,
             parent,
             num,
+            energy,
             ids,
             coords,
             reply,
@@ -500,6 +536,7 @@ fn replay_listing(
     id: &[u32],
     parent: &[u32],
     num: &[u32],
+    energy: &[u64],
     ids: &[u32],
     coords: &[f64],
     last: bool,
@@ -510,7 +547,21 @@ fn replay_listing(
     let Count::Is(room) = vectors::next_count(64, false) else {
         return Verdict::Malformed;
     };
-    replay_listed(q, s, x, y, seen, id, parent, num, ids, coords, room, last)
+    replay_listed(
+        q,
+        s,
+        x,
+        y,
+        seen,
+        id,
+        parent,
+        num,
+        energy,
+        ids,
+        coords,
+        room,
+        last,
+    )
 }
 
 // Reads a question for an expansion zoom, and asks it.
@@ -522,6 +573,7 @@ fn replay_zoom(
     id: &[u32],
     parent: &[u32],
     num: &[u32],
+    energy: &[u64],
     ids: &[u32],
     coords: &[f64],
     last: bool,
@@ -533,7 +585,20 @@ fn replay_zoom(
         return Verdict::Malformed;
     };
     judged(
-        finds_zoom(s, x, y, seen, id, parent, num, ids, coords, cid, reply),
+        finds_zoom(
+            s,
+            x,
+            y,
+            seen,
+            id,
+            parent,
+            num,
+            energy,
+            ids,
+            coords,
+            cid,
+            reply,
+        ),
         Question::Expansion,
     )
 }
@@ -547,6 +612,7 @@ fn replay_tally(
     id: &[u32],
     parent: &[u32],
     num: &[u32],
+    energy: &[u64],
     ids: &[u32],
     coords: &[f64],
     last: bool,
@@ -558,7 +624,20 @@ fn replay_tally(
         return Verdict::Malformed;
     };
     judged(
-        adds_up(s, x, y, seen, id, parent, num, ids, coords, t, reply),
+        adds_up(
+            s,
+            x,
+            y,
+            seen,
+            id,
+            parent,
+            num,
+            energy,
+            ids,
+            coords,
+            t,
+            reply,
+        ),
         Question::Tally,
     )
 }
@@ -572,6 +651,7 @@ fn ask_tile(
     id: &[u32],
     parent: &[u32],
     num: &[u32],
+    energy: &[u64],
     ids: &[u32],
     coords: &[f64],
     t: Tile,
@@ -597,6 +677,7 @@ fn ask_tile(
             id,
             parent,
             num,
+            energy,
             ids,
             coords,
             t,
@@ -621,6 +702,7 @@ fn replay_tiled(
     id: &[u32],
     parent: &[u32],
     num: &[u32],
+    energy: &[u64],
     ids: &[u32],
     coords: &[f64],
     t: Tile,
@@ -658,6 +740,7 @@ fn replay_tiled(
         id,
         parent,
         num,
+        energy,
         ids,
         coords,
         t,
@@ -677,6 +760,7 @@ fn replay_tile(
     id: &[u32],
     parent: &[u32],
     num: &[u32],
+    energy: &[u64],
     ids: &[u32],
     coords: &[f64],
     last: bool,
@@ -701,6 +785,7 @@ fn replay_tile(
         id,
         parent,
         num,
+        energy,
         ids,
         coords,
         t,
@@ -720,6 +805,7 @@ fn replay_question(
     id: &[u32],
     parent: &[u32],
     num: &[u32],
+    energy: &[u64],
     ids: &[u32],
     coords: &[f64],
     last: bool,
@@ -728,15 +814,28 @@ fn replay_question(
         return Verdict::Malformed;
     };
     if kind < 4 {
-        return replay_listing(kind, s, x, y, seen, id, parent, num, ids, coords, last);
+        return replay_listing(
+            kind,
+            s,
+            x,
+            y,
+            seen,
+            id,
+            parent,
+            num,
+            energy,
+            ids,
+            coords,
+            last,
+        );
     }
     if kind == 4 {
-        return replay_zoom(s, x, y, seen, id, parent, num, ids, coords, last);
+        return replay_zoom(s, x, y, seen, id, parent, num, energy, ids, coords, last);
     }
     if kind == 5 {
-        return replay_tile(s, x, y, seen, id, parent, num, ids, coords, last);
+        return replay_tile(s, x, y, seen, id, parent, num, energy, ids, coords, last);
     }
-    replay_tally(s, x, y, seen, id, parent, num, ids, coords, last)
+    replay_tally(s, x, y, seen, id, parent, num, energy, ids, coords, last)
 }
 
 // Reads and asks the questions of a case, to the end of its line also where one differs.
@@ -748,6 +847,7 @@ fn replay_questions(
     id: &[u32],
     parent: &[u32],
     num: &[u32],
+    energy: &[u64],
     ids: &[u32],
     coords: &[f64],
 ) -> Verdict {
@@ -757,7 +857,19 @@ fn replay_questions(
     let mut verdict = Verdict::Agrees;
     let mut i = 0;
     while i < k {
-        match replay_question(s, x, y, seen, id, parent, num, ids, coords, i + 1 == k) {
+        match replay_question(
+            s,
+            x,
+            y,
+            seen,
+            id,
+            parent,
+            num,
+            energy,
+            ids,
+            coords,
+            i + 1 == k,
+        ) {
             Verdict::Agrees => {}
             Verdict::Differs(function) => verdict = vectors::earlier(verdict, function),
             Verdict::Malformed => return Verdict::Malformed,
@@ -768,7 +880,7 @@ fn replay_questions(
     verdict
 }
 
-// Reads the columns of the index, and then the questions.
+// Reads the columns of energies and of the index, and then the questions.
 fn replay_index(
     s: State,
     x: &[f64],
@@ -778,15 +890,30 @@ fn replay_index(
     parent: &[u32],
     num: &[u32],
 ) -> Verdict {
+    let mut energy = [0u64; 64];
     let mut ids = [0u32; 64];
     let mut coords = [0.0; 128];
-    let Count::Is(n) = vectors::next_places(&mut ids) else {
+    let Count::Is(a) = vectors::next_numbers(&mut energy) else {
         return Verdict::Malformed;
     };
-    let Count::Is(m) = vectors::next_floats(&mut coords) else {
+    let Count::Is(b) = vectors::next_places(&mut ids) else {
         return Verdict::Malformed;
     };
-    replay_questions(s, x, y, seen, id, parent, num, &ids[..n], &coords[..m])
+    let Count::Is(c) = vectors::next_floats(&mut coords) else {
+        return Verdict::Malformed;
+    };
+    replay_questions(
+        s,
+        x,
+        y,
+        seen,
+        id,
+        parent,
+        num,
+        &energy[..a],
+        &ids[..b],
+        &coords[..c],
+    )
 }
 
 // Reads the columns of ids, parents and nums, and then the rest.

@@ -5,10 +5,7 @@ use mathlib.Core.Path.{_≡_, refl, ap, sym, _∙_, subst}
 use Prim.Native.Nat.{ℕ, _+_, _-_, _≤_}
 use native.Mathlib.Omega.{arith}
 use lib.ListN.{length, length-map}
-use lib.Ieee.{Float}
-use Rattle.kdbush.specs.declared.BuildReply.{BuildReply}
-use Rattle.kdbush.specs.declared.BuildReply.the-variants.{Done, Options as No·Options, Count, Point, Tables}
-use Rattle.kdbush.specs.Reply.{buildNumber, buildCarried, pairOk, firstOutside, inOrder}
+use Rattle.kdbush.specs.Reply.{firstOutside}
 use Rattle.tables.specs.Bounds.{options-are}
 use Rattle.tables.specs.Entries.{Table}
 use Rattle.tables.specs.Options.{optionsOk}
@@ -17,9 +14,12 @@ use Rattle.tables.specs.declared.Entry.{Entry}
 use Rattle.tables.specs.declared.Options.{Options}
 use Rattle.tables.specs.declared.State.{State}
 use Rattle.zooms.specs.Zooms.{joined, over}
-use Rattle.supercluster.specs.Build.{convertedAll, Lent, written, stateOf, need, roomyBy, checked, Outcome, outcome, byReply, loaded}
+use Rattle.supercluster.specs.declared.LoadReply.{LoadReply}
+use Rattle.supercluster.specs.declared.LoadReply.the-variants.{Done, Options as No·Options, Count, Point, Energy, Tables}
+use Rattle.supercluster.specs.Build.{convertedAll, Lent, written, stateOf, need, roomyBy, firstOver, tripleOk, ordered}
+use Rattle.supercluster.specs.Build.{checked, loadNumber, loadCarried, Outcome, outcome, loaded}
 use Rattle.supercluster.specs.Held.{heldBy, built-held, built-within}
-use Rattle.supercluster.specs.Load.{accepted, holds, rowsIn, EvenIn, by-reply}
+use Rattle.supercluster.specs.Load.{accepted, replies, holds, rowsIn, EvenIn, by-reply}
 use Rattle.supercluster.specs.Over.{over-length}
 use Rattle.supercluster.specs.Right.{tables-room}
 use Rattle.supercluster.specs.declared.Loaded.{Loaded}
@@ -47,48 +47,45 @@ checked-sized o p l m s t =
     let d = s .ids ∙ sym (t .ids) in
     let c = s .coords ∙ sym (t .coords) in
     let n = s .near ∙ sym (t .near) in
-    λ i. inOrder (optionsOk o) (pairOk (p .xs) (p .ys)) (firstOutside (map (λ p. p .x) ps) (map (λ p. p .y) ps) 0)
-    (roomyBy (need o (length (p .xs))) (k .kx i) (k .ky i) (k .ks i) (k .ki i) (k .kp i) (k .kn i) (d i) (c i) (n i))
+    λ i. ordered (optionsOk o) (tripleOk (p .xs) (p .ys) (p .energies))
+    (firstOutside (map (λ p. p .x) ps) (map (λ p. p .y) ps) 0) (firstOver (p .energies) 0)
+    (roomyBy (need o (length (p .xs))) (k .kx i) (k .ky i) (k .ks i) (k .ki i) (k .kp i) (k .kn i) (k .kw i) (d i) (c i) (n i))
 
 columns-sized : Sized columns
 unfolding columns
 columns-sized =
-    let even : EvenIn columns = record { ey = refl; es = refl; ei = refl; ep = refl; en = refl } in
+    let even : EvenIn columns = record { ey = refl; es = refl; ei = refl; ep = refl; en = refl; ew = refl } in
     record { x = refl; even = even; ids = refl; coords = refl; near = refl }
-
-reply-by : (o : Options) (xs ys : List Float) (l : Lent) (r : BuildReply) → byReply o xs ys l r .reply .reply ≡ r
-reply-by o xs ys l Done = refl
-reply-by o xs ys l No·Options = refl
-reply-by o xs ys l Count = refl
-reply-by o xs ys l (Point i) = refl
-reply-by o xs ys l Tables = refl
 
 -- the reply of `load` in such columns is the one that the text goes by
 pub reply-is : (o : Options) (p : PointCols) (l l′ : Lent) (b : Loaded) → Sized l → outcome b l′ ≡ loadedBy o p l
     → b .reply ≡ checkedBy o p columns
 unfolding loaded
 reply-is o p l l′ b s e =
-    ap (λ (q : Outcome). q .reply .reply) e ∙ reply-by o (p .xs) (p .ys) l (checkedBy o p l) ∙ checked-sized o p l columns s columns-sized
+    ap (λ (q : Outcome). q .reply .reply) e ∙ replies o (p .xs) (p .ys) (p .energies) l (checkedBy o p l)
+    ∙ checked-sized o p l columns s columns-sized
 
 -- the number 0 is that of no refusal
-number-done : (r : BuildReply) → buildNumber r ≡ 0 → r ≡ Done
+number-done : (r : LoadReply) → loadNumber r ≡ 0 → r ≡ Done
 number-done Done e = refl
 number-done No·Options e = absurd (omega arith)
 number-done Count e = absurd (omega arith)
 number-done (Point i) e = absurd (omega arith)
+number-done (Energy i) e = absurd (omega arith)
 number-done Tables e = absurd (omega arith)
 
-refused-by : (o : Options) (p : PointCols) (r : BuildReply) → (buildNumber r ≡ 0 → ⊥)
-    → answerText o p r ≡ refusalText (buildNumber r) (buildCarried r)
+refused-by : (o : Options) (p : PointCols) (r : LoadReply) → (loadNumber r ≡ 0 → ⊥)
+    → answerText o p r ≡ refusalText (loadNumber r) (loadCarried r)
 refused-by o p Done e = absurd (e refl)
 refused-by o p No·Options e = refl
 refused-by o p Count e = refl
 refused-by o p (Point i) e = refl
+refused-by o p (Energy i) e = refl
 refused-by o p Tables e = refl
 
 -- what is printed for a refusal
-pub refused-text : (o : Options) (p : PointCols) (r : BuildReply) → r ≡ checkedBy o p columns → (buildNumber r ≡ 0 → ⊥)
-    → buildText o p ≡ refusalText (buildNumber r) (buildCarried r)
+pub refused-text : (o : Options) (p : PointCols) (r : LoadReply) → r ≡ checkedBy o p columns → (loadNumber r ≡ 0 → ⊥)
+    → buildText o p ≡ refusalText (loadNumber r) (loadCarried r)
 unfolding buildText
 refused-text o p r e h = ap (answerText o p) (sym e) ∙ refused-by o p r h
 
@@ -109,8 +106,8 @@ module _ (o : Options) (p : PointCols) (l : Lent) (s : Sized l) (done : checkedB
 
   entries : length (joined ts) ≤ 1152
   entries =
-      let a = accepted o (p .xs) (p .ys) l done in
-      omega (arith, tables-room o (p .xs) (p .ys) (a .0), holds (need o n) l (a .1) .hx, s .x)
+      let a = accepted o (p .xs) (p .ys) (p .energies) l done in
+      omega (arith, tables-room o (p .xs) (p .ys) (p .energies) (a .0), holds (need o n) l (a .1) .hx, s .x)
 
   -- a column that is as long as x is so after the build
   column : {A B : Type 0} (f : Entry → A) (g : Entry → B) (d : List A) (x : List B) → length d ≡ length x → length x ≡ 1152
@@ -130,14 +127,15 @@ module _ (o : Options) (p : PointCols) (l : Lent) (s : Sized l) (done : checkedB
         ei = column (λ e. e .id) (λ e. e .x) (c .id) (c .x) (v .ei) (s .x);
         ep = column (λ e. e .parent) (λ e. e .x) (c .parent) (c .x) (v .ep) (s .x);
         en = column (λ e. e .num) (λ e. e .x) (c .num) (c .x) (v .en) (s .x);
+        ew = column (λ e. e .energy) (λ e. e .x) (c .energy) (c .x) (v .ew) (s .x);
       }
 
   built-printable : Printable o p (stateOf o n ts) (written (o .«node_size») n ts l)
   unfolding buildText
   built-printable =
-      let a = accepted o (p .xs) (p .ys) l done .0 in
+      let a = accepted o (p .xs) (p .ys) (p .energies) l done .0 in
       let z = options-are o (a .options) in
-      let h = built-held o (p .xs) (p .ys) a l in
+      let h = built-held o (p .xs) (p .ys) (p .energies) a l in
       let text : buildText o p ≡ tablesText (o .«max_zoom» + 1) ts =
       ap (answerText o p) (sym (checked-sized o p l columns s columns-sized) ∙ done) in
       record {
@@ -145,16 +143,16 @@ module _ (o : Options) (p : PointCols) (l : Lent) (s : Sized l) (done : checkedB
         holding = record {
           zooms = z .zooms;
           top = z .zoom-to;
-          within = built-within o (p .xs) (p .ys) a l;
+          within = built-within o (p .xs) (p .ys) (p .energies) a l;
           fits = omega (arith, ap (λ (q : List Table). length (joined q)) h, entries);
         };
         text = ap (tablesText (o .«max_zoom» + 1)) h ∙ sym text;
       }
 
 pub printable : (o : Options) (p : PointCols) (l l′ : Lent) (b : Loaded) → Sized l → outcome b l′ ≡ loadedBy o p l
-    → buildNumber (b .reply) ≡ 0 → Printable o p (b .state) l′
+    → loadNumber (b .reply) ≡ 0 → Printable o p (b .state) l′
 printable o p l l′ b s e n =
     let done : checkedBy o p l ≡ Done =
     checked-sized o p l columns s columns-sized ∙ sym (reply-is o p l l′ b s e) ∙ number-done (b .reply) n in
-    subst (λ (q : Outcome). Printable o p (q .reply .state) (q .columns))
-    (sym (e ∙ by-reply o (p .xs) (p .ys) l (checkedBy o p l) Done refl done)) (built-printable o p l s done)
+    let is = e ∙ by-reply o (p .xs) (p .ys) (p .energies) l (checkedBy o p l) Done refl done in
+    subst (λ (q : Outcome). Printable o p (q .reply .state) (q .columns)) (sym is) (built-printable o p l s done)

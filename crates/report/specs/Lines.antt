@@ -30,13 +30,15 @@ pointText x y = ((hexOf 16 (bitsOf x) ++ bytes " ") ++ hexOf 16 (bitsOf y)) ++ b
 abbrev pub marksText : ℕ → ℕ → List ℕ
 marksText seen id = ((orDash never seen ++ bytes " ") ++ decimalOf 10 id) ++ bytes " "
 
--- parent, num and the line's end
-abbrev pub endText : ℕ → ℕ → List ℕ
-endText parent num = ((orDash unset parent ++ bytes " ") ++ decimalOf 10 num) ++ bytes "\n"
+-- parent, num, energy and the line's end
+abbrev pub endText : ℕ → ℕ → ℕ → List ℕ
+endText parent num energy =
+    ((((orDash unset parent ++ bytes " ") ++ decimalOf 10 num) ++ bytes " ") ++ decimalOf 20 energy) ++ bytes "\n"
 
 -- the line of an entry
 abbrev pub lineText : ℕ → ℕ → Entry → List ℕ
-lineText zoom place e = ((placeText zoom place ++ pointText (e .x) (e .y)) ++ marksText (e .seen) (e .id)) ++ endText (e .parent) (e .num)
+lineText zoom place e =
+    ((placeText zoom place ++ pointText (e .x) (e .y)) ++ marksText (e .seen) (e .id)) ++ endText (e .parent) (e .num) (e .energy)
 
 -- how many bytes it takes at the most
 abbrev pub lineRoom : ℕ

@@ -1,18 +1,17 @@
--- What the table lister prints for a text, by 01's 'The table lister': the refusal 12, where the text is not of its form; or the refusal of the build; or every
--- line of every table, the finest table first. Definitions only.
+-- What the table lister prints for a text, by 01's 'The table lister' and 02's energies: the refusal 12, where the text is not of its form; or the refusal of
+-- the build; or every line of every table, the finest table first. Definitions only.
 use mathlib.Core.List.{List}
 use mathlib.Core.Path.{_≡_}
 use Prim.Native.Nat.{ℕ, _+_, _*_}
 use lib.ListN.{length, replicate}
 use Rattle.floats.specs.Numbers.{zero}
-use Rattle.kdbush.specs.declared.BuildReply.{BuildReply}
-use Rattle.kdbush.specs.declared.BuildReply.the-variants.{Done, Options as No·Options, Count, Point, Tables}
-use Rattle.kdbush.specs.Reply.{buildNumber, buildCarried}
 use Rattle.tables.specs.declared.Options.{Options}
 use Rattle.tables.specs.Entries.{Table}
 use Rattle.tables.specs.Rows.{cols}
 use Rattle.zooms.specs.Zooms.{over}
-use Rattle.supercluster.specs.Build.{Lent, lent, checked, tablesOf, Outcome, loaded}
+use Rattle.supercluster.specs.declared.LoadReply.{LoadReply}
+use Rattle.supercluster.specs.declared.LoadReply.the-variants.{Done, Options as No·Options, Count, Point, Energy, Tables}
+use Rattle.supercluster.specs.Build.{Lent, lent, loadNumber, loadCarried, checked, tablesOf, Outcome, loaded}
 use Rattle.listing.specs.declared.Parsed.the-variants.{Refused}
 use Rattle.listing.specs.Values.{optionsOf}
 use Rattle.listing.specs.Text.{Input, text, Valid, headIs, PointCols, pointsOf, putPoints, parsedNumber}
@@ -23,25 +22,26 @@ unfoldable pub columns : Lent
 columns =
     let real = replicate 1152 zero in
     let whole = replicate {A = ℕ} 1152 0 in
-    lent (cols real real whole whole whole whole) whole (replicate 2304 zero) whole
+    lent (cols real real whole whole whole whole whole) whole (replicate 2304 zero) whole
 
 -- the build of these points: its tables, its reply, and what it leaves
 abbrev pub tablesBy : Options → PointCols → List Table
-tablesBy o p = tablesOf o (p .xs) (p .ys)
+tablesBy o p = tablesOf o (p .xs) (p .ys) (p .energies)
 
-abbrev pub checkedBy : Options → PointCols → Lent → BuildReply
-checkedBy o p l = checked o (p .xs) (p .ys) l
+abbrev pub checkedBy : Options → PointCols → Lent → LoadReply
+checkedBy o p l = checked o (p .xs) (p .ys) (p .energies) l
 
 abbrev pub loadedBy : Options → PointCols → Lent → Outcome
-loadedBy o p l = loaded o (p .xs) (p .ys) l
+loadedBy o p l = loaded o (p .xs) (p .ys) (p .energies) l
 
--- what is printed for a build with this reply
-abbrev pub answerText : Options → PointCols → BuildReply → List ℕ
+-- what is printed for a build with this reply. Of a text that is never 15: an energy of seven digits is below 2^40
+abbrev pub answerText : Options → PointCols → LoadReply → List ℕ
 answerText o p Done = tablesText (o .«max_zoom» + 1) (tablesBy o p)
-answerText o p No·Options = refusalText (buildNumber No·Options) (buildCarried No·Options)
-answerText o p Count = refusalText (buildNumber Count) (buildCarried Count)
-answerText o p (Point i) = refusalText (buildNumber (Point i)) (buildCarried (Point i))
-answerText o p Tables = refusalText (buildNumber Tables) (buildCarried Tables)
+answerText o p No·Options = refusalText (loadNumber No·Options) (loadCarried No·Options)
+answerText o p Count = refusalText (loadNumber Count) (loadCarried Count)
+answerText o p (Point i) = refusalText (loadNumber (Point i)) (loadCarried (Point i))
+answerText o p (Energy i) = refusalText (loadNumber (Energy i)) (loadCarried (Energy i))
+answerText o p Tables = refusalText (loadNumber Tables) (loadCarried Tables)
 
 -- how many bytes that is at the most
 abbrev pub answerRoom : ℕ

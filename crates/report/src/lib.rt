@@ -1,5 +1,5 @@
 // The table lister's whole answer to a text: every line of every table of the build, the finest table first, or the refusal.
-// Proved: for every text the bytes that 01 says, and how many there are. Nothing is asked of the caller. Assumed: nothing.
+// Proved: for every text the bytes that 01 and 02 say, and how many there are. Nothing is asked of the caller. Assumed: nothing.
 use listing::Head;
 use listing::Parsed;
 use tables::Entry;
@@ -106,8 +106,8 @@ fn put_or_dash(out: &mut [u8], at: usize, n: usize, unset: usize) -> usize
 
 // Zoom and place.
 fn put_place(out: &mut [u8], at: usize, zoom: usize, place: usize) -> usize
-    requires { ⌜ at + 34 ≤ length (now out) ⌝ }
-    ensures { λ r. ⌜ Put (old out) (new out) at (placeText zoom place) 34 r ⌝ }
+    requires { ⌜ at + 22 ≤ length (now out) ⌝ }
+    ensures { λ r. ⌜ Put (old out) (new out) at (placeText zoom place) 22 r ⌝ }
 {
     let a = put_decimal(out, at, zoom, 10);
     let b = put_byte(out, a, 32);
@@ -128,8 +128,8 @@ fn put_point(out: &mut [u8], at: usize, x: f64, y: f64) -> usize
 
 // Seen and id.
 fn put_marks(out: &mut [u8], at: usize, seen: usize, id: usize) -> usize
-    requires { ⌜ at + 34 ≤ length (now out) ⌝ }
-    ensures { λ r. ⌜ Put (old out) (new out) at (marksText seen id) 34 r ⌝ }
+    requires { ⌜ at + 22 ≤ length (now out) ⌝ }
+    ensures { λ r. ⌜ Put (old out) (new out) at (marksText seen id) 22 r ⌝ }
 {
     let a = put_or_dash(out, at, seen, 255);
     let b = put_byte(out, a, 32);
@@ -137,15 +137,17 @@ fn put_marks(out: &mut [u8], at: usize, seen: usize, id: usize) -> usize
     put_byte(out, c, 32)
 }
 
-// Parent, num and the line's end.
-fn put_end(out: &mut [u8], at: usize, parent: usize, num: usize) -> usize
-    requires { ⌜ at + 34 ≤ length (now out) ⌝ }
-    ensures { λ r. ⌜ Put (old out) (new out) at (endText parent num) 34 r ⌝ }
+// Parent, num, energy and the line's end.
+fn put_end(out: &mut [u8], at: usize, parent: usize, num: usize, energy: usize) -> usize
+    requires { ⌜ at + 43 ≤ length (now out) ⌝ }
+    ensures { λ r. ⌜ Put (old out) (new out) at (endText parent num energy) 43 r ⌝ }
 {
     let a = put_or_dash(out, at, parent, 4294967295);
     let b = put_byte(out, a, 32);
     let c = put_decimal(out, b, num, 10);
-    put_byte(out, c, 10)
+    let d = put_byte(out, c, 32);
+    let e = put_decimal(out, d, energy, 20);
+    put_byte(out, e, 10)
 }
 
 // The line of the entry at a place of the table of a zoom, at `at`. The place past it.
@@ -156,7 +158,7 @@ fn put_line(out: &mut [u8], at: usize, zoom: u8, place: usize, e: Entry) -> usiz
     let a = put_place(out, at, zoom as usize, place);
     let b = put_point(out, a, e.x, e.y);
     let c = put_marks(out, b, e.seen as usize, e.id as usize);
-    put_end(out, c, e.parent as usize, e.num as usize)
+    put_end(out, c, e.parent as usize, e.num as usize, e.energy as usize)
 }
 
 // The lines of the table of a zoom, which is `len` entries of the columns from `start` on, at `at`. The place past them.
@@ -172,17 +174,18 @@ fn put_table(
     id: &[u32],
     parent: &[u32],
     num: &[u32],
+    energy: &[u64],
 ) -> usize
-    requires { let c = given x y seen id parent num in
+    requires { let c = given x y seen id parent num energy in
         ⌜ Even c × (start + len ≤ length (c .x)) × (at + lineRoom * len ≤ length (now out)) ⌝ }
     ensures { λ r.
-        let c = lentCols x y seen id parent num in
+        let c = lentCols x y seen id parent num energy in
         ⌜ Put (old out) (new out) at (tableText zoom 0 (part start len (rows (c .entry)))) (lineRoom * len) r ⌝ }
 {
     let mut p = at;
     let mut i: usize = 0;
     while i < len {
-        let e = tables::entry_at(x, y, seen, id, parent, num, start + i);
+        let e = tables::entry_at(x, y, seen, id, parent, num, energy, start + i);
         p = put_line(out, p, zoom, i, e);
         i += 1;
     }
@@ -201,18 +204,19 @@ fn put_held(
     id: &[u32],
     parent: &[u32],
     num: &[u32],
+    energy: &[u64],
 ) -> usize
-    requires { let c = given x y seen id parent num in
+    requires { let c = given x y seen id parent num energy in
         let len = getD (s .lens) z 0 in
         ⌜ Even c × (z < 32) × (getD (s .starts) z 0 + len ≤ length (c .x)) × (at + lineRoom * len ≤ length (now out)) ⌝ }
     ensures { λ r.
-        let c = lentCols x y seen id parent num in
+        let c = lentCols x y seen id parent num energy in
         let t = heldAt (s .starts) (s .lens) (rows (c .entry)) z in
         ⌜ Put (old out) (new out) at (tableText z 0 t) (lineRoom * getD (s .lens) z 0) r ⌝ }
 {
     let start = s.starts[z as usize] as usize;
     let len = s.lens[z as usize] as usize;
-    put_table(out, at, z, start, len, x, y, seen, id, parent, num)
+    put_table(out, at, z, start, len, x, y, seen, id, parent, num, energy)
 }
 
 // The lines of every table of a state at the start of `out`, the finest table first. How long they are.
@@ -225,10 +229,11 @@ fn put_tables(
     id: &[u32],
     parent: &[u32],
     num: &[u32],
+    energy: &[u64],
 ) -> usize
-    requires { let c = given x y seen id parent num in ⌜ Even c × Holding s (rows c) (length (now out)) ⌝ }
+    requires { let c = given x y seen id parent num energy in ⌜ Even c × Holding s (rows c) (length (now out)) ⌝ }
     ensures { λ r.
-        let c = lentCols x y seen id parent num in
+        let c = lentCols x y seen id parent num energy in
         ⌜ Put (old out) (new out) 0 (tablesText (s .options .«max_zoom» + 1) (heldBy s (rows (c .entry)))) (length (old out)) r ⌝ }
 {
     let o = s.options;
@@ -237,7 +242,7 @@ fn put_tables(
     let mut at: usize = 0;
     while low < z {
         z -= 1;
-        at = put_held(out, at, s, z, x, y, seen, id, parent, num);
+        at = put_held(out, at, s, z, x, y, seen, id, parent, num, energy);
     }
     at
 }
@@ -270,21 +275,23 @@ fn report_read(
     h: Head,
     xs: &[f64],
     ys: &[f64],
+    energies: &[u64],
     x: &mut [f64; 1152],
     y: &mut [f64; 1152],
     seen: &mut [u8; 1152],
     id: &mut [u32; 1152],
     parent: &mut [u32; 1152],
     num: &mut [u32; 1152],
+    energy: &mut [u64; 1152],
     ids: &mut [u32; 1152],
     coords: &mut [f64; 2304],
     near: &mut [u32; 1152],
     out: &mut [u8; 156672],
 ) -> usize
-    requires { ⌜ Fits (h .count) (givenPoints xs ys) ⌝ }
+    requires { ⌜ Fits (h .count) (givenPoints xs ys energies) ⌝ }
     ensures { λ r.
-        let p = frontOf (h .count) (lentPoints xs ys .entry) in
-        let l = lentAll x y seen id parent num ids coords near in
+        let p = frontOf (h .count) (lentPoints xs ys energies .entry) in
+        let l = lentAll x y seen id parent num energy ids coords near in
         ⌜ Put (old out) (new out) 0 (buildText (optionsOf h) p) (length (old out)) r
         × (l .exit ≡ loadedBy (optionsOf h) p (l .entry) .columns) ⌝ }
 {
@@ -294,12 +301,14 @@ fn report_read(
         o,
         &xs[..n],
         &ys[..n],
+        &energies[..n],
         x,
         y,
         seen,
         id,
         parent,
         num,
+        energy,
         ids,
         coords,
         near,
@@ -307,7 +316,7 @@ fn report_read(
     let reply = built.reply;
     let number = reply.number();
     if number == 0 {
-        return put_tables(out, built.state, x, y, seen, id, parent, num);
+        return put_tables(out, built.state, x, y, seen, id, parent, num, energy);
     }
     put_refusal(out, number, reply.carried())
 }
@@ -317,35 +326,39 @@ pub fn report(
     text: &[u8],
     px: &mut [f64; 1152],
     py: &mut [f64; 1152],
+    pe: &mut [u64; 1152],
     x: &mut [f64; 1152],
     y: &mut [f64; 1152],
     seen: &mut [u8; 1152],
     id: &mut [u32; 1152],
     parent: &mut [u32; 1152],
     num: &mut [u32; 1152],
+    energy: &mut [u64; 1152],
     ids: &mut [u32; 1152],
     coords: &mut [f64; 2304],
     near: &mut [u32; 1152],
     out: &mut [u8; 156672],
 ) -> usize
     ensures { λ r.
-        let p = lentPoints px py in
-        let l = lentAll x y seen id parent num ids coords near in
+        let p = lentPoints px py pe in
+        let l = lentAll x y seen id parent num energy ids coords near in
         ⌜ Reports (old text) (lending (p .entry) (l .entry) (old out)) r (lending (p .exit) (l .exit) (new out)) ⌝ }
 {
-    let Parsed::Read(h) = listing::parse(text, px, py) else {
+    let Parsed::Read(h) = listing::parse(text, px, py, pe) else {
         return put_refusal(out, 12, 0);
     };
     report_read(
         h,
         px,
         py,
+        pe,
         x,
         y,
         seen,
         id,
         parent,
         num,
+        energy,
         ids,
         coords,
         near,

@@ -1,25 +1,27 @@
 -- The build, by 01's 'Tables' and the Rust's `load`: the refusals in order; otherwise the finest table, and each zoom from max_zoom down to min_zoom, every table
 -- with its index, packed from position 0. The zooms and the packing are those of `Zooms`, in the crate zooms. Definitions only.
-use mathlib.Core.Bool.{Bool, _&&_}
+use mathlib.Core.Bool.{Bool, true, false, cond, _&&_}
 use mathlib.Core.List.{List, [], _∷_, map}
 use Prim.Native.Nat.{ℕ, suc, _+_, _*_}
-use lib.Dec.{leb}
-use lib.ListN.{length, replicate}
+use lib.Dec.{leb, eqb}
+use lib.ListN.{length, getD, replicate}
 use lib.Ieee.{Float}
 use Rattle.range.specs.declared.CoordinateSystem.{CoordinateSystem}
 use Rattle.range.specs.declared.Point.{Point}
 use Rattle.range.specs.Range.{converted}
-use Rattle.kdbush.specs.declared.BuildReply.{BuildReply}
-use Rattle.kdbush.specs.declared.BuildReply.the-variants.{Done, Options as No·Options, Count, Point as No·Point, Tables}
-use Rattle.kdbush.specs.Reply.{pairOk, firstOutside, inOrder}
+use Rattle.kdbush.specs.declared.Outside.{Outside}
+use Rattle.kdbush.specs.declared.Outside.the-variants.{At, Nothing}
+use Rattle.kdbush.specs.Reply.{pairOk, firstOutside}
 use Rattle.tables.specs.declared.Options.{Options}
 use Rattle.tables.specs.declared.State.{State}
 use Rattle.tables.specs.declared.Entry.{Entry}
 use Rattle.tables.specs.Options.{optionsOk, tableCount}
 use Rattle.tables.specs.State.{newState}
-use Rattle.tables.specs.Entries.{Table, never, unset, xsOf, ysOf, seenOf, idsOf, parentsOf, numsOf}
+use Rattle.tables.specs.Entries.{Table, never, unset, xsOf, ysOf, seenOf, idsOf, parentsOf, numsOf, energiesOf}
 use Rattle.tables.specs.Rows.{Cols, cols, each2}
 use Rattle.zooms.specs.Zooms.{planOf, run, zoomsOf, joined, joinedIds, joinedCo, over, starts, lens}
+use Rattle.supercluster.specs.declared.LoadReply.{LoadReply}
+use Rattle.supercluster.specs.declared.LoadReply.the-variants.{Done, Options as No·Options, Count, Point as No·Point, Energy, Tables}
 use Rattle.supercluster.specs.declared.Loaded.{Loaded}
 
 -- ---- the tables
@@ -30,17 +32,18 @@ convertedAll c [] ys = []
 convertedAll c (x ∷ xs) [] = []
 convertedAll c (x ∷ xs) (y ∷ ys) = converted c (record { x = x; y = y }) ∷ convertedAll c xs ys
 
--- the finest table: the points in order, id = position, num 1, seen and parent unset
-abbrev pub lamp : Point → ℕ → Entry
-lamp p i = record { x = p .x; y = p .y; seen = never; id = i; parent = unset; num = 1 }
+-- the entry of the point p of energy w: id = its position i, num 1, seen and parent unset
+abbrev pub lamp : Point → ℕ → ℕ → Entry
+lamp p w i = record { x = p .x; y = p .y; seen = never; id = i; parent = unset; num = 1; energy = w }
 
-unfoldable pub finest : List Point → ℕ → Table
-finest [] i = []
-finest (p ∷ ps) i = lamp p i ∷ finest ps (suc i)
+-- the finest table: the points in order; ws are their energies
+unfoldable pub finest : List Point → List ℕ → ℕ → Table
+finest [] ws i = []
+finest (p ∷ ps) ws i = lamp p (getD ws i 0) i ∷ finest ps ws (suc i)
 
 -- every table of a build, the finest first
-unfoldable pub tablesOf : Options → List Float → List Float → List Table
-tablesOf o xs ys = run (planOf o (length xs)) (zoomsOf o) (finest (convertedAll (o .«coordinate_system») xs ys) 0)
+unfoldable pub tablesOf : Options → List Float → List Float → List ℕ → List Table
+tablesOf o xs ys ws = run (planOf o (length xs)) (zoomsOf o) (finest (convertedAll (o .«coordinate_system») xs ys) ws 0)
 
 -- ---- the columns and the state that hold them
 
@@ -52,11 +55,11 @@ pub record Lent : Type 0 where
   pub near : List ℕ
 
 abbrev pub lent : Cols → List ℕ → List Float → List ℕ → Lent
-lent c ids coords near = record { table = c; ids = ids; coords = coords; near = near }
+lent c d co r = record { table = c; ids = d; coords = co; near = r }
 
 -- the columns of a table
 abbrev pub colsOf : Table → Cols
-colsOf t = cols (xsOf t) (ysOf t) (seenOf t) (idsOf t) (parentsOf t) (numsOf t)
+colsOf t = cols (xsOf t) (ysOf t) (seenOf t) (idsOf t) (parentsOf t) (numsOf t) (energiesOf t)
 
 -- the columns after a build of n points: the packed tables, their indexes, zeros in the first 2n of `near`, and past them the old contents
 unfoldable pub written : ℕ → ℕ → List Table → Lent → Lent
@@ -80,20 +83,68 @@ abbrev pub need : Options → ℕ → ℕ
 need o n = tableCount o * n
 
 -- columns of these lengths hold m entries each, and the index coordinates twice that
-abbrev pub roomyBy : ℕ → ℕ → ℕ → ℕ → ℕ → ℕ → ℕ → ℕ → ℕ → ℕ → Bool
-roomyBy m x y seen id parent num ids coords near = leb m x && leb m y && leb m seen && leb m id && leb m parent && leb m num && leb m ids && leb (2 * m) coords && leb m near
+abbrev pub roomyBy : ℕ → ℕ → ℕ → ℕ → ℕ → ℕ → ℕ → ℕ → ℕ → ℕ → ℕ → Bool
+roomyBy m x y seen id parent num energy ids coords near =
+    leb m x && leb m y && leb m seen && leb m id && leb m parent && leb m num && leb m energy
+    && leb m ids && leb (2 * m) coords && leb m near
 
 abbrev pub roomy : ℕ → Lent → Bool
 roomy m l =
     let c = l .table in
-    roomyBy m (length (c .x)) (length (c .y)) (length (c .seen)) (length (c .id)) (length (c .parent)) (length (c .num))
+    roomyBy m (length (c .x)) (length (c .y)) (length (c .seen)) (length (c .id)) (length (c .parent)) (length (c .num)) (length (c .energy))
     (length (l .ids)) (length (l .coords)) (length (l .near))
 
--- refusals 1, 2, 3, 4, in this order
-unfoldable pub checked : Options → List Float → List Float → Lent → BuildReply
-checked o xs ys l =
+-- the largest energy of a point, in watt-hours: 2^40
+abbrev pub mostEnergy : ℕ
+mostEnergy = 1099511627776
+
+-- the first point from i on that has more
+unfoldable pub firstOver : List ℕ → ℕ → Outside
+firstOver [] i = Nothing
+firstOver (w ∷ ws) i = elim (leb w mostEnergy) [ true ↦ firstOver ws (suc i) | false ↦ At i ]
+
+-- 3 with the point, where one is outside; otherwise what the next tests give
+abbrev pub pointed : Outside → LoadReply → LoadReply
+pointed (At i) r = No·Point i
+pointed Nothing r = r
+
+-- 15 with the point, where one has too much; otherwise what the next tests give
+abbrev pub weighed : Outside → LoadReply → LoadReply
+weighed (At i) r = Energy i
+weighed Nothing r = r
+
+-- refusals 1, 2, 3, 15, 4, in this order
+abbrev pub ordered : Bool → Bool → Outside → Outside → Bool → LoadReply
+ordered options count points energies room =
+    cond options (cond count (pointed points (weighed energies (cond room Done Tables))) Count) No·Options
+
+-- 1 to 1,048,576 points, with as many ys and energies as xs
+abbrev pub tripleOk : List Float → List Float → List ℕ → Bool
+tripleOk xs ys ws = pairOk xs ys && eqb (length ws) (length xs)
+
+-- what is tested of each
+unfoldable pub checked : Options → List Float → List Float → List ℕ → Lent → LoadReply
+checked o xs ys ws l =
     let ps = convertedAll (o .«coordinate_system») xs ys in
-    inOrder (optionsOk o) (pairOk xs ys) (firstOutside (map (λ p. p .x) ps) (map (λ p. p .y) ps) 0) (roomy (need o (length xs)) l)
+    ordered (optionsOk o) (tripleOk xs ys ws) (firstOutside (map (λ p. p .x) ps) (map (λ p. p .y) ps) 0) (firstOver ws 0)
+    (roomy (need o (length xs)) l)
+
+-- the number of a reply, 01's and 02's 15, and what it carries
+abbrev pub loadNumber : LoadReply → ℕ
+loadNumber Done = 0
+loadNumber No·Options = 1
+loadNumber Count = 2
+loadNumber (No·Point i) = 3
+loadNumber (Energy i) = 15
+loadNumber Tables = 4
+
+abbrev pub loadCarried : LoadReply → ℕ
+loadCarried Done = 0
+loadCarried No·Options = 0
+loadCarried Count = 0
+loadCarried (No·Point i) = i
+loadCarried (Energy i) = i
+loadCarried Tables = 0
 
 -- a reply beside its state, and what it leaves in the columns
 pub record Outcome : Type 0 where
@@ -104,17 +155,19 @@ abbrev pub outcome : Loaded → Lent → Outcome
 outcome b l = record { reply = b; columns = l }
 
 -- beside a refusal stand the options as given and no tables, and no column is written
-abbrev pub refused : Options → BuildReply → Lent → Outcome
+abbrev pub refused : Options → LoadReply → Lent → Outcome
 refused o r l = outcome (record { reply = r; state = newState o 0 }) l
 
-abbrev pub byReply : Options → List Float → List Float → Lent → BuildReply → Outcome
-byReply o xs ys l Done =
-    outcome (record { reply = Done; state = stateOf o (length xs) (tablesOf o xs ys) }) (written (o .«node_size») (length xs) (tablesOf o xs ys) l)
-byReply o xs ys l No·Options = refused o No·Options l
-byReply o xs ys l Count = refused o Count l
-byReply o xs ys l (No·Point i) = refused o (No·Point i) l
-byReply o xs ys l Tables = refused o Tables l
+abbrev pub byReply : Options → List Float → List Float → List ℕ → Lent → LoadReply → Outcome
+byReply o xs ys ws l Done =
+    outcome (record { reply = Done; state = stateOf o (length xs) (tablesOf o xs ys ws) })
+    (written (o .«node_size») (length xs) (tablesOf o xs ys ws) l)
+byReply o xs ys ws l No·Options = refused o No·Options l
+byReply o xs ys ws l Count = refused o Count l
+byReply o xs ys ws l (No·Point i) = refused o (No·Point i) l
+byReply o xs ys ws l (Energy i) = refused o (Energy i) l
+byReply o xs ys ws l Tables = refused o Tables l
 
 -- what `load` replies and leaves, for every input
-unfoldable pub loaded : Options → List Float → List Float → Lent → Outcome
-loaded o xs ys l = byReply o xs ys l (checked o xs ys l)
+unfoldable pub loaded : Options → List Float → List Float → List ℕ → Lent → Outcome
+loaded o xs ys ws l = byReply o xs ys ws l (checked o xs ys ws l)

@@ -1,11 +1,13 @@
 -- The finest table, entry by entry: how long it is, what each entry is, and that points within [0,1] make entries there, of one lamp each. And zeros, one by
 -- one. Assumes nothing.
 use mathlib.Core.Path.{_≡_, refl, ap, sym, _∙_}
-use mathlib.Core.Bool.{true, false, _&&_}
+use mathlib.Core.Bool.{Bool, true, false, _&&_}
 use mathlib.Core.List.{List, [], _∷_, _++_, map, append-nil}
-use Prim.Native.Nat.{ℕ, zero, suc, _+_, _<_, _≤_}
+use Prim.Native.Nat.{ℕ, zero, suc, _+_, _*_, _<_, _≤_}
 use native.Mathlib.Omega.{arith}
-use native.Mathlib.Nat.{add-zero}
+use native.Mathlib.Nat.{add-zero, suc-mul}
+use borrow.Author.Tests.{le-leb, lt-leb, leb-true}
+use lib.Dec.{leb}
 use native.Mathlib.Numerals.{add-one}
 use lib.ListN.{length, getD, set, take, drop, replicate, length-replicate, replicate-append-replicate, drop-of-length-le}
 use lib.Seq.{drop-cons, take-suc, set-at, append-snoc, length-take-le, take-all}
@@ -19,10 +21,11 @@ use Rattle.kdslots.specs.All.{All}
 use Rattle.kdbush.specs.Reply.{firstOutside}
 use Rattle.tables.specs.Entries.{Table, entry}
 use Rattle.zoom.specs.Lamps.{sumOf, total}
+use Rattle.zoom.specs.Zoom.{energyOf}
 use Rattle.zoom.specs.Sound.{Next}
 use Rattle.zooms.specs.Zooms.{over}
 use Rattle.zooms.specs.Parts.{Inside}
-use Rattle.supercluster.specs.Build.{convertedAll, lamp, finest}
+use Rattle.supercluster.specs.Build.{convertedAll, lamp, finest, mostEnergy, firstOver}
 
 -- the columns of points
 abbrev pub pxs : List Point → List Float
@@ -31,22 +34,22 @@ pxs ps = map (λ p. p .x) ps
 abbrev pub pys : List Point → List Float
 pys ps = map (λ p. p .y) ps
 
-pub finest-length : (ps : List Point) (i : ℕ) → length (finest ps i) ≡ length ps
+pub finest-length : (ps : List Point) (ws : List ℕ) (i : ℕ) → length (finest ps ws i) ≡ length ps
 unfolding finest
-finest-length [] i = refl
-finest-length (p ∷ ps) i = ap suc (finest-length ps (suc i))
+finest-length [] ws i = refl
+finest-length (p ∷ ps) ws i = ap suc (finest-length ps ws (suc i))
 
 -- the point k of the list
 abbrev pub pointAt : List Point → ℕ → Point
 pointAt ps k = record { x = getD (pxs ps) k nan; y = getD (pys ps) k nan }
 
-finest-at : (ps : List Point) (i k : ℕ) → k < length ps → entry (finest ps i) k ≡ lamp (pointAt ps k) (i + k)
+finest-at : (ps : List Point) (ws : List ℕ) (i k : ℕ) → k < length ps → entry (finest ps ws i) k ≡ lamp (pointAt ps k) (getD ws (i + k) 0) (i + k)
 unfolding finest
-finest-at [] i k h = absurd (omega arith)
-finest-at (p ∷ ps) i zero h = rw (add-zero i)
-finest-at (p ∷ ps) i (suc k) h =
+finest-at [] ws i k h = absurd (omega arith)
+finest-at (p ∷ ps) ws i zero h = rw (add-zero i)
+finest-at (p ∷ ps) ws i (suc k) h =
     let q : suc i + k ≡ i + suc k = omega arith in
-    finest-at ps (suc i) k (omega arith) ∙ ap (λ (j : ℕ). lamp (pointAt ps k) j) q
+    finest-at ps ws (suc i) k (omega arith) ∙ ap (λ (j : ℕ). lamp (pointAt ps k) (getD ws j 0) j) q
 
 pub converted-length : (c : CoordinateSystem) (xs ys : List Float) → length ys ≡ length xs → length (convertedAll c xs ys) ≡ length xs
 unfolding convertedAll
@@ -63,19 +66,19 @@ converted-at c (x ∷ xs) (y ∷ ys) zero e h = refl
 converted-at c (x ∷ xs) (y ∷ ys) (suc k) e h = converted-at c xs ys k (omega arith) (omega arith)
 
 -- the finest table of points that are converted
-abbrev pub lamps : CoordinateSystem → List Float → List Float → Table
-lamps c xs ys = finest (convertedAll c xs ys) 0
+abbrev pub lamps : CoordinateSystem → List Float → List Float → List ℕ → Table
+lamps c xs ys ws = finest (convertedAll c xs ys) ws 0
 
-module _ (c : CoordinateSystem) (xs ys : List Float) (e : length ys ≡ length xs) where
-  pub lamps-length : length (lamps c xs ys) ≡ length xs
-  lamps-length = finest-length (convertedAll c xs ys) 0 ∙ converted-length c xs ys e
+module _ (c : CoordinateSystem) (xs ys : List Float) (ws : List ℕ) (e : length ys ≡ length xs) where
+  pub lamps-length : length (lamps c xs ys ws) ≡ length xs
+  lamps-length = finest-length (convertedAll c xs ys) ws 0 ∙ converted-length c xs ys e
 
-  pub lamps-at : (k : ℕ) → k < length xs → entry (lamps c xs ys) k ≡ lamp (converted c (record { x = getD xs k nan; y = getD ys k nan })) k
+  pub lamps-at : (k : ℕ) → k < length xs → entry (lamps c xs ys ws) k ≡ lamp (converted c (record { x = getD xs k nan; y = getD ys k nan })) (getD ws k 0) k
   lamps-at k h =
       let q : 0 + k ≡ k = omega arith in
-      finest-at (convertedAll c xs ys) 0 k (omega (arith, converted-length c xs ys e))
-      ∙ ap (λ (p : Point). lamp p (0 + k)) (converted-at c xs ys k e h)
-      ∙ ap (λ (j : ℕ). lamp (converted c (record { x = getD xs k nan; y = getD ys k nan })) j) q
+      finest-at (convertedAll c xs ys) ws 0 k (omega (arith, converted-length c xs ys e))
+      ∙ ap (λ (p : Point). lamp p (getD ws (0 + k) 0) (0 + k)) (converted-at c xs ys k e h)
+      ∙ ap (λ (j : ℕ). lamp (converted c (record { x = getD xs k nan; y = getD ys k nan })) (getD ws j 0) j) q
 
 -- one more entry of F is written over R, which has t so far
 pub fill-step : {A : Type 0} (d : A) (F R t : List A) (i : ℕ) (e : A) → t ≡ take i F ++ drop i R → i < length F → i < length R → getD F i d ≡ e → set t i e ≡ take (i + 1) F ++ drop (i + 1) R
@@ -94,17 +97,48 @@ fill-end {A} F R t i n h e a b =
 
 -- ---- points within [0,1]
 
-pub finest-fine : (ps : List Point) (i z : ℕ) → z ≤ 255 → Inside (pxs ps) (pys ps) → All (Next z) (finest ps i)
+pub finest-fine : (ps : List Point) (ws : List ℕ) (i z : ℕ) → z ≤ 255 → Inside (pxs ps) (pys ps) → All (Next z) (finest ps ws i)
 unfolding finest All
-finest-fine [] i z h f = tt
-finest-fine (p ∷ ps) i z h f =
+finest-fine [] ws i z h f = tt
+finest-fine (p ∷ ps) ws i z h f =
     let w = f 0 (omega arith) in
-    (((w .0, w .1, omega arith), h), finest-fine ps (suc i) z h (λ k l. f (suc k) (omega (arith, l))))
+    (((w .0, w .1, omega arith), h), finest-fine ps ws (suc i) z h (λ k l. f (suc k) (omega (arith, l))))
 
-pub finest-total : (ps : List Point) (i : ℕ) → total (finest ps i) ≡ length (finest ps i)
+pub finest-total : (ps : List Point) (ws : List ℕ) (i : ℕ) → total (finest ps ws i) ≡ length (finest ps ws i)
 unfolding finest sumOf
-finest-total [] i = refl
-finest-total (p ∷ ps) i = let r = finest-total ps (suc i) in omega (arith, r)
+finest-total [] ws i = refl
+finest-total (p ∷ ps) ws i = let r = finest-total ps ws (suc i) in omega (arith, r)
+
+-- energies of at most B each
+pub finest-watts : (B : ℕ) (ps : List Point) (ws : List ℕ) (i : ℕ) → ((k : ℕ) → getD ws k 0 ≤ B) → sumOf energyOf (finest ps ws i) ≤ length ps * B
+unfolding finest sumOf
+finest-watts B [] ws i f = omega arith
+finest-watts B (p ∷ ps) ws i f = let r = finest-watts B ps ws (suc i) f in omega (arith, r, f i, suc-mul (length ps) B)
+
+-- ---- the first energy that is too large, from i on
+
+pub over-step : (ws : List ℕ) (i : ℕ) → i < length ws → getD ws i 0 ≤ mostEnergy → firstOver (drop i ws) i ≡ firstOver (drop (i + 1) ws) (i + 1)
+unfolding firstOver
+over-step ws i h l = rw (add-one i) (ap (λ (q : List ℕ). firstOver q i) (drop-cons ws i 0 h) ∙ rw (le-leb (getD ws i 0) mostEnergy l, firstOver))
+
+pub over-here : (ws : List ℕ) (i : ℕ) → i < length ws → mostEnergy < getD ws i 0 → At i ≡ firstOver (drop i ws) i
+unfolding firstOver
+over-here ws i h l = sym (ap (λ (q : List ℕ). firstOver q i) (drop-cons ws i 0 h) ∙ rw (lt-leb (getD ws i 0) mostEnergy l, firstOver))
+
+pub over-end : (ws : List ℕ) (i : ℕ) → length ws ≤ i → firstOver (drop i ws) i ≡ Nothing
+unfolding firstOver
+over-end ws i h = ap (λ (q : List ℕ). firstOver q i) (drop-of-length-le ws {i = i} h)
+
+-- where there is none, every energy is small enough
+none-by : (w : ℕ) (ws : List ℕ) (i : ℕ) → ((k j : ℕ) → firstOver ws j ≡ Nothing → getD ws k 0 ≤ mostEnergy) → (b : Bool) → leb w mostEnergy ≡ b → firstOver (w ∷ ws) i ≡ Nothing → (k : ℕ) → getD (w ∷ ws) k 0 ≤ mostEnergy
+unfolding firstOver
+none-by w ws i r true q e zero = leb-true w mostEnergy q
+none-by w ws i r true q e (suc k) = r k (suc i) (rw (q, firstOver) at e)
+none-by w ws i r false q e k = let z : At i ≡ Nothing = rw (q, firstOver) at e in let y : _≡_ {A = ℕ} 0 1 = cc in absurd (omega arith)
+
+pub none-over : (ws : List ℕ) (i : ℕ) → firstOver ws i ≡ Nothing → (k : ℕ) → getD ws k 0 ≤ mostEnergy
+none-over [] i e k = omega arith
+none-over (w ∷ ws) i e k = none-by w ws i (λ k j q. none-over ws j q k) _ refl e k
 
 -- ---- the first point outside, from i on
 

@@ -110,15 +110,15 @@ stands (t ∷ ts) low at ss ll R rest d h e =
 
 -- ---- the tables of a build
 
-module _ (o : Options) (xs ys : List Float) (a : Accepted o xs ys) where
+module _ (o : Options) (xs ys : List Float) (ws : List ℕ) (a : Accepted o xs ys ws) where
   abbrev tables : List Table
-  tables = tablesOf o xs ys
+  tables = tablesOf o xs ys ws
 
   -- its state records them
   pub built-laid : Laid (stateOf o (length xs) tables .starts) (stateOf o (length xs) tables .lens) (o .«min_zoom») 0 tables
   built-laid =
       let z = options-are o (a .options) in
-      let n = tables-count o xs ys in
+      let n = tables-count o xs ys ws in
       let top : o .«min_zoom» + length tables - 1 ≡ o .«max_zoom» + 1 = omega (arith, z .zooms, n) in
       let room : o .«min_zoom» + length tables ≤ 32 = omega (arith, z .zooms, z .zoom-to, n) in
       let r = length-replicate {A = ℕ} 32 0 in
@@ -139,7 +139,7 @@ module _ (o : Options) (xs ys : List Float) (a : Accepted o xs ys) where
     pub built-held : heldBy (stateOf o (length xs) tables) (rowsIn (written (o .«node_size») (length xs) tables l)) ≡ tables
     built-held =
         let z = options-are o (a .options) in
-        let n : length tables ≡ o .«max_zoom» + 2 - o .«min_zoom» = omega (arith, z .zooms, tables-count o xs ys) in
+        let n : length tables ≡ o .«max_zoom» + 2 - o .«min_zoom» = omega (arith, z .zooms, tables-count o xs ys ws) in
         let R = rowsIn (written (o .«node_size») (length xs) tables l) in
         ap (held (stateOf o (length xs) tables .starts) (stateOf o (length xs) tables .lens) R (o .«min_zoom»)) (sym n) ∙ built-stands R rows-are .is
 
@@ -147,4 +147,4 @@ module _ (o : Options) (xs ys : List Float) (a : Accepted o xs ys) where
         → getD (stateOf o (length xs) tables .starts) z 0 + getD (stateOf o (length xs) tables .lens) z 0 ≤ length (rowsIn (written (o .«node_size») (length xs) tables l))
     built-within z h k =
         let b = options-are o (a .options) in
-        built-stands (rowsIn (written (o .«node_size») (length xs) tables l)) rows-are .within z h (omega (arith, b .zooms, tables-count o xs ys))
+        built-stands (rowsIn (written (o .«node_size») (length xs) tables l)) rows-are .within z h (omega (arith, b .zooms, tables-count o xs ys ws))

@@ -1,7 +1,7 @@
 -- A build that is not refused: its points lie within [0,1] and its columns are long enough; and what it leaves in columns that were cut from longer ones.
 -- Assumes nothing.
 use mathlib.Core.Path.{_≡_, refl, ap, sym, _∙_}
-use mathlib.Core.Bool.{true}
+use mathlib.Core.Bool.{Bool, true, false}
 use mathlib.Core.List.{List, _++_, map}
 use Prim.Native.Nat.{ℕ, _+_, _*_, _≤_}
 use native.Mathlib.Omega.{arith}
@@ -11,42 +11,55 @@ use lib.ListN.{length, take, drop, length-map, replicate, length-replicate}
 use lib.Seq.{length-take-le}
 use lib.Ieee.{Float}
 use Rattle.kdslots.specs.Bounds.{and-both, count-is, countOk}
-use Rattle.kdbush.specs.Built.{done-tests, none-outside}
+use Rattle.kdbush.specs.Built.{none-outside}
 use Rattle.kdbush.specs.Reply.{pairOk, firstOutside}
-use Rattle.kdbush.specs.declared.BuildReply.{BuildReply}
-use Rattle.kdbush.specs.declared.BuildReply.the-variants.{Done, Options as No·Options, Count, Point, Tables}
-use Rattle.tables.specs.Columns.{xs-rows, ys-rows, seen-rows, id-rows, parent-rows, num-rows}
+use Rattle.kdbush.specs.declared.Outside.{Outside}
+use Rattle.kdbush.specs.declared.Outside.the-variants.{At, Nothing}
+use Rattle.supercluster.specs.declared.LoadReply.{LoadReply}
+use Rattle.supercluster.specs.declared.LoadReply.the-variants.{Done, Options as No·Options, Count, Point as No·Point, Energy, Tables}
+use Rattle.tables.specs.Columns.{xs-rows, ys-rows, seen-rows, id-rows, parent-rows, num-rows, energy-rows}
 use Rattle.tables.specs.Entries.{Table}
 use Rattle.tables.specs.Options.{optionsOk}
-use Rattle.tables.specs.Rows.{rows, Even, each, each2}
+use Rattle.tables.specs.Rows.{Cols, rows, Even, each, each2}
 use Rattle.tables.specs.declared.Entry.{Entry}
 use Rattle.tables.specs.declared.Options.{Options}
 use Rattle.tables.specs.declared.State.{State}
 use Rattle.zooms.specs.Zooms.{joined, joinedIds, joinedCo, over}
-use Rattle.supercluster.specs.Build.{convertedAll, tablesOf, Lent, lent, written, need, roomy, checked, byReply, loaded}
-use Rattle.supercluster.specs.Fill.{pxs, pys}
+use Rattle.supercluster.specs.Build.{convertedAll, tablesOf, Lent, lent, written, need, roomy, tripleOk, ordered, firstOver, checked, byReply, loaded}
+use Rattle.supercluster.specs.Fill.{pxs, pys, none-over}
 use Rattle.supercluster.specs.Over.{over-map, cut-over}
 use Rattle.supercluster.specs.Ready.{Accepted, Made}
 
+-- every test of a build that is not refused
+done-by : (a b : Bool) (p q : Outside) (r : Bool) → ordered a b p q r ≡ Done → (a ≡ true) × (b ≡ true) × (p ≡ Nothing) × (q ≡ Nothing) × (r ≡ true)
+done-by true true Nothing Nothing true e = (refl, refl, refl, refl, refl)
+done-by true true Nothing Nothing false e = let z : _≡_ {A = ℕ} 0 1 = cc in absurd (omega arith)
+done-by true true Nothing (At i) r e = let z : _≡_ {A = ℕ} 0 1 = cc in absurd (omega arith)
+done-by true true (At i) q r e = let z : _≡_ {A = ℕ} 0 1 = cc in absurd (omega arith)
+done-by true false p q r e = let z : _≡_ {A = ℕ} 0 1 = cc in absurd (omega arith)
+done-by false b p q r e = let z : _≡_ {A = ℕ} 0 1 = cc in absurd (omega arith)
+
 -- the points of an accepted build, and that its columns are long enough
-pub accepted : (o : Options) (xs ys : List Float) (l : Lent) → checked o xs ys l ≡ Done → Accepted o xs ys × (roomy (need o (length xs)) l ≡ true)
+pub accepted : (o : Options) (xs ys : List Float) (ws : List ℕ) (l : Lent) → checked o xs ys ws l ≡ Done → Accepted o xs ys ws × (roomy (need o (length xs)) l ≡ true)
 unfolding checked
-accepted o xs ys l e =
+accepted o xs ys ws l e =
     let ps = convertedAll (o .«coordinate_system») xs ys in
-    let w = done-tests (optionsOk o) (pairOk xs ys) (firstOutside (pxs ps) (pys ps) 0) (roomy (need o (length xs)) l) e in
-    let v = and-both (countOk (length xs)) (eqb (length ys) (length xs)) (w .1) in
+    let w = done-by (optionsOk o) (tripleOk xs ys ws) (firstOutside (pxs ps) (pys ps) 0) (firstOver ws 0) (roomy (need o (length xs)) l) e in
+    let u = and-both (pairOk xs ys) (eqb (length ws) (length xs)) (w .1) in
+    let v = and-both (countOk (length xs)) (eqb (length ys) (length xs)) (u .0) in
     let c = count-is (length xs) (v .0) in
     let q = eqb-true (length ys) (length xs) (v .1) in
     let both : length (pys ps) ≡ length (pxs ps) = length-map ps (λ p. p .y) ∙ sym (length-map ps (λ p. p .x)) in
-    (record { options = w .0; same = q; some = c .0; few = c .1; inside = none-outside (pxs ps) (pys ps) 0 (w .2) both }, w .3)
+    (record { options = w .0; same = q; weighed = eqb-true (length ws) (length xs) (u .1); some = c .0; few = c .1; inside = none-outside (pxs ps) (pys ps) 0 (w .2) both; light = none-over ws 0 (w .3) }, w .4)
 
 -- a build replies what was checked of it
-pub replies : (o : Options) (xs ys : List Float) (l : Lent) (r : BuildReply) → byReply o xs ys l r .reply .reply ≡ r
-replies o xs ys l Done = refl
-replies o xs ys l No·Options = refl
-replies o xs ys l Count = refl
-replies o xs ys l (Point i) = refl
-replies o xs ys l Tables = refl
+pub replies : (o : Options) (xs ys : List Float) (ws : List ℕ) (l : Lent) (r : LoadReply) → byReply o xs ys ws l r .reply .reply ≡ r
+replies o xs ys ws l Done = refl
+replies o xs ys ws l No·Options = refl
+replies o xs ys ws l Count = refl
+replies o xs ys ws l (No·Point i) = refl
+replies o xs ys ws l (Energy i) = refl
+replies o xs ys ws l Tables = refl
 
 -- each column holds that much
 pub record Holds (m : ℕ) (l : Lent) : Type 0 where
@@ -56,21 +69,23 @@ pub record Holds (m : ℕ) (l : Lent) : Type 0 where
   pub hi : m ≤ length (l .table .id)
   pub hp : m ≤ length (l .table .parent)
   pub hn : m ≤ length (l .table .num)
+  pub hw : m ≤ length (l .table .energy)
   pub hd : m ≤ length (l .ids)
   pub hc : m * 2 ≤ length (l .coords)
   pub hr : m ≤ length (l .near)
 
 pub holds : (m : ℕ) (l : Lent) → roomy m l ≡ true → Holds m l
 holds m l e =
-    let b9 = and-both _ (leb m (length (l .near))) e in
-    let b8 = and-both _ (leb (2 * m) (length (l .coords))) (b9 .0) in
-    let b7 = and-both _ (leb m (length (l .ids))) (b8 .0) in
+    let b10 = and-both _ (leb m (length (l .near))) e in
+    let b9 = and-both _ (leb (2 * m) (length (l .coords))) (b10 .0) in
+    let b8 = and-both _ (leb m (length (l .ids))) (b9 .0) in
+    let b7 = and-both _ (leb m (length (l .table .energy))) (b8 .0) in
     let b6 = and-both _ (leb m (length (l .table .num))) (b7 .0) in
     let b5 = and-both _ (leb m (length (l .table .parent))) (b6 .0) in
     let b4 = and-both _ (leb m (length (l .table .id))) (b5 .0) in
     let b3 = and-both _ (leb m (length (l .table .seen))) (b4 .0) in
     let b2 = and-both (leb m (length (l .table .x))) (leb m (length (l .table .y))) (b3 .0) in
-    let c = leb-true (2 * m) (length (l .coords)) (b8 .1) in
+    let c = leb-true (2 * m) (length (l .coords)) (b9 .1) in
     record {
       hx = leb-true m (length (l .table .x)) (b2 .0);
       hy = leb-true m (length (l .table .y)) (b2 .1);
@@ -78,9 +93,10 @@ holds m l e =
       hi = leb-true m (length (l .table .id)) (b4 .1);
       hp = leb-true m (length (l .table .parent)) (b5 .1);
       hn = leb-true m (length (l .table .num)) (b6 .1);
-      hd = leb-true m (length (l .ids)) (b7 .1);
+      hw = leb-true m (length (l .table .energy)) (b7 .1);
+      hd = leb-true m (length (l .ids)) (b8 .1);
       hc = omega (arith, c);
-      hr = leb-true m (length (l .near)) (b9 .1);
+      hr = leb-true m (length (l .near)) (b10 .1);
     }
 
 -- one column, from the rows
@@ -113,33 +129,35 @@ fronts-even m n l h =
       ei = length-take-le m (c .id) (h .hi) ∙ e;
       ep = length-take-le m (c .parent) (h .hp) ∙ e;
       en = length-take-le m (c .num) (h .hn) ∙ e;
+      ew = length-take-le m (c .energy) (h .hw) ∙ e;
     }
 
-module _ (o : Options) (xs ys : List Float) (m : ℕ) (l l′ : Lent) (s : State) (h : Holds m l)
+module _ (o : Options) (xs ys : List Float) (ws : List ℕ) (m : ℕ) (l l′ : Lent) (s : State) (h : Holds m l)
     (v : EvenIn (fronts m (length xs + length xs) l)) (v′ : EvenIn l′) (k : length (l′ .table .x) ≡ m) (kd : length (l′ .ids) ≡ m) (kc : length (l′ .coords) ≡ m * 2)
-    (g : Made o xs ys s (rowsIn (fronts m (length xs + length xs) l)) (rowsIn l′) (take m (l .ids)) (l′ .ids) (take (m * 2) (l .coords)) (l′ .coords) (l′ .near)) where
-  pub whole : rejoined m (length xs + length xs) l′ l ≡ written (o .«node_size») (length xs) (tablesOf o xs ys) l
+    (g : Made o xs ys ws s (rowsIn (fronts m (length xs + length xs) l)) (rowsIn l′) (take m (l .ids)) (l′ .ids) (take (m * 2) (l .coords)) (l′ .coords) (l′ .near)) where
+  pub whole : rejoined m (length xs + length xs) l′ l ≡ written (o .«node_size») (length xs) (tablesOf o xs ys ws) l
   unfolding written
   whole =
       let c = fronts m (length xs + length xs) l .table in
       let c′ = l′ .table in
       let d = l .table in
-      let T = joined (tablesOf o xs ys) in
+      let T = joined (tablesOf o xs ys ws) in
       let ex = col (λ e. e .x) T (rows c) (rows c′) (c .x) (c′ .x) (d .x) m (g .of-rows) (xs-rows c′) (xs-rows c) refl (h .hx) k in
       let ey = col (λ e. e .y) T (rows c) (rows c′) (c .y) (c′ .y) (d .y) m (g .of-rows) (ys-rows c′ (v′ .ey)) (ys-rows c (v .ey)) refl (h .hy) (v′ .ey ∙ k) in
       let es = col (λ e. e .seen) T (rows c) (rows c′) (c .seen) (c′ .seen) (d .seen) m (g .of-rows) (seen-rows c′ (v′ .es)) (seen-rows c (v .es)) refl (h .hs) (v′ .es ∙ k) in
       let ei = col (λ e. e .id) T (rows c) (rows c′) (c .id) (c′ .id) (d .id) m (g .of-rows) (id-rows c′ (v′ .ei)) (id-rows c (v .ei)) refl (h .hi) (v′ .ei ∙ k) in
       let ep = col (λ e. e .parent) T (rows c) (rows c′) (c .parent) (c′ .parent) (d .parent) m (g .of-rows) (parent-rows c′ (v′ .ep)) (parent-rows c (v .ep)) refl (h .hp) (v′ .ep ∙ k) in
       let en = col (λ e. e .num) T (rows c) (rows c′) (c .num) (c′ .num) (d .num) m (g .of-rows) (num-rows c′ (v′ .en)) (num-rows c (v .en)) refl (h .hn) (v′ .en ∙ k) in
-      let ed = cut-over (joinedIds (o .«node_size») (tablesOf o xs ys)) (l .ids) (l′ .ids) m (h .hd) (g .of-ids) kd in
-      let ec = cut-over (joinedCo (o .«node_size») (tablesOf o xs ys)) (l .coords) (l′ .coords) (m * 2) (h .hc) (g .of-co) kc in
+      let ew = col (λ e. e .energy) T (rows c) (rows c′) (c .energy) (c′ .energy) (d .energy) m (g .of-rows) (energy-rows c′ (v′ .ew)) (energy-rows c (v .ew)) refl (h .hw) (v′ .ew ∙ k) in
+      let ed = cut-over (joinedIds (o .«node_size») (tablesOf o xs ys ws)) (l .ids) (l′ .ids) m (h .hd) (g .of-ids) kd in
+      let ec = cut-over (joinedCo (o .«node_size») (tablesOf o xs ys ws)) (l .coords) (l′ .coords) (m * 2) (h .hc) (g .of-co) kc in
       let two = length xs + length xs in
       let er : l′ .near ++ drop two (l .near) ≡ over (replicate two 0) (l .near) =
       ap (λ (q : List ℕ). q ++ drop two (l .near)) (g .of-near) ∙ ap (λ (q : ℕ). replicate two 0 ++ drop q (l .near)) (sym (length-replicate {A = ℕ} two 0)) in
-      λ i. record { table = record { x = ex i; y = ey i; seen = es i; id = ei i; parent = ep i; num = en i }; ids = ed i; coords = ec i; near = er i }
+      λ i. record { table = record { x = ex i; y = ey i; seen = es i; id = ei i; parent = ep i; num = en i; energy = ew i }; ids = ed i; coords = ec i; near = er i }
 
 -- ---- what `load` leaves, by its reply
 
-pub by-reply : (o : Options) (xs ys : List Float) (l : Lent) (r r′ : BuildReply) → r ≡ checked o xs ys l → r ≡ r′ → loaded o xs ys l ≡ byReply o xs ys l r′
+pub by-reply : (o : Options) (xs ys : List Float) (ws : List ℕ) (l : Lent) (r r′ : LoadReply) → r ≡ checked o xs ys ws l → r ≡ r′ → loaded o xs ys ws l ≡ byReply o xs ys ws l r′
 unfolding loaded
-by-reply o xs ys l r r′ e f = ap (byReply o xs ys l) (sym e ∙ f)
+by-reply o xs ys ws l r r′ e f = ap (byReply o xs ys ws l) (sym e ∙ f)

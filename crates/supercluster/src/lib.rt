@@ -1,6 +1,5 @@
 // The public build, `load` of the Rust: the finest table of the converted points, then each zoom from max_zoom down to min_zoom, every table with its index.
 // Nothing is asked of the caller: what 01 does not take is refused with its number, and then no column is written.
-use kdbush::BuildReply;
 use kdbush::Outside;
 use range::CoordinateSystem;
 use range::Point;
@@ -11,21 +10,64 @@ ghost use mathlib.Core.Path.{_≡_};
 ghost use mathlib.Core.List.{map};
 ghost use Prim.Native.Nat.{_+_, _*_, _≤_};
 ghost use lib.ListN.{length, replicate};
-ghost use Rattle.kdbush.specs.Reply.{pairOk, firstOutside, inOrder};
+ghost use Rattle.kdbush.specs.Reply.{firstOutside};
 ghost use Rattle.lent.specs.Lent.{old, new};
 ghost use Rattle.tables.specs.Rows.{rows, Even};
 ghost use Rattle.tables.specs.Lent.{given, lentCols};
 ghost use Rattle.tables.specs.Options.{optionsOk};
 ghost use Rattle.tables.specs.State.{newState};
 ghost use Rattle.zooms.specs.Zooms.{over};
-ghost use Rattle.supercluster.specs.Build.{convertedAll, finest, written, stateOf, tablesOf, need, roomyBy, outcome, loaded};
+ghost use Rattle.supercluster.specs.Build.{convertedAll, finest, written, stateOf, tablesOf, need, roomyBy, firstOver, tripleOk, ordered, loadNumber, loadCarried, outcome, loaded};
 ghost use Rattle.supercluster.specs.Lent.{givenAll, lentAll};
 ghost use Rattle.supercluster.specs.Ready.{Accepted, Made};
 ghost use Rattle.supercluster.specs.Load.{Holds};
 
+// The largest energy of a point, in watt-hours: 2^40.
+const MOST_ENERGY: u64 = 1099511627776;
+
+// The reply of a build: refusals 1, 2, 3, 15 and 4, in this order. Two of them carry the first such point.
+pub enum LoadReply {
+    Done,
+    Options,
+    Count,
+    Point(usize),
+    Energy(usize),
+    Tables,
+}
+
+impl LoadReply {
+    // The number of the reply, 0 where there is no refusal.
+    pub fn number(self) -> u32
+        ensures { λ r. ⌜ r ≡ loadNumber self ⌝ }
+    {
+        match self {
+            LoadReply::Done => 0,
+            LoadReply::Options => 1,
+            LoadReply::Count => 2,
+            LoadReply::Point(_) => 3,
+            LoadReply::Energy(_) => 15,
+            LoadReply::Tables => 4,
+        }
+    }
+
+    // What the reply carries, 0 where it carries nothing.
+    pub fn carried(self) -> usize
+        ensures { λ r. ⌜ r ≡ loadCarried self ⌝ }
+    {
+        match self {
+            LoadReply::Done => 0,
+            LoadReply::Options => 0,
+            LoadReply::Count => 0,
+            LoadReply::Point(i) => i,
+            LoadReply::Energy(i) => i,
+            LoadReply::Tables => 0,
+        }
+    }
+}
+
 // The reply of a build, and beside it its state: of no tables, where it is refused.
 pub struct Loaded {
-    pub reply: BuildReply,
+    pub reply: LoadReply,
     pub state: State,
 }
 
@@ -34,18 +76,21 @@ fn fill(
     c: CoordinateSystem,
     xs: &[f64],
     ys: &[f64],
+    energies: &[u64],
     x: &mut [f64],
     y: &mut [f64],
     seen: &mut [u8],
     id: &mut [u32],
     parent: &mut [u32],
     num: &mut [u32],
+    energy: &mut [u64],
 )
-    requires { let t = given x y seen id parent num in
-        ⌜ Even t × (length (now ys) ≡ length (now xs)) × (length (now xs) ≤ length (t .x)) × (length (now xs) ≤ 1048576) ⌝ }
+    requires { let t = given x y seen id parent num energy in
+        ⌜ Even t × (length (now ys) ≡ length (now xs)) × (length (now xs) ≤ length (t .x)) × (length (now xs) ≤ 1048576)
+        × (length (now energies) ≡ length (now xs)) ⌝ }
     ensures { λ _.
-        let t = lentCols x y seen id parent num in
-        ⌜ rows (t .exit) ≡ over (finest (convertedAll c (old xs) (old ys)) 0) (rows (t .entry)) ⌝ }
+        let t = lentCols x y seen id parent num energy in
+        ⌜ rows (t .exit) ≡ over (finest (convertedAll c (old xs) (old ys)) (old energies) 0) (rows (t .entry)) ⌝ }
 {
     let mut place = 0;
     while place < xs.len() {
@@ -60,8 +105,9 @@ fn fill(
             id: place as u32,
             parent: 4294967295,
             num: 1,
+            energy: energies[place],
         };
-        tables::put_entry(x, y, seen, id, parent, num, place, e);
+        tables::put_entry(x, y, seen, id, parent, num, energy, place, e);
         place += 1;
     }
 }
@@ -84,32 +130,47 @@ fn build_in(
     o: Options,
     xs: &[f64],
     ys: &[f64],
+    energies: &[u64],
     x: &mut [f64],
     y: &mut [f64],
     seen: &mut [u8],
     id: &mut [u32],
     parent: &mut [u32],
     num: &mut [u32],
+    energy: &mut [u64],
     ids: &mut [u32],
     coords: &mut [f64],
     near: &mut [u32],
 ) -> State
-    requires { let t = given x y seen id parent num in
+    requires { let t = given x y seen id parent num energy in
         let n = length (now xs) in
-        ⌜ Even t × Accepted o (now xs) (now ys) × (length (t .x) ≡ need o n) × (length (now ids) ≡ need o n) × (length (now coords) ≡ need o n * 2)
+        ⌜ Even t × Accepted o (now xs) (now ys) (now energies) × (length (t .x) ≡ need o n) × (length (now ids) ≡ need o n) × (length (now coords) ≡ need o n * 2)
         × (length (now near) ≡ n + n) ⌝ }
     ensures { λ s.
-        let t = lentCols x y seen id parent num in
-        ⌜ Made o (old xs) (old ys) s (rows (t .entry)) (rows (t .exit)) (old ids) (new ids) (old coords) (new coords) (new near) ⌝ }
+        let t = lentCols x y seen id parent num energy in
+        ⌜ Made o (old xs) (old ys) (old energies) s (rows (t .entry)) (rows (t .exit)) (old ids) (new ids) (old coords) (new coords) (new near) ⌝ }
 {
     let n = xs.len();
     let c = o.coordinate_system;
     let size = o.node_size;
-    fill(c, xs, ys, x, y, seen, id, parent, num);
+    fill(c, xs, ys, energies, x, y, seen, id, parent, num, energy);
     zooms::index_part(x, y, ids, coords, size, 0, n);
     let e = tables::new_state(o, n as u32);
     let s = tables::with_table(e, o.max_zoom as usize + 1, 0, n as u32);
-    let st = zooms::run_zooms(x, y, seen, id, parent, num, ids, coords, near, s, n as u32);
+    let st = zooms::run_zooms(
+        x,
+        y,
+        seen,
+        id,
+        parent,
+        num,
+        energy,
+        ids,
+        coords,
+        near,
+        s,
+        n as u32,
+    );
     clear(near);
     st
 }
@@ -119,22 +180,24 @@ fn build_all(
     o: Options,
     xs: &[f64],
     ys: &[f64],
+    energies: &[u64],
     x: &mut [f64],
     y: &mut [f64],
     seen: &mut [u8],
     id: &mut [u32],
     parent: &mut [u32],
     num: &mut [u32],
+    energy: &mut [u64],
     ids: &mut [u32],
     coords: &mut [f64],
     near: &mut [u32],
 ) -> State
-    requires { let l = givenAll x y seen id parent num ids coords near in
-        ⌜ Accepted o (now xs) (now ys) × Holds (need o (length (now xs))) l ⌝ }
+    requires { let l = givenAll x y seen id parent num energy ids coords near in
+        ⌜ Accepted o (now xs) (now ys) (now energies) × Holds (need o (length (now xs))) l ⌝ }
     ensures { λ s.
-        let l = lentAll x y seen id parent num ids coords near in
+        let l = lentAll x y seen id parent num energy ids coords near in
         let n = length (old xs) in
-        let ts = tablesOf o (old xs) (old ys) in
+        let ts = tablesOf o (old xs) (old ys) (old energies) in
         ⌜ (s ≡ stateOf o n ts) × (l .exit ≡ written (o .«node_size») n ts (l .entry)) ⌝ }
 {
     let n = xs.len();
@@ -145,12 +208,14 @@ fn build_all(
         o,
         xs,
         ys,
+        energies,
         &mut x[..m],
         &mut y[..m],
         &mut seen[..m],
         &mut id[..m],
         &mut parent[..m],
         &mut num[..m],
+        &mut energy[..m],
         &mut ids[..m],
         &mut coords[..c],
         &mut near[..w],
@@ -178,6 +243,20 @@ fn first_outside(c: CoordinateSystem, xs: &[f64], ys: &[f64]) -> Outside
     Outside::Nothing
 }
 
+// The first energy that is too large: above 2^40.
+fn first_over(energies: &[u64]) -> Outside
+    ensures { λ r. ⌜ r ≡ firstOver (old energies) 0 ⌝ }
+{
+    let mut i = 0;
+    while i < energies.len() {
+        if MOST_ENERGY < energies[i] {
+            return Outside::At(i);
+        }
+        i += 1;
+    }
+    Outside::Nothing
+}
+
 // Whether columns of these lengths hold m entries each, and the index coordinates twice that.
 fn is_roomy(
     m: usize,
@@ -187,12 +266,13 @@ fn is_roomy(
     id: usize,
     parent: usize,
     num: usize,
+    energy: usize,
     ids: usize,
     coords: usize,
     near: usize,
 ) -> bool
     requires { ⌜ m ≤ 33554432 ⌝ }
-    ensures { λ r. ⌜ r ≡ roomyBy m x y seen id parent num ids coords near ⌝ }
+    ensures { λ r. ⌜ r ≡ roomyBy m x y seen id parent num energy ids coords near ⌝ }
 {
     if x < m {
         return false;
@@ -212,6 +292,9 @@ fn is_roomy(
     if num < m {
         return false;
     }
+    if energy < m {
+        return false;
+    }
     if ids < m {
         return false;
     }
@@ -226,47 +309,56 @@ fn check(
     o: Options,
     xs: &[f64],
     ys: &[f64],
+    energies: &[u64],
     x: usize,
     y: usize,
     seen: usize,
     id: usize,
     parent: usize,
     num: usize,
+    energy: usize,
     ids: usize,
     coords: usize,
     near: usize,
-) -> BuildReply
+) -> LoadReply
     ensures { λ r.
         let ps = convertedAll (o .«coordinate_system») (old xs) (old ys) in
-        ⌜ r ≡ inOrder (optionsOk o) (pairOk (old xs) (old ys)) (firstOutside (map (λ p. p .x) ps) (map (λ p. p .y) ps) 0)
-        (roomyBy (need o (length (old xs))) x y seen id parent num ids coords near) ⌝ }
+        ⌜ r ≡ ordered (optionsOk o) (tripleOk (old xs) (old ys) (old energies)) (firstOutside (map (λ p. p .x) ps) (map (λ p. p .y) ps) 0)
+        (firstOver (old energies) 0)
+        (roomyBy (need o (length (old xs))) x y seen id parent num energy ids coords near) ⌝ }
 {
     if !o.is_in_bounds() {
-        return BuildReply::Options;
+        return LoadReply::Options;
     }
     let n = xs.len();
     if n < 1 {
-        return BuildReply::Count;
+        return LoadReply::Count;
     }
     if 1048576 < n {
-        return BuildReply::Count;
+        return LoadReply::Count;
     }
     if ys.len() != n {
-        return BuildReply::Count;
+        return LoadReply::Count;
+    }
+    if energies.len() != n {
+        return LoadReply::Count;
     }
     let c = o.coordinate_system;
     if let Outside::At(i) = first_outside(c, xs, ys) {
-        return BuildReply::Point(i);
+        return LoadReply::Point(i);
+    }
+    if let Outside::At(i) = first_over(energies) {
+        return LoadReply::Energy(i);
     }
     let m = o.table_count() * n;
-    if !is_roomy(m, x, y, seen, id, parent, num, ids, coords, near) {
-        return BuildReply::Tables;
+    if !is_roomy(m, x, y, seen, id, parent, num, energy, ids, coords, near) {
+        return LoadReply::Tables;
     }
-    BuildReply::Done
+    LoadReply::Done
 }
 
 // What stands beside a refusal: no tables.
-fn refused(o: Options, reply: BuildReply) -> Loaded
+fn refused(o: Options, reply: LoadReply) -> Loaded
     ensures { λ r. ⌜ (r .reply ≡ reply) × (r .state ≡ newState o 0) ⌝ }
 {
     let state = tables::new_state(o, 0);
@@ -278,44 +370,64 @@ pub fn load(
     o: Options,
     xs: &[f64],
     ys: &[f64],
+    energies: &[u64],
     x: &mut [f64],
     y: &mut [f64],
     seen: &mut [u8],
     id: &mut [u32],
     parent: &mut [u32],
     num: &mut [u32],
+    energy: &mut [u64],
     ids: &mut [u32],
     coords: &mut [f64],
     near: &mut [u32],
 ) -> Loaded
     ensures { λ r.
-        let l = lentAll x y seen id parent num ids coords near in
-        ⌜ outcome r (l .exit) ≡ loaded o (old xs) (old ys) (l .entry) ⌝ }
+        let l = lentAll x y seen id parent num energy ids coords near in
+        ⌜ outcome r (l .exit) ≡ loaded o (old xs) (old ys) (old energies) (l .entry) ⌝ }
 {
     match check(
         o,
         xs,
         ys,
+        energies,
         x.len(),
         y.len(),
         seen.len(),
         id.len(),
         parent.len(),
         num.len(),
+        energy.len(),
         ids.len(),
         coords.len(),
         near.len(),
     ) {
-        BuildReply::Done => {
-            let state = build_all(o, xs, ys, x, y, seen, id, parent, num, ids, coords, near);
+        LoadReply::Done => {
+            let state = build_all(
+                o,
+                xs,
+                ys,
+                energies,
+                x,
+                y,
+                seen,
+                id,
+                parent,
+                num,
+                energy,
+                ids,
+                coords,
+                near,
+            );
             Loaded {
-                reply: BuildReply::Done,
+                reply: LoadReply::Done,
                 state,
             }
         }
-        BuildReply::Options => refused(o, BuildReply::Options),
-        BuildReply::Count => refused(o, BuildReply::Count),
-        BuildReply::Point(i) => refused(o, BuildReply::Point(i)),
-        BuildReply::Tables => refused(o, BuildReply::Tables),
+        LoadReply::Options => refused(o, LoadReply::Options),
+        LoadReply::Count => refused(o, LoadReply::Count),
+        LoadReply::Point(i) => refused(o, LoadReply::Point(i)),
+        LoadReply::Energy(i) => refused(o, LoadReply::Energy(i)),
+        LoadReply::Tables => refused(o, LoadReply::Tables),
     }
 }

@@ -8,7 +8,7 @@ use lib.ListN.{length, getD, take, drop, length-take, length-drop, drop-of-lengt
 use lib.Seq.{take-at, drop-at, length-take-le, take-all, getD-take, getD-drop}
 use lib.Ieee.{Float, nan}
 use Rattle.tables.specs.declared.Entry.{Entry}
-use Rattle.tables.specs.Entries.{Table, none, xsOf, ysOf, seenOf, idsOf, parentsOf, numsOf}
+use Rattle.tables.specs.Entries.{Table, none, xsOf, ysOf, seenOf, idsOf, parentsOf, numsOf, energiesOf}
 use Rattle.tables.specs.Rows.{Cols, rows, Even, each, each-row, each-same, even-each, rows-length, rows-entry, rows-are, column}
 
 -- a part of a column: n entries from a on
@@ -90,6 +90,9 @@ parent-rows c h = column (λ e. e .parent) c (c .parent) 0 h (λ i. refl)
 
 pub num-rows : (c : Cols) → length (c .num) ≡ length (c .x) → numsOf (rows c) ≡ c .num
 num-rows c h = column (λ e. e .num) c (c .num) 0 h (λ i. refl)
+
+pub energy-rows : (c : Cols) → length (c .energy) ≡ length (c .x) → energiesOf (rows c) ≡ c .energy
+energy-rows c h = column (λ e. e .energy) c (c .energy) 0 h (λ i. refl)
 
 map-take : {B : Type 0} (f : Entry → B) (n : ℕ) (t : Table) → map f (take n t) ≡ take n (map f t)
 map-take f zero t = refl

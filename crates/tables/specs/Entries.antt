@@ -19,7 +19,7 @@ unset = 4294967295
 
 -- what stands past a table's end
 abbrev pub none : Entry
-none = record { x = nan; y = nan; seen = 0; id = 0; parent = unset; num = 0 }
+none = record { x = nan; y = nan; seen = 0; id = 0; parent = unset; num = 0; energy = 0 }
 
 abbrev pub entry : Table → ℕ → Entry
 entry t i = getD t i none
@@ -30,10 +30,10 @@ unseen z e = ltb z (e .seen)
 
 -- seen by zoom z; under the cluster p
 abbrev pub marked : ℕ → Entry → Entry
-marked z e = record { x = e .x; y = e .y; seen = z; id = e .id; parent = e .parent; num = e .num }
+marked z e = record { x = e .x; y = e .y; seen = z; id = e .id; parent = e .parent; num = e .num; energy = e .energy }
 
 abbrev pub under : ℕ → Entry → Entry
-under p e = record { x = e .x; y = e .y; seen = e .seen; id = e .id; parent = p; num = e .num }
+under p e = record { x = e .x; y = e .y; seen = e .seen; id = e .id; parent = p; num = e .num; energy = e .energy }
 
 -- the columns of a table
 abbrev pub xsOf : Table → List Float
@@ -53,3 +53,6 @@ parentsOf t = map (λ e. e .parent) t
 
 abbrev pub numsOf : Table → List ℕ
 numsOf t = map (λ e. e .num) t
+
+abbrev pub energiesOf : Table → List ℕ
+energiesOf t = map (λ e. e .energy) t

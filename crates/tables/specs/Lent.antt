@@ -7,13 +7,13 @@ use Rattle.lent.specs.Lent.{Slice, Lent}
 use Rattle.tables.specs.Rows.{Cols, cols}
 
 -- in a `requires`
-abbrev pub given : Slice Float → Slice Float → Slice ℕ → Slice ℕ → Slice ℕ → Slice ℕ → Cols
-given x y seen id parent num = cols (now x) (now y) (now seen) (now id) (now parent) (now num)
+abbrev pub given : Slice Float → Slice Float → Slice ℕ → Slice ℕ → Slice ℕ → Slice ℕ → Slice ℕ → Cols
+given x y seen id parent num energy = cols (now x) (now y) (now seen) (now id) (now parent) (now num) (now energy)
 
 -- in an `ensures`: as the function is called, and as it returns
-abbrev pub lentCols : Lent Float → Lent Float → Lent ℕ → Lent ℕ → Lent ℕ → Lent ℕ → Both Cols Cols
-lentCols x y seen id parent num =
+abbrev pub lentCols : Lent Float → Lent Float → Lent ℕ → Lent ℕ → Lent ℕ → Lent ℕ → Lent ℕ → Both Cols Cols
+lentCols x y seen id parent num energy =
     record {
-      entry = given (x .entry) (y .entry) (seen .entry) (id .entry) (parent .entry) (num .entry);
-      exit = given (x .exit) (y .exit) (seen .exit) (id .exit) (parent .exit) (num .exit);
+      entry = given (x .entry) (y .entry) (seen .entry) (id .entry) (parent .entry) (num .entry) (energy .entry);
+      exit = given (x .exit) (y .exit) (seen .exit) (id .exit) (parent .exit) (num .exit) (energy .exit);
     }

@@ -22,9 +22,10 @@ pub record Cols : Type 0 where
   pub id : List ℕ
   pub parent : List ℕ
   pub num : List ℕ
+  pub energy : List ℕ
 
-abbrev pub cols : List Float → List Float → List ℕ → List ℕ → List ℕ → List ℕ → Cols
-cols xs ys ss is ps ns = record { x = xs; y = ys; seen = ss; id = is; parent = ps; num = ns }
+abbrev pub cols : List Float → List Float → List ℕ → List ℕ → List ℕ → List ℕ → List ℕ → Cols
+cols xs ys ss is ps ns ws = record { x = xs; y = ys; seen = ss; id = is; parent = ps; num = ns; energy = ws }
 
 -- what stands at place i of the columns
 abbrev pub row : Cols → ℕ → Entry
@@ -36,6 +37,7 @@ row c i =
       id = getD (c .id) i 0;
       parent = getD (c .parent) i 0;
       num = getD (c .num) i 0;
+      energy = getD (c .energy) i 0;
     }
 
 -- the same done to each column
@@ -48,6 +50,7 @@ each f c =
       id = f ℕ (c .id);
       parent = f ℕ (c .parent);
       num = f ℕ (c .num);
+      energy = f ℕ (c .energy);
     }
 
 -- and with each column of others
@@ -60,6 +63,7 @@ each2 f c d =
       id = f ℕ (c .id) (d .id);
       parent = f ℕ (c .parent) (d .parent);
       num = f ℕ (c .num) (d .num);
+      energy = f ℕ (c .energy) (d .energy);
     }
 
 -- an entry stored, field by field
@@ -72,14 +76,15 @@ putAll c i e =
       id = set (c .id) i (e .id);
       parent = set (c .parent) i (e .parent);
       num = set (c .num) i (e .num);
+      energy = set (c .energy) i (e .energy);
     }
 
 -- other marks, and other parents
 abbrev pub withSeen : Cols → List ℕ → Cols
-withSeen c l = record { x = c .x; y = c .y; seen = l; id = c .id; parent = c .parent; num = c .num }
+withSeen c l = record { x = c .x; y = c .y; seen = l; id = c .id; parent = c .parent; num = c .num; energy = c .energy }
 
 abbrev pub withParent : Cols → List ℕ → Cols
-withParent c l = record { x = c .x; y = c .y; seen = c .seen; id = c .id; parent = l; num = c .num }
+withParent c l = record { x = c .x; y = c .y; seen = c .seen; id = c .id; parent = l; num = c .num; energy = c .energy }
 
 -- the columns are as long as each other
 pub record Even (c : Cols) : Type 0 where
@@ -88,6 +93,7 @@ pub record Even (c : Cols) : Type 0 where
   pub ei : length (c .id) ≡ length (c .x)
   pub ep : length (c .parent) ≡ length (c .x)
   pub en : length (c .num) ≡ length (c .x)
+  pub ew : length (c .energy) ≡ length (c .x)
 
 -- each column is as long as it was
 pub record Kept (old new : Cols) : Type 0 where
@@ -97,28 +103,29 @@ pub record Kept (old new : Cols) : Type 0 where
   pub ki : length (new .id) ≡ length (old .id)
   pub kp : length (new .parent) ≡ length (old .parent)
   pub kn : length (new .num) ≡ length (old .num)
+  pub kw : length (new .energy) ≡ length (old .energy)
 
 pub kept-then : (a b c : Cols) → Kept b c → Kept a b → Kept a c
 kept-then a b c k l =
-    record { kx = k .kx ∙ l .kx; ky = k .ky ∙ l .ky; ks = k .ks ∙ l .ks; ki = k .ki ∙ l .ki; kp = k .kp ∙ l .kp; kn = k .kn ∙ l .kn }
+    record { kx = k .kx ∙ l .kx; ky = k .ky ∙ l .ky; ks = k .ks ∙ l .ks; ki = k .ki ∙ l .ki; kp = k .kp ∙ l .kp; kn = k .kn ∙ l .kn; kw = k .kw ∙ l .kw }
 
 pub kept-mark : (c : Cols) (i a : ℕ) → Kept c (withSeen c (set (c .seen) i a))
-kept-mark c i a = record { kx = refl; ky = refl; ks = length-set (c .seen) i a; ki = refl; kp = refl; kn = refl }
+kept-mark c i a = record { kx = refl; ky = refl; ks = length-set (c .seen) i a; ki = refl; kp = refl; kn = refl; kw = refl }
 
 -- columns as long as each other, before and after: one length says all
 pub kept-even : (a b : Cols) → Even a → Even b → length (b .x) ≡ length (a .x) → Kept a b
 kept-even a b v w e =
-    record { kx = e; ky = omega arith; ks = omega arith; ki = omega arith; kp = omega arith; kn = omega arith }
+    record { kx = e; ky = omega arith; ks = omega arith; ki = omega arith; kp = omega arith; kn = omega arith; kw = omega arith }
 
 pub even-kept : (a b : Cols) → Kept a b → Even a → Even b
 even-kept a b k v =
-    record { ey = omega arith; es = omega arith; ei = omega arith; ep = omega arith; en = omega arith }
+    record { ey = omega arith; es = omega arith; ei = omega arith; ep = omega arith; en = omega arith; ew = omega arith }
 
 pub even-seen : (c : Cols) (l : List ℕ) → length l ≡ length (c .seen) → Even c → Even (withSeen c l)
-even-seen c l e v = record { ey = v .ey; es = e ∙ v .es; ei = v .ei; ep = v .ep; en = v .en }
+even-seen c l e v = record { ey = v .ey; es = e ∙ v .es; ei = v .ei; ep = v .ep; en = v .en; ew = v .ew }
 
 pub even-parent : (c : Cols) (l : List ℕ) → length l ≡ length (c .parent) → Even c → Even (withParent c l)
-even-parent c l e v = record { ey = v .ey; es = v .es; ei = v .ei; ep = e ∙ v .ep; en = v .en }
+even-parent c l e v = record { ey = v .ey; es = v .es; ei = v .ei; ep = e ∙ v .ep; en = v .en; ew = v .ew }
 
 pub even-mark : (c : Cols) (i a : ℕ) → Even c → Even (withSeen c (set (c .seen) i a))
 even-mark c i a v = even-seen c (set (c .seen) i a) (length-set (c .seen) i a) v
@@ -170,6 +177,7 @@ put-at c i e v h =
       getD-set-same (c .id) i (e .id) 0 (let q : i < length (c .id) = omega arith in q),
       getD-set-same (c .parent) i (e .parent) 0 (let q : i < length (c .parent) = omega arith in q),
       getD-set-same (c .num) i (e .num) 0 (let q : i < length (c .num) = omega arith in q),
+      getD-set-same (c .energy) i (e .energy) 0 (let q : i < length (c .energy) = omega arith in q),
     )
 
 pub rows-set : (c : Cols) (i : ℕ) (e : Entry) → Even c → i < length (c .x) → rows (putAll c i e) ≡ set (rows c) i e
@@ -184,7 +192,7 @@ rows-set c i e v h =
         rw r (put-at c i e v h ∙ sym (getD-set-same (rows c) i e none m))
     by j k false q =
         let o = eqb-false j i q in
-        simp (getD-set-other (c .x) i j (e .x) nan o, getD-set-other (c .y) i j (e .y) nan o, getD-set-other (c .seen) i j (e .seen) 0 o, getD-set-other (c .id) i j (e .id) 0 o, getD-set-other (c .parent) i j (e .parent) 0 o, getD-set-other (c .num) i j (e .num) 0 o)
+        simp (getD-set-other (c .x) i j (e .x) nan o, getD-set-other (c .y) i j (e .y) nan o, getD-set-other (c .seen) i j (e .seen) 0 o, getD-set-other (c .id) i j (e .id) 0 o, getD-set-other (c .parent) i j (e .parent) 0 o, getD-set-other (c .num) i j (e .num) 0 o, getD-set-other (c .energy) i j (e .energy) 0 o)
         (sym (getD-set-other (rows c) i j e none o ∙ rows-entry c j k))
 
 -- a store that leaves the other columns as they are
@@ -206,10 +214,10 @@ module _ (c : Cols) (i : ℕ) (v : Even c) (h : i < length (c .x)) where
 
 -- f takes what stands at k to i
 pub each-row : (f : (A : Type 0) → List A → List A) (c : Cols) (i k : ℕ) → ((A : Type 0) (l : List A) (d : A) → getD (f A l) i d ≡ getD l k d) → row (each f c) i ≡ row c k
-each-row f c i k g = simp (g Float (c .x) nan, g Float (c .y) nan, g ℕ (c .seen) 0, g ℕ (c .id) 0, g ℕ (c .parent) 0, g ℕ (c .num) 0)
+each-row f c i k g = simp (g Float (c .x) nan, g Float (c .y) nan, g ℕ (c .seen) 0, g ℕ (c .id) 0, g ℕ (c .parent) 0, g ℕ (c .num) 0, g ℕ (c .energy) 0)
 
 pub each-same : (f g : (A : Type 0) → List A → List A) (c : Cols) → ((A : Type 0) (l : List A) → f A l ≡ g A l) → each f c ≡ each g c
-each-same f g c e = simp (e Float (c .x), e Float (c .y), e ℕ (c .seen), e ℕ (c .id), e ℕ (c .parent), e ℕ (c .num))
+each-same f g c e = simp (e Float (c .x), e Float (c .y), e ℕ (c .seen), e ℕ (c .id), e ℕ (c .parent), e ℕ (c .num), e ℕ (c .energy))
 
 -- what is done to each of two columns, and then again: h to the first, or the second itself
 module _ (f : (A : Type 0) → List A → List A → List A) (g : (A : Type 0) → List A → List A) (c d : Cols) (v : Even c) where
@@ -222,6 +230,7 @@ module _ (f : (A : Type 0) → List A → List A → List A) (g : (A : Type 0) �
         e ℕ (c .id) (d .id) (v .ei),
         e ℕ (c .parent) (d .parent) (v .ep),
         e ℕ (c .num) (d .num) (v .en),
+        e ℕ (c .energy) (d .energy) (v .ew),
       )
 
   pub each2-second : ((A : Type 0) (l q : List A) → length l ≡ length (c .x) → g A (f A l q) ≡ q) → each g (each2 f c d) ≡ d
@@ -233,13 +242,14 @@ module _ (f : (A : Type 0) → List A → List A → List A) (g : (A : Type 0) �
         e ℕ (c .id) (d .id) (v .ei),
         e ℕ (c .parent) (d .parent) (v .ep),
         e ℕ (c .num) (d .num) (v .en),
+        e ℕ (c .energy) (d .energy) (v .ew),
       )
 
 -- columns as long as each other come out so
 pub even-each : (f : (A : Type 0) → List A → List A) (g : ℕ → ℕ) (c : Cols) → ((A : Type 0) (l : List A) → length (f A l) ≡ g (length l)) → Even c → Even (each f c)
 even-each f g c e v =
     let by : (A : Type 0) (l : List A) → length l ≡ length (c .x) → length (f A l) ≡ length (f Float (c .x)) = λ A l q. e A l ∙ ap g q ∙ sym (e Float (c .x)) in
-    record { ey = by Float (c .y) (v .ey); es = by ℕ (c .seen) (v .es); ei = by ℕ (c .id) (v .ei); ep = by ℕ (c .parent) (v .ep); en = by ℕ (c .num) (v .en) }
+    record { ey = by Float (c .y) (v .ey); es = by ℕ (c .seen) (v .es); ei = by ℕ (c .id) (v .ei); ep = by ℕ (c .parent) (v .ep); en = by ℕ (c .num) (v .en); ew = by ℕ (c .energy) (v .ew) }
 
 -- ---- the columns of the rows
 

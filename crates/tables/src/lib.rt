@@ -1,5 +1,5 @@
 // What a build is given and what it leaves: the options, the state, an entry of a table, the ids of clusters and the radius of a zoom.
-// The tables stand in six lent columns; an entry is read and written as one record of these six.
+// The tables stand in seven lent columns; an entry is read and written as one record of these seven.
 use range::CoordinateSystem;
 use range::DataRange;
 use range::Setting;
@@ -47,6 +47,7 @@ pub struct Entry {
     pub id: u32,
     pub parent: u32,
     pub num: u32,
+    pub energy: u64,
 }
 
 // An offset or a scale: this number, where one is given.
@@ -259,10 +260,11 @@ pub fn entry_at(
     id: &[u32],
     parent: &[u32],
     num: &[u32],
+    energy: &[u64],
     i: usize,
 ) -> Entry
-    requires { let c = given x y seen id parent num in ⌜ Even c × (i < length (c .x)) ⌝ }
-    ensures { λ r. let c = lentCols x y seen id parent num in ⌜ r ≡ entry (rows (c .entry)) i ⌝ }
+    requires { let c = given x y seen id parent num energy in ⌜ Even c × (i < length (c .x)) ⌝ }
+    ensures { λ r. let c = lentCols x y seen id parent num energy in ⌜ r ≡ entry (rows (c .entry)) i ⌝ }
 {
     Entry {
         x: x[i],
@@ -271,6 +273,7 @@ pub fn entry_at(
         id: id[i],
         parent: parent[i],
         num: num[i],
+        energy: energy[i],
     }
 }
 
@@ -282,11 +285,12 @@ pub fn put_entry(
     id: &mut [u32],
     parent: &mut [u32],
     num: &mut [u32],
+    energy: &mut [u64],
     i: usize,
     e: Entry,
 )
-    requires { let c = given x y seen id parent num in ⌜ Even c × (i < length (c .x)) ⌝ }
-    ensures { λ _. let c = lentCols x y seen id parent num in ⌜ rows (c .exit) ≡ set (rows (c .entry)) i e ⌝ }
+    requires { let c = given x y seen id parent num energy in ⌜ Even c × (i < length (c .x)) ⌝ }
+    ensures { λ _. let c = lentCols x y seen id parent num energy in ⌜ rows (c .exit) ≡ set (rows (c .entry)) i e ⌝ }
 {
     x[i] = e.x;
     y[i] = e.y;
@@ -294,6 +298,7 @@ pub fn put_entry(
     id[i] = e.id;
     parent[i] = e.parent;
     num[i] = e.num;
+    energy[i] = e.energy;
 }
 
 // The id of the cluster made at the place `origin` of the table zoom + 1, in a build of n points.

@@ -28,7 +28,7 @@ pub data Asked : Type 0 where
   refused : Answer → Asked
   told : Bool → List Item → Asked
 
--- the refusals in 01's order: the state over the eight columns (11), no such tile (7)
+-- the refusals in 01's order: the state over the nine columns (11), no such tile (7)
 unfoldable pub asked : State → Columns → ℕ → ℕ → ℕ → Asked
 asked s c z x y =
     cond (not (stateOk s (roomOf c))) (refused Spoiled)

@@ -52,6 +52,7 @@ fn list_used(
     id: &[u32],
     parent: &[u32],
     num: &[u32],
+    energy: &[u64],
     ids: &[u32],
     coords: &[f64],
     z: u8,
@@ -61,10 +62,10 @@ fn list_used(
     px: &mut [i64],
     py: &mut [i64],
 ) -> Ran
-    requires { let c = givenColumns x y seen id parent num ids coords in ⌜ (stateOk s (roomOf c) ≡ true) × IsTile z tx ty ⌝ }
+    requires { let c = givenColumns x y seen id parent num energy ids coords in ⌜ (stateOk s (roomOf c) ≡ true) × IsTile z tx ty ⌝ }
     requires { ⌜ (now starts ≡ s .starts) × (now lens ≡ s .lens) ⌝ }
     ensures { λ r.
-        let c = lentColumns x y seen id parent num ids coords in
+        let c = lentColumns x y seen id parent num energy ids coords in
         ⌜ left r (new out) (new px) (new py) ≡ run (tableFor s c z) 0 (visitsFor s c z tx ty) (old out) (old px) (old py) ⌝ }
 {
     let o = s.options;
@@ -84,6 +85,7 @@ fn list_used(
         &id[a..e],
         &parent[a..e],
         &num[a..e],
+        &energy[a..e],
         &ids[a..e],
         &coords[c..d],
         out,
@@ -105,6 +107,7 @@ pub fn tile_lent(
     id: &[u32],
     parent: &[u32],
     num: &[u32],
+    energy: &[u64],
     ids: &[u32],
     coords: &[f64],
     z: u8,
@@ -116,7 +119,7 @@ pub fn tile_lent(
 ) -> Answer
     ensures { λ r.
         let s = stateOf options count (old starts) (old lens) in
-        let c = lentColumns x y seen id parent num ids coords in
+        let c = lentColumns x y seen id parent num energy ids coords in
         ⌜ outcome r (new places) (new px) (new py) ≡ tiled s c z tx ty (old places) (old px) (old py) ⌝ }
 {
     let s = State {
@@ -128,7 +131,7 @@ pub fn tile_lent(
     if !s.is_sound_by(
         starts,
         lens,
-        asking::room(x, y, seen, id, parent, num, ids, coords),
+        asking::room(x, y, seen, id, parent, num, energy, ids, coords),
     ) {
         return Answer::Spoiled;
     }
@@ -146,6 +149,7 @@ pub fn tile_lent(
         id,
         parent,
         num,
+        energy,
         ids,
         coords,
         z,
@@ -169,6 +173,7 @@ pub fn tile(
     id: &[u32],
     parent: &[u32],
     num: &[u32],
+    energy: &[u64],
     ids: &[u32],
     coords: &[f64],
     z: u8,
@@ -179,7 +184,7 @@ pub fn tile(
     py: &mut [i64],
 ) -> Answer
     ensures { λ r.
-        let c = lentColumns x y seen id parent num ids coords in
+        let c = lentColumns x y seen id parent num energy ids coords in
         ⌜ outcome r (new places) (new px) (new py) ≡ tiled s c z tx ty (old places) (old px) (old py) ⌝ }
 {
     let starts = s.starts;
@@ -195,6 +200,7 @@ pub fn tile(
         id,
         parent,
         num,
+        energy,
         ids,
         coords,
         z,
@@ -217,16 +223,17 @@ fn tally_used(
     id: &[u32],
     parent: &[u32],
     num: &[u32],
+    energy: &[u64],
     ids: &[u32],
     coords: &[f64],
     z: u8,
     tx: u32,
     ty: u32,
 ) -> Running
-    requires { let c = givenColumns x y seen id parent num ids coords in ⌜ (stateOk s (roomOf c) ≡ true) × IsTile z tx ty ⌝ }
+    requires { let c = givenColumns x y seen id parent num energy ids coords in ⌜ (stateOk s (roomOf c) ≡ true) × IsTile z tx ty ⌝ }
     requires { ⌜ (now starts ≡ s .starts) × (now lens ≡ s .lens) ⌝ }
     ensures { λ r.
-        let c = lentColumns x y seen id parent num ids coords in
+        let c = lentColumns x y seen id parent num energy ids coords in
         ⌜ r ≡ runningOf (weightIn z tx ty) (tableFor s c z) (visitsFor s c z tx ty) ⌝ }
 {
     let o = s.options;
@@ -246,6 +253,7 @@ fn tally_used(
         &id[a..e],
         &parent[a..e],
         &num[a..e],
+        &energy[a..e],
         &ids[a..e],
         &coords[c..d],
     )
@@ -273,6 +281,7 @@ pub fn tally_lent(
     id: &[u32],
     parent: &[u32],
     num: &[u32],
+    energy: &[u64],
     ids: &[u32],
     coords: &[f64],
     z: u8,
@@ -281,7 +290,7 @@ pub fn tally_lent(
 ) -> Tally
     ensures { λ r.
         let s = stateOf options count (old starts) (old lens) in
-        let c = lentColumns x y seen id parent num ids coords in
+        let c = lentColumns x y seen id parent num energy ids coords in
         ⌜ r ≡ tallied s c z tx ty ⌝ }
 {
     let s = State {
@@ -293,7 +302,7 @@ pub fn tally_lent(
     if !s.is_sound_by(
         starts,
         lens,
-        asking::room(x, y, seen, id, parent, num, ids, coords),
+        asking::room(x, y, seen, id, parent, num, energy, ids, coords),
     ) {
         return Tally::Spoiled;
     }
@@ -310,6 +319,7 @@ pub fn tally_lent(
         id,
         parent,
         num,
+        energy,
         ids,
         coords,
         z,
@@ -328,6 +338,7 @@ pub fn tally(
     id: &[u32],
     parent: &[u32],
     num: &[u32],
+    energy: &[u64],
     ids: &[u32],
     coords: &[f64],
     z: u8,
@@ -335,7 +346,7 @@ pub fn tally(
     ty: u32,
 ) -> Tally
     ensures { λ r.
-        let c = lentColumns x y seen id parent num ids coords in
+        let c = lentColumns x y seen id parent num energy ids coords in
         ⌜ r ≡ tallied s c z tx ty ⌝ }
 {
     let starts = s.starts;
@@ -351,6 +362,7 @@ pub fn tally(
         id,
         parent,
         num,
+        energy,
         ids,
         coords,
         z,

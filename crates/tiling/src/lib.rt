@@ -239,16 +239,17 @@ fn entry_named(
     id: &[u32],
     parent: &[u32],
     num: &[u32],
+    energy: &[u64],
     p: u32,
 ) -> Named
-    requires { ⌜ Even (given x y seen id parent num) ⌝ }
-    ensures { λ r. let t = rows (lentCols x y seen id parent num .entry) in ⌜ r ≡ namedAt t p ⌝ }
+    requires { ⌜ Even (given x y seen id parent num energy) ⌝ }
+    ensures { λ r. let t = rows (lentCols x y seen id parent num energy .entry) in ⌜ r ≡ namedAt t p ⌝ }
 {
     let k = index(p);
     if x.len() <= k {
         return Named::Bad;
     }
-    let e = tables::entry_at(x, y, seen, id, parent, num, k);
+    let e = tables::entry_at(x, y, seen, id, parent, num, energy, k);
     if !floats::in_unit(e.x) {
         return Named::Bad;
     }
@@ -306,6 +307,7 @@ fn list_by(
     id: &[u32],
     parent: &[u32],
     num: &[u32],
+    energy: &[u64],
     ids: &[u32],
     coords: &[f64],
     at: usize,
@@ -314,10 +316,10 @@ fn list_by(
     py: &mut [i64],
 ) -> Ran
     requires { ⌜ Framed g ⌝ }
-    requires { ⌜ Even (given x y seen id parent num) ⌝ }
+    requires { ⌜ Even (given x y seen id parent num energy) ⌝ }
     requires { ⌜ (length (now x) ≤ length (now ids)) × (at + length (now x) < 2 ^ 64) ⌝ }
     ensures { λ r.
-        let c = lentCols x y seen id parent num .entry in
+        let c = lentCols x y seen id parent num energy .entry in
         let vs = walked g (length (c .x)) (old ids) (old coords) in
         ⌜ left r (new out) (new px) (new py) ≡ run (rows c) at vs (old out) (old px) (old py) ⌝ }
 {
@@ -338,7 +340,7 @@ fn list_by(
             return Ran::All(k);
         };
         let p = ids[c];
-        let Named::At(e) = entry_named(x, y, seen, id, parent, num, p) else {
+        let Named::At(e) = entry_named(x, y, seen, id, parent, num, energy, p) else {
             return Ran::Spoiled;
         };
         put_item(item_of(g, p, e), k, out, px, py);
@@ -358,6 +360,7 @@ pub fn list(
     id: &[u32],
     parent: &[u32],
     num: &[u32],
+    energy: &[u64],
     ids: &[u32],
     coords: &[f64],
     out: &mut [u32],
@@ -365,26 +368,71 @@ pub fn list(
     py: &mut [i64],
 ) -> Ran
     requires { ⌜ InBounds o × IsTile z tx ty ⌝ }
-    requires { ⌜ Even (given x y seen id parent num) ⌝ }
+    requires { ⌜ Even (given x y seen id parent num energy) ⌝ }
     requires { ⌜ (coordsOk (o .«node_size») (length (now x)) (length (now coords)) ≡ true) × (length (now x) ≤ length (now ids)) ⌝ }
     ensures { λ r.
-        let t = rows (lentCols x y seen id parent num .entry) in
+        let t = rows (lentCols x y seen id parent num energy .entry) in
         let vs = visited o z tx ty t (old ids) (old coords) in
         ⌜ left r (new out) (new px) (new py) ≡ run t 0 vs (old out) (old px) (old py) ⌝ }
 {
     let g = search_here(o, z, tx, ty);
-    let Ran::All(a) = list_by(g, x, y, seen, id, parent, num, ids, coords, 0, out, px, py) else {
+    let Ran::All(a) = list_by(
+        g,
+        x,
+        y,
+        seen,
+        id,
+        parent,
+        num,
+        energy,
+        ids,
+        coords,
+        0,
+        out,
+        px,
+        py,
+    ) else {
         return Ran::Spoiled;
     };
     if !is_at_end(o, z, tx) {
         return Ran::All(a);
     }
     let h = search_east(o, z, tx, ty);
-    let Ran::All(b) = list_by(h, x, y, seen, id, parent, num, ids, coords, a, out, px, py) else {
+    let Ran::All(b) = list_by(
+        h,
+        x,
+        y,
+        seen,
+        id,
+        parent,
+        num,
+        energy,
+        ids,
+        coords,
+        a,
+        out,
+        px,
+        py,
+    ) else {
         return Ran::Spoiled;
     };
     let w = search_west(o, z, tx, ty);
-    list_by(w, x, y, seen, id, parent, num, ids, coords, b, out, px, py)
+    list_by(
+        w,
+        x,
+        y,
+        seen,
+        id,
+        parent,
+        num,
+        energy,
+        ids,
+        coords,
+        b,
+        out,
+        px,
+        py,
+    )
 }
 
 // 2^j.
@@ -514,20 +562,21 @@ fn tally_one(
     id: &[u32],
     parent: &[u32],
     num: &[u32],
+    energy: &[u64],
     p: u32,
     few: bool,
     r: Running,
     marks: &mut [u8],
 ) -> Running
-    requires { ⌜ Even (given x y seen id parent num) ⌝ }
+    requires { ⌜ Even (given x y seen id parent num energy) ⌝ }
     requires { ⌜ marksFor few (length (now x)) ≤ 8 * length (now marks) ⌝ }
     requires { ⌜ (r .count < 4194304) × (r .sum ≤ r .count * 4294967295) ⌝ }
     ensures { λ a.
-        let t = rows (lentCols x y seen id parent num .entry) in
+        let t = rows (lentCols x y seen id parent num energy .entry) in
         ⌜ (heldOf a (new marks) ≡ counted few (weightBy h) t (r .count) (r .sum) (p ∷ []) (old marks))
         × (a .count ≤ r .count + 1) × (a .sum ≤ a .count * 4294967295) ⌝ }
 {
-    let Named::At(e) = entry_named(x, y, seen, id, parent, num, p) else {
+    let Named::At(e) = entry_named(x, y, seen, id, parent, num, energy, p) else {
         return Running {
             whole: false,
             sure: true,
@@ -565,17 +614,18 @@ fn tally_by(
     id: &[u32],
     parent: &[u32],
     num: &[u32],
+    energy: &[u64],
     ids: &[u32],
     coords: &[f64],
     few: bool,
     r: Running,
     marks: &mut [u8],
 ) -> Running
-    requires { ⌜ Even (given x y seen id parent num) ⌝ }
+    requires { ⌜ Even (given x y seen id parent num energy) ⌝ }
     requires { ⌜ (length (now x) ≤ length (now ids)) × (marksFor few (length (now x)) ≤ 8 * length (now marks)) ⌝ }
     requires { ⌜ (r .count + length (now x) ≤ 4194304) × (r .sum ≤ r .count * 4294967295) ⌝ }
     ensures { λ a.
-        let c = lentCols x y seen id parent num .entry in
+        let c = lentCols x y seen id parent num energy .entry in
         let ps = placesIn (walked g (length (c .x)) (old ids) (old coords)) in
         ⌜ (heldOf a (new marks) ≡ counted few (weightBy h) (rows c) (r .count) (r .sum) ps (old marks))
         × (a .count ≤ r .count + length (c .x)) × (a .sum ≤ a .count * 4294967295) ⌝ }
@@ -601,7 +651,20 @@ fn tally_by(
         let Step::Slot(c) = s else {
             return a;
         };
-        a = tally_one(h, x, y, seen, id, parent, num, ids[c], few, a, marks);
+        a = tally_one(
+            h,
+            x,
+            y,
+            seen,
+            id,
+            parent,
+            num,
+            energy,
+            ids[c],
+            few,
+            a,
+            marks,
+        );
         if !a.whole {
             return a;
         }
@@ -621,17 +684,18 @@ fn add_with(
     id: &[u32],
     parent: &[u32],
     num: &[u32],
+    energy: &[u64],
     ids: &[u32],
     coords: &[f64],
     few: bool,
     marks: &mut [u8],
 ) -> Running
     requires { ⌜ InBounds o × IsTile z tx ty ⌝ }
-    requires { ⌜ Even (given x y seen id parent num) ⌝ }
+    requires { ⌜ Even (given x y seen id parent num energy) ⌝ }
     requires { ⌜ (coordsOk (o .«node_size») (length (now x)) (length (now coords)) ≡ true) × (length (now x) ≤ length (now ids)) ⌝ }
     requires { ⌜ Blank few (length (now x)) (now marks) ⌝ }
     ensures { λ r.
-        let t = rows (lentCols x y seen id parent num .entry) in
+        let t = rows (lentCols x y seen id parent num energy .entry) in
         let vs = visited o z tx ty t (old ids) (old coords) in
         ⌜ ((few && not (r .sure)) ≡ false → r ≡ runningOf (weightIn z tx ty) t vs) ⌝ }
 {
@@ -652,6 +716,7 @@ fn add_with(
         id,
         parent,
         num,
+        energy,
         ids,
         coords,
         few,
@@ -674,6 +739,7 @@ fn add_with(
         id,
         parent,
         num,
+        energy,
         ids,
         coords,
         few,
@@ -693,6 +759,7 @@ fn add_with(
         id,
         parent,
         num,
+        energy,
         ids,
         coords,
         few,
@@ -713,14 +780,15 @@ fn add_all(
     id: &[u32],
     parent: &[u32],
     num: &[u32],
+    energy: &[u64],
     ids: &[u32],
     coords: &[f64],
 ) -> Running
     requires { ⌜ InBounds o × IsTile z tx ty ⌝ }
-    requires { ⌜ Even (given x y seen id parent num) ⌝ }
+    requires { ⌜ Even (given x y seen id parent num energy) ⌝ }
     requires { ⌜ (coordsOk (o .«node_size») (length (now x)) (length (now coords)) ≡ true) × (length (now x) ≤ length (now ids)) ⌝ }
     ensures { λ r.
-        let t = rows (lentCols x y seen id parent num .entry) in
+        let t = rows (lentCols x y seen id parent num energy .entry) in
         ⌜ r ≡ runningOf (weightIn z tx ty) t (visited o z tx ty t (old ids) (old coords)) ⌝ }
 {
     if x.len() <= 131072 {
@@ -736,6 +804,7 @@ fn add_all(
             id,
             parent,
             num,
+            energy,
             ids,
             coords,
             false,
@@ -754,6 +823,7 @@ fn add_all(
         id,
         parent,
         num,
+        energy,
         ids,
         coords,
         false,
@@ -785,18 +855,33 @@ pub fn add_up(
     id: &[u32],
     parent: &[u32],
     num: &[u32],
+    energy: &[u64],
     ids: &[u32],
     coords: &[f64],
 ) -> Running
     requires { ⌜ InBounds o × IsTile z tx ty ⌝ }
-    requires { ⌜ Even (given x y seen id parent num) ⌝ }
+    requires { ⌜ Even (given x y seen id parent num energy) ⌝ }
     requires { ⌜ (coordsOk (o .«node_size») (length (now x)) (length (now coords)) ≡ true) × (length (now x) ≤ length (now ids)) ⌝ }
     ensures { λ r.
-        let t = rows (lentCols x y seen id parent num .entry) in
+        let t = rows (lentCols x y seen id parent num energy .entry) in
         ⌜ r ≡ runningOf (weightIn z tx ty) t (visited o z tx ty t (old ids) (old coords)) ⌝ }
 {
     if is_crowded(z, x.len()) {
-        return add_all(o, z, tx, ty, x, y, seen, id, parent, num, ids, coords);
+        return add_all(
+            o,
+            z,
+            tx,
+            ty,
+            x,
+            y,
+            seen,
+            id,
+            parent,
+            num,
+            energy,
+            ids,
+            coords,
+        );
     }
     let few = 8192 < x.len();
     let mut marks = [0u8; 1024];
@@ -811,6 +896,7 @@ pub fn add_up(
         id,
         parent,
         num,
+        energy,
         ids,
         coords,
         few,
@@ -819,5 +905,19 @@ pub fn add_up(
     if a.sure {
         return a;
     }
-    add_all(o, z, tx, ty, x, y, seen, id, parent, num, ids, coords)
+    add_all(
+        o,
+        z,
+        tx,
+        ty,
+        x,
+        y,
+        seen,
+        id,
+        parent,
+        num,
+        energy,
+        ids,
+        coords,
+    )
 }

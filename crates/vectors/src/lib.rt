@@ -382,6 +382,21 @@ pub fn read_longs(m: usize, last: bool, column: &mut [i64]) -> bool
     true
 }
 
+// Reads m numbers into their column.
+pub fn read_numbers(m: usize, column: &mut [u64]) -> bool
+    requires { ⌜ m ≤ length (now column) ⌝ }
+{
+    let mut i = 0;
+    while i < m {
+        let Pattern::Bits(bits) = next_bits(false) else {
+            return false;
+        };
+        column[i] = bits;
+        i += 1;
+    }
+    true
+}
+
 // Reads how many floats there are and then these, as many as the column holds at the most.
 pub fn next_floats(column: &mut [f64]) -> Count
     ensures { λ r. ⌜ countIs (length (old column)) r ⌝ }
@@ -430,6 +445,19 @@ pub fn next_places(column: &mut [u32]) -> Count
     Count::Bad
 }
 
+// The same of numbers.
+pub fn next_numbers(column: &mut [u64]) -> Count
+    ensures { λ r. ⌜ countIs (length (old column)) r ⌝ }
+{
+    let Count::Is(n) = next_count(column.len(), false) else {
+        return Count::Bad;
+    };
+    if read_numbers(n, column) {
+        return Count::Is(n);
+    }
+    Count::Bad
+}
+
 // Whether two columns of places are the same, to their ends.
 pub fn same_places(want: &[u32], got: &[u32]) -> bool
     ensures { λ r. ⌜ r ≡ samePlaces (old want) (old got) ⌝ }
@@ -449,6 +477,23 @@ pub fn same_places(want: &[u32], got: &[u32]) -> bool
 
 // Whether two columns of bytes are the same, to their ends.
 pub fn same_bytes(want: &[u8], got: &[u8]) -> bool
+    ensures { λ r. ⌜ r ≡ samePlaces (old want) (old got) ⌝ }
+{
+    if want.len() != got.len() {
+        return false;
+    }
+    let mut i = 0;
+    while i < want.len() {
+        if want[i] != got[i] {
+            return false;
+        }
+        i += 1;
+    }
+    true
+}
+
+// Whether two columns of numbers are the same, to their ends.
+pub fn same_numbers(want: &[u64], got: &[u64]) -> bool
     ensures { λ r. ⌜ r ≡ samePlaces (old want) (old got) ⌝ }
 {
     if want.len() != got.len() {

@@ -31,23 +31,37 @@ pub fn children(
     id: &[u32],
     parent: &[u32],
     num: &[u32],
+    energy: &[u64],
     ids: &[u32],
     coords: &[f64],
     cid: u32,
     out: &mut [u32],
 ) -> Answer
     ensures { λ r.
-        let a = childrenOf s (lentColumns x y seen id parent num ids coords) cid in
+        let a = childrenOf s (lentColumns x y seen id parent num energy ids coords) cid in
         ⌜ (r ≡ answerOf a (length (old out))) × (new out ≡ columnOf a (old out)) ⌝ }
 {
-    let cap = asking::room(x, y, seen, id, parent, num, ids, coords);
+    let cap = asking::room(x, y, seen, id, parent, num, energy, ids, coords);
     match asking::find_target(s, cap, cid) {
         Target::Spoiled => Answer::Spoiled,
         Target::NoTree => Answer::NoTree,
         Target::NoCluster => Answer::NoCluster,
         Target::At { table, origin } => {
-            let g = asking::ring_of(s, cap, table, origin, x, y, seen, id, parent, num);
-            match kids::list_kids(g, x, y, seen, id, parent, num, ids, coords, cid, out) {
+            let g = asking::ring_of(s, cap, table, origin, x, y, seen, id, parent, num, energy);
+            match kids::list_kids(
+                g,
+                x,
+                y,
+                seen,
+                id,
+                parent,
+                num,
+                energy,
+                ids,
+                coords,
+                cid,
+                out,
+            ) {
                 Kids::Spoiled => Answer::Spoiled,
                 Kids::All(k) => {
                     if k == 0 {
@@ -111,6 +125,7 @@ fn fetch(
     id: &[u32],
     parent: &[u32],
     num: &[u32],
+    energy: &[u64],
     ids: &[u32],
     coords: &[f64],
     cid: u32,
@@ -118,12 +133,25 @@ fn fetch(
     origin: usize,
 ) -> Fetched
     requires { ⌜ Reached s cap table origin ⌝ }
-    requires { ⌜ cap ≤ roomOf (givenColumns x y seen id parent num ids coords) ⌝ }
-    ensures { λ r. ⌜ r ≡ fetchedAt s (lentColumns x y seen id parent num ids coords) cid table origin ⌝ }
+    requires { ⌜ cap ≤ roomOf (givenColumns x y seen id parent num energy ids coords) ⌝ }
+    ensures { λ r. ⌜ r ≡ fetchedAt s (lentColumns x y seen id parent num energy ids coords) cid table origin ⌝ }
 {
-    let g = asking::ring_of(s, cap, table, origin, x, y, seen, id, parent, num);
+    let g = asking::ring_of(s, cap, table, origin, x, y, seen, id, parent, num, energy);
     let mut one = [0u32; 1];
-    match kids::list_kids(g, x, y, seen, id, parent, num, ids, coords, cid, &mut one) {
+    match kids::list_kids(
+        g,
+        x,
+        y,
+        seen,
+        id,
+        parent,
+        num,
+        energy,
+        ids,
+        coords,
+        cid,
+        &mut one,
+    ) {
         Kids::Spoiled => Fetched::Spoiled,
         Kids::All(k) => {
             if k == 0 {
@@ -133,7 +161,7 @@ fn fetch(
                 return Fetched::Others;
             }
             let p = one[0] as usize;
-            let e = asking::entry_in(g.start, g.len, x, y, seen, id, parent, num, p);
+            let e = asking::entry_in(g.start, g.len, x, y, seen, id, parent, num, energy, p);
             if 1 < e.num {
                 return Fetched::Cluster(e.id);
             }
@@ -152,6 +180,7 @@ fn expand_from(
     id: &[u32],
     parent: &[u32],
     num: &[u32],
+    energy: &[u64],
     ids: &[u32],
     coords: &[f64],
     cid: u32,
@@ -159,9 +188,9 @@ fn expand_from(
     origin: usize,
 ) -> Expansion
     requires { ⌜ Reached s cap table origin ⌝ }
-    requires { ⌜ cap ≤ roomOf (givenColumns x y seen id parent num ids coords) ⌝ }
+    requires { ⌜ cap ≤ roomOf (givenColumns x y seen id parent num energy ids coords) ⌝ }
     ensures { λ r.
-        let c = lentColumns x y seen id parent num ids coords in
+        let c = lentColumns x y seen id parent num energy ids coords in
         ⌜ r ≡ expand s c (s .options .«max_zoom» + 1 - (table - 1)) (Target·At table origin) cid (table - 1) true ⌝ }
 {
     let o = s.options;
@@ -181,6 +210,7 @@ fn expand_from(
             id,
             parent,
             num,
+            energy,
             ids,
             coords,
             of,
@@ -226,13 +256,14 @@ pub fn expansion_zoom(
     id: &[u32],
     parent: &[u32],
     num: &[u32],
+    energy: &[u64],
     ids: &[u32],
     coords: &[f64],
     cid: u32,
 ) -> Expansion
-    ensures { λ r. ⌜ r ≡ zoomOf s (lentColumns x y seen id parent num ids coords) cid ⌝ }
+    ensures { λ r. ⌜ r ≡ zoomOf s (lentColumns x y seen id parent num energy ids coords) cid ⌝ }
 {
-    let cap = asking::room(x, y, seen, id, parent, num, ids, coords);
+    let cap = asking::room(x, y, seen, id, parent, num, energy, ids, coords);
     match asking::find_target(s, cap, cid) {
         Target::Spoiled => Expansion::Spoiled,
         Target::NoTree => Expansion::NoTree,
@@ -247,6 +278,7 @@ pub fn expansion_zoom(
                 id,
                 parent,
                 num,
+                energy,
                 ids,
                 coords,
                 cid,
@@ -334,6 +366,7 @@ fn enter(
     id: &[u32],
     parent: &[u32],
     num: &[u32],
+    energy: &[u64],
     ids: &[u32],
     coords: &[f64],
     e: Entry,
@@ -341,9 +374,9 @@ fn enter(
     out: &mut [u32],
 ) -> Walk
     requires { ⌜ Reached s (leg .cap) (leg .table) 0 ⌝ }
-    requires { ⌜ leg .cap ≤ roomOf (givenColumns x y seen id parent num ids coords) ⌝ }
+    requires { ⌜ leg .cap ≤ roomOf (givenColumns x y seen id parent num energy ids coords) ⌝ }
     ensures { λ r.
-        let c = lentColumns x y seen id parent num ids coords in
+        let c = lentColumns x y seen id parent num energy ids coords in
         ⌜ Opened s c (leg .limit) (leg .offset) (leg .table) (e .id) (so .skipped) (col (so .listed) (old out)) r (new out) ⌝ }
 {
     let to = asking::go_on(s, leg.table, e.id);
@@ -365,6 +398,7 @@ fn enter(
         id,
         parent,
         num,
+        energy,
         ids,
         coords,
         e.id,
@@ -384,6 +418,7 @@ fn walk_into(
     id: &[u32],
     parent: &[u32],
     num: &[u32],
+    energy: &[u64],
     ids: &[u32],
     coords: &[f64],
     cid: u32,
@@ -392,12 +427,24 @@ fn walk_into(
     out: &mut [u32],
 ) -> Walk
     requires { ⌜ Reached s (leg .cap) (leg .table) origin ⌝ }
-    requires { ⌜ leg .cap ≤ roomOf (givenColumns x y seen id parent num ids coords) ⌝ }
+    requires { ⌜ leg .cap ≤ roomOf (givenColumns x y seen id parent num energy ids coords) ⌝ }
     ensures { λ r.
-        let c = lentColumns x y seen id parent num ids coords in
+        let c = lentColumns x y seen id parent num energy ids coords in
         ⌜ Walked s c (leg .limit) (leg .offset) cid (leg .table) origin (was .skipped) (col (was .listed) (old out)) r (new out) ⌝ }
 {
-    let g = asking::ring_of(s, leg.cap, leg.table, origin, x, y, seen, id, parent, num);
+    let g = asking::ring_of(
+        s,
+        leg.cap,
+        leg.table,
+        origin,
+        x,
+        y,
+        seen,
+        id,
+        parent,
+        num,
+        energy,
+    );
     let mut any = false;
     let mut so = was;
     let mut page = [0usize; 16];
@@ -411,6 +458,7 @@ fn walk_into(
             id,
             parent,
             num,
+            energy,
             ids,
             coords,
             cid,
@@ -431,7 +479,22 @@ fn walk_into(
             } => {
                 let w = match fate_of(leg.offset, so.skipped, e.num) {
                     Fate::Entered => {
-                        enter(s, leg, x, y, seen, id, parent, num, ids, coords, e, so, out)
+                        enter(
+                            s,
+                            leg,
+                            x,
+                            y,
+                            seen,
+                            id,
+                            parent,
+                            num,
+                            energy,
+                            ids,
+                            coords,
+                            e,
+                            so,
+                            out,
+                        )
                     }
                     Fate::Listed => list_one(s.count, e.id, so, out),
                     Fate::Skipped(n) => skip_to(n, so),
@@ -463,6 +526,7 @@ fn list_none(
     id: &[u32],
     parent: &[u32],
     num: &[u32],
+    energy: &[u64],
     ids: &[u32],
     coords: &[f64],
     cid: u32,
@@ -470,8 +534,8 @@ fn list_none(
     origin: usize,
 ) -> Answer
     requires { ⌜ Reached s cap table origin ⌝ }
-    requires { ⌜ cap ≤ roomOf (givenColumns x y seen id parent num ids coords) ⌝ }
-    ensures { λ r. ⌜ r ≡ noneBy (fetchedAt s (lentColumns x y seen id parent num ids coords) cid table origin) ⌝ }
+    requires { ⌜ cap ≤ roomOf (givenColumns x y seen id parent num energy ids coords) ⌝ }
+    ensures { λ r. ⌜ r ≡ noneBy (fetchedAt s (lentColumns x y seen id parent num energy ids coords) cid table origin) ⌝ }
 {
     match fetch(
         s,
@@ -482,6 +546,7 @@ fn list_none(
         id,
         parent,
         num,
+        energy,
         ids,
         coords,
         cid,
@@ -504,6 +569,7 @@ pub fn leaves(
     id: &[u32],
     parent: &[u32],
     num: &[u32],
+    energy: &[u64],
     ids: &[u32],
     coords: &[f64],
     cid: u32,
@@ -512,10 +578,10 @@ pub fn leaves(
     out: &mut [u32],
 ) -> Answer
     ensures { λ r.
-        let a = leavesOf s (lentColumns x y seen id parent num ids coords) cid limit offset in
+        let a = leavesOf s (lentColumns x y seen id parent num energy ids coords) cid limit offset in
         ⌜ (r ≡ answerOf a (length (old out))) × (new out ≡ columnOf a (old out)) ⌝ }
 {
-    let cap = asking::room(x, y, seen, id, parent, num, ids, coords);
+    let cap = asking::room(x, y, seen, id, parent, num, energy, ids, coords);
     match asking::find_target(s, cap, cid) {
         Target::Spoiled => Answer::Spoiled,
         Target::NoTree => Answer::NoTree,
@@ -531,6 +597,7 @@ pub fn leaves(
                     id,
                     parent,
                     num,
+                    energy,
                     ids,
                     coords,
                     cid,
@@ -557,6 +624,7 @@ pub fn leaves(
                 id,
                 parent,
                 num,
+                energy,
                 ids,
                 coords,
                 cid,

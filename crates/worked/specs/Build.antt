@@ -11,23 +11,23 @@ use lib.Ieee.{add, sub, mul, div, ofBits, le, lt, eq}
 use Rattle.range.specs.Range.{offsetOf, scaleOf, normalized, inBounds, systemInBounds, converted}
 use Rattle.kdsort.specs.Shape.{shape, split}
 use Rattle.kdsort.specs.Sort.{filled, sorted, indexed}
-use Rattle.kdbush.specs.declared.BuildReply.the-variants.{Done, Tables}
 use Rattle.kdbush.specs.Reply.{firstOutside}
 use Rattle.tables.specs.declared.State.{State}
 use Rattle.tables.specs.Options.{optionsOk}
 use Rattle.tables.specs.Sound.{packed, stateOk}
 use Rattle.tables.specs.Entries.{Table, never, unset}
 use Rattle.zooms.specs.Zooms.{indexOf, slotsOf, joined, joinedIds, joinedCo, starts, lens}
-use Rattle.supercluster.specs.Build.{convertedAll, Lent, written, stateOf, roomy, checked, Outcome, outcome, byReply, loaded}
+use Rattle.supercluster.specs.declared.LoadReply.the-variants.{Done, Tables}
+use Rattle.supercluster.specs.Build.{convertedAll, Lent, firstOver, written, stateOf, roomy, checked, Outcome, outcome, byReply, loaded}
 use Rattle.asking.specs.Columns.{Columns, columns, roomOf}
-use Rattle.worked.specs.Tables.{b, at, options, xs, ys, shown, tables-are}
+use Rattle.worked.specs.Tables.{b, at, options, xs, ys, ws, shown, tables-are}
 use Rattle.answers.specs.Stored.{columnsOf}
 
 -- ---- the build, and what a question is lent of it
 
 -- what `load` replies and leaves of 01's four lamps, in these columns
 abbrev pub built : Lent → Outcome
-built l = loaded (options 64) xs ys l
+built l = loaded (options 64) xs ys ws l
 
 -- its state
 abbrev pub stateIn : Lent → State
@@ -60,6 +60,7 @@ after l =
         id = 0 ∷ 1 ∷ 2 ∷ 3 ∷ 6 ∷ 70 ∷ 5 ∷ drop 7 (c .id);
         parent = 6 ∷ 6 ∷ 70 ∷ 70 ∷ 5 ∷ 5 ∷ unset ∷ drop 7 (c .parent);
         num = 1 ∷ 1 ∷ 1 ∷ 1 ∷ 2 ∷ 2 ∷ 4 ∷ drop 7 (c .num);
+        energy = 10 ∷ 20 ∷ 30 ∷ 40 ∷ 30 ∷ 70 ∷ 100 ∷ drop 7 (c .energy);
       };
       ids = 0 ∷ 1 ∷ 2 ∷ 3 ∷ 0 ∷ 1 ∷ 0 ∷ drop 7 (l .ids);
       coords = p ∷ h ∷ q ∷ h ∷ r ∷ h ∷ r ∷ h ∷ u ∷ h ∷ r ∷ h ∷ v ∷ h ∷ drop 14 (l .coords);
@@ -71,8 +72,9 @@ abbrev pub held : Lent → Columns
 held l = columnsOf (after l)
 
 -- columns of 12 entries are long enough
-pub accepted : (l : Lent) → roomy 12 l ≡ true → checked (options 64) xs ys l ≡ Done
-unfolding checked optionsOk systemInBounds inBounds firstOutside convertedAll converted normalized offsetOf scaleOf add sub mul div ofBits le lt options xs ys b
+pub accepted : (l : Lent) → roomy 12 l ≡ true → checked (options 64) xs ys ws l ≡ Done
+unfolding checked optionsOk systemInBounds inBounds firstOutside convertedAll converted normalized offsetOf scaleOf add sub mul div
+    ofBits le lt options xs ys ws b firstOver
 accepted l h = ap (λ (c : Bool). cond c Done Tables) h
 
 -- the tables that 01 prints, packed in the columns, each with its index
@@ -88,13 +90,13 @@ written-shown l = refl
 pub built-is : (l : Lent) → roomy 12 l ≡ true → built l ≡ outcome (record { reply = Done; state = state }) (after l)
 unfolding loaded options xs
 built-is l h =
-    ap (byReply (options 64) xs ys l) (accepted l h)
+    ap (byReply (options 64) xs ys ws l) (accepted l h)
     ∙ ap (λ (ts : List Table). outcome (record { reply = Done; state = stateOf (options 64) 4 ts }) (written 64 4 ts l)) tables-are
     ∙ (λ i. outcome (record { reply = Done; state = state-of-shown i }) (written-shown l i))
 
 -- ---- the state is sound over them
 
--- each of the eight columns holds the seven entries
+-- each of the columns holds the seven entries
 both : (n c d : ℕ) → n ≤ c → n ≤ d → n ≤ min c d
 both n c d h k = omega arith
 
@@ -106,7 +108,7 @@ unfolding after
 room-is l =
     both 7 _ _
     (both 7 _ _ (both 7 _ _ (omega arith) (omega arith)) (both 7 _ _ (omega arith) (omega arith)))
-    (both 7 _ _ (both 7 _ _ (omega arith) (omega arith)) (both 7 _ _ (omega arith) (halved _ (omega arith))))
+    (both 7 _ _ (both 7 _ _ (omega arith) (omega arith)) (both 7 _ _ (omega arith) (both 7 _ _ (omega arith) (halved _ (omega arith)))))
 
 pub sound : (l : Lent) → stateOk state (roomOf (held l)) ≡ true
 unfolding stateOk packed optionsOk systemInBounds inBounds offsetOf scaleOf ofBits le lt eq sub state options b

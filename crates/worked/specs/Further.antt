@@ -15,10 +15,9 @@ use Rattle.kdsort.specs.Cols.{swapCo, swapIds}
 use Rattle.kdsort.specs.Shape.{shape, split}
 use Rattle.kdsort.specs.Select.{up, down, passes, parted, sel, selected}
 use Rattle.kdsort.specs.Sort.{filled, sorted, indexed}
-use Rattle.kdbush.specs.declared.BuildReply.the-variants.{Done, Tables}
 use Rattle.kdslots.specs.Slots.{scanned, slots}
 use Rattle.kdbush.specs.Run.{places}
-use Rattle.kdbush.specs.Reply.{buildNumber, firstOutside}
+use Rattle.kdbush.specs.Reply.{firstOutside}
 use Rattle.tables.specs.declared.Options.{Options}
 use Rattle.tables.specs.Options.{optionsOk}
 use Rattle.tables.specs.Entries.{idsOf, numsOf}
@@ -27,7 +26,8 @@ use Rattle.tables.specs.Rows.{rows}
 use Rattle.tables.specs.Sound.{packed, stateOk}
 use Rattle.zoom.specs.Zoom.{moreOf, absorbOne, absorb, copyOne, copyAll, visit, scanOne, scanFrom, cluster}
 use Rattle.zooms.specs.Zooms.{indexOf, slotsOf, run, joined, joinedIds, joinedCo, starts, lens}
-use Rattle.supercluster.specs.Build.{convertedAll, finest, tablesOf, Lent, written, roomy, checked, Outcome, loaded}
+use Rattle.supercluster.specs.declared.LoadReply.the-variants.{Done, Tables}
+use Rattle.supercluster.specs.Build.{convertedAll, finest, tablesOf, Lent, written, roomy, firstOver, checked, loadNumber, Outcome, loaded}
 use Rattle.asking.specs.declared.Answer.the-variants.{NoRoom}
 use Rattle.tiling.specs.declared.Tally.the-variants.{Sum}
 use Rattle.tiling.specs.Floor.{homeOf}
@@ -35,7 +35,7 @@ use Rattle.tiling.specs.Tile.{here, wraps, east, west, visited, listed, whole, 
 use Rattle.tiling.specs.Tally.{member, distinct, total, tallyOf}
 use Rattle.tiles.specs.Tallied.{tallied}
 use Rattle.tiles.specs.Asked.{Asked, told, asked, outcome, outcomeOf, tiled}
-use Rattle.worked.specs.Tables.{b, options, xs, ys, zeros}
+use Rattle.worked.specs.Tables.{b, options, xs, ys, ws, zeros}
 use Rattle.answers.specs.Stored.{columnsOf}
 
 -- ---- max_zoom 30 built, 31 refused 1; node_size 0 refused 1
@@ -57,33 +57,41 @@ with z k =
     }
 
 -- 32 tables of four lamps
-pub zoom-30 : (l : Lent) → roomy 128 l ≡ true → checked (with 30 2) xs ys l ≡ Done
-unfolding checked optionsOk systemInBounds inBounds firstOutside convertedAll converted normalized offsetOf scaleOf add sub mul div ofBits le lt with options xs ys b
+pub zoom-30 : (l : Lent) → roomy 128 l ≡ true → checked (with 30 2) xs ys ws l ≡ Done
+unfolding checked optionsOk systemInBounds inBounds firstOutside convertedAll converted normalized offsetOf scaleOf add sub mul div
+    ofBits le lt with options xs ys ws b firstOver
 zoom-30 l h = ap (λ (c : Bool). cond c Done Tables) h
 
-pub zoom-31 : (l : Lent) → buildNumber (checked (with 31 2) xs ys l) ≡ 1
+pub zoom-31 : (l : Lent) → loadNumber (checked (with 31 2) xs ys ws l) ≡ 1
 unfolding checked optionsOk systemInBounds inBounds offsetOf scaleOf sub ofBits le lt with options b
 zoom-31 l = refl
 
-pub size-0 : (l : Lent) → buildNumber (checked (options 0) xs ys l) ≡ 1
+pub size-0 : (l : Lent) → loadNumber (checked (options 0) xs ys ws l) ≡ 1
 unfolding checked optionsOk systemInBounds inBounds offsetOf scaleOf sub ofBits le lt options b
 size-0 l = refl
 
 -- ---- with min_points 3 all four lamps stay single down to table 0
 
-pub single : (map idsOf (tablesOf (with 1 3) xs ys) ≡ replicate 3 (0 ∷ 1 ∷ 2 ∷ 3 ∷ [])) × (map numsOf (tablesOf (with 1 3) xs ys) ≡ replicate 3 (replicate 4 1))
-unfolding tablesOf run convertedAll finest slotsOf indexOf radiusAt cluster scanFrom scanOne visit copyAll copyOne absorb absorbOne moreOf converted normalized offsetOf scaleOf filled sorted indexed selected sel parted passes up down swapCo swapIds add sub mul div ofInt ofBits le lt eq shape split scanned slots places with options xs ys b
+pub single : (map idsOf (tablesOf (with 1 3) xs ys ws) ≡ replicate 3 (0 ∷ 1 ∷ 2 ∷ 3 ∷ []))
+    × (map numsOf (tablesOf (with 1 3) xs ys ws) ≡ replicate 3 (replicate 4 1))
+unfolding tablesOf run convertedAll finest slotsOf indexOf radiusAt cluster scanFrom scanOne visit copyAll copyOne absorb absorbOne
+    moreOf converted normalized offsetOf scaleOf filled sorted indexed selected sel parted passes up down swapCo swapIds add sub mul div
+    ofInt ofBits le lt eq shape split scanned slots places with options xs ys ws b
 single = (refl, refl)
 
 -- ---- a lone lamp at (1, 0.5)
 
 abbrev pub lone : Outcome
-lone = loaded (options 64) (one ∷ []) (half ∷ []) (zeros 3)
+lone = loaded (options 64) (one ∷ []) (half ∷ []) (9 ∷ []) (zeros 3)
 
 -- at (512,256), and again at (0,256)
 pub tile-of-lone : asked (lone .reply .state) (columnsOf (lone .columns)) 0 0 0
     ≡ told true (record { place = 0; x = pos 512; y = pos 256 } ∷ record { place = 0; x = pos 0; y = pos 256 } ∷ [])
-unfolding loaded checked zeros written joined joinedIds joinedCo starts lens tablesOf run convertedAll finest slotsOf indexOf radiusAt cluster scanFrom scanOne visit copyAll copyOne absorb absorbOne moreOf converted normalized offsetOf scaleOf filled sorted indexed selected sel parted passes up down swapCo swapIds firstOutside asked stateOk packed optionsOk systemInBounds inBounds visited here wraps east west listed whole rounded away neg add sub mul div ofInt ofBits le lt eq shape split scanned slots places rows options b
+unfolding loaded checked firstOver zeros written joined joinedIds joinedCo starts lens tablesOf run convertedAll finest slotsOf indexOf
+    radiusAt cluster scanFrom scanOne visit copyAll copyOne absorb absorbOne moreOf converted normalized offsetOf scaleOf filled sorted
+    indexed selected sel parted passes up down swapCo swapIds firstOutside asked stateOk packed optionsOk systemInBounds inBounds
+    visited here wraps east west listed whole rounded away neg add sub mul div ofInt ofBits le lt eq shape split scanned slots places
+    rows options b
 tile-of-lone = refl
 
 -- the shortest column has room for one of the two
@@ -93,7 +101,11 @@ lone-no-room = ap (λ (a : Asked). outcomeOf a (9 ∷ 9 ∷ []) (pos 9 ∷ []) (
 
 -- listed twice, and counted once
 pub tally-of-lone : tallied (lone .reply .state) (columnsOf (lone .columns)) 0 0 0 ≡ Sum 1
-unfolding loaded checked zeros written joined joinedIds joinedCo starts lens tablesOf run convertedAll finest slotsOf indexOf radiusAt cluster scanFrom scanOne visit copyAll copyOne absorb absorbOne moreOf converted normalized offsetOf scaleOf filled sorted indexed selected sel parted passes up down swapCo swapIds firstOutside tallied tallyOf total distinct member homeOf stateOk packed optionsOk systemInBounds inBounds visited here wraps east west listed whole rounded away neg add sub mul div ofInt ofBits le lt eq shape split scanned slots places rows options b
+unfolding loaded checked firstOver zeros written joined joinedIds joinedCo starts lens tablesOf run convertedAll finest slotsOf indexOf
+    radiusAt cluster scanFrom scanOne visit copyAll copyOne absorb absorbOne moreOf converted normalized offsetOf scaleOf filled sorted
+    indexed selected sel parted passes up down swapCo swapIds firstOutside tallied tallyOf total distinct member homeOf stateOk packed
+    optionsOk systemInBounds inBounds visited here wraps east west listed whole rounded away neg add sub mul div ofInt ofBits le lt eq
+    shape split scanned slots places rows options b
 tally-of-lone = refl
 
 -- ---- the same lamp on a site plan, with the strips for longitude only: at (512,256) alone (02, #114)
@@ -112,17 +124,21 @@ onPlan o =
     }
 
 abbrev pub planned : Outcome
-planned = loaded (onPlan (options 64)) (one ∷ []) (half ∷ []) (zeros 3)
+planned = loaded (onPlan (options 64)) (one ∷ []) (half ∷ []) (9 ∷ []) (zeros 3)
 
 pub tile-of-planned : asked (planned .reply .state) (columnsOf (planned .columns)) 0 0 0
     ≡ told true (record { place = 0; x = pos 512; y = pos 256 } ∷ [])
-unfolding onPlan loaded checked zeros written joined joinedIds joinedCo starts lens tablesOf run convertedAll finest slotsOf indexOf radiusAt cluster scanFrom scanOne visit copyAll copyOne absorb absorbOne moreOf converted normalized offsetOf scaleOf filled sorted indexed selected sel parted passes up down swapCo swapIds firstOutside asked stateOk packed optionsOk systemInBounds inBounds visited here wraps east west listed whole rounded away neg add sub mul div ofInt ofBits le lt eq shape split scanned slots places rows options b
+unfolding onPlan loaded checked firstOver zeros written joined joinedIds joinedCo starts lens tablesOf run convertedAll finest slotsOf
+    indexOf radiusAt cluster scanFrom scanOne visit copyAll copyOne absorb absorbOne moreOf converted normalized offsetOf scaleOf filled
+    sorted indexed selected sel parted passes up down swapCo swapIds firstOutside asked stateOk packed optionsOk systemInBounds inBounds
+    visited here wraps east west listed whole rounded away neg add sub mul div ofInt ofBits le lt eq shape split scanned slots places
+    rows options b
 tile-of-planned = refl
 
 -- ---- lamps at (0, 0.5) and (1, 0.5): each is listed in the tile, and once more by the other strip
 
 abbrev pub two : Outcome
-two = loaded (options 64) (zero ∷ one ∷ []) (half ∷ half ∷ []) (zeros 6)
+two = loaded (options 64) (zero ∷ one ∷ []) (half ∷ half ∷ []) (9 ∷ 9 ∷ []) (zeros 6)
 
 pub tile-of-two : asked (two .reply .state) (columnsOf (two .columns)) 0 0 0
     ≡ told true
@@ -131,5 +147,9 @@ pub tile-of-two : asked (two .reply .state) (columnsOf (two .columns)) 0 0 0
     ∷ record { place = 1; x = pos 0; y = pos 256 }
     ∷ record { place = 0; x = pos 512; y = pos 256 }
     ∷ [])
-unfolding loaded checked zeros written joined joinedIds joinedCo starts lens tablesOf run convertedAll finest slotsOf indexOf radiusAt cluster scanFrom scanOne visit copyAll copyOne absorb absorbOne moreOf converted normalized offsetOf scaleOf filled sorted indexed selected sel parted passes up down swapCo swapIds firstOutside asked stateOk packed optionsOk systemInBounds inBounds visited here wraps east west listed whole rounded away neg add sub mul div ofInt ofBits le lt eq shape split scanned slots places rows options b
+unfolding loaded checked firstOver zeros written joined joinedIds joinedCo starts lens tablesOf run convertedAll finest slotsOf indexOf
+    radiusAt cluster scanFrom scanOne visit copyAll copyOne absorb absorbOne moreOf converted normalized offsetOf scaleOf filled sorted
+    indexed selected sel parted passes up down swapCo swapIds firstOutside asked stateOk packed optionsOk systemInBounds inBounds
+    visited here wraps east west listed whole rounded away neg add sub mul div ofInt ofBits le lt eq shape split scanned slots places
+    rows options b
 tile-of-two = refl

@@ -18,27 +18,35 @@ use Rattle.builds.specs.Given.{Given, given}
 use Rattle.builds.specs.Came.{comes, came, tableAt}
 use Rattle.builds.specs.GroupsOfBuild.{groupsBy}
 use Rattle.lamps.specs.Owner.{owner, ownerAt, lampsOf, lampsAt, membersOf}
-use Rattle.worked.specs.Tables.{b, options, xs, ys}
+use Rattle.worked.specs.Tables.{b, options, xs, ys, ws}
 
 -- 01's four lamps
 abbrev pub lamps : Given
-lamps = given (options 64) xs ys
+lamps = given (options 64) xs ys ws
 
 -- the owners of the four lamps in table 2, table 1 and table 0
 pub owners-are : map (λ z. map (owner lamps z) (0 ∷ 1 ∷ 2 ∷ 3 ∷ [])) (2 ∷ 1 ∷ 0 ∷ []) ≡ (0 ∷ 1 ∷ 2 ∷ 3 ∷ []) ∷ (0 ∷ 0 ∷ 1 ∷ 1 ∷ []) ∷ (0 ∷ 0 ∷ 0 ∷ 0 ∷ []) ∷ []
-unfolding owner ownerAt groupsBy came comes weighed convertedAll finest slotsOf indexOf radiusAt cluster scanFrom scanOne visit copyAll copyOne absorb absorbOne moreOf converted normalized offsetOf scaleOf add sub mul div ofInt ofBits le lt eq filled sorted indexed selected sel parted passes up down swapCo swapIds shape split scanned slots places options xs ys b
+unfolding owner ownerAt groupsBy came comes weighed convertedAll finest slotsOf indexOf radiusAt cluster scanFrom scanOne visit copyAll
+    copyOne absorb absorbOne moreOf converted normalized offsetOf scaleOf add sub mul div ofInt ofBits le lt eq filled sorted indexed
+    selected sel parted passes up down swapCo swapIds shape split scanned slots places options xs ys ws b
 owners-are = refl
 
 -- the lamps of the two entries of table 1, and of the one of table 0: the leaves of 5
 pub lamps-are-1 : map (lampsOf lamps 1) (0 ∷ 1 ∷ []) ≡ (0 ∷ 1 ∷ []) ∷ (2 ∷ 3 ∷ []) ∷ []
-unfolding lampsOf lampsAt groupsBy came comes weighed convertedAll finest slotsOf indexOf radiusAt cluster scanFrom scanOne visit copyAll copyOne absorb absorbOne moreOf converted normalized offsetOf scaleOf add sub mul div ofInt ofBits le lt eq filled sorted indexed selected sel parted passes up down swapCo swapIds shape split scanned slots places options xs ys b
+unfolding lampsOf lampsAt groupsBy came comes weighed convertedAll finest slotsOf indexOf radiusAt cluster scanFrom scanOne visit
+    copyAll copyOne absorb absorbOne moreOf converted normalized offsetOf scaleOf add sub mul div ofInt ofBits le lt eq filled sorted
+    indexed selected sel parted passes up down swapCo swapIds shape split scanned slots places options xs ys ws b
 lamps-are-1 = refl
 
 pub lamps-are-0 : lampsOf lamps 0 0 ≡ 0 ∷ 1 ∷ 2 ∷ 3 ∷ []
-unfolding lampsOf lampsAt groupsBy came comes weighed convertedAll finest slotsOf indexOf radiusAt cluster scanFrom scanOne visit copyAll copyOne absorb absorbOne moreOf converted normalized offsetOf scaleOf add sub mul div ofInt ofBits le lt eq filled sorted indexed selected sel parted passes up down swapCo swapIds shape split scanned slots places options xs ys b
+unfolding lampsOf lampsAt groupsBy came comes weighed convertedAll finest slotsOf indexOf radiusAt cluster scanFrom scanOne visit
+    copyAll copyOne absorb absorbOne moreOf converted normalized offsetOf scaleOf add sub mul div ofInt ofBits le lt eq filled sorted
+    indexed selected sel parted passes up down swapCo swapIds shape split scanned slots places options xs ys ws b
 lamps-are-0 = refl
 
 -- the members of 5 are entries 0 and 1 of table 1
 pub members-are : membersOf lamps 5 ≡ 0 ∷ 1 ∷ []
-unfolding tableAt tablesOf run convertedAll finest slotsOf indexOf radiusAt cluster scanFrom scanOne visit copyAll copyOne absorb absorbOne moreOf converted normalized offsetOf scaleOf add sub mul div ofInt ofBits le lt eq filled sorted indexed selected sel parted passes up down swapCo swapIds shape split scanned slots places options xs ys b
+unfolding tableAt tablesOf run convertedAll finest slotsOf indexOf radiusAt cluster scanFrom scanOne visit copyAll copyOne absorb
+    absorbOne moreOf converted normalized offsetOf scaleOf add sub mul div ofInt ofBits le lt eq filled sorted indexed selected sel
+    parted passes up down swapCo swapIds shape split scanned slots places options xs ys ws b
 members-are = refl

@@ -4,21 +4,21 @@ use mathlib.Core.List.{List, [], _∷_, _++_}
 use mathlib.Core.Path.{_≡_, refl, ap, _∙_}
 use Prim.Native.Nat.{ℕ}
 use lib.Ieee.{div, ofInt, ofBits, toBits, isNan}
-use Rattle.kdbush.specs.declared.BuildReply.the-variants.{Done}
+use Rattle.supercluster.specs.declared.LoadReply.the-variants.{Done}
 use Rattle.supercluster.specs.Build.{Lent, checked, loaded}
 use Rattle.listing.specs.declared.Parsed.the-variants.{Refused}
 use Rattle.listing.specs.Bytes.{bytes}
 use Rattle.listing.specs.Digits.{decimalOf}
-use Rattle.listing.specs.Text.{Place, Input, line, pointsText, text, headIs, xsOf, ysOf, pointCols, parsedNumber}
+use Rattle.listing.specs.Text.{Place, Input, line, pointsText, text, headIs, xsOf, ysOf, energiesOf, pointCols, parsedNumber}
 use Rattle.listing.specs.Values.{optionsOf}
 use Rattle.report.specs.Hex.{hexOf}
 use Rattle.report.specs.Lines.{tableText, tablesText, refusalText}
 use Rattle.report.specs.Report.{columns, answerText, buildText, linesOf}
-use Rattle.worked.specs.Tables.{b, at, options, xs, ys, shown, tables-are}
+use Rattle.worked.specs.Tables.{b, at, options, xs, ys, ws, shown, tables-are}
 use Rattle.worked.specs.Build.{built, accepted}
 
-abbrev place : ℕ → ℕ → Place
-place x y = record { x = x; y = y }
+abbrev place : ℕ → ℕ → ℕ → Place
+place x y w = record { x = x; y = y; wh = w }
 
 -- 01's input
 unfoldable pub example : Input
@@ -30,7 +30,7 @@ example =
       radius = 64;
       extent = 512;
       nodeSize = 64;
-      points = place 16384 32768 ∷ place 20480 32768 ∷ place 26624 32768 ∷ place 26624 32768 ∷ [];
+      points = place 16384 32768 10 ∷ place 20480 32768 20 ∷ place 26624 32768 30 ∷ place 26624 32768 40 ∷ [];
     }
 
 -- its text, one key=value a line
@@ -43,21 +43,21 @@ exampleText =
     ++ bytes "extent=512\n"
     ++ bytes "node_size=64\n"
     ++ bytes "count=4\n"
-    ++ bytes "x=16384\ny=32768\n"
-    ++ bytes "x=20480\ny=32768\n"
-    ++ bytes "x=26624\ny=32768\n"
-    ++ bytes "x=26624\ny=32768\n"
+    ++ bytes "x=16384\ny=32768\nwh=10\n"
+    ++ bytes "x=20480\ny=32768\nwh=20\n"
+    ++ bytes "x=26624\ny=32768\nwh=30\n"
+    ++ bytes "x=26624\ny=32768\nwh=40\n"
 
 -- and the seven lines that 01 prints for it
 unfoldable pub sevenLines : List ℕ
 sevenLines =
-    bytes "2 0 3fd0000000000000 3fe0000000000000 1 0 6 1\n"
-    ++ bytes "2 1 3fd4000000000000 3fe0000000000000 1 1 6 1\n"
-    ++ bytes "2 2 3fda000000000000 3fe0000000000000 1 2 70 1\n"
-    ++ bytes "2 3 3fda000000000000 3fe0000000000000 1 3 70 1\n"
-    ++ bytes "1 0 3fd2000000000000 3fe0000000000000 0 6 5 2\n"
-    ++ bytes "1 1 3fda000000000000 3fe0000000000000 0 70 5 2\n"
-    ++ bytes "0 0 3fd6000000000000 3fe0000000000000 - 5 - 4\n"
+    bytes "2 0 3fd0000000000000 3fe0000000000000 1 0 6 1 10\n"
+    ++ bytes "2 1 3fd4000000000000 3fe0000000000000 1 1 6 1 20\n"
+    ++ bytes "2 2 3fda000000000000 3fe0000000000000 1 2 70 1 30\n"
+    ++ bytes "2 3 3fda000000000000 3fe0000000000000 1 3 70 1 40\n"
+    ++ bytes "1 0 3fd2000000000000 3fe0000000000000 0 6 5 2 30\n"
+    ++ bytes "1 1 3fda000000000000 3fe0000000000000 0 70 5 2 70\n"
+    ++ bytes "0 0 3fd6000000000000 3fe0000000000000 - 5 - 4 100\n"
 
 pub text-is : text example ≡ exampleText
 unfolding example exampleText line pointsText decimalOf
@@ -77,13 +77,17 @@ ys-are : ysOf example ≡ ys
 unfolding example ys b ofInt ofBits div
 ys-are = refl
 
-reply-is : checked (options 64) xs ys columns ≡ Done
+ws-are : energiesOf example ≡ ws
+unfolding example ws
+ws-are = refl
+
+reply-is : checked (options 64) xs ys ws columns ≡ Done
 unfolding columns
 reply-is = accepted columns refl
 
 -- so the build that the lister makes of it, in any columns, is the worked build
-pub example-built : (l : Lent) → loaded (optionsOf (headIs example)) (xsOf example) (ysOf example) l ≡ built l
-example-built l i = loaded (options-are i) (xs-are i) (ys-are i) l
+pub example-built : (l : Lent) → loaded (optionsOf (headIs example)) (xsOf example) (ysOf example) (energiesOf example) l ≡ built l
+example-built l i = loaded (options-are i) (xs-are i) (ys-are i) (ws-are i) l
 
 shown-text : tablesText 2 shown ≡ sevenLines
 unfolding tablesText tableText shown sevenLines b at ofBits toBits isNan decimalOf hexOf
@@ -92,8 +96,8 @@ shown-text = refl
 pub lines-are : linesOf example ≡ sevenLines
 unfolding linesOf buildText options
 lines-are =
-    (λ i. buildText (options-are i) (pointCols (xs-are i) (ys-are i)))
-    ∙ ap (answerText (options 64) (pointCols xs ys)) reply-is
+    (λ i. buildText (options-are i) (pointCols (xs-are i) (ys-are i) (ws-are i)))
+    ∙ ap (answerText (options 64) (pointCols xs ys ws)) reply-is
     ∙ ap (tablesText 2) tables-are
     ∙ shown-text
 

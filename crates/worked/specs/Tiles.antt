@@ -28,7 +28,8 @@ module _ (l : Lent) where
 
   -- entry 0 at (176,256)
   pub tile-000 : asked state (held l) 0 0 0 ≡ told true (record { place = 0; x = pos 176; y = pos 256 } ∷ [])
-  unfolding asked visited here wraps east west listed whole rounded away neg add sub mul div ofInt ofBits le lt eq shape split scanned slots places rows options state after b asks
+  unfolding asked visited here wraps east west listed whole rounded away neg add sub mul div ofInt ofBits le lt eq shape split scanned
+      slots places rows options state after b asks
   tile-000 = ap (asks (told true (record { place = 0; x = pos 176; y = pos 256 } ∷ []))) (sound l)
 
   -- in columns of two: the first item, and then what stood there
@@ -43,5 +44,6 @@ module _ (l : Lent) where
 
   -- its four lamps
   pub tally-000 : tallied state (held l) 0 0 0 ≡ Sum 4
-  unfolding tallied tallyOf total distinct member homeOf visited here wraps east west listed whole rounded away neg add sub mul div ofInt ofBits le lt eq shape split scanned slots places rows options state after b
+  unfolding tallied tallyOf total distinct member homeOf visited here wraps east west listed whole rounded away neg add sub mul div
+      ofInt ofBits le lt eq shape split scanned slots places rows options state after b
   tally-000 = ap (λ (s : Bool). cond (not s) Tally·Spoiled (Sum 4)) (sound l)

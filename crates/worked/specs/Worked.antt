@@ -7,7 +7,6 @@ use lib.IntN.{pos, negsuc}
 use lib.Ieee.{neg}
 use Rattle.floats.specs.Numbers.{half}
 use Rattle.floats.specs.Away.{away, half-away, minus-half-away}
-use Rattle.kdbush.specs.declared.BuildReply.the-variants.{Done}
 use Rattle.tables.specs.declared.State.{State}
 use Rattle.tables.specs.Ids.{originOf, tableOf}
 use Rattle.asking.specs.Asked.{told}
@@ -17,8 +16,9 @@ use Rattle.walks.specs.Children.{childrenOf}
 use Rattle.walks.specs.Expansion.{zoomOf}
 use Rattle.walks.specs.Leaves.{leavesOf}
 use Rattle.tiles.specs.Asked.{asked, told as tile·told}
+use Rattle.supercluster.specs.declared.LoadReply.the-variants.{Done}
 use Rattle.supercluster.specs.Build.{Lent, roomy, Outcome, loaded}
-use Rattle.listing.specs.Text.{text, headIs, xsOf, ysOf}
+use Rattle.listing.specs.Text.{text, headIs, xsOf, ysOf, energiesOf}
 use Rattle.listing.specs.Values.{optionsOf}
 use Rattle.report.specs.Report.{columns as zeros, linesOf}
 use Rattle.answers.specs.Stored.{columnsOf}
@@ -27,9 +27,9 @@ use Rattle.worked.specs.Walks.{Refused, children-5, leaves-10-0, leaves-
 use Rattle.worked.specs.Tiles.{tile-000}
 use Rattle.worked.specs.Printed.{example, example-built, exampleText, sevenLines, text-is, lines-are}
 
--- the table, of a state s and the eight columns c
+-- the table, of a state s and the columns c
 pub record Worked (s : State) (c : Columns) : Type 0 where
-  -- Input min_zoom=0 .. count=4, points (16384,32768), (20480,32768), (26624,32768) twice, prints: seven lines
+  -- Input min_zoom=0 .. count=4, points (16384,32768), (20480,32768), (26624,32768) twice, energies 10, 20, 30, 40, prints: seven lines
   pub written : text example ≡ exampleText
   pub printed : linesOf example ≡ sevenLines
   -- id 70 decodes to origin 2, table 2; id 5 to origin 0, table 1
@@ -88,7 +88,7 @@ worked l h = subst (λ (o : Outcome). (o .reply .reply ≡ Done) × Worked (o .r
 
 -- so of the lister's example, in the lister's columns of 1,152 zeros
 abbrev pub listed : Outcome
-listed = loaded (optionsOf (headIs example)) (xsOf example) (ysOf example) zeros
+listed = loaded (optionsOf (headIs example)) (xsOf example) (ysOf example) (energiesOf example) zeros
 
 pub worked-in-lister : Worked (listed .reply .state) (columnsOf (listed .columns))
 unfolding zeros

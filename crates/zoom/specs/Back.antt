@@ -9,10 +9,11 @@ use Rattle.tables.specs.Rows.{Cols, cols, Kept}
 
 -- R stands for what was lent after the columns
 abbrev pub Lasts : Type 0 → Type 0
-Lasts R = List Float × (List Float × (List ℕ × (List ℕ × (List ℕ × (List ℕ × R)))))
+Lasts R = List Float × (List Float × (List ℕ × (List ℕ × (List ℕ × (List ℕ × (List ℕ × R))))))
 
 abbrev pub lastCols : {R : Type 0} → Lasts R → Cols
 lastCols l = cols (l .0) (l .1 .0) (l .1 .1 .0) (l .1 .1 .1 .0) (l .1 .1 .1 .1 .0) (l .1 .1 .1 .1 .1 .0)
+    (l .1 .1 .1 .1 .1 .1 .0)
 
 abbrev pub Kepts : Cols → Cols → Type 0 → Type 0
 Kepts old new R =
@@ -21,8 +22,17 @@ Kepts old new R =
     ((length (new .seen) ≡ length (old .seen)) ×
     ((length (new .id) ≡ length (old .id)) ×
     ((length (new .parent) ≡ length (old .parent)) ×
-    ((length (new .num) ≡ length (old .num)) × R)))))
+    ((length (new .num) ≡ length (old .num)) ×
+    ((length (new .energy) ≡ length (old .energy)) × R))))))
 
 pub keptCols : {R : Type 0} (old new : Cols) → Kepts old new R → Kept old new
 keptCols old new k =
-    record { kx = k .0; ky = k .1 .0; ks = k .1 .1 .0; ki = k .1 .1 .1 .0; kp = k .1 .1 .1 .1 .0; kn = k .1 .1 .1 .1 .1 .0 }
+    record {
+      kx = k .0;
+      ky = k .1 .0;
+      ks = k .1 .1 .0;
+      ki = k .1 .1 .1 .0;
+      kp = k .1 .1 .1 .1 .0;
+      kn = k .1 .1 .1 .1 .1 .0;
+      kw = k .1 .1 .1 .1 .1 .1 .0;
+    }

@@ -1,5 +1,5 @@
--- No lamp is lost or counted twice: at each step of a scan what is unseen and what is made add up to the same. So the next table adds up to no
--- more than the table. Said once, of any number that an entry carries: a mark and a parent leave it, and a cluster's is the sum. Assumes
+-- No lamp is lost or counted twice, and no energy: at each step of a scan what is unseen and what is made add up to the same. So the next table
+-- adds up to no more than the table. Said once, of any number that an entry carries: a mark and a parent leave it, and a cluster's is the sum. Assumes
 -- nothing.
 use mathlib.Core.Path.{_≡_, refl, ap, _∙_}
 use mathlib.Core.Bool.{Bool, true, false}
@@ -16,8 +16,8 @@ use Rattle.tables.specs.declared.Entry.{Entry}
 use Rattle.tables.specs.Entries.{Table, entry, none, unseen, marked, under}
 use Rattle.tables.specs.Ids.{clusterId}
 use Rattle.zoom.specs.Scanned.{unseenOf}
-use Rattle.zoom.specs.Zoom.{numOf, adds, moreOf, Absorbed, absorbOne, absorb, started, centre, Scan, copyOne, copyAll, enough, visit, markAt, scanOne, scanFrom, cluster}
-use Rattle.zoom.specs.Steps.{absorbOne-yes, absorbOne-no, copyOne-yes, copyOne-no, more-nil, more-yes, more-no, totalOf, visit-made, visit-left, scan-seen, scan-visit}
+use Rattle.zoom.specs.Zoom.{numOf, energyOf, adds, moreOf, Absorbed, absorbOne, absorb, started, centre, Scan, copyOne, copyAll, enough, visit, markAt, scanOne, scanFrom, cluster}
+use Rattle.zoom.specs.Steps.{joined, absorbOne-yes, absorbOne-no, copyOne-yes, copyOne-no, more-nil, more-yes, more-no, totalOf, visit-made, visit-left, scan-seen, scan-visit}
 use Rattle.zoom.specs.Unseen.{unseen-in, unseenOf-mark, unseenOf-under, more-same}
 
 -- f of a table's entries, added up
@@ -77,6 +77,24 @@ pub record Carried (f : Entry → ℕ) : Type 0 where
 
 pub num-carried : Carried numOf
 num-carried = record { marks = λ e q. refl; hangs = λ e q. refl; sums = λ z p i near t o. refl }
+
+-- the running sum of energies
+energy-by : (z p : ℕ) (s : Absorbed) (k : ℕ) (ks : List ℕ)
+    → ((s′ : Absorbed) → absorb z p s′ ks .se ≡ s′ .se + moreOf energyOf z (s′ .table) ks) → NotIn k ks → (b : Bool) → unseen z (entry (s .table) k) ≡ b
+    → absorb z p (absorbOne z p s k) ks .se ≡ s .se + moreOf energyOf z (s .table) (k ∷ ks)
+energy-by z p s k ks ih o true e =
+    let t = s .table in
+    let m = more-same energyOf z t k (under p (marked z (entry t k))) ks o in
+    rw (absorbOne-yes z p s k e) (omega (arith, ih (joined z p s k), m, more-yes energyOf z t k ks e))
+energy-by z p s k ks ih o false e = rw (absorbOne-no z p s k e) (omega (arith, ih s, more-no energyOf z (s .table) k ks e))
+
+absorb-energy : (z p : ℕ) (s : Absorbed) (l : List ℕ) → Distinct l → absorb z p s l .se ≡ s .se + moreOf energyOf z (s .table) l
+unfolding absorb
+absorb-energy z p s [] o = omega (arith, more-nil energyOf z (s .table))
+absorb-energy z p s (k ∷ ks) o = energy-by z p s k ks (λ s′. absorb-energy z p s′ ks (o .1)) (o .0) _ refl
+
+pub energy-carried : Carried energyOf
+energy-carried = record { marks = λ e q. refl; hangs = λ e q. refl; sums = λ z p i near t o. absorb-energy z p (started t (entry t i)) near o }
 
 -- ---- a scan
 

@@ -13,4 +13,5 @@ pub mod Scanning
 pub mod Lamps
 pub mod Sound
 pub mod Notes
+pub mod Bare
 pub mod Back

@@ -18,12 +18,12 @@ use Rattle.tables.specs.declared.Entry.{Entry}
 use Rattle.tables.specs.Entries.{Table, entry, none, unseen, marked, under}
 use Rattle.tables.specs.Ids.{clusterId}
 use Rattle.zoom.specs.Scanned.{unseenOf, unseenNum}
-use Rattle.zoom.specs.Zoom.{numOf, more, Absorbed, absorbOne, absorb, started, centre, Scan, copyOne, copyAll, enough, visit, markAt, scanOne, scanFrom, cluster}
+use Rattle.zoom.specs.Zoom.{numOf, energyOf, more, Absorbed, absorbOne, absorb, started, centre, Scan, copyOne, copyAll, enough, visit, markAt, scanOne, scanFrom, cluster}
 use Rattle.zoom.specs.Steps.{joined, absorbOne-yes, absorbOne-no, copyOne-yes, copyOne-no, more-nil, more-yes, more-no, totalOf, visit-made, visit-left, scan-seen, scan-visit}
 use Rattle.zoom.specs.Unseen.{unseen-in, unseenCount-length, unseenOf-mark, unseenOf-none, more-same}
 use Rattle.zoom.specs.Keeps.{all-at, Keeps, kept-all, keep-copy, keep-one, keep-scan, kept-field, kept-length, scan-sees}
 use Rattle.zoom.specs.Fewer.{from-fewer}
-use Rattle.zoom.specs.Lamps.{sumOf, total, Carried, num-carried, absorb-weighs, scan-weighs-by, from-weighs}
+use Rattle.zoom.specs.Lamps.{sumOf, total, Carried, num-carried, energy-carried, absorb-weighs, scan-weighs-by, from-weighs}
 
 -- a place from 0 to 1, and one lamp or more
 abbrev pub Body : Entry → Type 0
@@ -168,6 +168,8 @@ pub record Sound (z : ℕ) (t : Table) (s : Scan) : Type 0 where
   pub next : All (Next z) (s .next)
   pub lamps : total (s .next) ≡ total t
   pub lamps-kept : total (s .table) ≡ total t
+  pub energies : sumOf energyOf (s .next) ≡ sumOf energyOf t
+  pub energies-kept : sumOf energyOf (s .table) ≡ sumOf energyOf t
   pub xs : map (λ e. e .x) (s .table) ≡ map (λ e. e .x) t
   pub ys : map (λ e. e .y) (s .table) ≡ map (λ e. e .y) t
   pub shorter : length (s .next) ≤ length t
@@ -210,6 +212,8 @@ module _ (n least z : ℕ) (near : Float → Float → List ℕ) (o : (qx qy : F
         next = scan-next n least z (total t) few zs near o s₀ 0 (length t) b (omega (arith, hv)) tt;
         lamps = carried-next numOf num-carried;
         lamps-kept = carried-table numOf num-carried;
+        energies = carried-next energyOf energy-carried;
+        energies-kept = carried-table energyOf energy-carried;
         xs = keep-scan z (λ q. map (λ e. e .x) q ≡ map (λ e. e .x) t) (kept-field (λ e. e .x) z t (λ e q. refl) (λ e q. refl)) n least near s₀ 0 (length t) refl;
         ys = keep-scan z (λ q. map (λ e. e .y) q ≡ map (λ e. e .y) t) (kept-field (λ e. e .y) z t (λ e q. refl) (λ e q. refl)) n least near s₀ 0 (length t) refl;
         shorter = omega (arith, from-fewer n least z near s₀ 0 (length t), unseenCount-length z t);

@@ -22,6 +22,7 @@ joined z p s k =
       table = set (s .table) k (under p (marked z (entry (s .table) k)));
       sx = add binary64 (s .sx) (mul binary64 (entry (s .table) k .x) (float (entry (s .table) k .num)));
       sy = add binary64 (s .sy) (mul binary64 (entry (s .table) k .y) (float (entry (s .table) k .num)));
+      se = s .se + entry (s .table) k .energy;
     }
 
 pub absorbOne-yes : (z p : ℕ) (s : Absorbed) (k : ℕ) → unseen z (entry (s .table) k) ≡ true → absorbOne z p s k ≡ joined z p s k

@@ -23,7 +23,7 @@ use Rattle.zoom.specs.Keeps.{keep-absorbOne, keep-absorb, kept-length}
 
 -- with the rows r past the table
 abbrev grow : Absorbed → Table → Absorbed
-grow s r = absorbed (s .table ++ r) (s .sx) (s .sy)
+grow s r = absorbed (s .table ++ r) (s .sx) (s .sy) (s .se)
 
 absorbOne-grow-by : (z p : ℕ) (s : Absorbed) (r : Table) (k : ℕ) → k < length (s .table) → (b : Bool) → unseen z (entry (s .table) k) ≡ b
     → absorbOne z p (grow s r) k ≡ grow (absorbOne z p s k) r
@@ -110,7 +110,7 @@ module _ (f : Absorbed) (r : Table) (len d i p : ℕ) (e : Entry) (lf : length (
 module _ (t : Table) (len d i z n total : ℕ) (near : List ℕ) (hi : i < len) (room : len + d < length t) (b : AllBelow len near) where
   -- the sums begin with the origin's products
   abbrev pub begun : Table → Absorbed
-  begun q = absorbed q (mul binary64 (entry t i .x) (float (entry t i .num))) (mul binary64 (entry t i .y) (float (entry t i .num)))
+  begun q = absorbed q (mul binary64 (entry t i .x) (float (entry t i .num))) (mul binary64 (entry t i .y) (float (entry t i .num))) (entry t i .energy)
 
   lt : length (take len t) ≡ len
   lt = length-take-le len t (omega arith)

@@ -1,6 +1,7 @@
 -- A turn of each loop over the neighbours: what is done with the j-th neighbour is the definition's step, so that what remains from the next one
 -- on leads to the same. For a neighbour that is absorbed or copied, also that what the code stores in the columns is that step. Assumes nothing.
 use mathlib.Core.Path.{_≡_, refl, ap, sym, _∙_, subst}
+use mathlib.Core.Bool.{Bool, true, false}
 use mathlib.Core.List.{List, _∷_}
 use Prim.Native.Nat.{ℕ, _+_, _-_, _<_, _≤_}
 use native.Mathlib.Omega.{arith}
@@ -12,13 +13,13 @@ use lib.Seq.{drop-cons, getD-take, take-set-le, take-set-lt, drop-set-add, drop-
 use lib.Ieee.{Float, binary64, add, mul}
 use Rattle.floats.specs.Numbers.{float}
 use Rattle.tables.specs.declared.Entry.{Entry}
-use Rattle.tables.specs.Entries.{Table, entry, none, marked}
+use Rattle.tables.specs.Entries.{Table, entry, none, marked, unseen, under}
 use Rattle.tables.specs.Rows.{Cols, rows, Even, withSeen, withParent, rows-join}
 use Rattle.tables.specs.Columns.{part-long}
 use Rattle.zoom.specs.Scanned.{scanOf, Scanned, unseenCount}
-use Rattle.zoom.specs.Zoom.{adds, moreOf, Absorbed, absorbed, absorbOne, absorb, Scan, copyOne, copyAll}
+use Rattle.zoom.specs.Zoom.{energyOf, adds, moreOf, Absorbed, absorbed, absorbOne, absorb, Scan, copyOne, copyAll}
 use Rattle.zoom.specs.Steps.{absorbOne-yes, absorbOne-no, copiedOne, copyOne-yes, copyOne-no, more-nil}
-use Rattle.zoom.specs.Unseen.{unseenCount-mark}
+use Rattle.zoom.specs.Unseen.{unseenCount-mark, more-fewer}
 use Rattle.zoom.specs.Fewer.{needed, copyOne-fewer}
 
 -- what remains at j is the j-th and what remains after it
@@ -46,21 +47,35 @@ pub absorb-end : (z p : ℕ) (s : Absorbed) (l : List ℕ) (j : ℕ) → length 
 unfolding absorb
 absorb-end z p s l j h = ap (absorb z p s) (drop-of-length-le l h)
 
+-- the sum of energies and what remains to be added stay below a bound
+fits-by : (z p B : ℕ) (s : Absorbed) (k : ℕ) (l : List ℕ) → s .se + (adds energyOf z (entry (s .table) k) + moreOf energyOf z (s .table) l) < B
+    → (b : Bool) → unseen z (entry (s .table) k) ≡ b → absorbOne z p s k .se + moreOf energyOf z (absorbOne z p s k .table) l < B
+fits-by z p B s k l h true e =
+    let m = more-fewer energyOf z (s .table) k (under p (marked z (entry (s .table) k))) l (le-refl z) in
+    let g = rw e at h in
+    rw (absorbOne-yes z p s k e) (omega (arith, m, g))
+fits-by z p B s k l h false e = let g = rw e at h in rw (absorbOne-no z p s k e) (omega (arith, g))
+
+pub absorb-fits : (z p B : ℕ) (s : Absorbed) (l : List ℕ) (j : ℕ) → j < length l → s .se + moreOf energyOf z (s .table) (drop j l) < B
+    → absorbOne z p s (getD l j 0) .se + moreOf energyOf z (absorbOne z p s (getD l j 0) .table) (drop (j + 1) l) < B
+absorb-fits z p B s l j hj h = fits-by z p B s (getD l j 0) (drop (j + 1) l) (rw (more-turn energyOf z (s .table) l j hj) at h) _ refl
+
 -- the neighbour k, whose entry is e, in the columns: what the code stores and adds is what the step does
-module _ (c : Cols) (z p : ℕ) (a b : Float) (k : ℕ) (e : Entry) (q : e ≡ entry (rows c) k) where
+module _ (c : Cols) (z p : ℕ) (a b : Float) (w : ℕ) (k : ℕ) (e : Entry) (q : e ≡ entry (rows c) k) where
   pub joined-row : Even c → k < length (c .x) → z < e .seen
       → absorbed (rows (withParent (withSeen c (set (c .seen) k z)) (set (c .parent) k p)))
       (add binary64 a (mul binary64 (e .x) (float (e .num))))
       (add binary64 b (mul binary64 (e .y) (float (e .num))))
-      ≡ absorbOne z p (absorbed (rows c) a b) k
+      (w + e .energy)
+      ≡ absorbOne z p (absorbed (rows c) a b w) k
   joined-row v h u =
       let g : z < entry (rows c) k .seen = rw q at u in
-      rw (rows-join c k v h z p, q) (sym (absorbOne-yes z p (absorbed (rows c) a b) k (lt-ltb z (entry (rows c) k .seen) g)))
+      rw (rows-join c k v h z p, q) (sym (absorbOne-yes z p (absorbed (rows c) a b w) k (lt-ltb z (entry (rows c) k .seen) g)))
 
-  pub passed-row : e .seen ≤ z → absorbed (rows c) a b ≡ absorbOne z p (absorbed (rows c) a b) k
+  pub passed-row : e .seen ≤ z → absorbed (rows c) a b w ≡ absorbOne z p (absorbed (rows c) a b w) k
   passed-row u =
       let g : entry (rows c) k .seen ≤ z = rw q at u in
-      sym (absorbOne-no z p (absorbed (rows c) a b) k (le-ltb z (entry (rows c) k .seen) g))
+      sym (absorbOne-no z p (absorbed (rows c) a b w) k (le-ltb z (entry (rows c) k .seen) g))
 
 -- ---- copies
 

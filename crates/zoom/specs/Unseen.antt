@@ -6,9 +6,11 @@ use mathlib.Core.List.{List, [], _∷_, _++_}
 use Prim.Native.Nat.{ℕ, zero, suc, _+_, _<_, _≤_}
 use native.Mathlib.Omega.{arith}
 use native.Mathlib.Nat.{le-refl}
-use borrow.Author.Tests.{lt-ltb, le-ltb, ltb-true}
+use native.Mathlib.Decide.{decLt}
+use borrow.Author.Tests.{lt-ltb, le-ltb, ltb-true, eqb-true, eqb-false}
+use lib.Dec.{eqb}
 use lib.ListN.{length, set, drop, take, List·getD-append, take-append-drop, length-set}
-use lib.Seq.{getD-set-other, length-take-le}
+use lib.Seq.{getD-set-same, getD-set-other, set-out, length-take-le}
 use Rattle.kdslots.specs.All.{All, AllBelow}
 use Rattle.kdslots.specs.Members.{Distinct, NotIn}
 use Rattle.tables.specs.declared.Entry.{Entry}
@@ -128,3 +130,19 @@ more-le f z t [] b o = omega (arith, more-nil f z t)
 more-le f z t (k ∷ ks) b o =
     more-le-by f z t k ks (b .0) (o .0)
     (λ t′ e. more-le f z t′ ks (rw e (b .1)) (o .1)) _ refl
+
+-- an entry that is seen is stored: no sum over neighbours grows
+fewer-by : (f : Entry → ℕ) (z : ℕ) (t : Table) (k : ℕ) (e : Entry) (j : ℕ) → e .seen ≤ z → (d : Bool) → eqb k j ≡ d → adds f z (entry (set t k e) j) ≤ adds f z (entry t j)
+fewer-by f z t k e j h true q = one (eqb-true k j q) (decLt k (length t))
+  where
+    one : k ≡ j → Dec (k < length t) → adds f z (entry (set t k e) j) ≤ adds f z (entry t j)
+    one r (yes w) =
+        let g : entry (set t k e) j ≡ e = rw (← r) (getD-set-same t k e none w) in
+        rw (g, le-ltb z (e .seen) h) (omega arith)
+    one r (no w) = rw (set-out t k e (omega arith)) (le-refl _)
+fewer-by f z t k e j h false q = rw (getD-set-other t k j e none (λ r. eqb-false k j q (sym r))) (le-refl _)
+
+pub more-fewer : (f : Entry → ℕ) (z : ℕ) (t : Table) (k : ℕ) (e : Entry) (l : List ℕ) → e .seen ≤ z → moreOf f z (set t k e) l ≤ moreOf f z t l
+unfolding moreOf
+more-fewer f z t k e [] h = le-refl 0
+more-fewer f z t k e (j ∷ js) h = let a = fewer-by f z t k e j h _ refl in let b = more-fewer f z t k e js h in omega (arith, a, b)

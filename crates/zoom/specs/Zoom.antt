@@ -11,9 +11,12 @@ use Rattle.tables.specs.declared.Entry.{Entry}
 use Rattle.tables.specs.Entries.{Table, entry, never, unset, unseen, marked, under}
 use Rattle.tables.specs.Ids.{clusterId}
 
--- the number that clusters add up
+-- the numbers that clusters add up: lamps and energy
 abbrev pub numOf : Entry → ℕ
 numOf e = e .num
+
+abbrev pub energyOf : Entry → ℕ
+energyOf e = e .energy
 
 -- what an entry adds to a sum of f: nothing where it is seen
 abbrev pub adds : (Entry → ℕ) → ℕ → Entry → ℕ
@@ -30,16 +33,17 @@ more z t l = moreOf numOf z t l
 
 -- ---- a cluster
 
--- the table, and the running sums of coordinates times nums
+-- the table, and the running sums: coordinates times nums, and energies
 pub record Absorbed : Type 0 where
   pub table : Table
   pub sx : Float
   pub sy : Float
+  pub se : ℕ
 
-abbrev pub absorbed : Table → Float → Float → Absorbed
-absorbed t a b = record { table = t; sx = a; sy = b }
+abbrev pub absorbed : Table → Float → Float → ℕ → Absorbed
+absorbed t a b c = record { table = t; sx = a; sy = b; se = c }
 
--- one neighbour: where it is unseen, it is marked, gets the parent p, and adds its products
+-- one neighbour: where it is unseen, it is marked, gets the parent p, and adds its products and its energy
 unfoldable pub absorbOne : ℕ → ℕ → Absorbed → ℕ → Absorbed
 absorbOne z p s k =
     cond (unseen z (entry (s .table) k))
@@ -47,6 +51,7 @@ absorbOne z p s k =
       table = set (s .table) k (under p (marked z (entry (s .table) k)));
       sx = add binary64 (s .sx) (mul binary64 (entry (s .table) k .x) (float (entry (s .table) k .num)));
       sy = add binary64 (s .sy) (mul binary64 (entry (s .table) k .y) (float (entry (s .table) k .num)));
+      se = s .se + entry (s .table) k .energy;
     })
     s
 
@@ -55,13 +60,13 @@ unfoldable pub absorb : ℕ → ℕ → Absorbed → List ℕ → Absorbed
 absorb z p s [] = s
 absorb z p s (k ∷ ks) = absorb z p (absorbOne z p s k) ks
 
--- the sums begin with the origin's products
+-- the sums begin with the origin's products and energy
 abbrev pub started : Table → Entry → Absorbed
-started t e = absorbed t (mul binary64 (e .x) (float (e .num))) (mul binary64 (e .y) (float (e .num)))
+started t e = absorbed t (mul binary64 (e .x) (float (e .num))) (mul binary64 (e .y) (float (e .num))) (e .energy)
 
 -- the new entry
 abbrev pub centre : Absorbed → ℕ → ℕ → Entry
-centre s id total = record { x = div binary64 (s .sx) (float total); y = div binary64 (s .sy) (float total); seen = never; id = id; parent = unset; num = total }
+centre s id total = record { x = div binary64 (s .sx) (float total); y = div binary64 (s .sy) (float total); seen = never; id = id; parent = unset; num = total; energy = s .se }
 
 -- ---- a scan: the table, with its marks so far, and the next table, as far as it is made
 pub record Scan : Type 0 where

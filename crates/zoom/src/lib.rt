@@ -18,18 +18,20 @@ ghost use Rattle.lent.specs.Lent.{old, new};
 ghost use Rattle.tables.specs.Entries.{Table, entry};
 ghost use Rattle.tables.specs.Rows.{rows, Even};
 ghost use Rattle.tables.specs.Lent.{given, lentCols};
-ghost use Rattle.zoom.specs.Zoom.{numOf, adds, more, absorbOne, absorb, absorbed, copyOne, copyAll, madeAt, leftAt, enough, visit, scanOne, cluster};
-ghost use Rattle.zoom.specs.Scanned.{Scanned, scanOf, unseenCount, unseenNum};
+ghost use Rattle.zoom.specs.Zoom.{numOf, energyOf, adds, more, moreOf, absorbOne, absorb, absorbed};
+ghost use Rattle.zoom.specs.Zoom.{copyOne, copyAll, madeAt, leftAt, enough, visit, scanOne, cluster};
+ghost use Rattle.zoom.specs.Scanned.{Scanned, scanOf, unseenCount, unseenNum, unseenOf};
 ghost use Rattle.zoom.specs.Near.{nearOf, Answered, Placed, Radius};
 ghost use Rattle.zoom.specs.Notes.{Tells, Noted, Owned, Slotted, Same};
 
-// The running sums of a cluster: coordinates times nums.
+// The running sums of a cluster: coordinates times nums, and energies.
 struct Sums {
     x: f64,
     y: f64,
+    energy: u64,
 }
 
-// The neighbour k: unseen, it is marked, gets the parent p, and adds its products.
+// The neighbour k: unseen, it is marked, gets the parent p, and adds its products and its energy.
 fn absorb_one(
     x: &[f64],
     y: &[f64],
@@ -37,17 +39,20 @@ fn absorb_one(
     id: &[u32],
     parent: &mut [u32],
     num: &[u32],
+    energy: &[u64],
     k: usize,
     z: u8,
     p: u32,
     sums: Sums,
 ) -> Sums
-    requires { let c = given x y seen id parent num in ⌜ Even c × (k < length (c .x)) ⌝ }
+    requires { let c = given x y seen id parent num energy in
+        ⌜ Even c × (k < length (c .x)) × (sums .energy + adds energyOf z (entry (rows c) k) < 2 ^ 64) ⌝ }
     ensures { λ r.
-        let c = lentCols x y seen id parent num in
-        ⌜ absorbed (rows (c .exit)) (r .x) (r .y) ≡ absorbOne z p (absorbed (rows (c .entry)) (sums .x) (sums .y)) k ⌝ }
+        let c = lentCols x y seen id parent num energy in
+        ⌜ absorbed (rows (c .exit)) (r .x) (r .y) (r .energy)
+        ≡ absorbOne z p (absorbed (rows (c .entry)) (sums .x) (sums .y) (sums .energy)) k ⌝ }
 {
-    let e = tables::entry_at(x, y, seen, id, parent, num, k);
+    let e = tables::entry_at(x, y, seen, id, parent, num, energy, k);
     if e.seen <= z {
         return sums;
     }
@@ -57,6 +62,7 @@ fn absorb_one(
     Sums {
         x: sums.x + e.x * w,
         y: sums.y + e.y * w,
+        energy: sums.energy + e.energy,
     }
 }
 
@@ -68,21 +74,24 @@ fn absorb_near(
     id: &[u32],
     parent: &mut [u32],
     num: &[u32],
+    energy: &[u64],
     near: &[u32],
     z: u8,
     p: u32,
     sums: Sums,
 ) -> Sums
-    requires { let c = given x y seen id parent num in ⌜ Even c × AllBelow (length (c .x)) (now near) ⌝ }
+    requires { let c = given x y seen id parent num energy in
+        ⌜ Even c × AllBelow (length (c .x)) (now near) × (sums .energy + moreOf energyOf z (rows c) (now near) < 2 ^ 64) ⌝ }
     ensures { λ r.
-        let c = lentCols x y seen id parent num in
-        ⌜ absorbed (rows (c .exit)) (r .x) (r .y) ≡ absorb z p (absorbed (rows (c .entry)) (sums .x) (sums .y)) (old near) ⌝ }
+        let c = lentCols x y seen id parent num energy in
+        ⌜ absorbed (rows (c .exit)) (r .x) (r .y) (r .energy)
+        ≡ absorb z p (absorbed (rows (c .entry)) (sums .x) (sums .y) (sums .energy)) (old near) ⌝ }
 {
     let mut s = sums;
     let mut j = 0;
     while j < near.len() {
         let k = near[j] as usize;
-        s = absorb_one(x, y, seen, id, parent, num, k, z, p, s);
+        s = absorb_one(x, y, seen, id, parent, num, energy, k, z, p, s);
         j += 1;
     }
     s
@@ -96,26 +105,27 @@ fn copy_one(
     id: &mut [u32],
     parent: &mut [u32],
     num: &mut [u32],
+    energy: &mut [u64],
     len: usize,
     done: usize,
     k: usize,
     z: u8,
 ) -> usize
-    requires { let c = given x y seen id parent num in
+    requires { let c = given x y seen id parent num energy in
         ⌜ Even c × (k < len) × (len + done + unseenCount z (take len (rows c)) ≤ length (c .x)) ⌝ }
     ensures { λ r.
-        let c = lentCols x y seen id parent num in
+        let c = lentCols x y seen id parent num energy in
         let t = rows (c .entry) in
         ⌜ Scanned len done (copyOne z (scanOf len done t) k) t (rows (c .exit)) r ⌝ }
 {
-    let e = tables::entry_at(x, y, seen, id, parent, num, k);
+    let e = tables::entry_at(x, y, seen, id, parent, num, energy, k);
     if e.seen <= z {
         return done;
     }
     seen[k] = z;
     let mut m = e;
     m.seen = z;
-    tables::put_entry(x, y, seen, id, parent, num, len + done, m);
+    tables::put_entry(x, y, seen, id, parent, num, energy, len + done, m);
     done + 1
 }
 
@@ -127,15 +137,16 @@ fn copy_near(
     id: &mut [u32],
     parent: &mut [u32],
     num: &mut [u32],
+    energy: &mut [u64],
     near: &[u32],
     len: usize,
     done: usize,
     z: u8,
 ) -> usize
-    requires { let c = given x y seen id parent num in
+    requires { let c = given x y seen id parent num energy in
         ⌜ Even c × AllBelow len (now near) × (len + done + unseenCount z (take len (rows c)) ≤ length (c .x)) ⌝ }
     ensures { λ r.
-        let c = lentCols x y seen id parent num in
+        let c = lentCols x y seen id parent num energy in
         let t = rows (c .entry) in
         ⌜ Scanned len done (copyAll z (scanOf len done t) (old near)) t (rows (c .exit)) r ⌝ }
 {
@@ -143,7 +154,7 @@ fn copy_near(
     let mut j = 0;
     while j < near.len() {
         let k = near[j] as usize;
-        d = copy_one(x, y, seen, id, parent, num, len, d, k, z);
+        d = copy_one(x, y, seen, id, parent, num, energy, len, d, k, z);
         j += 1;
     }
     d
@@ -167,19 +178,20 @@ fn total_near(
     id: &[u32],
     parent: &[u32],
     num: &[u32],
+    energy: &[u64],
     near: &[u32],
     z: u8,
     own: u32,
 ) -> u32
-    requires { let c = given x y seen id parent num in
+    requires { let c = given x y seen id parent num energy in
         ⌜ Even c × AllBelow (length (c .x)) (now near) × (own + more z (rows c) (now near) < 2 ^ 32) ⌝ }
-    ensures { λ r. let c = lentCols x y seen id parent num in ⌜ r ≡ own + more z (rows (c .entry)) (old near) ⌝ }
+    ensures { λ r. let c = lentCols x y seen id parent num energy in ⌜ r ≡ own + more z (rows (c .entry)) (old near) ⌝ }
 {
     let mut total = own;
     let mut j = 0;
     while j < near.len() {
         let k = near[j] as usize;
-        let e = tables::entry_at(x, y, seen, id, parent, num, k);
+        let e = tables::entry_at(x, y, seen, id, parent, num, energy, k);
         total += counted(e, z);
         j += 1;
     }
@@ -194,6 +206,7 @@ fn make_one(
     id: &mut [u32],
     parent: &mut [u32],
     num: &mut [u32],
+    energy: &mut [u64],
     near: &[u32],
     len: usize,
     done: usize,
@@ -202,21 +215,23 @@ fn make_one(
     n: u32,
     total: u32,
 )
-    requires { let c = given x y seen id parent num in
-        ⌜ Even c × AllBelow len (now near) × (i < len) × (len + done < length (c .x)) × (len ≤ 1048576) × (n ≤ 1048576) × (z ≤ 30) ⌝ }
+    requires { let c = given x y seen id parent num energy in
+        ⌜ Even c × AllBelow len (now near) × (i < len) × (len + done < length (c .x)) × (len ≤ 1048576) × (n ≤ 1048576) × (z ≤ 30)
+        × (entry (rows c) i .energy + moreOf energyOf z (rows c) (now near) < 2 ^ 64) ⌝ }
     ensures { λ _.
-        let c = lentCols x y seen id parent num in
+        let c = lentCols x y seen id parent num energy in
         let t = rows (c .entry) in
         ⌜ Scanned len done (madeAt n z i total (old near) (scanOf len done t)) t (rows (c .exit)) (done + 1) ⌝ }
 {
     let cluster = tables::cluster_id(i, z, n);
-    let o = tables::entry_at(x, y, seen, id, parent, num, i);
+    let o = tables::entry_at(x, y, seen, id, parent, num, energy, i);
     let own = o.num as f64;
     let from = Sums {
         x: o.x * own,
         y: o.y * own,
+        energy: o.energy,
     };
-    let s = absorb_near(x, y, seen, id, parent, num, near, z, cluster, from);
+    let s = absorb_near(x, y, seen, id, parent, num, energy, near, z, cluster, from);
     parent[i] = cluster;
     let t = total as f64;
     let e = Entry {
@@ -226,8 +241,9 @@ fn make_one(
         id: cluster,
         parent: 4294967295,
         num: total,
+        energy: s.energy,
     };
-    tables::put_entry(x, y, seen, id, parent, num, len + done, e);
+    tables::put_entry(x, y, seen, id, parent, num, energy, len + done, e);
 }
 
 // The entry i is copied, and then its unseen neighbours.
@@ -238,22 +254,23 @@ fn leave_one(
     id: &mut [u32],
     parent: &mut [u32],
     num: &mut [u32],
+    energy: &mut [u64],
     near: &[u32],
     len: usize,
     done: usize,
     i: usize,
     z: u8,
 ) -> usize
-    requires { let c = given x y seen id parent num in
+    requires { let c = given x y seen id parent num energy in
         ⌜ Even c × AllBelow len (now near) × (i < len) × (len + done + 1 + unseenCount z (take len (rows c)) ≤ length (c .x)) ⌝ }
     ensures { λ r.
-        let c = lentCols x y seen id parent num in
+        let c = lentCols x y seen id parent num energy in
         let t = rows (c .entry) in
         ⌜ Scanned len done (leftAt z i (old near) (scanOf len done t)) t (rows (c .exit)) r ⌝ }
 {
-    let e = tables::entry_at(x, y, seen, id, parent, num, i);
-    tables::put_entry(x, y, seen, id, parent, num, len + done, e);
-    copy_near(x, y, seen, id, parent, num, near, len, done + 1, z)
+    let e = tables::entry_at(x, y, seen, id, parent, num, energy, i);
+    tables::put_entry(x, y, seen, id, parent, num, energy, len + done, e);
+    copy_near(x, y, seen, id, parent, num, energy, near, len, done + 1, z)
 }
 
 // Whether the total exceeds the entry's own num and is at least min_points.
@@ -274,6 +291,7 @@ fn visit_one(
     id: &mut [u32],
     parent: &mut [u32],
     num: &mut [u32],
+    energy: &mut [u64],
     near: &[u32],
     len: usize,
     done: usize,
@@ -282,22 +300,38 @@ fn visit_one(
     n: u32,
     least: u8,
 ) -> usize
-    requires { let c = given x y seen id parent num in
+    requires { let c = given x y seen id parent num energy in
         ⌜ Even c × AllBelow len (now near) × (i < len) × (len + done + 1 + unseenCount z (take len (rows c)) ≤ length (c .x))
-        × (len ≤ 1048576) × (n ≤ 1048576) × (z ≤ 30) × (entry (rows c) i .num + more z (rows c) (now near) < 2 ^ 32) ⌝ }
+        × (len ≤ 1048576) × (n ≤ 1048576) × (z ≤ 30) × (entry (rows c) i .num + more z (rows c) (now near) < 2 ^ 32)
+        × (entry (rows c) i .energy + moreOf energyOf z (rows c) (now near) < 2 ^ 64) ⌝ }
     ensures { λ r.
-        let c = lentCols x y seen id parent num in
+        let c = lentCols x y seen id parent num energy in
         let t = rows (c .entry) in
         ⌜ Scanned len done (visit n least z (old near) i (scanOf len done t)) t (rows (c .exit)) r ⌝ }
 {
-    let e = tables::entry_at(x, y, seen, id, parent, num, i);
+    let e = tables::entry_at(x, y, seen, id, parent, num, energy, i);
     let own = e.num;
-    let total = total_near(x, y, seen, id, parent, num, near, z, own);
+    let total = total_near(x, y, seen, id, parent, num, energy, near, z, own);
     if is_enough(own, total, least) {
-        make_one(x, y, seen, id, parent, num, near, len, done, i, z, n, total);
+        make_one(
+            x,
+            y,
+            seen,
+            id,
+            parent,
+            num,
+            energy,
+            near,
+            len,
+            done,
+            i,
+            z,
+            n,
+            total,
+        );
         return done + 1;
     }
-    leave_one(x, y, seen, id, parent, num, near, len, done, i, z)
+    leave_one(x, y, seen, id, parent, num, energy, near, len, done, i, z)
 }
 
 // How many of the slots from lo up to hi are answered. No test decides where to go on, so that several slots are tested at once.
@@ -547,6 +581,7 @@ fn scan_one(
     id: &mut [u32],
     parent: &mut [u32],
     num: &mut [u32],
+    energy: &mut [u64],
     ids: &[u32],
     coords: &[f64],
     near: &mut [u32],
@@ -559,19 +594,19 @@ fn scan_one(
     n: u32,
     least: u8,
 ) -> usize
-    requires { let c = given x y seen id parent num in
+    requires { let c = given x y seen id parent num energy in
         let t = take len (rows c) in
         let around = nearOf «node_size» len (now ids) (now coords) r in
         ⌜ Even c × Promised «node_size» len (now ids) (now coords) × Radius r × (n + len ≤ length (now near)) × (i < len)
         × All Placed t × Noted n len around (now near) t × (len + done + unseenCount z t ≤ length (c .x))
-        × (len ≤ n) × (n ≤ 1048576) × (z ≤ 30) × (unseenNum z t < 2 ^ 32) ⌝ }
+        × (len ≤ n) × (n ≤ 1048576) × (z ≤ 30) × (unseenNum z t < 2 ^ 32) × (unseenOf energyOf z t < 2 ^ 64) ⌝ }
     ensures { λ d.
-        let c = lentCols x y seen id parent num in
+        let c = lentCols x y seen id parent num energy in
         let t = rows (c .entry) in
         let around = nearOf «node_size» len (old ids) (old coords) r in
         ⌜ Same len (old near) (new near) × Scanned len done (scanOne n least z around (scanOf len done t) i) t (rows (c .exit)) d ⌝ }
 {
-    let e = tables::entry_at(x, y, seen, id, parent, num, i);
+    let e = tables::entry_at(x, y, seen, id, parent, num, energy, i);
     if e.seen <= z {
         return done;
     }
@@ -585,6 +620,7 @@ fn scan_one(
         id,
         parent,
         num,
+        energy,
         &near[..found],
         len,
         done,
@@ -603,6 +639,7 @@ pub fn cluster(
     id: &mut [u32],
     parent: &mut [u32],
     num: &mut [u32],
+    energy: &mut [u64],
     ids: &[u32],
     coords: &[f64],
     near: &mut [u32],
@@ -613,14 +650,14 @@ pub fn cluster(
     n: u32,
     least: u8,
 ) -> usize
-    requires { let c = given x y seen id parent num in
+    requires { let c = given x y seen id parent num energy in
         let t = take len (rows c) in
         let around = nearOf «node_size» len (now ids) (now coords) r in
         ⌜ Even c × Promised «node_size» len (now ids) (now coords) × Radius r × (n + len ≤ length (now near)) × (len + len ≤ length (c .x))
         × All Placed t × Slotted len (now ids) (now coords) t × Owned len around (now ids) (now coords)
-        × (len ≤ n) × (n ≤ 1048576) × (z ≤ 30) × (unseenNum z t < 2 ^ 32) ⌝ }
+        × (len ≤ n) × (n ≤ 1048576) × (z ≤ 30) × (unseenNum z t < 2 ^ 32) × (unseenOf energyOf z t < 2 ^ 64) ⌝ }
     ensures { λ d.
-        let c = lentCols x y seen id parent num in
+        let c = lentCols x y seen id parent num energy in
         let t = rows (c .entry) in
         let around = nearOf «node_size» len (old ids) (old coords) r in
         ⌜ Scanned len 0 (cluster n least z around (take len t)) t (rows (c .exit)) d ⌝ }
@@ -636,6 +673,7 @@ pub fn cluster(
             id,
             parent,
             num,
+            energy,
             ids,
             coords,
             near,

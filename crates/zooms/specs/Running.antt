@@ -1,7 +1,7 @@
 -- The loop over the zooms: what holds of the columns between two zooms, and what a zoom does to that. Assumes nothing.
 use mathlib.Core.Path.{_≡_, ap, sym, _∙_, subst}
 use mathlib.Core.List.{List, [], _∷_}
-use Prim.Native.Nat.{ℕ, suc, _+_, _-_, _*_, _<_, _≤_}
+use Prim.Native.Nat.{ℕ, suc, _+_, _-_, _*_, _^_, _<_, _≤_}
 use native.Mathlib.Omega.{arith}
 use native.Mathlib.Nat.{le-trans, add-suc, suc-mul}
 use lib.Dec.{T, lit≤}
@@ -18,6 +18,7 @@ use Rattle.tables.specs.Entries.{Table, none, xsOf, ysOf}
 use Rattle.tables.specs.Radius.{radiusAt}
 use Rattle.zoom.specs.Keeps.{all-at}
 use Rattle.zoom.specs.Lamps.{sumOf, total}
+use Rattle.zoom.specs.Zoom.{energyOf}
 use Rattle.zoom.specs.Sound.{Body, Next, Sound, cluster-sound}
 use Rattle.zooms.specs.Zooms.{slotsOf, nearIn, Plan, zoomed}
 use Rattle.zooms.specs.Parts.{putAt, part-put, Inside, Indexable, index-ids, index-co, index-promised}
@@ -74,6 +75,7 @@ pub record Running (p : Plan) (M k start len : ℕ) (t : Table) (ids : List ℕ)
   pub M-few : M ≤ 33554432
   pub fine : All (Next (p .options .«min_zoom» + k)) (part start len t)
   pub lamps : total (part start len t) ≡ p .count
+  pub watts : sumOf energyOf (part start len t) ≤ 2 ^ 60
   pub len-few : len ≤ p .count
   pub room : start + len + k * p .count ≤ M
   pub long : length t ≡ M
@@ -171,6 +173,7 @@ module _ (p : Plan) (M k start len : ℕ) (t : Table) (ids : List ℕ) (co : Lis
           M-few = r .M-few;
           fine = rw (v .made) (zoom-sound .next);
           lamps = ap total (v .made) ∙ zoom-sound .lamps ∙ r .lamps;
+          watts = rw (v .made, zoom-sound .energies) (r .watts);
           len-few = omega (arith, d-few, r .len-few);
           room = more-room;
           long = et ∙ r .long;

@@ -42,4 +42,5 @@ kept-back s c d k =
       ki = put-long s (length (c .id) - s) (d .id) (c .id) (k .ki);
       kp = put-long s (length (c .parent) - s) (d .parent) (c .parent) (k .kp);
       kn = put-long s (length (c .num) - s) (d .num) (c .num) (k .kn);
+      kw = put-long s (length (c .energy) - s) (d .energy) (c .energy) (k .kw);
     }

@@ -18,7 +18,7 @@ use Rattle.zoom.specs.Lamps.{unseenOf-sum}
 use Rattle.zoom.specs.Near.{nearOf, Placed, Radius}
 use Rattle.zoom.specs.Scanned.{unseenOf}
 use Rattle.zoom.specs.Sound.{Body}
-use Rattle.zoom.specs.Zoom.{numOf, Scan, cluster}
+use Rattle.zoom.specs.Zoom.{numOf, energyOf, Scan, cluster}
 use Rattle.zooms.specs.Zooms.{indexOf, slotsOf, nearIn, Plan, zoomed}
 use Rattle.zooms.specs.Parts.{putAt, Inside}
 use Rattle.zooms.specs.Running.{Running, Advanced, next-some, next-few, cur-long, cur-body, table-inside, next-body}
@@ -44,6 +44,9 @@ module _ (p : Plan) (M z start len : ℕ) (t : Table) (ids : List ℕ) (co : Lis
 
   pub step-light : unseenOf numOf z (part start len t) < 2 ^ 32
   step-light = omega (arith, unseenOf-sum numOf z (part start len t), r .lamps, r .able .few)
+
+  pub step-watts : unseenOf energyOf z (part start len t) < 2 ^ 64
+  step-watts = omega (arith, unseenOf-sum energyOf z (part start len t), r .watts)
 
   pub step-radius : Radius (radiusAt (p .options .radius) (p .options .extent) z)
   step-radius = let a = r .able in radius-fine (p .options .radius) (p .options .extent) z (omega (arith, z-few)) (a .radius-from) (a .radius-to) (a .extent-from) (a .extent-to)

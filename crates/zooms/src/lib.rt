@@ -11,7 +11,7 @@ ghost use Rattle.lent.specs.Lent.{old, new};
 ghost use Rattle.tables.specs.Rows.{rows, Even};
 ghost use Rattle.tables.specs.Lent.{given, lentCols};
 ghost use Rattle.tables.specs.Columns.{part};
-ghost use Rattle.zoom.specs.Zoom.{numOf, cluster};
+ghost use Rattle.zoom.specs.Zoom.{numOf, energyOf, cluster};
 ghost use Rattle.zoom.specs.Scanned.{unseenOf};
 ghost use Rattle.zoom.specs.Near.{nearOf, Placed, Radius};
 ghost use Rattle.zoom.specs.Notes.{Owned, Slotted};
@@ -29,6 +29,7 @@ fn zoom_step(
     id: &mut [u32],
     parent: &mut [u32],
     num: &mut [u32],
+    energy: &mut [u64],
     ids: &[u32],
     coords: &[f64],
     near: &mut [u32],
@@ -39,16 +40,17 @@ fn zoom_step(
     z: u8,
     n: u32,
 ) -> usize
-    requires { let c = given x y seen id parent num in
+    requires { let c = given x y seen id parent num energy in
         let t = part start len (rows c) in
         let slots = part start len (now ids) in
         let co = part (start * 2) (len * 2) (now coords) in
         ⌜ Even c × Promised (o .«node_size») len slots co × Radius r × All Placed t
         × (start + len ≤ length (now ids)) × ((start + len) * 2 ≤ length (now coords)) × (n + len ≤ length (now near)) × (start + len + len ≤ length (c .x))
         × (unseenOf numOf z t < 2 ^ 32) × (start ≤ 67108864) × (len ≤ n) × (n ≤ 1048576) × (z ≤ 30)
-        × Slotted len slots co t × Owned len (nearOf (o .«node_size») len slots co r) slots co ⌝ }
+        × Slotted len slots co t × Owned len (nearOf (o .«node_size») len slots co r) slots co
+        × (unseenOf energyOf z t < 2 ^ 64) ⌝ }
     ensures { λ d.
-        let c = lentCols x y seen id parent num in
+        let c = lentCols x y seen id parent num energy in
         let near = nearOf (o .«node_size») len (part start len (old ids)) (part (start * 2) (len * 2) (old coords)) r in
         ⌜ Stepped start len (cluster n (o .«min_points») z near (part start len (rows (c .entry)))) (rows (c .entry)) (rows (c .exit)) d ⌝ }
 {
@@ -64,6 +66,7 @@ fn zoom_step(
         &mut id[start..],
         &mut parent[start..],
         &mut num[start..],
+        &mut energy[start..],
         &ids[start..end],
         &coords[c0..c1],
         near,
@@ -113,6 +116,7 @@ fn one_zoom(
     id: &mut [u32],
     parent: &mut [u32],
     num: &mut [u32],
+    energy: &mut [u64],
     ids: &mut [u32],
     coords: &mut [f64],
     near: &mut [u32],
@@ -122,11 +126,11 @@ fn one_zoom(
     z: u8,
     n: u32,
 ) -> usize
-    requires { let c = given x y seen id parent num in
+    requires { let c = given x y seen id parent num energy in
         ⌜ Even c × (n + n ≤ length (now near)) × (o .«min_zoom» ≤ z)
         × Running (planOf o n) (length (c .x)) (suc (z - o .«min_zoom»)) start len (rows c) (now ids) (now coords) ⌝ }
     ensures { λ d.
-        let c = lentCols x y seen id parent num in
+        let c = lentCols x y seen id parent num energy in
         ⌜ Advanced (planOf o n) z start len d (rows (c .entry)) (rows (c .exit)) (old ids) (new ids) (old coords) (new coords) ⌝ }
 {
     let r = tables::radius_at(o.radius, o.extent, z);
@@ -137,6 +141,7 @@ fn one_zoom(
         id,
         parent,
         num,
+        energy,
         ids,
         coords,
         near,
@@ -161,18 +166,19 @@ pub fn run_zooms(
     id: &mut [u32],
     parent: &mut [u32],
     num: &mut [u32],
+    energy: &mut [u64],
     ids: &mut [u32],
     coords: &mut [f64],
     near: &mut [u32],
     s: State,
     n: u32,
 ) -> State
-    requires { let c = given x y seen id parent num in
+    requires { let c = given x y seen id parent num energy in
         ⌜ Even c × (n + n ≤ length (now near)) × (s .options .«min_zoom» ≤ s .options .«max_zoom» + 1)
         × Running (planOf (s .options) n) (length (c .x)) (zoomsOf (s .options)) 0 n (rows c) (now ids) (now coords)
         × (set (s .starts) (s .options .«max_zoom» + 1) 0 ≡ s .starts) × (set (s .lens) (s .options .«max_zoom» + 1) n ≡ s .lens) ⌝ }
     ensures { λ r.
-        let c = lentCols x y seen id parent num in
+        let c = lentCols x y seen id parent num energy in
         let t = rows (c .entry) in
         ⌜ Finished (planOf (s .options) n) (zoomsOf (s .options)) s r (part 0 n t) t (rows (c .exit)) (old ids) (new ids) (old coords) (new coords) ⌝ }
 {
@@ -191,6 +197,7 @@ pub fn run_zooms(
             id,
             parent,
             num,
+            energy,
             ids,
             coords,
             near,

@@ -1,7 +1,9 @@
 //! The builds that are asked: every number of points up to 700, options at 01's bounds and ordinary ones; and a few
 //! large ones.
 
-use crate::{edges, large, latitudes::latitudes, Columns, Form, Scene};
+use crate::{edges, large, latitudes::latitudes, Form, Scene};
+use builds::Tables;
+use columns::{Columns, Given};
 use options::{corners, Options, Plane};
 use points::{Drawn, SHAPES};
 use questions::State;
@@ -15,6 +17,7 @@ pub struct Build {
     pub points: [Vec<f64>; 2],
     /// The second column as a caller of the port has it.
     pub ys: Vec<f64>,
+    pub energies: Vec<u64>,
     /// Whether these are the Rust's y of those latitudes.
     pub on_the_globe: bool,
     pub state: State,
@@ -34,17 +37,24 @@ impl Build {
 
     /// Points as a caller of the Rust has them.
     pub fn of(what: String, options: Options, points: [Vec<f64>; 2]) -> Build {
-        let tables = builds::patched::tables(&options, &points[0], &points[1]);
-        let ys = tables.lent_ys(&options.plane, &points[1]);
-        let (count, starts, lens) = (points[0].len() as u32, tables.starts, tables.lens);
-        let state = State { options, count, starts, lens };
+        let [xs, ys] = &points;
+        let energies = points::energies(xs, ys);
+        let tables = builds::patched::tables(&options, &Given { xs, ys, energies: &energies });
+        let ys = tables.lent_ys(&options.plane, ys);
+        let Tables { columns, starts, lens } = tables;
+        let state = State { options, count: points[0].len() as u32, starts, lens };
         let on_the_globe = matches!(options.plane, Plane::Globe);
-        Build { what, points, ys, on_the_globe, state, columns: Columns::from(tables) }
+        Build { what, points, ys, energies, on_the_globe, state, columns }
     }
 
     /// What it is, and its options.
     pub fn name(&self) -> String {
         format!("{}, {:?}", self.what, self.state.options)
+    }
+
+    /// The points as a caller of the port has them.
+    pub fn given(&self) -> Given<'_> {
+        Given { xs: &self.points[0], ys: &self.ys, energies: &self.energies }
     }
 
     pub fn scene(&self) -> Scene<'_> {

@@ -25,6 +25,7 @@ pub fn latitudes() -> &'static [Latitude] {
 /// The Rust's y of each latitude.
 fn ys(latitudes: &[f64]) -> Vec<f64> {
     let options = Options { min_zoom: 30, max_zoom: 30, radius: 0.0, plane: Plane::Globe, ..USUAL };
-    let tables = builds::patched::tables(&options, &vec![0.0; latitudes.len()], latitudes);
-    tables.y[..latitudes.len()].to_vec()
+    let loaded = builds::patched::loaded(&options, &vec![0.0; latitudes.len()], latitudes);
+    let finest = builds::patched::tables_of(&loaded).next().expect("the finest table");
+    finest.rows().map(|row| row.entry.y).collect()
 }

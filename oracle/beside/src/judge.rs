@@ -1,7 +1,8 @@
 //! One face for the builds of the Rust: every question, put to the Rust's own functions.
 
 use crate::{Entry, Item};
-use geojson::{feature::Id, Feature, FeatureCollection, Value};
+use builds::{number_of, numbered};
+use geojson::{Feature, FeatureCollection, Value};
 use options::{Options, Range};
 
 /// A build of the Rust. An error is the Rust's own, by its name.
@@ -50,11 +51,6 @@ pub struct Table {
     pub data: Vec<f64>,
 }
 
-/// A point with an empty properties object; its id is its number.
-pub fn feature(number: usize, point: &[f64; 2]) -> Feature {
-    Feature { id: Some(Id::String(number.to_string())), ..builds::feature(*point) }
-}
-
 /// What a feature of an answer says. A cluster is told by the property that the Rust gives it.
 pub fn item(feature: &Feature) -> Item {
     let Some(Value::Point(at)) = feature.geometry.as_ref().map(|geometry| &geometry.value) else {
@@ -67,10 +63,7 @@ pub fn item(feature: &Feature) -> Item {
     let (id, num) = if feature.contains_property("cluster") {
         (number("cluster_id"), number("point_count"))
     } else {
-        match &feature.id {
-            Some(Id::String(text)) => (text.parse().expect("a lamp's number"), 1),
-            None => panic!("a lamp without its number"),
-        }
+        (number_of(feature), 1)
     };
     Item { id, num, x: at[0], y: at[1] }
 }
@@ -118,7 +111,7 @@ macro_rules! judge {
                 fn load(options: &Options, points: &[[f64; 2]]) -> Result<Self, String> {
                     let mut rust = unloaded(options);
                     let features = points.iter().enumerate();
-                    match rust.load(features.map(|(i, point)| feature(i, point)).collect()) {
+                    match rust.load(features.map(|(i, point)| numbered(i, *point)).collect()) {
                         Ok(_) => Ok(Build(rust)),
                         Err(error) => Err(format!("{error:?}")),
                     }
@@ -127,7 +120,7 @@ macro_rules! judge {
                 fn over(options: &Options, points: &[[f64; 2]], tables: Vec<Table>) -> Self {
                     let mut rust = unloaded(options);
                     let features = points.iter().enumerate();
-                    rust.points = features.map(|(i, point)| feature(i, point)).collect();
+                    rust.points = features.map(|(i, point)| numbered(i, *point)).collect();
                     for Table { zoom, ids, coords, data } in tables {
                         let index = KDBush::new(0, options.node_size);
                         rust.trees.insert(zoom, KDBush { ids, coords, data, ..index });

@@ -4,7 +4,8 @@ use crate::{
     judge::{Judge, Table},
     plans, Entry, Item,
 };
-use asked::{Build, Columns};
+use asked::Build;
+use builds::data;
 use questions::{home, Question};
 use std::collections::BTreeMap;
 
@@ -40,7 +41,7 @@ impl<J: Judge> Rust<J> {
                 zoom,
                 ids: columns.ids[at.clone()].iter().map(|place| *place as usize).collect(),
                 coords: columns.coords[2 * at.start..2 * at.end].to_vec(),
-                data: at.flat_map(|at| row(columns, at)).collect(),
+                data: at.flat_map(|at| data(&columns.lent().entry(at))).collect(),
             }
         };
         let tables = (state.coarsest()..=state.finest()).map(table).collect();
@@ -107,20 +108,6 @@ impl<J: Judge> Rust<J> {
 fn lamps(build: &Build) -> Vec<[f64; 2]> {
     let [xs, ys] = &build.points;
     xs.iter().zip(ys).map(|(x, y)| [*x, *y]).collect()
-}
-
-/// The six numbers of an entry as the Rust keeps them.
-fn row(columns: &Columns, at: usize) -> [f64; 6] {
-    let or = |number: f64, unset: bool, stands: f64| if unset { stands } else { number };
-    let (seen, parent) = (columns.seen[at], columns.parent[at]);
-    [
-        columns.x[at],
-        columns.y[at],
-        or(f64::from(seen), seen == u8::MAX, f64::INFINITY),
-        f64::from(columns.id[at]),
-        or(f64::from(parent), parent == u32::MAX, -1.0),
-        f64::from(columns.num[at]),
-    ]
 }
 
 fn said(answer: Result<Vec<Item>, String>) -> Said {

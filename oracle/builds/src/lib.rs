@@ -4,9 +4,9 @@
 pub mod skipped;
 mod tables;
 
-pub use tables::{Row, Table, Tables, NO_PARENT, UNSEEN};
+pub use tables::{data, Row, Table, Tables, NO_PARENT, UNSEEN};
 
-use geojson::{Feature, Geometry, JsonObject, Value};
+use geojson::{feature::Id, Feature, Geometry, JsonObject, Value};
 
 /// Up to so many points the builds with the window block arrange as the patched one does.
 pub const WITHOUT_WINDOW: usize = 601;
@@ -20,6 +20,19 @@ pub fn feature([x, y]: [f64; 2]) -> Feature {
     }
 }
 
+/// The same with its number as its id, by which it is known in an answer.
+pub fn numbered(number: usize, point: [f64; 2]) -> Feature {
+    Feature { id: Some(Id::String(number.to_string())), ..feature(point) }
+}
+
+/// The number of such a feature.
+pub fn number_of(feature: &Feature) -> usize {
+    match &feature.id {
+        Some(Id::String(text)) => text.parse().expect("a lamp's number"),
+        None => panic!("a lamp without its number"),
+    }
+}
+
 /// The points of two columns as features.
 pub fn features(xs: &[f64], ys: &[f64]) -> Vec<Feature> {
     xs.iter().zip(ys).map(|(x, y)| feature([*x, *y])).collect()
@@ -30,7 +43,8 @@ macro_rules! build {
         pub mod $module {
             //! This build of the Rust.
 
-            use crate::{features, tables::Table, Tables};
+            use crate::{number_of, numbered, tables::Table, Tables};
+            use columns::Given;
             use options::{Options, Plane, Range};
             pub use $rust::Supercluster;
             use $rust::{CoordinateSystem, DataRange, KDBush, SuperclusterOptions};
@@ -82,18 +96,25 @@ macro_rules! build {
             /// Loads these points.
             pub fn loaded(options: &Options, xs: &[f64], ys: &[f64]) -> Supercluster {
                 let mut rust = unloaded(options);
-                rust.load(features(xs, ys)).expect("points that are loaded");
+                let points = xs.iter().zip(ys).enumerate();
+                let features = points.map(|(number, (x, y))| numbered(number, [*x, *y]));
+                rust.load(features.collect()).expect("points that are loaded");
                 rust
             }
 
-            /// The tables of a loaded instance in columns.
-            pub fn packed(rust: &Supercluster) -> Tables {
-                Tables::packed(tables_of(rust))
+            /// The lamps of a cluster, all that the Rust lists.
+            fn lamps(rust: &Supercluster, id: u32) -> Vec<usize> {
+                rust.get_leaves(id as usize, usize::MAX, 0).iter().map(number_of).collect()
+            }
+
+            /// The tables of a loaded instance in columns, with the energies of its points.
+            pub fn packed(rust: &Supercluster, energies: &[u64]) -> Tables {
+                Tables::packed(tables_of(rust), energies, |id| lamps(rust, id))
             }
 
             /// Loads these points; the tables.
-            pub fn tables(options: &Options, xs: &[f64], ys: &[f64]) -> Tables {
-                packed(&loaded(options, xs, ys))
+            pub fn tables(options: &Options, given: &Given) -> Tables {
+                packed(&loaded(options, given.xs, given.ys), given.energies)
             }
         }
     };

@@ -2,6 +2,7 @@
 //! out entries that pass the distance test and lie outside such an edge. By the rule of #106 they are answered.
 
 use crate::{ringed, untouched, Row, Table};
+use columns::Entry;
 
 /// How what the untouched Rust gives compares with what the rule gives.
 #[derive(Clone, Copy, Debug, PartialEq, Eq)]
@@ -69,7 +70,7 @@ fn are_alike([ours, theirs]: &[Table; 2], part: fn(Row) -> Row) -> bool {
 
 /// A row without what the build of the next table writes into it.
 fn unmarked(row: Row) -> Row {
-    Row { seen: 0, parent: 0, ..row }
+    Row { entry: Entry { seen: 0, parent: 0, ..row.entry }, ..row }
 }
 
 /// The rings of a zoom around each entry of the table that the zoom is made of, which both have alike.
@@ -78,11 +79,11 @@ fn rings(ours: &ringed::Supercluster, theirs: &untouched::Supercluster, made_of:
         return Beside::Other;
     };
     let radius = ours.options.radius / (ours.options.extent * 2.0_f64.powi(zoom as i32));
-    let rows: Vec<Row> = made_of.rows().collect();
-    let at = |place: usize| [rows[place].x, rows[place].y];
+    let entries: Vec<Entry> = made_of.rows().map(|row| row.entry).collect();
+    let at = |place: usize| [entries[place].x, entries[place].y];
     let mut beside = Beside::Same;
-    for row in &rows {
-        let circle = [row.x, row.y, radius];
+    for entry in &entries {
+        let circle = [entry.x, entry.y, radius];
         let answers = ringed::within(ours, made_of.zoom, circle);
         match ring(circle, at, &answers, &untouched::within(theirs, made_of.zoom, circle)) {
             Beside::Same => {}

@@ -1,6 +1,8 @@
 //! The Rust's tables as the port packs them: one after the other in columns, the finest first.
 
+use columns::{Columns, Entry, Slot};
 use options::Plane;
+use std::collections::HashMap;
 
 /// What stands for the Rust's infinity, the mark of an entry that no zoom has seen.
 pub const UNSEEN: u8 = 255;
@@ -25,14 +27,8 @@ pub struct Table<'a> {
 /// An entry of a table and the slot at the same position of its index, in the port's numbers.
 #[derive(Clone, Copy, Debug, PartialEq)]
 pub struct Row {
-    pub x: f64,
-    pub y: f64,
-    pub seen: u8,
-    pub id: u32,
-    pub parent: u32,
-    pub num: u32,
-    pub slot_id: u32,
-    pub slot: [f64; 2],
+    pub entry: Entry,
+    pub slot: Slot,
 }
 
 impl Table<'_> {
@@ -40,17 +36,32 @@ impl Table<'_> {
     pub fn rows(&self) -> impl ExactSizeIterator<Item = Row> + '_ {
         let entries = self.data.chunks_exact(STRIDE);
         assert_eq!(entries.len(), self.ids.len(), "a table with its index");
-        entries.zip(self.ids).zip(self.coords.chunks_exact(2)).map(|((entry, slot_id), slot)| Row {
-            x: entry[0],
-            y: entry[1],
-            seen: if entry[2] == f64::INFINITY { UNSEEN } else { whole(entry[2]) as u8 },
-            id: whole(entry[3]),
-            parent: if entry[4] == -1.0 { NO_PARENT } else { whole(entry[4]) },
-            num: whole(entry[5]),
-            slot_id: u32::try_from(*slot_id).expect("a place of 32 bits"),
-            slot: [slot[0], slot[1]],
+        let slots = self.ids.iter().zip(self.coords.chunks_exact(2));
+        entries.map(entry).zip(slots).map(|(entry, (place, at))| {
+            let place = u32::try_from(*place).expect("a place of 32 bits");
+            Row { entry, slot: Slot { place, at: [at[0], at[1]] } }
         })
     }
+}
+
+/// An entry of the Rust's data, which know of no energy.
+fn entry(data: &[f64]) -> Entry {
+    Entry {
+        x: data[0],
+        y: data[1],
+        seen: if data[2] == f64::INFINITY { UNSEEN } else { whole(data[2]) as u8 },
+        id: whole(data[3]),
+        parent: if data[4] == -1.0 { NO_PARENT } else { whole(data[4]) },
+        num: whole(data[5]),
+        energy: 0,
+    }
+}
+
+/// The numbers of an entry as the Rust's data have them.
+pub fn data(entry: &Entry) -> [f64; STRIDE] {
+    let seen = if entry.seen == UNSEEN { f64::INFINITY } else { f64::from(entry.seen) };
+    let parent = if entry.parent == NO_PARENT { -1.0 } else { f64::from(entry.parent) };
+    [entry.x, entry.y, seen, f64::from(entry.id), parent, f64::from(entry.num)]
 }
 
 /// A whole number of the Rust's data.
@@ -63,26 +74,32 @@ fn whole(number: f64) -> u32 {
 /// The tables of a build in columns, and where each starts and how long it is, by zoom.
 #[derive(Clone, Debug, Default)]
 pub struct Tables {
-    pub x: Vec<f64>,
-    pub y: Vec<f64>,
-    pub seen: Vec<u8>,
-    pub id: Vec<u32>,
-    pub parent: Vec<u32>,
-    pub num: Vec<u32>,
-    pub ids: Vec<u32>,
-    pub coords: Vec<f64>,
+    pub columns: Columns,
     pub starts: [u32; ZOOMS],
     pub lens: [u32; ZOOMS],
 }
 
 impl Tables {
-    /// Packs tables from position 0.
-    pub(crate) fn packed<'a>(tables: impl Iterator<Item = Table<'a>>) -> Tables {
+    /// Packs tables from position 0. An entry's energy is that of the lamps that `lamps` lists for its id, or its own.
+    pub(crate) fn packed<'a>(
+        tables: impl Iterator<Item = Table<'a>>,
+        energies: &[u64],
+        lamps: impl Fn(u32) -> Vec<usize>,
+    ) -> Tables {
         let mut all = Tables::default();
+        // A cluster that is carried on keeps its id.
+        let mut sums: HashMap<u32, u64> = HashMap::new();
         for table in tables {
-            all.starts[table.zoom] = all.x.len() as u32;
+            all.starts[table.zoom] = all.columns.x.len() as u32;
             all.lens[table.zoom] = table.ids.len() as u32;
-            table.rows().for_each(|row| all.push(&row));
+            for Row { entry, slot } in table.rows() {
+                let sum = || lamps(entry.id).iter().map(|lamp| energies[*lamp]).sum();
+                let energy = match entry.num {
+                    0 | 1 => energies[entry.id as usize],
+                    _ => *sums.entry(entry.id).or_insert_with(sum),
+                };
+                all.columns.push(&Entry { energy, ..entry }, &slot);
+            }
         }
         all
     }
@@ -91,19 +108,8 @@ impl Tables {
     /// what the Rust makes of them stands in the finest table.
     pub fn lent_ys(&self, plane: &Plane, ys: &[f64]) -> Vec<f64> {
         match plane {
-            Plane::Globe => self.y[..ys.len()].to_vec(),
+            Plane::Globe => self.columns.y[..ys.len()].to_vec(),
             Plane::Cartesian(_) => ys.to_vec(),
         }
-    }
-
-    fn push(&mut self, row: &Row) {
-        self.x.push(row.x);
-        self.y.push(row.y);
-        self.seen.push(row.seen);
-        self.id.push(row.id);
-        self.parent.push(row.parent);
-        self.num.push(row.num);
-        self.ids.push(row.slot_id);
-        self.coords.extend(row.slot);
     }
 }

@@ -14,9 +14,10 @@ const TALLEST: f64 = 1.2;
 const GROWTH: f64 = 5.0;
 const LARGEST: f64 = 40.0;
 
-/// A circle holds its count from this radius on; each further digit needs more.
+/// A circle holds its count from this radius on; each further digit needs more. From that one on it holds its energy too.
 const HOLDS: f64 = 6.5;
 const EACH_DIGIT: f64 = 2.3;
+const HOLDS_BOTH: f64 = 13.0;
 
 /// What part of the map a panel shows, and how large.
 pub struct Frame {
@@ -116,10 +117,19 @@ impl Panel<'_> {
         svg + "</g>\n"
     }
 
-    /// The count of a cluster: in its circle where that is large enough, otherwise beside it.
+    /// The count of a cluster: in its circle where that is large enough, otherwise beside it; and its energy below, where
+    /// there is room for both.
     fn count(&self, entry: &Entry) -> String {
         let ([x, y], r) = (self.frame.at(entry), self.frame.radius(entry.num));
         let num = entry.num.to_string();
+        if r >= HOLDS_BOTH {
+            let energy = kilowatt_hours(entry.energy);
+            let [upper, lower] = [y - 0.4, y + 8.6];
+            return format!(
+                "<text class=\"count\" x=\"{x:.1}\" y=\"{upper:.1}\">{num}</text>\n\
+                 <text class=\"energy\" x=\"{x:.1}\" y=\"{lower:.1}\">{energy}</text>\n"
+            );
+        }
         if r >= HOLDS + EACH_DIGIT * (num.len() - 1) as f64 {
             let y = y + 3.6;
             return format!("<text class=\"count\" x=\"{x:.1}\" y=\"{y:.1}\">{num}</text>\n");
@@ -127,4 +137,10 @@ impl Panel<'_> {
         let [x, y] = [x + 0.75 * r + 1.5, y - 0.75 * r];
         format!("<text class=\"beside\" x=\"{x:.1}\" y=\"{y:.1}\">{num}</text>\n")
     }
+}
+
+/// Watt-hours as kilowatt-hours with one digit behind the point, rounded.
+pub fn kilowatt_hours(energy: u64) -> String {
+    let tenths = (energy + 50) / 100;
+    format!("{}.{}", tenths / 10, tenths % 10)
 }

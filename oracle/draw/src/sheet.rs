@@ -1,7 +1,7 @@
 //! The whole picture: the panels in two columns, with a line that says how to read them.
 
 use crate::{
-    panel::{Frame, Panel},
+    panel::{kilowatt_hours, Frame, Panel},
     tables::Table,
 };
 use std::fmt::Write;
@@ -18,6 +18,7 @@ text{font-family:Helvetica,Arial,'DejaVu Sans',sans-serif;fill:#2b2620}\
 .title{font-size:15px;font-weight:600}\
 .legend{font-size:12px;fill:#6b655b}\
 .count{font-size:10px;text-anchor:middle;paint-order:stroke;stroke:#f8d587;stroke-width:2.5px;stroke-linejoin:round}\
+.energy{font-size:8px;text-anchor:middle;fill:#6b4a10;paint-order:stroke;stroke:#f8d587;stroke-width:2px;stroke-linejoin:round}\
 .beside{font-size:9px;paint-order:stroke;stroke:#fff;stroke-width:2.5px;stroke-linejoin:round}\
 .owner{fill:none;stroke:#8b93a1;stroke-width:.8}\
 .finer{fill:#9aa1ad}\
@@ -25,7 +26,8 @@ text{font-family:Helvetica,Arial,'DejaVu Sans',sans-serif;fill:#2b2620}\
 .cluster{fill:#f6c453;fill-opacity:.72;stroke:#a86f12;stroke-width:1}";
 
 const HOW_TO_READ: &str = "Point: a lamp. Circle: a cluster with its number of lamps, which its area \
-                           grows with. Line: from an entry of the finer table to the one that owns it.";
+                           grows with, and its kWh. Line: from an entry of the finer table to the one \
+                           that owns it.";
 
 /// The picture of these tables, the finest first.
 pub fn picture(tables: &[Table]) -> Result<String, String> {
@@ -59,11 +61,11 @@ pub fn picture(tables: &[Table]) -> Result<String, String> {
     Ok(svg + "</svg>\n")
 }
 
-/// `zoom 3: 42 entries, 17 clusters`.
+/// `zoom 3: 42 entries, 17 clusters, 31.4 kWh`.
 fn title(table: &Table) -> String {
     let entries = counted(table.entries.len(), "entry", "entries");
     let clusters = counted(table.clusters(), "cluster", "clusters");
-    format!("zoom {}: {entries}, {clusters}", table.zoom)
+    format!("zoom {}: {entries}, {clusters}, {} kWh", table.zoom, kilowatt_hours(table.energy()))
 }
 
 fn counted(count: usize, one: &str, many: &str) -> String {

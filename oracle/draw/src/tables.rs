@@ -8,6 +8,8 @@ pub struct Entry {
     pub id: u32,
     pub parent: Option<u32>,
     pub num: u32,
+    /// In watt-hours.
+    pub energy: u64,
 }
 
 impl Entry {
@@ -28,6 +30,11 @@ impl Table {
     /// How many of its entries are clusters.
     pub fn clusters(&self) -> usize {
         self.entries.iter().filter(|entry| entry.is_cluster()).count()
+    }
+
+    /// The energies of its entries, added up.
+    pub fn energy(&self) -> u64 {
+        self.entries.iter().map(|entry| entry.energy).sum()
     }
 
     /// The entry that owns one of the finer table before this: the cluster that absorbed it, or where it
@@ -63,14 +70,20 @@ pub fn read(text: &str) -> Result<Vec<Table>, String> {
 /// Zoom, place and entry of a line.
 fn read_line(line: &str) -> Option<(u32, usize, Entry)> {
     let fields: Vec<&str> = line.split(' ').collect();
-    let [zoom, place, x, y, _, id, parent, num] = fields.try_into().ok()?;
+    let [zoom, place, x, y, _, id, parent, num, energy] = fields.try_into().ok()?;
     let bits = |field: &str| u64::from_str_radix(field, 16).ok().map(f64::from_bits);
     let parent = match parent {
         "-" => None,
         _ => Some(parent.parse().ok()?),
     };
-    let entry =
-        Entry { x: bits(x)?, y: bits(y)?, id: id.parse().ok()?, parent, num: num.parse().ok()? };
+    let entry = Entry {
+        x: bits(x)?,
+        y: bits(y)?,
+        id: id.parse().ok()?,
+        parent,
+        num: num.parse().ok()?,
+        energy: energy.parse().ok()?,
+    };
     Some((zoom.parse().ok()?, place.parse().ok()?, entry))
 }
 
@@ -79,15 +92,7 @@ mod tests {
     use super::*;
 
     /// 01's example.
-    const LINES: &str = "\
-2 0 3fd0000000000000 3fe0000000000000 1 0 6 1
-2 1 3fd4000000000000 3fe0000000000000 1 1 6 1
-2 2 3fda000000000000 3fe0000000000000 1 2 70 1
-2 3 3fda000000000000 3fe0000000000000 1 3 70 1
-1 0 3fd2000000000000 3fe0000000000000 0 6 5 2
-1 1 3fda000000000000 3fe0000000000000 0 70 5 2
-0 0 3fd6000000000000 3fe0000000000000 - 5 - 4
-";
+    const LINES: &str = include_str!("../../lister/worked.tables");
 
     #[test]
     fn owners_of_the_example() {
@@ -99,18 +104,19 @@ mod tests {
         assert_eq!(ids(0), [6, 6, 70, 70]);
         assert_eq!(ids(1), [5, 5]);
         assert_eq!(tables.iter().map(Table::clusters).collect::<Vec<_>>(), [0, 2, 1]);
+        assert_eq!(tables.iter().map(Table::energy).collect::<Vec<_>>(), [100; 3]);
     }
 
     #[test]
     fn an_entry_that_none_absorbs_is_carried_on() {
-        let line = "1 0 3fd0000000000000 3fe0000000000000 0 7 - 1\n";
+        let line = "1 0 3fd0000000000000 3fe0000000000000 0 7 - 1 9\n";
         let tables = read(&format!("{line}{}", line.replace("1 0 ", "0 0 "))).unwrap();
         assert_eq!(tables[1].owner(&tables[0].entries[0]).unwrap().id, 7);
     }
 
     #[test]
     fn what_is_no_listing() {
-        for text in ["", "refusal=12\n", "1 0 3fd0 3fe0 0 7 -\n", "1 1 3fd0 3fe0 0 7 - 1\n"] {
+        for text in ["", "refusal=12\n", "1 0 3fd0 3fe0 0 7 - 1\n", "1 1 3fd0 3fe0 0 7 - 1 9\n"] {
             assert!(read(text).is_err(), "{text}");
         }
         assert!(read(&LINES.replace("0 0 3fd6", "1 2 3fd6")).is_ok());

@@ -3,7 +3,9 @@
 
 use crate::{
     attempt::attempt,
-    plain::{ids, listed, points, spots, Entry, Item, Options, BELOW_QUARTER, LAMPS, WORKED},
+    plain::{
+        ids, listed, points, spots, Entry, Item, Options, BELOW_QUARTER, ENERGIES, LAMPS, WORKED,
+    },
     report::Report,
 };
 use beside::judge::{Judge, Patched, Ringed, Untouched};
@@ -21,16 +23,8 @@ const NOT_THE_RUSTS: [&str; 4] = [
     "leaves of 5: limit 0 offset 0 lists nothing",
 ];
 
-/// The seven lines of 'The table lister'.
-const LISTER: &str = "\
-2 0 3fd0000000000000 3fe0000000000000 1 0 6 1
-2 1 3fd4000000000000 3fe0000000000000 1 1 6 1
-2 2 3fda000000000000 3fe0000000000000 1 2 70 1
-2 3 3fda000000000000 3fe0000000000000 1 3 70 1
-1 0 3fd2000000000000 3fe0000000000000 0 6 5 2
-1 1 3fda000000000000 3fe0000000000000 0 70 5 2
-0 0 3fd6000000000000 3fe0000000000000 - 5 - 4
-";
+/// The seven lines of 'The table lister', with 02's energies.
+const LISTER: &str = include_str!("../../lister/worked.tables");
 
 /// Runs every line against every build; that of the rings only where the Rust has the rule of #106.
 pub fn run() -> ExitCode {
@@ -167,13 +161,13 @@ fn lister<J: Judge>() -> String {
     let mut text = String::new();
     for zoom in [2, 1, 0] {
         for (place, entry) in table(&build, zoom).iter().enumerate() {
-            text += &format!("{zoom} {place} {}\n", fields(entry));
+            text += &format!("{zoom} {place} {} {}\n", fields(entry), energy(&build, entry));
         }
     }
     text
 }
 
-/// The last six fields of a line of the table lister.
+/// The last fields of a line of the table lister but for the energy.
 fn fields(entry: &Entry) -> String {
     let or_unset = |number: f64, unset: f64| match number == unset {
         true => "-".to_string(),
@@ -183,6 +177,17 @@ fn fields(entry: &Entry) -> String {
     let seen = or_unset(entry.seen, f64::INFINITY);
     let parent = or_unset(entry.parent, -1.0);
     format!("{x:016x} {y:016x} {seen} {} {parent} {}", entry.id, entry.num)
+}
+
+/// The energies of an entry's lamps, added up.
+fn energy<J: Judge>(build: &J, entry: &Entry) -> u64 {
+    match entry.num > 1.0 {
+        true => {
+            let lamps = build.leaves(entry.id as usize, usize::MAX, 0);
+            lamps.iter().map(|lamp| ENERGIES[lamp.id]).sum()
+        }
+        false => ENERGIES[entry.id as usize],
+    }
 }
 
 fn decoded<J: Judge>(id: usize) -> String {

@@ -1,12 +1,14 @@
 //! Test vectors for the build of the tables, made by calling the patched Rust: one case a line. A word is 16
-//! digits. The options, `n` and the points, `m` and the packed entries, each with the slot at its position,
-//! then `start len` for each zoom.
+//! digits. The options, `n`, the points as `x y`, their energies, `m` and the packed entries, each with the slot at
+//! its position, then `start len` for each zoom.
 
 use crate::plain::{
-    columns, points as in_parts, Options, Plane, Range, LAMPS, REACHED, REACHING, UNIT, WORKED,
+    columns, points as in_parts, Options, Plane, Range, ENERGIES, LAMPS, REACHED, REACHING, UNIT,
+    WORKED,
 };
 use builds::{patched, Tables};
-use options::corners;
+use columns::{Given, Lent};
+use options::{corners, MOST_ENERGY};
 use points::{Drawn, SHAPES};
 use splitmix::Splitmix;
 use std::io::{self, Write};
@@ -41,10 +43,11 @@ const DEEP: [(usize, [u8; 2]); 7] = [
     (6, [0, 30]),
 ];
 
-/// Writes the cases: 01's worked build, small ones, larger ones, deep ones, the lamps of its corner.
+/// Writes the cases: 01's worked build, small ones, larger ones, deep ones, the lamps of its corner, and the worked
+/// build with energies at their bounds.
 pub fn write(out: &mut impl Write) -> io::Result<()> {
     let mut source = Splitmix(SEED);
-    out.write_all(line(&WORKED, &columns(&in_parts(&LAMPS))).as_bytes())?;
+    out.write_all(line(&WORKED, &columns(&in_parts(&LAMPS)), &ENERGIES).as_bytes())?;
     let small = (1..=SMALL).flat_map(|count| ZOOMS.map(|zooms| (count, zooms)));
     for (number, (count, zooms)) in small.enumerate() {
         let options = options(number, zooms, &mut source);
@@ -60,7 +63,11 @@ pub fn write(out: &mut impl Write) -> io::Result<()> {
         let options = Options { min_zoom, max_zoom, min_points: 2, ..ordinary };
         out.write_all(case(number, &options, count, drawn, &mut source).as_bytes())?;
     }
-    out.write_all(line(&REACHING, &columns(&REACHED)).as_bytes())?;
+    let reached = columns(&REACHED);
+    out.write_all(line(&REACHING, &reached, &energies_of(&reached)).as_bytes())?;
+    for energies in at_the_bound() {
+        out.write_all(line(&WORKED, &columns(&in_parts(&LAMPS)), &energies).as_bytes())?;
+    }
     out.flush()
 }
 
@@ -91,35 +98,49 @@ fn case(
     let shape = SHAPES[(number + number / SHAPES.len()) % SHAPES.len()];
     let points = points::made(shape, count, source).drawn(drawn, source);
     let [xs, ys] = points.placed(&options.plane);
-    match options.plane {
-        Plane::Cartesian(_) => line(options, &[xs, ys]),
-        Plane::Globe => line(options, &[xs, points.ys]),
-    }
+    let points = match options.plane {
+        Plane::Cartesian(_) => [xs, ys],
+        Plane::Globe => [xs, points.ys],
+    };
+    line(options, &points, &energies_of(&points))
+}
+
+/// Energies of points.
+pub fn energies_of([xs, ys]: &[Vec<f64>; 2]) -> Vec<u64> {
+    points::energies(xs, ys)
+}
+
+/// Energies of the worked build: none, the most, and one of the most.
+fn at_the_bound() -> [[u64; 4]; 3] {
+    [[0; 4], [MOST_ENERGY; 4], [0, 0, MOST_ENERGY, 1]]
 }
 
 /// The Rust's tables of points as the port takes them. The Rust would ask for latitudes on the globe, and makes
 /// y of them by functions that are not the same to the bit everywhere: it is asked for its x of each longitude
 /// on the equator, then for the tables of these and y.
-pub fn tables(options: &Options, [xs, ys]: &[Vec<f64>; 2]) -> Tables {
+pub fn tables(options: &Options, given: &Given) -> Tables {
+    let Given { xs, energies, .. } = *given;
     match options.plane {
-        Plane::Cartesian(_) => patched::tables(options, xs, ys),
+        Plane::Cartesian(_) => patched::tables(options, given),
         Plane::Globe => {
-            let on_equator = patched::tables(options, xs, &vec![0.0; xs.len()]);
+            let ys = &vec![0.0; xs.len()];
+            let on_equator = patched::tables(options, &Given { xs, ys, energies });
             let options = Options { plane: Plane::Cartesian(UNIT), ..*options };
-            patched::tables(&options, &on_equator.x[..xs.len()], ys)
+            patched::tables(&options, &Given { xs: &on_equator.columns.x[..xs.len()], ..*given })
         }
     }
 }
 
 /// The words of a case and a line feed.
-fn line(options: &Options, points: &[Vec<f64>; 2]) -> String {
-    let tables = tables(options, points);
-    let [xs, ys] = points;
+fn line(options: &Options, [xs, ys]: &[Vec<f64>; 2], energies: &[u64]) -> String {
+    let tables = tables(options, &Given { xs, ys, energies });
     let mut words = option_words(options);
     words.push(xs.len() as u64);
     words.extend(xs.iter().zip(ys).flat_map(|(x, y)| [x.to_bits(), y.to_bits()]));
-    words.push(tables.x.len() as u64);
-    words.extend((0..tables.x.len()).flat_map(|at| entry_words(&tables, at)));
+    words.extend(energies);
+    let lent = tables.columns.lent();
+    words.push(lent.x.len() as u64);
+    words.extend((0..lent.x.len()).flat_map(|at| entry_words(&lent, at)));
     for zoom in usize::from(options.min_zoom)..=usize::from(options.max_zoom) + 1 {
         words.extend([tables.starts[zoom], tables.lens[zoom]].map(u64::from));
     }
@@ -147,16 +168,10 @@ pub fn option_words(options: &Options) -> Vec<u64> {
 }
 
 /// The entry at a position and the slot of its index there.
-fn entry_words(tables: &Tables, at: usize) -> [u64; 9] {
-    [
-        tables.x[at].to_bits(),
-        tables.y[at].to_bits(),
-        u64::from(tables.seen[at]),
-        u64::from(tables.id[at]),
-        u64::from(tables.parent[at]),
-        u64::from(tables.num[at]),
-        u64::from(tables.ids[at]),
-        tables.coords[2 * at].to_bits(),
-        tables.coords[2 * at + 1].to_bits(),
-    ]
+fn entry_words(lent: &Lent, at: usize) -> Vec<u64> {
+    let slot = lent.slot(at);
+    let [x, y] = slot.at.map(f64::to_bits);
+    let mut words = lent.entry(at).words();
+    words.extend([u64::from(slot.place), x, y]);
+    words
 }

@@ -25,7 +25,7 @@ const USAGE: &str = "usage: driver worked
        driver range-vectors [--count N] [--seed S]
        driver index-vectors
        driver load-vectors
-       driver lister-vectors
+       driver lister-vectors [--fresh N]
        driver lister
        driver lister-program PROGRAM [--full]
        driver question-vectors
@@ -49,6 +49,10 @@ fn main() -> ExitCode {
         ["index-vectors"] => written(|out| index_vectors::write(out)),
         ["load-vectors"] => written(|out| load_vectors::write(out)),
         ["lister-vectors"] => written(|out| lister_vectors::write(out)),
+        ["lister-vectors", "--fresh", count] => match count.parse() {
+            Ok(count) => written(|out| lister_vectors::write_fresh(count, out)),
+            Err(_) => fail(USAGE),
+        },
         ["lister"] => written(|out| listing::list(out)),
         ["lister-program", program] => listing::judge(program, 1_000),
         ["lister-program", program, "--full"] => listing::judge(program, 50_000),

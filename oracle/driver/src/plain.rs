@@ -18,6 +18,9 @@ pub const WORKED: Options = Options {
 /// The four lamps of 01's worked build, in 65,536ths.
 pub const LAMPS: [[u32; 2]; 4] = [[16384, 32768], [20480, 32768], [26624, 32768], [26624, 32768]];
 
+/// Their energies, by 02's #108.
+pub const ENERGIES: [u64; 4] = [10, 20, 30, 40];
+
 /// The numbers beside a quarter: 01's, which the rounded edge of a ring at 1 with radius 0.75 cuts off, and the one
 /// above, which that of a ring at -1 with radius 1.25 does.
 pub const BELOW_QUARTER: f64 = 0.25 - 1.0 / (1_u64 << 55) as f64;

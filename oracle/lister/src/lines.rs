@@ -2,6 +2,7 @@
 
 use crate::{Answer, Input};
 use builds::{patched, Tables, NO_PARENT, UNSEEN};
+use columns::{Entry, Given};
 use options::{Options, Plane, UNIT};
 use refusals::{refusal, Refusal};
 use std::fmt::Write;
@@ -22,10 +23,11 @@ pub fn lines(input: &Input) -> Vec<u8> {
 
 /// What the lister answers to this input.
 pub fn answer(input: &Input) -> Answer {
-    let (options, [xs, ys]) = build_of(input);
-    let refused = refusal(&options, &xs, &ys, LENT);
+    let (options, [xs, ys], energies) = build_of(input);
+    let given = Given { xs: &xs, ys: &ys, energies: &energies };
+    let refused = refusal(&options, &given, LENT);
     let printed = match refused {
-        None => listed(&options, &patched::tables(&options, &xs, &ys)),
+        None => listed(&options, &patched::tables(&options, &given)),
         Some(Refusal { number: 3, carried }) => format!("refusal=3 at={carried}\n"),
         Some(Refusal { number, .. }) => format!("refusal={number}\n"),
     };
@@ -33,9 +35,10 @@ pub fn answer(input: &Input) -> Answer {
     Answer { number, printed: printed.into_bytes() }
 }
 
-/// The options and the points of an input.
-pub(crate) fn build_of(input: &Input) -> (Options, [Vec<f64>; 2]) {
-    (options_of(input), [0, 1].map(|axis| column(input, axis)))
+/// The options, the points and their energies of an input.
+pub(crate) fn build_of(input: &Input) -> (Options, [Vec<f64>; 2], Vec<u64>) {
+    let energies = input.points.iter().map(|point| u64::from(point[2])).collect();
+    (options_of(input), [0, 1].map(|axis| column(input, axis)), energies)
 }
 
 /// The options of an input: Cartesian with offset 0 and scale 1.
@@ -60,22 +63,24 @@ fn column(input: &Input, axis: usize) -> Vec<f64> {
 /// A line for each entry of each table.
 fn listed(options: &Options, tables: &Tables) -> String {
     let mut text = String::new();
+    let lent = tables.columns.lent();
     for zoom in (options.min_zoom..=options.max_zoom + 1).rev() {
         let start = tables.starts[usize::from(zoom)] as usize;
         for place in 0..tables.lens[usize::from(zoom)] as usize {
-            let fields = fields(tables, start + place);
+            let fields = fields(&lent.entry(start + place));
             writeln!(text, "{zoom} {place} {fields}").expect("a string takes any line");
         }
     }
     text
 }
 
-/// The last six fields of an entry's line.
-fn fields(tables: &Tables, at: usize) -> String {
-    let [x, y] = [tables.x[at], tables.y[at]].map(f64::to_bits);
-    let seen = or_unset(u32::from(tables.seen[at]), u32::from(UNSEEN));
-    let parent = or_unset(tables.parent[at], NO_PARENT);
-    format!("{x:016x} {y:016x} {seen} {} {parent} {}", tables.id[at], tables.num[at])
+/// The last seven fields of an entry's line.
+fn fields(entry: &Entry) -> String {
+    let [x, y] = [entry.x, entry.y].map(f64::to_bits);
+    let seen = or_unset(u32::from(entry.seen), u32::from(UNSEEN));
+    let parent = or_unset(entry.parent, NO_PARENT);
+    let Entry { id, num, energy, .. } = entry;
+    format!("{x:016x} {y:016x} {seen} {id} {parent} {num} {energy}")
 }
 
 fn or_unset(number: u32, unset: u32) -> String {

@@ -1,4 +1,4 @@
-//! The reading of a text: LF-ended lines and nothing more, key=value in 01's order.
+//! The reading of a text: LF-ended lines and nothing more, key=value in 01's order, an energy after each y (02, #108).
 
 /// The most bytes of a text.
 const MOST_BYTES: usize = 65_536;
@@ -13,7 +13,7 @@ const MOST_SMALL: u32 = 255;
 /// The greatest count.
 const MOST_POINTS: u32 = 1_152;
 
-/// The values of a text; the points are in 65,536ths.
+/// The values of a text; a point is its x and y, in 65,536ths, and its energy.
 #[derive(Clone, Debug, PartialEq, Eq)]
 pub struct Input {
     pub min_zoom: u8,
@@ -22,7 +22,7 @@ pub struct Input {
     pub radius: u32,
     pub extent: u32,
     pub node_size: u32,
-    pub points: Vec<[u32; 2]>,
+    pub points: Vec<[u32; 3]>,
 }
 
 /// The input is not of its form: refusal 12.
@@ -70,9 +70,9 @@ impl Rest<'_> {
         self.value(key, MOST_SMALL).map(|number| number as u8)
     }
 
-    /// The next two lines, x and y of a point.
-    fn point(&mut self) -> Result<[u32; 2], NotOfItsForm> {
-        Ok([self.value("x", MOST)?, self.value("y", MOST)?])
+    /// The next three lines, x, y and energy of a point.
+    fn point(&mut self) -> Result<[u32; 3], NotOfItsForm> {
+        Ok([self.value("x", MOST)?, self.value("y", MOST)?, self.value("wh", MOST)?])
     }
 
     /// Nothing more.

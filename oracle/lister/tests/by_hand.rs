@@ -6,7 +6,7 @@ use lister::answer_to;
 const LISTED: &str = "listed";
 
 /// What is replaced, by what, and the first line.
-const CHANGES: [(&str, &str, &str); 66] = [
+const CHANGES: [(&str, &str, &str); 92] = [
     // The form: keys, order, signs.
     ("min_zoom=0\n", "", "refusal=12"),
     ("min_zoom=0\n", "min_zoom=0\nmin_zoom=0\n", "refusal=12"),
@@ -23,6 +23,16 @@ const CHANGES: [(&str, &str, &str); 66] = [
     ("radius=64\n", "radius=64\n\n", "refusal=12"),
     ("x=16384\ny=32768\n", "y=32768\nx=16384\n", "refusal=12"),
     ("x=16384\ny=32768\n", "x=16384\n", "refusal=12"),
+    ("wh=10\n", "", "refusal=12"),
+    ("wh=10\n", "wh=10\nwh=10\n", "refusal=12"),
+    ("y=32768\nwh=10\n", "wh=10\ny=32768\n", "refusal=12"),
+    ("x=16384\ny=32768\nwh=10\n", "wh=10\nx=16384\ny=32768\n", "refusal=12"),
+    ("wh=10\n", "Wh=10\n", "refusal=12"),
+    ("wh=10\n", "WH=10\n", "refusal=12"),
+    ("wh=10\n", "w=10\n", "refusal=12"),
+    ("wh=10\n", "hw=10\n", "refusal=12"),
+    ("wh=10\n", "kwh=10\n", "refusal=12"),
+    ("wh=10\n", "wh=10Wh\n", "refusal=12"),
     ("x=16384\n", "X=16384\n", "refusal=12"),
     ("count=4\n", "count=3\n", "refusal=12"),
     ("count=4\n", "count=5\n", "refusal=12"),
@@ -49,6 +59,16 @@ const CHANGES: [(&str, &str, &str); 66] = [
     ("count=4", "count=1153", "refusal=12"),
     ("x=16384", "x=016384", "refusal=12"),
     ("x=16384", "x=10000000", "refusal=12"),
+    ("wh=10", "wh=", "refusal=12"),
+    ("wh=10", "wh=010", "refusal=12"),
+    ("wh=10", "wh=00", "refusal=12"),
+    ("wh=10", "wh=-10", "refusal=12"),
+    ("wh=10", "wh=+10", "refusal=12"),
+    ("wh=10", "wh=10.0", "refusal=12"),
+    ("wh=10", "wh=10000000", "refusal=12"),
+    ("wh=10", "wh=1099511627776", "refusal=12"),
+    ("wh=40", "wh=1099511627777", "refusal=12"),
+    ("wh=40", "wh=18446744073709551626", "refusal=12"),
     // Of the form, and refused by the build.
     ("min_zoom=0", "min_zoom=2", "refusal=1"),
     ("max_zoom=1", "max_zoom=31", "refusal=1"),
@@ -77,11 +97,17 @@ const CHANGES: [(&str, &str, &str); 66] = [
     ("node_size=64", "node_size=65535", LISTED),
     ("x=16384", "x=0", LISTED),
     ("x=16384", "x=65536", LISTED),
+    ("wh=10", "wh=0", LISTED),
+    ("wh=10", "wh=9", LISTED),
+    ("wh=10", "wh=1000000", LISTED),
+    ("wh=10", "wh=9999999", LISTED),
+    ("wh=40", "wh=0", LISTED),
+    ("wh=40", "wh=9999999", LISTED),
 ];
 
 const OPTIONS: &str = "min_zoom=0\nmax_zoom=1\nmin_points=2\nradius=64\nextent=512\nnode_size=64\n";
-const LAMPS: &str =
-    "count=4\nx=16384\ny=32768\nx=20480\ny=32768\nx=26624\ny=32768\nx=26624\ny=32768\n";
+const LAMPS: &str = "count=4\nx=16384\ny=32768\nwh=10\nx=20480\ny=32768\nwh=20\n\
+                     x=26624\ny=32768\nwh=30\nx=26624\ny=32768\nwh=40\n";
 
 /// The first line that is printed: `listed` where it is one of the finest table.
 fn first(text: &str) -> String {
@@ -116,12 +142,12 @@ fn changes_of_one_place() {
 fn the_order_of_the_refusals() {
     let text = |options: &str, points: &str| first(&format!("{options}{points}"));
     let wrong = OPTIONS.replace("extent=512", "extent=0");
-    let outside = "count=2\nx=1\ny=1\nx=1\ny=65537\n";
-    let point = |i: u32| format!("x={i}\ny={i}\n");
+    let outside = "count=2\nx=1\ny=1\nwh=1\nx=1\ny=65537\nwh=1\n";
+    let point = |i: u32| format!("x={i}\ny={i}\nwh={i}\n");
     let many = |count: u32| format!("count={count}\n") + &(0..count).map(point).collect::<String>();
     let crowd_outside = many(385).replace("x=384\n", "x=65537\n");
     assert_eq!(text(&wrong, "count=4\nx=1\n"), "refusal=12");
-    assert_eq!(text(OPTIONS, "count=2\nx=65537\ny=1\n"), "refusal=12");
+    assert_eq!(text(OPTIONS, "count=2\nx=65537\ny=1\nwh=1\n"), "refusal=12");
     assert_eq!(text(&wrong, "count=0\n"), "refusal=1");
     assert_eq!(text(&wrong, outside), "refusal=1");
     assert_eq!(text(&wrong, &many(1_152)), "refusal=1");
@@ -143,7 +169,7 @@ fn ends() {
     for length in 0..text.len() {
         assert_eq!(first(&text[..length]), "refusal=12", "{length} bytes");
     }
-    for more in ["\n", " ", "\0", "x", "x=1\n", "x=1\ny=1\n", "count=0\n", "#\n"] {
+    for more in ["\n", " ", "\0", "x", "x=1\n", "wh=1\n", "x=1\ny=1\nwh=1\n", "count=0\n", "#\n"] {
         assert_eq!(first(&format!("{text}{more}")), "refusal=12", "{more:?} at the end");
         assert_eq!(first(&format!("{more}{text}")), "refusal=12", "{more:?} at the front");
     }

@@ -27,13 +27,14 @@ fn second(bytes: &[u8]) -> Option<Draft> {
     }
     let value = |at: usize, most| number(options[at].1, most);
     let count = value(6, 1_152)?;
-    let coordinates = points.iter().zip(["x", "y"].into_iter().cycle()).map(|(pair, key)| {
+    let keys = ["x", "y", "wh"].into_iter().cycle();
+    let values = points.iter().zip(keys).map(|(pair, key)| {
         let digits = Some(pair.1).filter(|_| pair.0 == key)?;
         number(digits, 9_999_999)
     });
-    let coordinates: Vec<u64> = coordinates.collect::<Option<_>>()?;
-    let points: Vec<[u64; 2]> = coordinates.chunks_exact(2).map(|p| [p[0], p[1]]).collect();
-    (coordinates.len() as u64 == 2 * count).then_some(())?;
+    let values: Vec<u64> = values.collect::<Option<_>>()?;
+    let points: Vec<[u64; 3]> = values.chunks_exact(3).map(|p| [p[0], p[1], p[2]]).collect();
+    (values.len() as u64 == 3 * count).then_some(())?;
     let options = [
         value(0, 255)?,
         value(1, 255)?,

@@ -27,10 +27,10 @@ fn without_zeros(text: &[u8]) -> Vec<u8> {
     text.split_inclusive('\n').map(line).collect::<String>().into_bytes()
 }
 
-/// The text without its last two lines, where that is of the form.
+/// The text without its last three lines, where that is of the form.
 fn without_point(text: &[u8]) -> Vec<u8> {
     let lines: Vec<&[u8]> = text.split_inclusive(|byte| *byte == b'\n').collect();
-    let front = lines[..lines.len().saturating_sub(2)].concat();
+    let front = lines[..lines.len().saturating_sub(3)].concat();
     if read(&front).is_ok() {
         front
     } else {
@@ -38,7 +38,34 @@ fn without_point(text: &[u8]) -> Vec<u8> {
     }
 }
 
-const WRONG: [(&str, Port); 16] = [
+/// The text with an energy of 0 after each y that has none.
+fn with_energies(text: &[u8]) -> Vec<u8> {
+    let lines: Vec<&[u8]> = text.split_inclusive(|byte| *byte == b'\n').collect();
+    let mut copy = Vec::new();
+    for (at, line) in lines.iter().enumerate() {
+        copy.extend_from_slice(line);
+        let next = lines.get(at + 1).copied().unwrap_or(b"");
+        if line.starts_with(b"y=") && !next.starts_with(b"wh=") {
+            copy.extend_from_slice(b"wh=0\n");
+        }
+    }
+    copy
+}
+
+/// What is right, with something done to the fields of each line of the tables.
+fn with_fields(text: &[u8], change: fn(&mut Vec<&str>)) -> Vec<u8> {
+    let printed = String::from_utf8(right(text)).unwrap();
+    let line = |line: &str| {
+        let mut fields: Vec<&str> = line.split(' ').collect();
+        if !line.starts_with("refusal") {
+            change(&mut fields);
+        }
+        fields.join(" ") + "\n"
+    };
+    printed.lines().map(line).collect::<String>().into_bytes()
+}
+
+const WRONG: [(&str, Port); 23] = [
     ("takes carriage returns", |text| right(&without(b"\r", text))),
     ("takes spaces", |text| right(&without(b" \t", text))),
     ("takes a plus", |text| right(&without(b"+", text))),
@@ -74,6 +101,26 @@ const WRONG: [(&str, Port); 16] = [
             b"refusal=4\n".to_vec()
         }
         _ => right(text),
+    }),
+    ("needs no energies", |text| right(&with_energies(text))),
+    ("prints no energy", |text| with_fields(text, |fields| drop(fields.pop()))),
+    ("prints num for the energy", |text| with_fields(text, |fields| fields[8] = fields[7])),
+    ("prints the energy for num", |text| with_fields(text, |fields| fields[7] = fields[8])),
+    ("prints the energy in front of num", |text| with_fields(text, |fields| fields.swap(7, 8))),
+    ("reads an energy of 16 bits", |text| match read(text) {
+        Ok(mut input) => {
+            input.points.iter_mut().for_each(|point| point[2] %= 65_536);
+            answer(&input).printed
+        }
+        Err(_) => right(text),
+    }),
+    ("takes eight digits of an energy", |text| {
+        let text = String::from_utf8_lossy(text).into_owned();
+        let line = |line: &str| match line.strip_prefix("wh=").map(str::trim_end) {
+            Some(digits) if digits.len() == 8 => format!("wh={}\n", &digits[..7]),
+            _ => line.to_string(),
+        };
+        right(&text.split_inclusive('\n').map(line).collect::<String>().into_bytes())
     }),
     ("refuses 2 before 1", |text| match read(text) {
         Ok(input) if input.points.is_empty() => b"refusal=2\n".to_vec(),

@@ -1,6 +1,9 @@
-//! The bounds of the options, written from 01's 'Numbers that bound a build'.
+//! The bounds of the options, written from 01's 'Numbers that bound a build', and that of an energy, by 02's #108.
 
 use crate::{Options, Plane, Range};
+
+/// The largest energy of a point.
+pub const MOST_ENERGY: u64 = 1_099_511_627_776;
 
 impl Options {
     /// Whether every option is within its bounds.

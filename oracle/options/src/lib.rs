@@ -3,6 +3,8 @@
 mod bounds;
 pub mod corners;
 
+pub use bounds::MOST_ENERGY;
+
 /// The four numbers of a Cartesian range, and what is given of offset and scale.
 #[derive(Clone, Copy, Debug)]
 pub struct Range {

@@ -1,10 +1,12 @@
 //! Points for an index and for the tables: many shapes, all within [0,1].
 
 mod drawn;
+mod energies;
 mod placed;
 mod reached;
 
 pub use drawn::Drawn;
+pub use energies::energies;
 pub use reached::{fine, reached, steps_beside};
 
 use splitmix::Splitmix;

@@ -2,11 +2,12 @@
 //! length, a number that it hands back as a pointer to where it is to stand. What is declared here has
 //! to be what `crates/exports` exports; nothing checks that but the comparison.
 
+mod calls;
 mod linked;
 mod load;
 mod questions;
 
-pub use load::{load, Columns, Lengths, Lent as LentColumns, State, COLUMNS, ZOOMS};
+pub use load::{load, needed, Columns, Lengths, State, COLUMNS, ZOOMS};
 pub use questions::{Asked, EffortReply};
 
 /// A reply: 01's number of it, and the number that it carries.

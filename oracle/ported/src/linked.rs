@@ -1,4 +1,4 @@
-//! The C functions of libexports.a.
+//! The C functions of libexports.a that are asked of an index alone.
 
 extern "C" {
     pub fn kdbush_build(
@@ -91,51 +91,5 @@ extern "C" {
         radius: f64,
         slot: usize,
         next: *mut usize,
-    ) -> u32;
-
-    pub fn supercluster_load(
-        min_zoom: u8,
-        max_zoom: u8,
-        min_points: u8,
-        radius: f64,
-        extent: f64,
-        node_size: usize,
-        cartesian: bool,
-        min_x: f64,
-        min_y: f64,
-        max_x: f64,
-        max_y: f64,
-        offset_given: bool,
-        offset: f64,
-        scale_given: bool,
-        scale: f64,
-        longitude_strips_only: bool,
-        xs: *const f64,
-        xs_length: usize,
-        ys: *const f64,
-        ys_length: usize,
-        x: *mut f64,
-        x_length: usize,
-        y: *mut f64,
-        y_length: usize,
-        seen: *mut u8,
-        seen_length: usize,
-        id: *mut u32,
-        id_length: usize,
-        parent: *mut u32,
-        parent_length: usize,
-        num: *mut u32,
-        num_length: usize,
-        ids: *mut u32,
-        ids_length: usize,
-        coords: *mut f64,
-        coords_length: usize,
-        near: *mut u32,
-        near_length: usize,
-        starts: *mut u32,
-        starts_length: usize,
-        lens: *mut u32,
-        lens_length: usize,
-        carried: *mut usize,
     ) -> u32;
 }

@@ -1,6 +1,7 @@
 //! The state of a build and the columns that a question is lent, and when they are spoiled.
 
 use crate::Refusal;
+use columns::Lent;
 use options::Options;
 use std::ops::Range;
 
@@ -17,19 +18,6 @@ pub struct State {
     pub count: u32,
     pub starts: [u32; ZOOMS],
     pub lens: [u32; ZOOMS],
-}
-
-/// The columns: six of the entries, the index's ids and coordinates.
-#[derive(Clone, Copy, Debug)]
-pub struct Lent<'a> {
-    pub x: &'a [f64],
-    pub y: &'a [f64],
-    pub seen: &'a [u8],
-    pub id: &'a [u32],
-    pub parent: &'a [u32],
-    pub num: &'a [u32],
-    pub ids: &'a [u32],
-    pub coords: &'a [f64],
 }
 
 /// One table: its entries, and its index.
@@ -52,20 +40,18 @@ pub(crate) struct Index<'a> {
 impl State {
     /// Refuses what is spoiled where a box or a ring is lent ids and coordinates.
     pub(crate) fn check_index(&self, lent: &Lent) -> Result<(), Refusal> {
-        self.check(&[lent.ids.len(), lent.coords.len() / 2])
+        self.check(lent.ids.len().min(lent.coords.len() / 2))
     }
 
     /// Refuses what is spoiled where all columns are lent.
     pub(crate) fn check_all(&self, lent: &Lent) -> Result<(), Refusal> {
-        self.check_index(lent)?;
-        let Lent { x, y, seen, id, parent, num, .. } = lent;
-        self.check(&[x.len(), y.len(), seen.len(), id.len(), parent.len(), num.len()])
+        self.check(lent.room())
     }
 
     /// Refuses what is spoiled where there is room for so many entries in each column.
-    fn check(&self, rooms: &[usize]) -> Result<(), Refusal> {
+    fn check(&self, room: usize) -> Result<(), Refusal> {
         match self.end() {
-            Some(end) if rooms.iter().all(|room| *room as u64 >= end) => Ok(()),
+            Some(end) if room as u64 >= end => Ok(()),
             _ => Err(Refusal::Spoiled),
         }
     }

@@ -2,6 +2,7 @@
 
 mod common;
 
+use columns::NAMES;
 use common::{single, worked, Build, NONE, WORKED};
 use options::{Options, Plane, UNIT};
 use questions::{
@@ -86,30 +87,26 @@ fn states_out_of_bounds() {
 fn columns_one_short() {
     let build = worked();
     let lent = build.lent();
-    let entries = [
-        Lent { x: &lent.x[1..], ..lent },
-        Lent { y: &lent.y[1..], ..lent },
-        Lent { seen: &lent.seen[1..], ..lent },
-        Lent { id: &lent.id[1..], ..lent },
-        Lent { parent: &lent.parent[1..], ..lent },
-        Lent { num: &lent.num[1..], ..lent },
-    ];
-    for short in &entries {
-        assert_eq!(numbers(&build, short), [0, 0, 11, 11, 11, 11, 11]);
-    }
-    for short in [Lent { ids: &lent.ids[1..], ..lent }, Lent { coords: &lent.coords[1..], ..lent }]
-    {
-        assert_eq!(numbers(&build, &short), [11; 7]);
+    let whole = lent.lengths();
+    for (at, name) in NAMES.iter().enumerate() {
+        let mut short = whole;
+        short[at] -= 1;
+        let expected = match *name {
+            "ids" | "coords" => [11; 7],
+            _ => [0, 0, 11, 11, 11, 11, 11],
+        };
+        assert_eq!(numbers(&build, &lent.fronts(short)), expected, "{name}");
     }
     // A box and a ring are lent no more than ids and coordinates.
-    let index = Lent { x: &[], y: &[], seen: &[], id: &[], parent: &[], num: &[], ..lent };
+    let Lent { ids, coords, .. } = lent;
+    let index = Lent { ids, coords, ..lent.fronts([0; NAMES.len()]) };
     assert_eq!(numbers(&build, &index)[..2], [0, 0]);
 }
 
 #[test]
 fn a_slot_past_the_table() {
     let mut build = worked();
-    build.ids[2] = 4;
+    build.columns.ids[2] = 4;
     assert_eq!(numbers(&build, &build.lent()), [11, 11, 0, 11, 0, 11, 11]);
     let mut out = [9; 4];
     let asked = EACH[0].answered(&build.state, &build.lent());
@@ -130,23 +127,23 @@ fn limit_0_searches_for_all_children_and_enters_none() {
     };
     // A slot past the table, after a child was found: in the cluster's own table, and further down.
     let mut build = worked();
-    build.ids[5] = 2;
+    build.columns.ids[5] = 2;
     assert_eq!(leaves(&build.state, &build.lent(), 5, 1, 0).items, [0]);
     let mut further = worked();
-    further.ids[2] = 4;
+    further.columns.ids[2] = 4;
     for offset in [0, 1, u32::MAX] {
         assert_eq!(limit_0(&build, 5, offset), SPOILED);
         assert_eq!(limit_0(&further, 5, offset), Reply::done(0));
     }
     // A child that cannot be entered.
     let mut build = worked();
-    build.id[4] = 3;
+    build.columns.id[4] = 3;
     assert_eq!(limit_0(&build, 5, 0), Reply::done(0));
     assert_eq!(leaves(&build.state, &build.lent(), 5, 1, 0).reply(4), SPOILED);
     // No children, and a slot past the table where there are none.
     assert_eq!(limit_0(&worked(), 38, 0), Reply { number: 6, carried: 0 });
     let mut build = worked();
-    build.ids[1] = 4;
+    build.columns.ids[1] = 4;
     assert_eq!(limit_0(&build, 38, 0), SPOILED);
 }
 
@@ -155,7 +152,7 @@ fn a_child_that_is_no_cluster() {
     // Below N; a table that is not larger; one that is not built; an origin past its table; no children.
     for id in [3, 5, 7, 134, 38] {
         let mut build = worked();
-        build.id[5] = id;
+        build.columns.id[5] = id;
         let mut out = [9; 4];
         assert_eq!(leaves(&build.state, &build.lent(), 5, 10, 0).told(&mut out), SPOILED, "{id}");
         assert_eq!(out, [0, 1, 9, 9], "{id}");
@@ -170,7 +167,7 @@ fn a_lamp_after_n_are_listed() {
     let middle = [(0.28125, 0.5, 5, 4, 2), (0.375, 0.5, 2, 4, 1)];
     let mut build = Build::of(WORKED, &[&finest, &middle, &[(0.3125, 0.5, 4, NONE, 3)]]);
     assert_eq!(leaves(&build.state, &build.lent(), 4, 9, 0).items, [0, 1, 2]);
-    build.ids[4] = 0;
+    build.columns.ids[4] = 0;
     let mut out = [9; 4];
     assert_eq!(leaves(&build.state, &build.lent(), 4, 9, 0).told(&mut out), SPOILED);
     assert_eq!(out, [0, 1, 0, 9]);
@@ -191,14 +188,14 @@ fn expansion_goes_on_with_a_sole_cluster() {
     assert_eq!(expansion_zoom(&build.state, &build.lent(), 3), Ok(3));
     assert_eq!(expansion_zoom(&build.state, &build.lent(), 4), Ok(3));
     // A sole child that is a lamp ends it.
-    build.num[2] = 1;
+    build.columns.num[2] = 1;
     assert_eq!(expansion_zoom(&build.state, &build.lent(), 3), Ok(2));
     // Nothing is entered after max_zoom + 1.
     let mut build = chain();
-    (build.parent[1], build.num[0], build.id[0]) = (NONE, 2, 0);
+    (build.columns.parent[1], build.columns.num[0], build.columns.id[0]) = (NONE, 2, 0);
     assert_eq!(expansion_zoom(&build.state, &build.lent(), 3), Ok(3));
     // One without children further down.
-    build.parent[0] = NONE;
+    build.columns.parent[0] = NONE;
     assert_eq!(expansion_zoom(&build.state, &build.lent(), 3), Err(Refusal::Spoiled));
     assert_eq!(expansion_zoom(&build.state, &build.lent(), 5), Err(Refusal::NoCluster));
 }
@@ -207,7 +204,7 @@ fn expansion_goes_on_with_a_sole_cluster() {
 fn a_tile_stops_at_an_entry_outside() {
     for wrong in [f64::NAN, 1.5, -f64::MIN_POSITIVE, f64::INFINITY] {
         let mut build = worked();
-        build.y[1] = wrong;
+        build.columns.y[1] = wrong;
         let Outcome::Tile(answer) = EACH[5].answered(&build.state, &build.lent()) else {
             panic!("a tile");
         };
@@ -221,7 +218,7 @@ fn a_tile_stops_at_an_entry_outside() {
 fn what_lies_in_a_strip_alone_is_not_come_to_without_strips() {
     let mut build = single(Plane::Cartesian(UNIT), &[[0.25, 0.5], [1.0, 0.5]]);
     // The table of zoom 1 comes first: its second slot names no place.
-    build.ids[1] = 2;
+    build.columns.ids[1] = 2;
     assert_eq!(tile(&build.state, &build.lent(), 1, 0, 0).reply(9), SPOILED);
     build.state.options.longitude_strips_only = true;
     let answer = tile(&build.state, &build.lent(), 1, 0, 0);
@@ -234,8 +231,8 @@ fn what_lies_in_a_strip_alone_is_not_come_to_without_strips() {
 #[test]
 fn an_origin_that_is_not_finite_finds_nothing() {
     let mut build = worked();
-    build.x[4] = f64::NAN;
+    build.columns.x[4] = f64::NAN;
     assert_eq!(children(&build.state, &build.lent(), 5).reply(9).number, 6);
-    build.x[4] = f64::INFINITY;
+    build.columns.x[4] = f64::INFINITY;
     assert_eq!(children(&build.state, &build.lent(), 5).reply(9).number, 6);
 }

@@ -261,7 +261,7 @@ fn the_room_for_what_was_found_before_the_stop() {
 #[test]
 fn an_effort_that_comes_to_a_spoiled_slot() {
     let (mut build, mut out) = (split_row(), [9; 6]);
-    build.ids[1] = 5;
+    build.columns.ids[1] = 5;
     assert_eq!(within(&build, 4).told(&mut out), replied(0, 4, 4, true));
     assert_eq!(within(&build, 5).told(&mut out), replied(11, 0, 0, false));
     assert_eq!(out, [2, 3, 4, 0, 9, 9]);

@@ -1,31 +1,37 @@
-//! An independent reference for what a build refuses, written from 01's text: 'Numbers that bound a build'
-//! and 'Numbered replies'.
+//! An independent reference for what a build refuses, written from 01's text, 'Numbers that bound a build' and
+//! 'Numbered replies', and from 02's #108.
 
-use options::{Options, Plane};
+use columns::Given;
+use options::{Options, Plane, MOST_ENERGY};
 
 /// The most points of a build.
 pub const MOST_POINTS: usize = 1_048_576;
 
-/// A refusal: 01's number of it, and for 3 the first point outside, otherwise 0.
+/// A refusal: its number, and for 3 the first point outside, for 15 the first of too large an energy, otherwise 0.
 #[derive(Clone, Copy, Debug, PartialEq, Eq)]
 pub struct Refusal {
     pub number: u32,
     pub carried: usize,
 }
 
-/// The refusal of a build: 1, 2, 3, 4, whichever holds first. Each lent column has room for at least so many
+/// The refusal of a build: 1, 2, 3, 15, 4, whichever holds first. Each lent column has room for at least so many
 /// entries, two coordinates of the index being one, and one of them for no more.
-pub fn refusal(options: &Options, xs: &[f64], ys: &[f64], room: usize) -> Option<Refusal> {
+pub fn refusal(options: &Options, given: &Given, room: usize) -> Option<Refusal> {
+    let Given { xs, ys, energies } = *given;
     let plain = |number| Some(Refusal { number, carried: 0 });
     if !options.in_bounds() {
         return plain(1);
     }
-    if xs.len() != ys.len() || xs.is_empty() || xs.len() > MOST_POINTS {
+    let uneven = ys.len() != xs.len() || energies.len() != xs.len();
+    if uneven || xs.is_empty() || xs.len() > MOST_POINTS {
         return plain(2);
     }
     let outside = |(x, y): (&f64, &f64)| !in_unit(&converted(&options.plane, *x, *y));
     if let Some(carried) = xs.iter().zip(ys).position(outside) {
         return Some(Refusal { number: 3, carried });
+    }
+    if let Some(carried) = energies.iter().position(|energy| *energy > MOST_ENERGY) {
+        return Some(Refusal { number: 15, carried });
     }
     if room < options.tables() * xs.len() {
         return plain(4);

@@ -12,6 +12,12 @@ const OFF: f64 = 0.0012;
 /// The entries that the lister has room for.
 const ROOM: usize = 1_152;
 
+/// What lamps use in a night, in watt-hours: most of them from here to there, one in so many is an old one and uses
+/// more, and one in so many is out.
+const USE: [u64; 2] = [280, 720];
+const OLD: (u64, u64) = (9, 1_500);
+const OUT: u64 = 40;
+
 /// Lamps, and the zooms and the radius of their clusters; the other options are the usual ones.
 pub struct Scene {
     pub max_zoom: usize,
@@ -29,10 +35,24 @@ impl Scene {
              node_size=64\ncount={}\n",
             lamps.len()
         );
+        let mut source = Splitmix(lamps.len() as u64);
         for [x, y] in lamps.iter().map(|lamp| lamp.map(parts)) {
-            writeln!(text, "x={x}\ny={y}").expect("a string takes any line");
+            let energy = energy(&mut source);
+            writeln!(text, "x={x}\ny={y}\nwh={energy}").expect("a string takes any line");
         }
         text
+    }
+}
+
+/// What a lamp used.
+fn energy(source: &mut Splitmix) -> u64 {
+    let (one_in, more) = OLD;
+    let usual = USE[0] + source.below(USE[1] - USE[0]);
+    let (is_out, is_old) = (source.below(OUT) == 0, source.below(one_in) == 0);
+    match (is_out, is_old) {
+        (true, _) => 0,
+        (false, true) => usual + more,
+        (false, false) => usual,
     }
 }
 

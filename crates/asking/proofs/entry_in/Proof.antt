@@ -12,14 +12,14 @@ use borrow.Author.Needs.{needs}
 use Rattle.asking.proofs.entry_in.Statement.{statement}
 use Rattle.asking.proofs.entry_in.Tie as tie
 
-abbrev start : tie.After-entry-at-arg6 → tie.Start
-start e = e .before .before .before .before .before .before .before .before .before .before .before .before
+abbrev start : tie.After-entry-at-arg7 → tie.Start
+start e = e .before .before .before .before .before .before .before .before .before .before .before .before .before .before
 
 -- the columns
 abbrev columns : tie.Start → Cols
 columns s =
     let a = s .args in
-    given (a .x) (a .y) (a .seen) (a .id) (a .parent) (a .num)
+    given (a .x) (a .y) (a .seen) (a .id) (a .parent) (a .num) (a .energy)
 
 add-end : tie.Need-add-end
 add-end c = search needs
@@ -93,6 +93,18 @@ part-entry-at-start-6 c = search needs
 part-entry-at-end-6 : tie.Need-part-entry-at-end-6
 part-entry-at-end-6 c = search needs
 
+mul-entry-at-6 : tie.Need-mul-entry-at-6
+mul-entry-at-6 c = search needs
+
+sub-entry-at-7 : tie.Need-sub-entry-at-7
+sub-entry-at-7 c = search needs
+
+part-entry-at-start-7 : tie.Need-part-entry-at-start-7
+part-entry-at-start-7 c = search needs
+
+part-entry-at-end-7 : tie.Need-part-entry-at-end-7
+part-entry-at-end-7 c = search needs
+
 entry-at-requires : tie.Need-entry-at-requires
 entry-at-requires c κs =
     let s = start c in
@@ -134,5 +146,9 @@ entry-in-spec =
     sub-entry-at-6
     part-entry-at-start-6
     part-entry-at-end-6
+    mul-entry-at-6
+    sub-entry-at-7
+    part-entry-at-start-7
+    part-entry-at-end-7
     entry-at-requires
     returns)

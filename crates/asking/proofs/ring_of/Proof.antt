@@ -9,7 +9,7 @@ use Rattle.asking.proofs.ring_of.Statement.{statement}
 use Rattle.asking.proofs.ring_of.Tie as tie
 
 abbrev start : tie.After-o → tie.Start
-start e = e .before .before .before .before .before .before .before
+start e = e .before .before .before .before .before .before .before .before
 
 -- what is known where the origin is
 stood : (e : tie.After-o) → let a = start e .args in Near (a .s) (a .cap) (a .table) (a .origin)

@@ -24,6 +24,9 @@ less-requires-5 c κs = search needs
 less-requires-6 : tie.Need-less-requires-6
 less-requires-6 c κs = search needs
 
+less-requires-7 : tie.Need-less-requires-7
+less-requires-7 c κs = search needs
+
 returns : tie.Need-returns
 returns c = cc
 
@@ -38,4 +41,5 @@ room-spec =
     index-room-requires
     less-requires-5
     less-requires-6
+    less-requires-7
     returns)

@@ -43,7 +43,7 @@ returns c =
     let w = c .before .before in
     let y = w .before in
     let a = start-of y .args in
-    let columns = givenColumns (a .x) (a .y) (a .seen) (a .id) (a .parent) (a .num) (a .ids) (a .coords) in
+    let columns = givenColumns (a .x) (a .y) (a .seen) (a .id) (a .parent) (a .num) (a .energy) (a .ids) (a .coords) in
     said-is (c .number .ensures) (c .before .carried .ensures) ∙ ap zoomSaid (w .expansion-zoom .ensures ∙ ap (λ (s : State). zoomOf s columns (a .cid)) (state-given y))
 
 pub supercluster-expansion-zoom-spec : {M : Type 1} → statement M

@@ -16,11 +16,11 @@ start-of y = search
 
 -- the columns as they came
 abbrev columns : tie.Start → Lent
-columns s = let a = s .args in givenAll (a .x) (a .y) (a .seen) (a .id) (a .parent) (a .num) (a .ids) (a .coords) (a .near)
+columns s = let a = s .args in givenAll (a .x) (a .y) (a .seen) (a .id) (a .parent) (a .num) (a .energy) (a .ids) (a .coords) (a .near)
 
 -- what `load` is asked for
 abbrev asked : tie.Start → Options → Outcome
-asked s o = let a = s .args in loaded o (now (a .xs)) (now (a .ys)) (columns s)
+asked s o = let a = s .args in loaded o (now (a .xs)) (now (a .ys)) (now (a .energies)) (columns s)
 
 options-requires : tie.Need-options-requires
 options-requires c κs = search needs
@@ -46,6 +46,7 @@ supercluster-load-spec =
     options-requires
     load-requires
     tell-requires
+    (λ c. let w : tie.After-load = search in omega (arith, w .load .kept))
     (λ c. let w : tie.After-load = search in omega (arith, w .load .kept))
     (λ c. let w : tie.After-load = search in omega (arith, w .load .kept))
     (λ c. let w : tie.After-load = search in omega (arith, w .load .kept))

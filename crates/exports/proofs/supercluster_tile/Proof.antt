@@ -39,7 +39,7 @@ returns c =
     let w = c .before .before .before .before .before .before in
     let y = w .before .before .before .before in
     let a = start-of y .args in
-    let columns = givenColumns (a .x) (a .y) (a .seen) (a .id) (a .parent) (a .num) (a .ids) (a .coords) in
+    let columns = givenColumns (a .x) (a .y) (a .seen) (a .id) (a .parent) (a .num) (a .energy) (a .ids) (a .coords) in
     tile-told-is (c .number .ensures) (c .before .carried .ensures) (w .tile-lent .ensures ∙ ap (λ (o : Options). tiled (stateOf o (a .count) (now (a .starts)) (now (a .lens))) columns (a .z) (a .tile-x) (a .tile-y) (now (a .places)) (now (a .px)) (now (a .py))) (y .options .ensures))
 
 pub supercluster-tile-spec : {M : Type 1} → statement M

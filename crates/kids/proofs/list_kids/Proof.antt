@@ -19,12 +19,12 @@ use Rattle.kids.proofs.list_kids.Statement.{statement}
 use Rattle.kids.proofs.list_kids.Tie as tie
 
 abbrev Inv-loop : tie.InvT-loop
-Inv-loop g x y seen id parent num ids coords cid out₀ start len k₀ page₀ from₀ out k page from =
-    let c = columns (cols x y seen id parent num) ids coords in
+Inv-loop g x y seen id parent num energy ids coords cid out₀ start len k₀ page₀ from₀ out k page from =
+    let c = columns (cols x y seen id parent num energy) ids coords in
     (length page ≡ 16) × Going g c cid out₀ out k (aheadIn g coords page from)
 
 abbrev μ-loop : tie.MeasureT-loop
-μ-loop g x y seen id parent num ids coords cid out₀ start len k₀ page₀ from₀ out k page from = length (aheadIn g coords page from)
+μ-loop g x y seen id parent num energy ids coords cid out₀ start len k₀ page₀ from₀ out k page from = length (aheadIn g coords page from)
 
 abbrev Start : Type 0
 Start = tie.Start Inv-loop μ-loop
@@ -33,11 +33,11 @@ abbrev Loop : Type 0
 Loop = tie.At-loop Inv-loop μ-loop
 
 abbrev lent : Start → Columns
-lent s = let a = s .args in givenColumns (a .x) (a .y) (a .seen) (a .id) (a .parent) (a .num) (a .ids) (a .coords)
+lent s = let a = s .args in givenColumns (a .x) (a .y) (a .seen) (a .id) (a .parent) (a .num) (a .energy) (a .ids) (a .coords)
 
 module _ (w : Loop) where
   abbrev start : Start
-  start = w .before .before .before .before .before .before .before .before .before .before .before
+  start = search
 
   abbrev ring : Ring
   ring = start .args .g
@@ -146,7 +146,7 @@ shared-slice-read-place : tie.Need-shared-slice-read-place Inv-loop μ-loop
 shared-slice-read-place c = let d = c .before in omega (arith, at-slot d .inside, room (here d) .0)
 
 cast-if1 : tie.Need-cast-if1 Inv-loop μ-loop
-cast-if1 c = let d = c .before in omega (arith, c .shared-slice-known9 .given (ring (here d) .start + slot d))
+cast-if1 c = let d = c .before in omega (arith, c .shared-slice-known10 .given (ring (here d) .start + slot d))
 
 same-length-2 : tie.Need-same-length-2 Inv-loop μ-loop
 same-length-2 c = out-same (turned (c .before .before))

@@ -19,20 +19,20 @@ use Rattle.kids.proofs.next_child.Statement.{statement}
 use Rattle.kids.proofs.next_child.Tie as tie
 
 abbrev Inv-loop : tie.InvT-loop
-Inv-loop g x y seen id parent num ids coords cid page₀ start len at₀ page at =
-    let c = columns (cols x y seen id parent num) ids coords in
+Inv-loop g x y seen id parent num energy ids coords cid page₀ start len at₀ page at =
+    let c = columns (cols x y seen id parent num energy) ids coords in
     (length page ≡ length page₀) × AllBelow (g .len) (aheadIn g coords page at)
     × (nextIn g c cid (aheadIn g coords page at) ≡ nextIn g c cid (aheadIn g coords page₀ at₀))
 
 abbrev μ-loop : tie.MeasureT-loop
-μ-loop g x y seen id parent num ids coords cid page₀ start len at₀ page at = length (aheadIn g coords page at)
+μ-loop g x y seen id parent num energy ids coords cid page₀ start len at₀ page at = length (aheadIn g coords page at)
 
 abbrev Loop : Type 0
 Loop = tie.At-loop Inv-loop μ-loop
 
 module _ (w : Loop) where
   abbrev start : tie.Start Inv-loop μ-loop
-  start = w .before .before .before .before .before .before .before .before .before .before
+  start = search
 
   abbrev ring : Ring
   ring = start .args .g
@@ -41,7 +41,7 @@ module _ (w : Loop) where
   cid = start .args .cid
 
   abbrev lent : Columns
-  lent = let a = start .args in givenColumns (a .x) (a .y) (a .seen) (a .id) (a .parent) (a .num) (a .ids) (a .coords)
+  lent = let a = start .args in givenColumns (a .x) (a .y) (a .seen) (a .id) (a .parent) (a .num) (a .energy) (a .ids) (a .coords)
 
   abbrev was : List ℕ
   was = aheadIn ring (lent .coords) (w .loop .page) (w .loop .at)
@@ -113,7 +113,7 @@ shared-slice-read-place : tie.Need-shared-slice-read-place Inv-loop μ-loop
 shared-slice-read-place c = let d = c .before in omega (arith, at-slot d .inside, room (here d) .0)
 
 cast-if1 : tie.Need-cast-if1 Inv-loop μ-loop
-cast-if1 c = let d = c .before in omega (arith, c .shared-slice-known9 .given (ring (here d) .start + slot d))
+cast-if1 c = let d = c .before in omega (arith, c .shared-slice-known10 .given (ring (here d) .start + slot d))
 
 same-length-2 : tie.Need-same-length-2 Inv-loop μ-loop
 same-length-2 c = page-same (turned (c .before .before))

@@ -9,11 +9,11 @@ use Rattle.listing.proofs.fill.Statement.{statement}
 use Rattle.listing.proofs.fill.Tie as tie
 
 abbrev Inv-loop : tie.InvT-loop
-Inv-loop s n xs₀ ys₀ at₀ left₀ i₀ xs ys at left i =
-    (filled left s at i (pointCols xs ys) ≡ filled n s at₀ 0 (pointCols xs₀ ys₀)) × (i + left ≤ 1152)
+Inv-loop s n xs₀ ys₀ es₀ at₀ left₀ i₀ xs ys es at left i =
+    (filled left s at i (pointCols xs ys es) ≡ filled n s at₀ 0 (pointCols xs₀ ys₀ es₀)) × (i + left ≤ 1152)
 
 abbrev μ-loop : tie.MeasureT-loop
-μ-loop s n xs₀ ys₀ at₀ left₀ i₀ xs ys at left i = left
+μ-loop s n xs₀ ys₀ es₀ at₀ left₀ i₀ xs ys es at left i = left
 
 loop-holds : tie.Need-loop-holds Inv-loop μ-loop
 loop-holds c = (refl, omega arith)
@@ -50,6 +50,15 @@ mul-ys c = omega arith
 
 element-write-ys : tie.Need-element-write-ys Inv-loop μ-loop
 element-write-ys c = omega arith
+
+cast-energies : tie.Need-cast-energies Inv-loop μ-loop
+cast-energies c = search needs
+
+mul-energies : tie.Need-mul-energies Inv-loop μ-loop
+mul-energies c = omega arith
+
+element-write-energies : tie.Need-element-write-energies Inv-loop μ-loop
+element-write-energies c = omega arith
 
 add-i : tie.Need-add-i Inv-loop μ-loop
 add-i c = omega arith
@@ -90,6 +99,9 @@ fill-spec =
     coordinate-requires-2
     mul-ys
     element-write-ys
+    cast-energies
+    mul-energies
+    element-write-energies
     add-i
     sub-left
     loop-less

@@ -12,7 +12,7 @@ use Rattle.listing.proofs.parse.Tie as tie
 
 -- the columns as they came
 abbrev points-of : tie.Start → PointCols
-points-of a = givenPoints (a .args .xs) (a .args .ys)
+points-of a = givenPoints (a .args .xs) (a .args .ys) (a .args .energies)
 
 returns : tie.Need-returns
 unfolding parsedOf
@@ -55,13 +55,13 @@ returns-3 c =
 
 fill-requires : tie.Need-fill-requires
 fill-requires c κs =
-    let h = c .before .before .before .before .before .before in
+    let h = c .before .before .before .before .before .before .before in
     subst countIn (h .h .given .1) (h .before .before .read-head .ensures .1)
 
 returns-4 : tie.Need-returns-4
 unfolding parsedOf
 returns-4 c =
-    let e = c .before .before .before in
+    let e = c .before .before .before .before in
     let k = e .before in
     let h = k .before .before .before in
     let r = h .before .before in

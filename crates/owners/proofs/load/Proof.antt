@@ -34,8 +34,13 @@ same-length-8 c = search needs
 same-length-9 : tie.Need-same-length-9
 same-length-9 c = search needs
 
-abbrev loaded-at : tie.After-slice-known18 → tie.After-load
-loaded-at c = c .before .before .before .before .before .before .before .before .before .before .before .before .before .before .before .before .before .before
+same-length-10 : tie.Need-same-length-10
+same-length-10 c = search needs
+
+abbrev loaded-at : tie.After-slice-known20 → tie.After-load
+loaded-at c =
+    c .before .before .before .before .before .before .before .before .before .before
+    .before .before .before .before .before .before .before .before .before .before
 
 returns : tie.Need-returns
 returns c =
@@ -57,4 +62,5 @@ load-spec =
     same-length-7
     same-length-8
     same-length-9
+    same-length-10
     returns)

@@ -5,6 +5,7 @@ use mathlib.Core.List.{List}
 use mathlib.Core.Path.{_≡_, ap, _∙_}
 use Prim.Native.Nat.{ℕ}
 use native.Mathlib.Omega.{arith}
+use lib.Dec.{eqb}
 use lib.ListN.{length}
 use lib.Ieee.{Float}
 use Rattle.tables.specs.declared.Options.{Options}
@@ -15,16 +16,16 @@ use Rattle.replay_load.proofs.loads.Statement.{statement}
 use Rattle.replay_load.proofs.loads.Tie as tie
 
 -- what is compared is what the build came to
-compared : (o : Options) (xs ys : List Float) (starts lens : List ℕ) (want l : Lent) (got : Outcome) (r : Bool) → got ≡ loaded o xs ys l
-    → r ≡ agreesWith o (length xs) starts lens want got → r ≡ loadsTo o xs ys starts lens want l
+compared : (o : Options) (xs ys : List Float) (energies starts lens : List ℕ) (want l : Lent) (got : Outcome) (r : Bool)
+    → got ≡ loaded o xs ys energies l → r ≡ agreesWith o (length xs) starts lens want got → r ≡ loadsTo o xs ys energies starts lens want l
 unfolding loadsTo
-compared o xs ys starts lens want l got r e f = f ∙ ap (agreesWith o (length xs) starts lens want) e
+compared o xs ys energies starts lens want l got r e f = f ∙ ap (agreesWith o (length xs) starts lens want) e
 
 -- the first comparison, and the build
-abbrev done-of : tie.After-same-places5 → tie.After-is-done
+abbrev done-of : tie.After-same-places5 → tie.After-number
 done-of c = let p : tie.After-same-places = search in search
 
-abbrev loading : tie.After-is-done → tie.After-load
+abbrev loading : tie.After-number → tie.After-load
 loading d = search
 
 returns : tie.Need-returns
@@ -32,7 +33,8 @@ unfolding agreesWith
 returns c =
     let coords = c .before .before in
     let ids = coords .before .before in
-    let num = ids .before .before in
+    let energy = ids .before .before in
+    let num = energy .before .before in
     let parent = num .before .before in
     let id = parent .before .before in
     let seen = id .before .before in
@@ -40,10 +42,10 @@ returns c =
     let x = y .before .before in
     let state = x .before .before in
     let done = state .before in
-    compared _ _ _ _ _ _ _ _ _ (loading done .load .ensures)
-    (done .is-done .ensures and state .same-state .ensures
+    compared _ _ _ _ _ _ _ _ _ _ (loading done .load .ensures)
+    (ap (λ (k : ℕ). eqb k 0) (done .number .ensures) and state .same-state .ensures
     and x .same-floats .ensures and y .same-floats2 .ensures and seen .same-bytes .ensures
-    and id .same-places .ensures and parent .same-places2 .ensures and num .same-places3 .ensures
+    and id .same-places .ensures and parent .same-places2 .ensures and num .same-places3 .ensures and energy .same-numbers .ensures
     and ids .same-places4 .ensures and coords .same-floats3 .ensures and c .same-places5 .ensures)
 
 pub loads-spec : {M : Type 1} → statement M
@@ -62,6 +64,8 @@ loads-spec =
     (λ c κs. tt)
     (λ c κs. tt)
     (λ c κs. tt)
+    (λ c κs. tt)
+    (λ c. omega (arith, loading (done-of c) .load .kept))
     (λ c. omega (arith, loading (done-of c) .load .kept))
     (λ c. omega (arith, loading (done-of c) .load .kept))
     (λ c. omega (arith, loading (done-of c) .load .kept))

@@ -9,18 +9,18 @@ use Rattle.replay_load.proofs.read_entries.Statement.{statement}
 use Rattle.replay_load.proofs.read_entries.Tie as tie
 
 abbrev Inv-loop : tie.InvT-loop
-Inv-loop m x₀ y₀ seen₀ id₀ parent₀ num₀ ids₀ coords₀ good₀ i₀ x y seen id parent num ids coords good i =
-    Kept (cols x₀ y₀ seen₀ id₀ parent₀ num₀) (cols x y seen id parent num) × (length ids ≡ length ids₀)
+Inv-loop m x₀ y₀ seen₀ id₀ parent₀ num₀ energy₀ ids₀ coords₀ good₀ i₀ x y seen id parent num energy ids coords good i =
+    Kept (cols x₀ y₀ seen₀ id₀ parent₀ num₀ energy₀) (cols x y seen id parent num energy) × (length ids ≡ length ids₀)
     × (length coords ≡ length coords₀) × (i ≤ m)
 
 abbrev μ-loop : tie.MeasureT-loop
-μ-loop m x₀ y₀ seen₀ id₀ parent₀ num₀ ids₀ coords₀ good₀ i₀ x y seen id parent num ids coords good i = m - i
+μ-loop m x₀ y₀ seen₀ id₀ parent₀ num₀ energy₀ ids₀ coords₀ good₀ i₀ x y seen id parent num energy ids coords good i = m - i
 
 abbrev start-of : tie.At-loop Inv-loop μ-loop → tie.Start Inv-loop μ-loop
 start-of l = search
 
 loop-holds : tie.Need-loop-holds Inv-loop μ-loop
-loop-holds c = (record { kx = refl; ky = refl; ks = refl; ki = refl; kp = refl; kn = refl }, refl, refl, omega arith)
+loop-holds c = (record { kx = refl; ky = refl; ks = refl; ki = refl; kp = refl; kn = refl; kw = refl }, refl, refl, omega arith)
 
 read-entry-requires : tie.Need-read-entry-requires Inv-loop μ-loop
 read-entry-requires c κs = tt
@@ -73,6 +73,7 @@ loop-again c =
         ki = p .1 .1 .1 .0;
         kp = p .1 .1 .1 .1 .0;
         kn = p .1 .1 .1 .1 .1 .0;
+        kw = p .1 .1 .1 .1 .1 .1 .0;
       }) (v .0),
       q .0 ∙ v .1,
       q .1 .0 ∙ v .2,
@@ -98,6 +99,7 @@ read-entries-spec =
     (λ c. head-of c .loop .inv .0 .ki)
     (λ c. head-of c .loop .inv .0 .kp)
     (λ c. head-of c .loop .inv .0 .kn)
+    (λ c. head-of c .loop .inv .0 .kw)
     (λ c. head-of c .loop .inv .1)
     (λ c. head-of c .loop .inv .2)
     returns
@@ -112,6 +114,7 @@ read-entries-spec =
     (λ c. c .before .loop .inv .0 .ki)
     (λ c. c .before .loop .inv .0 .kp)
     (λ c. c .before .loop .inv .0 .kn)
+    (λ c. c .before .loop .inv .0 .kw)
     (λ c. c .before .loop .inv .1)
     (λ c. c .before .loop .inv .2)
     returns-2)

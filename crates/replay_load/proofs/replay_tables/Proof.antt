@@ -7,6 +7,9 @@ use borrow.Author.Needs.{needs}
 use Rattle.replay_load.proofs.replay_tables.Statement.{statement}
 use Rattle.replay_load.proofs.replay_tables.Tie as tie
 
+abbrev begin : tie.After-known-told → tie.Start
+begin k = search
+
 next-count-requires : tie.Need-next-count-requires
 next-count-requires c κs = search needs
 
@@ -27,13 +30,13 @@ read-entries-requires : tie.Need-read-entries-requires
 read-entries-requires c κs =
     let k : tie.After-known-told = search in
     let f = few k in
-    (record { ey = refl; es = refl; ei = refl; ep = refl; en = refl }, f, f, omega (arith, f))
+    (record { ey = refl; es = refl; ei = refl; ep = refl; en = refl; ew = refl }, f, f, omega (arith, f))
 
 returns-2 : tie.Need-returns-2
 returns-2 c = search needs
 
 replay-state-requires : tie.Need-replay-state-requires
-replay-state-requires c κs = search needs
+replay-state-requires c κs = let k : tie.After-known-told = search in begin k .pre
 
 returns-3 : tie.Need-returns-3
 returns-3 c = search needs
@@ -54,8 +57,10 @@ replay-tables-spec =
     (λ c. search needs)
     (λ c. search needs)
     (λ c. search needs)
+    (λ c. search needs)
     read-entries-requires
     returns-2
+    (λ c. search needs)
     (λ c. search needs)
     (λ c. search needs)
     (λ c. search needs)

@@ -6,10 +6,10 @@ use Rattle.replay_questions.proofs.replay_questions.Statement.{statemen
 use Rattle.replay_questions.proofs.replay_questions.Tie as tie
 
 abbrev Inv-loop : tie.InvT-loop
-Inv-loop s x y seen id parent num ids coords k verdict₀ i₀ verdict i = i ≤ k
+Inv-loop s x y seen id parent num energy ids coords k verdict₀ i₀ verdict i = i ≤ k
 
 abbrev μ-loop : tie.MeasureT-loop
-μ-loop s x y seen id parent num ids coords k verdict₀ i₀ verdict i = k - i
+μ-loop s x y seen id parent num energy ids coords k verdict₀ i₀ verdict i = k - i
 
 next-count-requires : tie.Need-next-count-requires Inv-loop μ-loop
 next-count-requires c κs = search needs

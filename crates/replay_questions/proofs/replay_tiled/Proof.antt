@@ -76,19 +76,28 @@ returns-5 : tie.Need-returns-5
 returns-5 c = search needs
 
 array-share-prefix-want : tie.Need-array-share-prefix-want
-array-share-prefix-want c = search needs
+array-share-prefix-want c =
+    let r : tie.After-read-reply = search in
+    let l : tie.After-read-places = search in
+    omega (arith, begin r .pre .0, l .read-places .kept)
 
 slice-aggregate-ask-tile : tie.Need-slice-aggregate-ask-tile
 slice-aggregate-ask-tile c = sym (length-take-le _ _ (array-share-prefix-want (c .before)))
 
 array-share-prefix-want-x : tie.Need-array-share-prefix-want-x
-array-share-prefix-want-x c = search needs
+array-share-prefix-want-x c =
+    let r : tie.After-read-reply = search in
+    let l : tie.After-read-longs = search in
+    omega (arith, begin r .pre .1, l .read-longs .kept)
 
 slice-aggregate-ask-tile-2 : tie.Need-slice-aggregate-ask-tile-2
 slice-aggregate-ask-tile-2 c = sym (length-take-le _ _ (array-share-prefix-want-x (c .before)))
 
 array-share-prefix-want-y : tie.Need-array-share-prefix-want-y
-array-share-prefix-want-y c = search needs
+array-share-prefix-want-y c =
+    let r : tie.After-read-reply = search in
+    let l : tie.After-read-longs2 = search in
+    omega (arith, begin r .pre .2, l .read-longs2 .kept)
 
 slice-aggregate-ask-tile-3 : tie.Need-slice-aggregate-ask-tile-3
 slice-aggregate-ask-tile-3 c = sym (length-take-le _ _ (array-share-prefix-want-y (c .before)))

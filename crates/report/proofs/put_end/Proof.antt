@@ -1,4 +1,4 @@
--- `report::put_end` meets its contract: its four parts, one after the other. Assumes nothing.
+-- `report::put_end` meets its contract: its six parts, one after the other. Assumes nothing.
 use Rattle.report.specs.Put.{put-near, put-more}
 use native.Mathlib.Omega.{arith}
 use borrow.Author.Needs.{needs}
@@ -17,16 +17,25 @@ put-decimal-requires c κs = search needs
 put-byte-requires-2 : tie.Need-put-byte-requires-2
 put-byte-requires-2 c κs = search needs
 
+put-decimal-requires-2 : tie.Need-put-decimal-requires-2
+put-decimal-requires-2 c κs = search needs
+
+put-byte-requires-3 : tie.Need-put-byte-requires-3
+put-byte-requires-3 c κs = search needs
+
 same-length : tie.Need-same-length
 same-length c = search needs
 
 returns : tie.Need-returns
 returns c =
     let f = c .before .before in
-    let d = f .before .before .before .before in
+    let e = f .before .before .before .before in
+    let g = e .before .before .before .before in
+    let d = g .before .before .before .before in
     let b = d .before .before .before .before in
     let o = b .before .before .before .before in
-    put-near (omega arith) (put-more (put-more (put-more (o .put-or-dash .ensures) (b .put-byte .ensures)) (d .put-decimal .ensures)) (f .put-byte2 .ensures))
+    let num = put-more (put-more (o .put-or-dash .ensures) (b .put-byte .ensures)) (d .put-decimal .ensures) in
+    put-near (omega arith) (put-more (put-more (put-more num (g .put-byte2 .ensures)) (e .put-decimal2 .ensures)) (f .put-byte3 .ensures))
 
 pub put-end-spec : {M : Type 1} → statement M
 put-end-spec =
@@ -36,5 +45,7 @@ put-end-spec =
     put-byte-requires
     put-decimal-requires
     put-byte-requires-2
+    put-decimal-requires-2
+    put-byte-requires-3
     same-length
     returns)

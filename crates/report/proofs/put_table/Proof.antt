@@ -14,18 +14,18 @@ use Rattle.report.proofs.put_table.Statement.{statement}
 use Rattle.report.proofs.put_table.Tie as tie
 
 abbrev Inv-loop : tie.InvT-loop
-Inv-loop out₀ at zoom start len x y seen id parent num p₀ i₀ out p i =
-    let t = part start len (rows (cols x y seen id parent num)) in
+Inv-loop out₀ at zoom start len x y seen id parent num energy p₀ i₀ out p i =
+    let t = part start len (rows (cols x y seen id parent num energy)) in
     (i ≤ len) × ((p ≤ at + lineRoom * i) × Storing out₀ at (tableText zoom 0 t) out p (tableText zoom i (drop i t)))
 
 abbrev μ-loop : tie.MeasureT-loop
-μ-loop out₀ at zoom start len x y seen id parent num p₀ i₀ out p i = len - i
+μ-loop out₀ at zoom start len x y seen id parent num energy p₀ i₀ out p i = len - i
 
 abbrev start-of : tie.At-loop Inv-loop μ-loop → tie.Start Inv-loop μ-loop
-start-of l = l .before .before .before .before .before .before .before .before
+start-of l = l .before .before .before .before .before .before .before .before .before
 
 abbrev cols-of : tie.Start Inv-loop μ-loop → Cols
-cols-of s = let a = s .args in given (a .x) (a .y) (a .seen) (a .id) (a .parent) (a .num)
+cols-of s = let a = s .args in given (a .x) (a .y) (a .seen) (a .id) (a .parent) (a .num) (a .energy)
 
 abbrev rows-of : tie.Start Inv-loop μ-loop → Table
 rows-of s = rows (cols-of s)
@@ -39,7 +39,7 @@ within s = omega (arith, s .pre .1, rows-length (cols-of s))
 
 loop-holds : tie.Need-loop-holds Inv-loop μ-loop
 loop-holds c =
-    let s = c .before .before .before .before .before .before .before in
+    let s = c .before .before .before .before .before .before .before .before in
     (omega arith, (omega arith, storing-start (now (s .args .out)) (s .args .at) (tableText (s .args .zoom) 0 (part-of s))))
 
 add-entry-at : tie.Need-add-entry-at Inv-loop μ-loop

@@ -25,20 +25,20 @@ abbrev left-of : State → Table → ℕ → List Table
 left-of s t z = held (s .starts) (s .lens) t (s .options .«min_zoom») (z - s .options .«min_zoom»)
 
 abbrev Inv-loop : tie.InvT-loop
-Inv-loop out₀ s x y seen id parent num low z₀ at₀ out z at =
-    let t = rows (cols x y seen id parent num) in
+Inv-loop out₀ s x y seen id parent num energy low z₀ at₀ out z at =
+    let t = rows (cols x y seen id parent num energy) in
     (z ≤ s .options .«max_zoom» + 2)
     × ((at + lineRoom * length (joined (left-of s t z)) ≤ length out₀)
     × Storing out₀ 0 (tablesText (s .options .«max_zoom» + 1) (heldBy s t)) out at (tablesText (z - 1) (left-of s t z)))
 
 abbrev μ-loop : tie.MeasureT-loop
-μ-loop out₀ s x y seen id parent num low z₀ at₀ out z at = z - low
+μ-loop out₀ s x y seen id parent num energy low z₀ at₀ out z at = z - low
 
 abbrev start-of : tie.At-loop Inv-loop μ-loop → tie.Start Inv-loop μ-loop
-start-of l = l .before .before .before .before .before .before .before .before .before .before
+start-of l = l .before .before .before .before .before .before .before .before .before .before .before
 
 abbrev cols-of : tie.Start Inv-loop μ-loop → Cols
-cols-of s = let a = s .args in given (a .x) (a .y) (a .seen) (a .id) (a .parent) (a .num)
+cols-of s = let a = s .args in given (a .x) (a .y) (a .seen) (a .id) (a .parent) (a .num) (a .energy)
 
 abbrev rows-of : tie.Start Inv-loop μ-loop → Table
 rows-of s = rows (cols-of s)
@@ -64,12 +64,12 @@ starts out s t h =
 
 add-z : tie.Need-add-z Inv-loop μ-loop
 add-z c =
-    let s = c .before .before .before .before .before .before .before .before .before in
+    let s = c .before .before .before .before .before .before .before .before .before .before in
     past-top (s .args .s .options .«max_zoom») (s .pre .1 .top)
 
 loop-holds : tie.Need-loop-holds Inv-loop μ-loop
 loop-holds c =
-    let s = c .before .before .before .before .before .before .before .before .before in
+    let s = c .before .before .before .before .before .before .before .before .before .before in
     starts (now (s .args .out)) (s .args .s) (rows-of s) (s .pre .1)
 
 sub-z : tie.Need-sub-z Inv-loop μ-loop

@@ -20,26 +20,29 @@ use Rattle.report.specs.Put.{put-over}
 use Rattle.report.proofs.report.Statement.{statement}
 use Rattle.report.proofs.report.Tie as tie
 
-abbrev told-of : tie.After-report-read-arg14 → tie.After-h
-told-of c = c .before .before .before .before .before .before .before .before .before .before .before .before .before .before .before
+abbrev energies-of : tie.After-report-read-arg17 → tie.After-report-read-arg6
+energies-of c = c .before .before .before .before .before .before .before .before .before .before .before
 
-abbrev parse-of : tie.After-report-read-arg14 → tie.After-parse
+abbrev told-of : tie.After-report-read-arg17 → tie.After-h
+told-of c = energies-of c .before .before .before .before .before .before .before
+
+abbrev parse-of : tie.After-report-read-arg17 → tie.After-parse
 parse-of c = told-of c .before .before
 
 abbrev start-of : tie.After-parse → tie.Start
-start-of p = p .before .before .before .before
+start-of p = p .before .before .before .before .before
 
 -- the columns as they came, and those of the points as `parse` leaves them
 abbrev columns-of : tie.Start → Lent
-columns-of s = let a = s .args in givenAll (a .x) (a .y) (a .seen) (a .id) (a .parent) (a .num) (a .ids) (a .coords) (a .near)
+columns-of s = let a = s .args in givenAll (a .x) (a .y) (a .seen) (a .id) (a .parent) (a .num) (a .energy) (a .ids) (a .coords) (a .near)
 
 abbrev points-of : tie.Start → PointCols
-points-of s = givenPoints (s .args .px) (s .args .py)
+points-of s = givenPoints (s .args .px) (s .args .py) (s .args .pe)
 
 abbrev points-after : tie.After-parse → PointCols
-points-after p = let a = p .parse .last .1 in pointCols (a .0) (a .1 .0)
+points-after p = let a = p .parse .last .1 in pointCols (a .0) (a .1 .0) (a .1 .1 .0)
 
-abbrev head-of : tie.After-report-read-arg14 → Head
+abbrev head-of : tie.After-report-read-arg17 → Head
 head-of c = told-of c .h .given .0 .0
 
 -- what `parse` tells, by its reply
@@ -50,16 +53,18 @@ parsed p r e =
     subst (λ (k : Parsed). Parsing (now (s .args .text)) (points-of s) k (points-after p)) e (p .parse .ensures)
 
 -- what was read of a text of the form
-reads-of : (c : tie.After-report-read-arg14)
+reads-of : (c : tie.After-report-read-arg17)
     → let p = parse-of c in let s = start-of p in Reads (now (s .args .text)) (points-of s) (head-of c) (points-after p)
 reads-of c = parsed (parse-of c) _ (told-of c .h .given .1)
 
-front-of : (c : tie.After-report-read-arg14) → Front (reads-of c .input) (head-of c .count) (points-after (parse-of c))
+front-of : (c : tie.After-report-read-arg17) → Front (reads-of c .input) (head-of c .count) (points-after (parse-of c))
 front-of c =
     let p = parse-of c in
-    let y = c .before .before .before .before .before .before .before .before .before .before in
+    let e = energies-of c in
+    let y = e .before .before in
+    let x = y .before .before in
     reads-front _ _ (head-of c) (points-after p) (reads-of c)
-    (record { x = y .before .before .report-read-arg2 .given .0; y = y .report-read-arg4 .given .0 })
+    (record { x = x .report-read-arg2 .given .0; y = y .report-read-arg4 .given .0; energy = e .report-read-arg6 .given .0 })
 
 parse-requires : tie.Need-parse-requires
 parse-requires c κs = search needs

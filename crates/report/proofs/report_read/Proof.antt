@@ -7,10 +7,9 @@ use borrow.Author.Needs.{needs}
 use denote.Ref.{now}
 use lib.ListN.{length}
 use lib.Seq.{length-take-le}
-use Rattle.kdbush.specs.Reply.{buildNumber}
 use Rattle.tables.specs.declared.Options.{Options}
 use Rattle.tables.specs.Rows.{cols}
-use Rattle.supercluster.specs.Build.{Lent, lent, Outcome}
+use Rattle.supercluster.specs.Build.{Lent, lent, loadNumber, Outcome}
 use Rattle.supercluster.specs.Lent.{givenAll}
 use Rattle.supercluster.specs.Load.{rowsIn}
 use Rattle.listing.specs.Values.{optionsOf}
@@ -24,41 +23,57 @@ use Rattle.report.specs.Built.{Sized, reply-is, refused-text, Printable,
 use Rattle.report.proofs.report_read.Statement.{statement}
 use Rattle.report.proofs.report_read.Tie as tie
 
+abbrev asked-of : tie.After-load → tie.After-options
+asked-of w =
+    let y = w .before .before .before .before .before .before .before .before .before .before in
+    y .before .before .before .before .before
+
 abbrev start-of : tie.After-load → tie.Start
-start-of w = w .before .before .before .before .before .before .before .before .before .before .before .before .before .before .before .before
+start-of w = asked-of w .before .before .before .before
 
 abbrev options-of : tie.After-load → Options
-options-of w = w .before .before .before .before .before .before .before .before .before .before .before .before .before .options .result
+options-of w = asked-of w .options .result
 
 -- the points that are read, and the columns as they came
 abbrev points-of : tie.Start → PointCols
-points-of s = let a = s .args in frontOf (a .h .count) (givenPoints (a .xs) (a .ys))
+points-of s = let a = s .args in frontOf (a .h .count) (givenPoints (a .xs) (a .ys) (a .energies))
 
 abbrev columns-of : tie.Start → Lent
-columns-of s = let a = s .args in givenAll (a .x) (a .y) (a .seen) (a .id) (a .parent) (a .num) (a .ids) (a .coords) (a .near)
+columns-of s = let a = s .args in givenAll (a .x) (a .y) (a .seen) (a .id) (a .parent) (a .num) (a .energy) (a .ids) (a .coords) (a .near)
 
 -- and as `load` leaves them
 abbrev columns-after : tie.After-load → Lent
 columns-after w =
-    let a = w .load .last .1 .1 .1 in
+    let a = w .load .last .1 .1 .1 .1 in
     let i = a .1 .1 .1 .1 .1 .1 in
-    lent (cols (a .0) (a .1 .0) (a .1 .1 .0) (a .1 .1 .1 .0) (a .1 .1 .1 .1 .0) (a .1 .1 .1 .1 .1 .0)) (i .0) (i .1 .0) (i .1 .1 .0)
+    let c = cols (a .0) (a .1 .0) (a .1 .1 .0) (a .1 .1 .1 .0) (a .1 .1 .1 .1 .0) (a .1 .1 .1 .1 .1 .0) (i .0) in
+    lent c (i .1 .0) (i .1 .1 .0) (i .1 .1 .1 .0)
 
 sized : (w : tie.After-load) → Sized (columns-of (start-of w))
 sized w =
-    let x = w .before .before .before .before .before .before .before .before .before .load-arg3 .given .0 .1 in
+    let near = w .before in
+    let coords = near .before in
+    let ids = coords .before in
+    let energy = ids .before in
+    let num = energy .before in
+    let parent = num .before in
+    let id = parent .before in
+    let seen = id .before in
+    let y = seen .before in
+    let x = y .before .load-arg4 .given .0 .1 in
     record {
       x = x;
       even = record {
-        ey = w .before .before .before .before .before .before .before .before .load-arg4 .given .0 .1 ∙ sym x;
-        es = w .before .before .before .before .before .before .before .load-arg5 .given .0 .1 ∙ sym x;
-        ei = w .before .before .before .before .before .before .load-arg6 .given .0 .1 ∙ sym x;
-        ep = w .before .before .before .before .before .load-arg7 .given .0 .1 ∙ sym x;
-        en = w .before .before .before .before .load-arg8 .given .0 .1 ∙ sym x;
+        ey = y .load-arg5 .given .0 .1 ∙ sym x;
+        es = seen .load-arg6 .given .0 .1 ∙ sym x;
+        ei = id .load-arg7 .given .0 .1 ∙ sym x;
+        ep = parent .load-arg8 .given .0 .1 ∙ sym x;
+        en = num .load-arg9 .given .0 .1 ∙ sym x;
+        ew = energy .load-arg10 .given .0 .1 ∙ sym x;
       };
-      ids = w .before .before .before .load-arg9 .given .0 .1;
-      coords = w .before .before .load-arg10 .given .0 .1;
-      near = w .before .load-arg11 .given .0 .1;
+      ids = ids .load-arg11 .given .0 .1;
+      coords = coords .load-arg12 .given .0 .1;
+      near = near .load-arg13 .given .0 .1;
     }
 
 options-requires : tie.Need-options-requires
@@ -69,13 +84,18 @@ cast-n c = search needs
 
 slice-aggregate-load : tie.Need-slice-aggregate-load
 slice-aggregate-load c =
-    let s = c .before .before .before .before .before in
+    let s : tie.Start = search in
     sym (length-take-le (s .args .h .count) (now (s .args .xs)) (s .pre .x))
 
 slice-aggregate-load-2 : tie.Need-slice-aggregate-load-2
 slice-aggregate-load-2 c =
-    let s = c .before .before .before .before .before .before in
+    let s : tie.Start = search in
     sym (length-take-le (s .args .h .count) (now (s .args .ys)) (s .pre .y))
+
+slice-aggregate-load-3 : tie.Need-slice-aggregate-load-3
+slice-aggregate-load-3 c =
+    let s : tie.Start = search in
+    sym (length-take-le (s .args .h .count) (now (s .args .energies)) (s .pre .energy))
 
 load-requires : tie.Need-load-requires
 load-requires c κs = search needs
@@ -83,8 +103,11 @@ load-requires c κs = search needs
 number-requires : tie.Need-number-requires
 number-requires c κs = search needs
 
-abbrev then-of : tie.After-put-tables-arg13 → tie.Then1
-then-of c = c .before .before .before .before .before .before .before .before .before .before .before .before .before
+abbrev out-of : tie.After-put-tables-arg15 → tie.After-put-tables-arg
+out-of c = c .before .before .before .before .before .before .before .before .before .before .before .before .before .before
+
+abbrev then-of : tie.After-put-tables-arg15 → tie.Then1
+then-of c = out-of c .before
 
 -- what `load` left of an accepted build
 printed : (t : tie.Then1)
@@ -96,13 +119,12 @@ printed t =
     printable (options-of w) (points-of s) (columns-of s) (columns-after w) (w .load .result) (sized w) (w .load .ensures)
     (sym (n .number .ensures) ∙ t .if1 .taken)
 
-room-of : (c : tie.After-put-tables-arg13) → length (now (start-of (then-of c .before .before) .args .out)) ≡ answerRoom
-room-of c = c .before .before .before .before .before .before .before .before .before .before .before .before .put-tables-arg .given .0 .1
+room-of : (c : tie.After-put-tables-arg15) → length (now (start-of (then-of c .before .before) .args .out)) ≡ answerRoom
+room-of c = out-of c .put-tables-arg .given .0 .1
 
 -- the options are those that are asked for: so are the text, and what is left in the columns
 same-options : (w : tie.After-load) → options-of w ≡ optionsOf (start-of w .args .h)
-same-options w =
-    w .before .before .before .before .before .before .before .before .before .before .before .before .before .options .ensures
+same-options w = asked-of w .options .ensures
 
 asked : (w : tie.After-load)
     → let s = start-of w in buildText (options-of w) (points-of s) ≡ buildText (optionsOf (s .args .h)) (points-of s)
@@ -152,7 +174,7 @@ returns-2 c =
     let t = refused-text (options-of w) (points-of s) f r (λ z. e .if1 .left (n .number .ensures ∙ z)) in
     let q : refusalText (n .number .result) (c .before .carried .result) ≡ buildText (options-of w) (points-of s) =
     ap (λ (k : ℕ). refusalText k (c .before .carried .result)) (n .number .ensures)
-    ∙ ap (λ (k : ℕ). refusalText (buildNumber f) k) (c .before .carried .ensures) ∙ sym t in
+    ∙ ap (λ (k : ℕ). refusalText (loadNumber f) k) (c .before .carried .ensures) ∙ sym t in
     let p =
     subst (λ (b : List ℕ). Put o (c .put-refusal .last .0) 0 b 43 (c .put-refusal .result)) (q ∙ asked w) (c .put-refusal .ensures) in
     (put-near (omega (arith, c .before .before .put-refusal-arg .given .0 .1)) p, left-by w)
@@ -165,6 +187,7 @@ report-read-spec =
     cast-n
     slice-aggregate-load
     slice-aggregate-load-2
+    slice-aggregate-load-3
     load-requires
     number-requires
     put-tables-requires

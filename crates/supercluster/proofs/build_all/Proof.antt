@@ -22,9 +22,9 @@ abbrev count : tie.Start → ℕ
 count s = length (s .args .xs .now)
 
 abbrev old : tie.Start → Lent
-old s = let a = s .args in (givenAll (a .x) (a .y) (a .seen) (a .id) (a .parent) (a .num) (a .ids) (a .coords) (a .near))
+old s = let a = s .args in (givenAll (a .x) (a .y) (a .seen) (a .id) (a .parent) (a .num) (a .energy) (a .ids) (a .coords) (a .near))
 
-accepted : (s : tie.Start) → Accepted (s .args .o) (s .args .xs .now) (s .args .ys .now)
+accepted : (s : tie.Start) → Accepted (s .args .o) (s .args .xs .now) (s .args .ys .now) (s .args .energies .now)
 accepted s = s .pre .0
 
 bounds : (s : tie.Start) → InBounds (s .args .o)
@@ -36,7 +36,7 @@ near-held s = omega (arith, need-two (s .args .o) (count s) (bounds s .zooms), s
 -- ---- once the tables are counted
 
 abbrev start-of : tie.After-table-count → tie.Start
-start-of w = w .before .before .before .before .before .before .before .before .before .before .before .before
+start-of w = w .before .before .before .before .before .before .before .before .before .before .before .before .before .before
 
 abbrev size : tie.After-table-count → ℕ
 size w = w .table-count .result * count (start-of w)
@@ -45,7 +45,7 @@ size-is : (w : tie.After-table-count) → size w ≡ need (start-of w .args .o) 
 size-is w = ap (λ (q : ℕ). q * count (start-of w)) (w .table-count .ensures)
 
 few : (w : tie.After-table-count) → size w ≤ 33554432
-few w = let s = start-of w in rw (size-is w) (need-few (s .args .o) (s .args .xs .now) (s .args .ys .now) (accepted s))
+few w = let s = start-of w in rw (size-is w) (need-few (s .args .o) (s .args .xs .now) (s .args .ys .now) (s .args .energies .now) (accepted s))
 
 held : (w : tie.After-table-count) → Holds (size w) (old (start-of w))
 held w = subst (λ (q : ℕ). Holds q (old (start-of w))) (sym (size-is w)) (start-of w .pre .1)
@@ -55,26 +55,26 @@ even w = fronts-even (size w) (count (start-of w) + count (start-of w)) (old (st
 
 -- ---- and once they are built
 
-abbrev built-of : tie.After-slice-known18 → tie.After-build-in
-built-of c = c .before .before .before .before .before .before .before .before .before .before .before .before .before .before .before .before .before .before
+abbrev built-of : tie.After-slice-known20 → tie.After-build-in
+built-of c = c .before .before .before .before .before .before .before .before .before .before .before .before .before .before .before .before .before .before .before .before
 
 abbrev count-of : tie.After-build-in → tie.After-table-count
-count-of b = b .before .before .before .before .before .before .before .before .before .before
+count-of b = b .before .before .before .before .before .before .before .before .before .before .before
 
 abbrev front : tie.After-table-count → Cols
 front w = each (λ A q. take (size w) q) (old (start-of w) .table)
 
 abbrev built : tie.After-build-in → Cols
-built c = let w = c .build-in in (cols (w .last .1 .1 .1 .0) (w .last .1 .1 .1 .1 .0) (w .last .1 .1 .1 .1 .1 .0) (w .last .1 .1 .1 .1 .1 .1 .0) (w .last .1 .1 .1 .1 .1 .1 .1 .0) (w .last .1 .1 .1 .1 .1 .1 .1 .1 .0))
+built c = let w = c .build-in in (cols (w .last .1 .1 .1 .1 .0) (w .last .1 .1 .1 .1 .1 .0) (w .last .1 .1 .1 .1 .1 .1 .0) (w .last .1 .1 .1 .1 .1 .1 .1 .0) (w .last .1 .1 .1 .1 .1 .1 .1 .1 .0) (w .last .1 .1 .1 .1 .1 .1 .1 .1 .1 .0) (w .last .1 .1 .1 .1 .1 .1 .1 .1 .1 .1 .0))
 
 kept-built : (c : tie.After-build-in) → Kept (front (count-of c)) (built c)
-kept-built c = let w = c .build-in in (record { kx = w .kept .1 .1 .1 .0; ky = w .kept .1 .1 .1 .1 .0; ks = w .kept .1 .1 .1 .1 .1 .0; ki = w .kept .1 .1 .1 .1 .1 .1 .0; kp = w .kept .1 .1 .1 .1 .1 .1 .1 .0; kn = w .kept .1 .1 .1 .1 .1 .1 .1 .1 .0 })
+kept-built c = let w = c .build-in in (record { kx = w .kept .1 .1 .1 .1 .0; ky = w .kept .1 .1 .1 .1 .1 .0; ks = w .kept .1 .1 .1 .1 .1 .1 .0; ki = w .kept .1 .1 .1 .1 .1 .1 .1 .0; kp = w .kept .1 .1 .1 .1 .1 .1 .1 .1 .0; kn = w .kept .1 .1 .1 .1 .1 .1 .1 .1 .1 .0; kw = w .kept .1 .1 .1 .1 .1 .1 .1 .1 .1 .1 .0 })
 
 add-w : tie.Need-add-w
-add-w c = omega (arith, accepted (c .before .before .before .before .before .before .before .before .before .before .before) .few)
+add-w c = omega (arith, accepted (c .before .before .before .before .before .before .before .before .before .before .before .before .before) .few)
 
 table-count-requires : tie.Need-table-count-requires
-table-count-requires c κs = bounds (c .before .before .before .before .before .before .before .before .before .before .before) .zooms
+table-count-requires c κs = bounds (c .before .before .before .before .before .before .before .before .before .before .before .before .before) .zooms
 
 mul-m : tie.Need-mul-m
 mul-m c = omega (arith, few c)
@@ -119,26 +119,32 @@ slice-aggregate-build-in-6 : tie.Need-slice-aggregate-build-in-6
 slice-aggregate-build-in-6 c = let w = c .before .before .before .before .before .before in sym (length-take-le (size w) (start-of w .args .num .now) (held w .hn))
 
 slice-relend-prefix-build-in-7 : tie.Need-slice-relend-prefix-build-in-7
-slice-relend-prefix-build-in-7 c = let w = c .before .before .before .before .before .before in held w .hd
+slice-relend-prefix-build-in-7 c = let w = c .before .before .before .before .before .before in held w .hw
 
 slice-aggregate-build-in-7 : tie.Need-slice-aggregate-build-in-7
-slice-aggregate-build-in-7 c = let w = c .before .before .before .before .before .before .before in sym (length-take-le (size w) (start-of w .args .ids .now) (held w .hd))
+slice-aggregate-build-in-7 c = let w = c .before .before .before .before .before .before .before in sym (length-take-le (size w) (start-of w .args .energy .now) (held w .hw))
 
 slice-relend-prefix-build-in-8 : tie.Need-slice-relend-prefix-build-in-8
-slice-relend-prefix-build-in-8 c = let w = c .before .before .before .before .before .before .before in held w .hc
+slice-relend-prefix-build-in-8 c = let w = c .before .before .before .before .before .before .before in held w .hd
 
 slice-aggregate-build-in-8 : tie.Need-slice-aggregate-build-in-8
-slice-aggregate-build-in-8 c = let w = c .before .before .before .before .before .before .before .before in sym (length-take-le (size w * 2) (start-of w .args .coords .now) (held w .hc))
+slice-aggregate-build-in-8 c = let w = c .before .before .before .before .before .before .before .before in sym (length-take-le (size w) (start-of w .args .ids .now) (held w .hd))
 
 slice-relend-prefix-build-in-9 : tie.Need-slice-relend-prefix-build-in-9
-slice-relend-prefix-build-in-9 c = let w = c .before .before .before .before .before .before .before .before in near-held (start-of w)
+slice-relend-prefix-build-in-9 c = let w = c .before .before .before .before .before .before .before .before in held w .hc
 
 slice-aggregate-build-in-9 : tie.Need-slice-aggregate-build-in-9
-slice-aggregate-build-in-9 c = let w = c .before .before .before .before .before .before .before .before .before in sym (length-take-le (count (start-of w) + count (start-of w)) (start-of w .args .near .now) (near-held (start-of w)))
+slice-aggregate-build-in-9 c = let w = c .before .before .before .before .before .before .before .before .before in sym (length-take-le (size w * 2) (start-of w .args .coords .now) (held w .hc))
+
+slice-relend-prefix-build-in-10 : tie.Need-slice-relend-prefix-build-in-10
+slice-relend-prefix-build-in-10 c = let w = c .before .before .before .before .before .before .before .before .before in near-held (start-of w)
+
+slice-aggregate-build-in-10 : tie.Need-slice-aggregate-build-in-10
+slice-aggregate-build-in-10 c = let w = c .before .before .before .before .before .before .before .before .before .before in sym (length-take-le (count (start-of w) + count (start-of w)) (start-of w .args .near .now) (near-held (start-of w)))
 
 build-in-requires : tie.Need-build-in-requires
 build-in-requires c κs =
-    let w = c .before .before .before .before .before .before .before .before .before in
+    let w = c .before .before .before .before .before .before .before .before .before .before in
     let s = start-of w in
     let a = s .args in
     let h = held w in
@@ -152,31 +158,34 @@ build-in-requires c κs =
     )
 
 same-length : tie.Need-same-length
-same-length c = let b = built-of c in let w = count-of b in cut-long (size w) (b .build-in .last .1 .1 .1 .0) (start-of w .args .x .now) (b .build-in .kept .1 .1 .1 .0)
+same-length c = let b = built-of c in let w = count-of b in cut-long (size w) (b .build-in .last .1 .1 .1 .1 .0) (start-of w .args .x .now) (b .build-in .kept .1 .1 .1 .1 .0)
 
 same-length-2 : tie.Need-same-length-2
-same-length-2 c = let b = built-of c in let w = count-of b in cut-long (size w) (b .build-in .last .1 .1 .1 .1 .0) (start-of w .args .y .now) (b .build-in .kept .1 .1 .1 .1 .0)
+same-length-2 c = let b = built-of c in let w = count-of b in cut-long (size w) (b .build-in .last .1 .1 .1 .1 .1 .0) (start-of w .args .y .now) (b .build-in .kept .1 .1 .1 .1 .1 .0)
 
 same-length-3 : tie.Need-same-length-3
-same-length-3 c = let b = built-of c in let w = count-of b in cut-long (size w) (b .build-in .last .1 .1 .1 .1 .1 .0) (start-of w .args .seen .now) (b .build-in .kept .1 .1 .1 .1 .1 .0)
+same-length-3 c = let b = built-of c in let w = count-of b in cut-long (size w) (b .build-in .last .1 .1 .1 .1 .1 .1 .0) (start-of w .args .seen .now) (b .build-in .kept .1 .1 .1 .1 .1 .1 .0)
 
 same-length-4 : tie.Need-same-length-4
-same-length-4 c = let b = built-of c in let w = count-of b in cut-long (size w) (b .build-in .last .1 .1 .1 .1 .1 .1 .0) (start-of w .args .id .now) (b .build-in .kept .1 .1 .1 .1 .1 .1 .0)
+same-length-4 c = let b = built-of c in let w = count-of b in cut-long (size w) (b .build-in .last .1 .1 .1 .1 .1 .1 .1 .0) (start-of w .args .id .now) (b .build-in .kept .1 .1 .1 .1 .1 .1 .1 .0)
 
 same-length-5 : tie.Need-same-length-5
-same-length-5 c = let b = built-of c in let w = count-of b in cut-long (size w) (b .build-in .last .1 .1 .1 .1 .1 .1 .1 .0) (start-of w .args .parent .now) (b .build-in .kept .1 .1 .1 .1 .1 .1 .1 .0)
+same-length-5 c = let b = built-of c in let w = count-of b in cut-long (size w) (b .build-in .last .1 .1 .1 .1 .1 .1 .1 .1 .0) (start-of w .args .parent .now) (b .build-in .kept .1 .1 .1 .1 .1 .1 .1 .1 .0)
 
 same-length-6 : tie.Need-same-length-6
-same-length-6 c = let b = built-of c in let w = count-of b in cut-long (size w) (b .build-in .last .1 .1 .1 .1 .1 .1 .1 .1 .0) (start-of w .args .num .now) (b .build-in .kept .1 .1 .1 .1 .1 .1 .1 .1 .0)
+same-length-6 c = let b = built-of c in let w = count-of b in cut-long (size w) (b .build-in .last .1 .1 .1 .1 .1 .1 .1 .1 .1 .0) (start-of w .args .num .now) (b .build-in .kept .1 .1 .1 .1 .1 .1 .1 .1 .1 .0)
 
 same-length-7 : tie.Need-same-length-7
-same-length-7 c = let b = built-of c in let w = count-of b in cut-long (size w) (b .build-in .last .1 .1 .1 .1 .1 .1 .1 .1 .1 .0) (start-of w .args .ids .now) (b .build-in .kept .1 .1 .1 .1 .1 .1 .1 .1 .1 .0)
+same-length-7 c = let b = built-of c in let w = count-of b in cut-long (size w) (b .build-in .last .1 .1 .1 .1 .1 .1 .1 .1 .1 .1 .0) (start-of w .args .energy .now) (b .build-in .kept .1 .1 .1 .1 .1 .1 .1 .1 .1 .1 .0)
 
 same-length-8 : tie.Need-same-length-8
-same-length-8 c = let b = built-of c in let w = count-of b in cut-long (size w * 2) (b .build-in .last .1 .1 .1 .1 .1 .1 .1 .1 .1 .1 .0) (start-of w .args .coords .now) (b .build-in .kept .1 .1 .1 .1 .1 .1 .1 .1 .1 .1 .0)
+same-length-8 c = let b = built-of c in let w = count-of b in cut-long (size w) (b .build-in .last .1 .1 .1 .1 .1 .1 .1 .1 .1 .1 .1 .0) (start-of w .args .ids .now) (b .build-in .kept .1 .1 .1 .1 .1 .1 .1 .1 .1 .1 .1 .0)
 
 same-length-9 : tie.Need-same-length-9
-same-length-9 c = let b = built-of c in let w = count-of b in cut-long (count (start-of w) + count (start-of w)) (b .build-in .last .1 .1 .1 .1 .1 .1 .1 .1 .1 .1 .1 .0) (start-of w .args .near .now) (b .build-in .kept .1 .1 .1 .1 .1 .1 .1 .1 .1 .1 .1 .0)
+same-length-9 c = let b = built-of c in let w = count-of b in cut-long (size w * 2) (b .build-in .last .1 .1 .1 .1 .1 .1 .1 .1 .1 .1 .1 .1 .0) (start-of w .args .coords .now) (b .build-in .kept .1 .1 .1 .1 .1 .1 .1 .1 .1 .1 .1 .1 .0)
+
+same-length-10 : tie.Need-same-length-10
+same-length-10 c = let b = built-of c in let w = count-of b in cut-long (count (start-of w) + count (start-of w)) (b .build-in .last .1 .1 .1 .1 .1 .1 .1 .1 .1 .1 .1 .1 .1 .0) (start-of w .args .near .now) (b .build-in .kept .1 .1 .1 .1 .1 .1 .1 .1 .1 .1 .1 .1 .1 .0)
 
 returns : tie.Need-returns
 returns c =
@@ -187,11 +196,11 @@ returns c =
     let h = held w in
     let l = b .build-in .last in
     let k = b .build-in .kept in
-    let new : Lent = lent (built b) (l .1 .1 .1 .1 .1 .1 .1 .1 .1 .0) (l .1 .1 .1 .1 .1 .1 .1 .1 .1 .1 .0) (l .1 .1 .1 .1 .1 .1 .1 .1 .1 .1 .1 .0) in
+    let new : Lent = lent (built b) (l .1 .1 .1 .1 .1 .1 .1 .1 .1 .1 .1 .0) (l .1 .1 .1 .1 .1 .1 .1 .1 .1 .1 .1 .1 .0) (l .1 .1 .1 .1 .1 .1 .1 .1 .1 .1 .1 .1 .1 .0) in
     let v : EvenIn new = even-kept (front w) (built b) (kept-built b) (even w) in (
       b .build-in .ensures .of-state,
-      whole (a .o) (a .xs .now) (a .ys .now) (size w) (old s) new (b .build-in .result) h (even w) v (kept-built b .kx ∙ length-take-le (size w) (a .x .now) (h .hx))
-          (k .1 .1 .1 .1 .1 .1 .1 .1 .1 .0 ∙ length-take-le (size w) (a .ids .now) (h .hd)) (k .1 .1 .1 .1 .1 .1 .1 .1 .1 .1 .0 ∙ length-take-le (size w * 2) (a .coords .now) (h .hc)) (b .build-in .ensures),
+      whole (a .o) (a .xs .now) (a .ys .now) (a .energies .now) (size w) (old s) new (b .build-in .result) h (even w) v (kept-built b .kx ∙ length-take-le (size w) (a .x .now) (h .hx))
+          (k .1 .1 .1 .1 .1 .1 .1 .1 .1 .1 .1 .0 ∙ length-take-le (size w) (a .ids .now) (h .hd)) (k .1 .1 .1 .1 .1 .1 .1 .1 .1 .1 .1 .1 .0 ∙ length-take-le (size w * 2) (a .coords .now) (h .hc)) (b .build-in .ensures),
     )
 
 pub build-all-spec : {M : Type 1} → statement M
@@ -220,6 +229,8 @@ build-all-spec =
     slice-aggregate-build-in-8
     slice-relend-prefix-build-in-9
     slice-aggregate-build-in-9
+    slice-relend-prefix-build-in-10
+    slice-aggregate-build-in-10
     build-in-requires
     same-length
     same-length-2
@@ -230,4 +241,5 @@ build-all-spec =
     same-length-7
     same-length-8
     same-length-9
+    same-length-10
     returns)

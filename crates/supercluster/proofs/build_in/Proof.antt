@@ -27,9 +27,9 @@ abbrev count : tie.Start → ℕ
 count s = length (s .args .xs .now)
 
 abbrev columns : tie.Start → Cols
-columns s = let a = s .args in (given (a .x) (a .y) (a .seen) (a .id) (a .parent) (a .num))
+columns s = let a = s .args in (given (a .x) (a .y) (a .seen) (a .id) (a .parent) (a .num) (a .energy))
 
-accepted : (s : tie.Start) → Accepted (s .args .o) (s .args .xs .now) (s .args .ys .now)
+accepted : (s : tie.Start) → Accepted (s .args .o) (s .args .xs .now) (s .args .ys .now) (s .args .energies .now)
 accepted s = s .pre .1
 
 bounds : (s : tie.Start) → InBounds (s .args .o)
@@ -41,13 +41,13 @@ room s = omega (arith, need-some (s .args .o) (count s) (bounds s .zooms))
 -- ---- after the fill
 
 abbrev start-of : tie.After-fill → tie.Start
-start-of w = w .before .before .before .before .before .before .before .before .before .before .before .before .before .before .before .before .before .before
+start-of w = w .before .before .before .before .before .before .before .before .before .before .before .before .before .before .before .before .before .before .before .before .before
 
 abbrev filled : tie.After-fill → Cols
-filled c = let w = c .fill in (cols (w .last .1 .1 .1 .0) (w .last .1 .1 .1 .1 .0) (w .last .1 .1 .1 .1 .1 .0) (w .last .1 .1 .1 .1 .1 .1 .0) (w .last .1 .1 .1 .1 .1 .1 .1 .0) (w .last .1 .1 .1 .1 .1 .1 .1 .1 .0))
+filled c = let w = c .fill in (cols (w .last .1 .1 .1 .1 .0) (w .last .1 .1 .1 .1 .1 .0) (w .last .1 .1 .1 .1 .1 .1 .0) (w .last .1 .1 .1 .1 .1 .1 .1 .0) (w .last .1 .1 .1 .1 .1 .1 .1 .1 .0) (w .last .1 .1 .1 .1 .1 .1 .1 .1 .1 .0) (w .last .1 .1 .1 .1 .1 .1 .1 .1 .1 .1 .0))
 
 kept-fill : (c : tie.After-fill) → Kept (columns (start-of c)) (filled c)
-kept-fill c = let w = c .fill in (record { kx = w .kept .1 .1 .1 .0; ky = w .kept .1 .1 .1 .1 .0; ks = w .kept .1 .1 .1 .1 .1 .0; ki = w .kept .1 .1 .1 .1 .1 .1 .0; kp = w .kept .1 .1 .1 .1 .1 .1 .1 .0; kn = w .kept .1 .1 .1 .1 .1 .1 .1 .1 .0 })
+kept-fill c = let w = c .fill in (record { kx = w .kept .1 .1 .1 .1 .0; ky = w .kept .1 .1 .1 .1 .1 .0; ks = w .kept .1 .1 .1 .1 .1 .1 .0; ki = w .kept .1 .1 .1 .1 .1 .1 .1 .0; kp = w .kept .1 .1 .1 .1 .1 .1 .1 .1 .0; kn = w .kept .1 .1 .1 .1 .1 .1 .1 .1 .1 .0; kw = w .kept .1 .1 .1 .1 .1 .1 .1 .1 .1 .1 .0 })
 
 even : (w : tie.After-fill) → Even (filled w)
 even w = even-kept (columns (start-of w)) (filled w) (kept-fill w) (start-of w .pre .0)
@@ -65,7 +65,7 @@ slots w = let s = start-of w in part-index (s .args .o .«node_size») 0 (count 
 -- ---- after its index
 
 abbrev fill-of : tie.After-index-part → tie.After-fill
-fill-of i = i .before .before .before .before .before .before .before .before .before .before .before .before .before .before .before .before .before
+fill-of i = i .before .before .before .before .before .before .before .before .before .before .before .before .before .before .before .before .before .before .before
 
 ids-put : (i : tie.After-index-part) → let w = fill-of i in let s = start-of w in
     i .index-part .last .1 .1 .0 ≡ putAt 0 (count s) (slotsOf (s .args .o .«node_size») (part 0 (count s) (rows (filled w))) .ids) (s .args .ids .now)
@@ -85,30 +85,30 @@ first w =
     let s = start-of (fill-of (index-of w)) in
     w .with-table .ensures ∙ ap (λ (v : State). withTable v (s .args .o .«max_zoom» + 1) 0 (count s)) (w .before .before .new-state .ensures)
 
-abbrev zooms-of : tie.After-slice-known27 → tie.After-run-zooms
-zooms-of c = c .before .before .before .before .before .before .before .before .before .before .before .before .before .before .before .before .before .before .before .before .before .before
+abbrev zooms-of : tie.After-slice-known30 → tie.After-run-zooms
+zooms-of c = c .before .before .before .before .before .before .before .before .before .before .before .before .before .before .before .before .before .before .before .before .before .before .before .before
 
 abbrev state-of : tie.After-run-zooms → tie.After-with-table
-state-of z = z .before .before .before .before .before .before .before .before .before .before
+state-of z = z .before .before .before .before .before .before .before .before .before .before .before
 
 abbrev after : tie.After-run-zooms → Cols
-after c = let w = c .run-zooms in (cols (w .last .0) (w .last .1 .0) (w .last .1 .1 .0) (w .last .1 .1 .1 .0) (w .last .1 .1 .1 .1 .0) (w .last .1 .1 .1 .1 .1 .0))
+after c = let w = c .run-zooms in (cols (w .last .0) (w .last .1 .0) (w .last .1 .1 .0) (w .last .1 .1 .1 .0) (w .last .1 .1 .1 .1 .0) (w .last .1 .1 .1 .1 .1 .0) (w .last .1 .1 .1 .1 .1 .1 .0))
 
 kept-by : (c : tie.After-run-zooms) → Kept (columns (start-of (fill-of (index-of (state-of c))))) (after c)
 kept-by c =
     let f = fill-of (index-of (state-of c)) in
     let w = c .run-zooms in
-    let k : Kept (filled f) (after c) = (record { kx = w .kept .0; ky = w .kept .1 .0; ks = w .kept .1 .1 .0; ki = w .kept .1 .1 .1 .0; kp = w .kept .1 .1 .1 .1 .0; kn = w .kept .1 .1 .1 .1 .1 .0 }) in
+    let k : Kept (filled f) (after c) = (record { kx = w .kept .0; ky = w .kept .1 .0; ks = w .kept .1 .1 .0; ki = w .kept .1 .1 .1 .0; kp = w .kept .1 .1 .1 .1 .0; kn = w .kept .1 .1 .1 .1 .1 .0; kw = w .kept .1 .1 .1 .1 .1 .1 .0 }) in
     kept-then (columns (start-of f)) (filled f) (after c) k (kept-fill f)
 
 fill-requires : tie.Need-fill-requires
 fill-requires c κs =
-    let s = c .before .before .before .before .before .before .before .before .before .before .before .before .before .before .before .before .before in
-    (s .pre .0, accepted s .same, omega (arith, room s, s .pre .2), accepted s .few)
+    let s = c .before .before .before .before .before .before .before .before .before .before .before .before .before .before .before .before .before .before .before .before in
+    (s .pre .0, accepted s .same, omega (arith, room s, s .pre .2), accepted s .few, accepted s .weighed)
 
 index-part-requires : tie.Need-index-part-requires
 index-part-requires c κs =
-    let w = c .before .before .before .before .before .before .before .before .before .before .before .before .before .before .before .before in
+    let w = c .before .before .before .before .before .before .before .before .before .before .before .before .before .before .before .before .before .before in
     let s = start-of w in
     let a = s .args in
     let r = room s in
@@ -116,34 +116,34 @@ index-part-requires c κs =
       (accepted s .some, accepted s .few, omega arith, bounds s .size-from, bounds s .size-to),
       (
         (even w .ey, omega (arith, long w, r), omega (arith, p .3, r), omega (arith, p .4, r)),
-        first-inside (a .o) (a .xs .now) (a .ys .now) (accepted s) (filled w) (rows (columns s)) (even w .ey) (w .fill .ensures),
+        first-inside (a .o) (a .xs .now) (a .ys .now) (a .energies .now) (accepted s) (filled w) (rows (columns s)) (even w .ey) (w .fill .ensures),
       ),
     )
 
 cast-new-state : tie.Need-cast-new-state
-cast-new-state c = omega (arith, accepted (c .before .before .before .before .before .before .before .before .before .before .before .before .before .before .before .before .before .before .before .before .before .before .before .before .before .before .before .before .before .before .before .before .before .before .before .before .before .before .before) .few)
+cast-new-state c = omega (arith, accepted (c .before .before .before .before .before .before .before .before .before .before .before .before .before .before .before .before .before .before .before .before .before .before .before .before .before .before .before .before .before .before .before .before .before .before .before .before .before .before .before .before .before .before .before .before) .few)
 
 new-state-requires : tie.Need-new-state-requires
 new-state-requires c κs = search needs
 
 cast-with-table : tie.Need-cast-with-table
-cast-with-table c = omega (arith, bounds (c .before .before .before .before .before .before .before .before .before .before .before .before .before .before .before .before .before .before .before .before .before .before .before .before .before .before .before .before .before .before .before .before .before .before .before .before .before .before .before .before .before) .zoom-to)
+cast-with-table c = omega (arith, bounds (c .before .before .before .before .before .before .before .before .before .before .before .before .before .before .before .before .before .before .before .before .before .before .before .before .before .before .before .before .before .before .before .before .before .before .before .before .before .before .before .before .before .before .before .before .before .before) .zoom-to)
 
 add-with-table : tie.Need-add-with-table
-add-with-table c = omega (arith, bounds (c .before .before .before .before .before .before .before .before .before .before .before .before .before .before .before .before .before .before .before .before .before .before .before .before .before .before .before .before .before .before .before .before .before .before .before .before .before .before .before .before .before) .zoom-to)
+add-with-table c = omega (arith, bounds (c .before .before .before .before .before .before .before .before .before .before .before .before .before .before .before .before .before .before .before .before .before .before .before .before .before .before .before .before .before .before .before .before .before .before .before .before .before .before .before .before .before .before .before .before .before .before) .zoom-to)
 
 cast-with-table-2 : tie.Need-cast-with-table-2
-cast-with-table-2 c = omega (arith, accepted (c .before .before .before .before .before .before .before .before .before .before .before .before .before .before .before .before .before .before .before .before .before .before .before .before .before .before .before .before .before .before .before .before .before .before .before .before .before .before .before .before .before) .few)
+cast-with-table-2 c = omega (arith, accepted (c .before .before .before .before .before .before .before .before .before .before .before .before .before .before .before .before .before .before .before .before .before .before .before .before .before .before .before .before .before .before .before .before .before .before .before .before .before .before .before .before .before .before .before .before .before .before) .few)
 
 with-table-requires : tie.Need-with-table-requires
-with-table-requires c κs = omega (arith, bounds (c .before .before .before .before .before .before .before .before .before .before .before .before .before .before .before .before .before .before .before .before .before .before .before .before .before .before .before .before .before .before .before .before .before .before .before .before .before .before .before .before .before) .zoom-to)
+with-table-requires c κs = omega (arith, bounds (c .before .before .before .before .before .before .before .before .before .before .before .before .before .before .before .before .before .before .before .before .before .before .before .before .before .before .before .before .before .before .before .before .before .before .before .before .before .before .before .before .before .before .before .before .before .before) .zoom-to)
 
 cast-run-zooms : tie.Need-cast-run-zooms
-cast-run-zooms c = omega (arith, accepted (c .before .before .before .before .before .before .before .before .before .before .before .before .before .before .before .before .before .before .before .before .before .before .before .before .before .before .before .before .before .before .before .before .before .before .before .before .before .before .before .before .before .before .before .before .before .before .before .before .before .before .before) .few)
+cast-run-zooms c = omega (arith, accepted (c .before .before .before .before .before .before .before .before .before .before .before .before .before .before .before .before .before .before .before .before .before .before .before .before .before .before .before .before .before .before .before .before .before .before .before .before .before .before .before .before .before .before .before .before .before .before .before .before .before .before .before .before .before .before .before .before .before) .few)
 
 run-zooms-requires : tie.Need-run-zooms-requires
 run-zooms-requires c κs =
-    let e = c .before .before .before .before .before .before .before .before .before in
+    let e = c .before .before .before .before .before .before .before .before .before .before in
     let i = index-of e in
     let w = fill-of i in
     let s = start-of w in
@@ -154,7 +154,7 @@ run-zooms-requires c κs =
       even w,
       omega (arith, p .5),
       subst (λ (v : State). v .options .«min_zoom» ≤ v .options .«max_zoom» + 1) (sym (first e)) (omega (arith, bounds s .zooms)),
-      ready-at (a .o) (a .xs .now) (a .ys .now) (accepted s) (rows (filled w)) (rows (columns s)) (i .index-part .last .1 .1 .0) (a .ids .now) (i .index-part .last .1 .1 .1 .0) (a .coords .now) (w .fill .ensures)
+      ready-at (a .o) (a .xs .now) (a .ys .now) (a .energies .now) (accepted s) (rows (filled w)) (rows (columns s)) (i .index-part .last .1 .1 .0) (a .ids .now) (i .index-part .last .1 .1 .1 .0) (a .coords .now) (w .fill .ensures)
           (filled-long w) (p .3) (p .4) (i .index-part .kept .1 .1 .0) (i .index-part .kept .1 .1 .1 .0) (ids-put i) (co-put i) (e .with-table .result) (length (filled w .x)) (first e) (long w),
       subst (λ (v : State). set (v .starts) (v .options .«max_zoom» + 1) 0 ≡ v .starts) (sym (first e)) (set-set (replicate 32 0) Z 0 0),
       subst (λ (v : State). set (v .lens) (v .options .«max_zoom» + 1) n ≡ v .lens) (sym (first e)) (set-set (replicate 32 0) Z n n),
@@ -182,13 +182,16 @@ same-length-6 : tie.Need-same-length-6
 same-length-6 c = kept-by (zooms-of c) .kn
 
 same-length-7 : tie.Need-same-length-7
-same-length-7 c = let z = zooms-of c in z .run-zooms .kept .1 .1 .1 .1 .1 .1 .0 ∙ index-of (state-of z) .index-part .kept .1 .1 .0
+same-length-7 c = kept-by (zooms-of c) .kw
 
 same-length-8 : tie.Need-same-length-8
-same-length-8 c = let z = zooms-of c in z .run-zooms .kept .1 .1 .1 .1 .1 .1 .1 .0 ∙ index-of (state-of z) .index-part .kept .1 .1 .1 .0
+same-length-8 c = let z = zooms-of c in z .run-zooms .kept .1 .1 .1 .1 .1 .1 .1 .0 ∙ index-of (state-of z) .index-part .kept .1 .1 .0
 
 same-length-9 : tie.Need-same-length-9
-same-length-9 c = c .before .before .clear .kept .0 ∙ zooms-of c .run-zooms .kept .1 .1 .1 .1 .1 .1 .1 .1 .0
+same-length-9 c = let z = zooms-of c in z .run-zooms .kept .1 .1 .1 .1 .1 .1 .1 .1 .0 ∙ index-of (state-of z) .index-part .kept .1 .1 .1 .0
+
+same-length-10 : tie.Need-same-length-10
+same-length-10 c = c .before .before .clear .kept .0 ∙ zooms-of c .run-zooms .kept .1 .1 .1 .1 .1 .1 .1 .1 .1 .0
 
 returns : tie.Need-returns
 returns c =
@@ -201,10 +204,10 @@ returns c =
     let p = s .pre in
     let q = z .run-zooms .last in
     let k = c .before .before .clear in
-    let cleared = k .ensures ∙ ap (λ (k : ℕ). replicate k 0) (z .run-zooms .kept .1 .1 .1 .1 .1 .1 .1 .1 .0 ∙ p .5) in
-    made-at (a .o) (a .xs .now) (a .ys .now) (accepted s) (rows (filled w)) (rows (columns s)) (i .index-part .last .1 .1 .0) (a .ids .now) (i .index-part .last .1 .1 .1 .0) (a .coords .now) (w .fill .ensures)
+    let cleared = k .ensures ∙ ap (λ (k : ℕ). replicate k 0) (z .run-zooms .kept .1 .1 .1 .1 .1 .1 .1 .1 .1 .0 ∙ p .5) in
+    made-at (a .o) (a .xs .now) (a .ys .now) (a .energies .now) (accepted s) (rows (filled w)) (rows (columns s)) (i .index-part .last .1 .1 .0) (a .ids .now) (i .index-part .last .1 .1 .1 .0) (a .coords .now) (w .fill .ensures)
     (filled-long w) (p .3) (p .4) (i .index-part .kept .1 .1 .0) (i .index-part .kept .1 .1 .1 .0) (ids-put i) (co-put i) (e .with-table .result) (z .run-zooms .result)
-    (rows (after z)) (q .1 .1 .1 .1 .1 .1 .0) (q .1 .1 .1 .1 .1 .1 .1 .0) (k .last .0) (first e) (z .run-zooms .ensures) cleared
+    (rows (after z)) (q .1 .1 .1 .1 .1 .1 .1 .0) (q .1 .1 .1 .1 .1 .1 .1 .1 .0) (k .last .0) (first e) (z .run-zooms .ensures) cleared
 
 pub build-in-spec : {M : Type 1} → statement M
 build-in-spec =
@@ -230,4 +233,5 @@ build-in-spec =
     same-length-7
     same-length-8
     same-length-9
+    same-length-10
     returns)

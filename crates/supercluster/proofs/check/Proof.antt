@@ -1,73 +1,82 @@
 -- `supercluster::check` meets its contract: each test is one of 01's, in 01's order. Assumes nothing.
-use mathlib.Core.Path.{_≡_, sym, _∙_}
+use mathlib.Core.Path.{_≡_, refl, ap, sym, _∙_, subst}
 use mathlib.Core.Bool.{Bool, true, false}
-use Prim.Native.Nat.{ℕ, _*_, _≤_}
+use Prim.Native.Nat.{ℕ, _+_, _-_, _*_, _<_, _≤_}
 use native.Mathlib.Omega.{arith}
 use native.Mathlib.Nat.{le-trans, mul-le-mul}
 use lib.Dec.{lit≤}
 use lib.ListN.{length}
-use denote.Ref.{now}
 use borrow.Author.Tests.{le-leb, lt-leb, eq-eqb, ne-eqb, not-true, not-false}
 use borrow.Author.Needs.{needs}
-use Rattle.kdbush.specs.declared.BuildReply.the-variants.{Done, Options as No·Options, Count, Point, Tables}
+use Rattle.supercluster.specs.declared.LoadReply.the-variants.{Done, Options as No·Options, Count, Point, Energy, Tables}
 use Rattle.kdbush.specs.declared.Outside.{Outside}
 use Rattle.kdbush.specs.declared.Outside.the-variants.{At, Nothing}
-use Rattle.kdbush.specs.Reply.{pairOk, firstOutside, inOrder}
+use Rattle.kdbush.specs.Reply.{firstOutside}
 use Rattle.tables.specs.declared.Options.{Options}
 use Rattle.tables.specs.Options.{optionsOk, tableCount}
 use Rattle.tables.specs.Bounds.{options-are}
-use Rattle.supercluster.specs.Build.{convertedAll, need, roomyBy}
+use Rattle.supercluster.specs.Build.{convertedAll, need, roomyBy, tripleOk, firstOver, ordered}
 use Rattle.supercluster.specs.Fill.{pxs, pys}
 use Rattle.supercluster.proofs.check.Statement.{statement}
 use Rattle.supercluster.proofs.check.Tie as tie
 
 -- ---- the refusals in order
 
-module _ (a b : Bool) (o : Outside) (d : Bool) where
-  options-out : a ≡ false → No·Options ≡ inOrder a b o d
+module _ (a b : Bool) (o w : Outside) (d : Bool) where
+  options-out : a ≡ false → No·Options ≡ ordered a b o w d
   options-out p = rw p
 
-  count-out : a ≡ true → b ≡ false → Count ≡ inOrder a b o d
+  count-out : a ≡ true → b ≡ false → Count ≡ ordered a b o w d
   count-out p q = rw (p, q)
 
-  point-out : (i : ℕ) → a ≡ true → b ≡ true → o ≡ At i → Point i ≡ inOrder a b o d
+  point-out : (i : ℕ) → a ≡ true → b ≡ true → o ≡ At i → Point i ≡ ordered a b o w d
   point-out i p q r = rw (p, q, r)
 
-  tables-out : a ≡ true → b ≡ true → o ≡ Nothing → d ≡ false → Tables ≡ inOrder a b o d
-  tables-out p q r s = rw (p, q, r, s)
+  energy-out : (i : ℕ) → a ≡ true → b ≡ true → o ≡ Nothing → w ≡ At i → Energy i ≡ ordered a b o w d
+  energy-out i p q r s = rw (p, q, r, s)
 
-  all-in : a ≡ true → b ≡ true → o ≡ Nothing → d ≡ true → Done ≡ inOrder a b o d
-  all-in p q r s = rw (p, q, r, s)
+  tables-out : a ≡ true → b ≡ true → o ≡ Nothing → w ≡ Nothing → d ≡ false → Tables ≡ ordered a b o w d
+  tables-out p q r s t = rw (p, q, r, s, t)
 
--- ---- what is known past each test
+  all-in : a ≡ true → b ≡ true → o ≡ Nothing → w ≡ Nothing → d ≡ true → Done ≡ ordered a b o w d
+  all-in p q r s t = rw (p, q, r, s, t)
 
-options-in : (e : tie.Else1) → optionsOk (e .before .before .before .before .args .o) ≡ true
-options-in e = sym (e .before .is-in-bounds .ensures) ∙ not-false _ (e .if1 .left)
-
-abbrev start-of : tie.Else4 → tie.Start
-start-of e = e .before .before .before .before .before .before .before
-
-pair-in : (e : tie.Else4) → pairOk (now (start-of e .args .xs)) (now (start-of e .args .ys)) ≡ true
-pair-in e =
-    let a = start-of e .args in
-    rw (le-leb 1 (length (now (a .xs))) (e .before .before .if2 .left), le-leb (length (now (a .xs))) 1048576 (e .before .if3 .left), eq-eqb (length (now (a .ys))) (length (now (a .xs))) (e .if4 .left))
+-- ---- what is tested
 
 abbrev found : tie.Start → Outside
-found s = let a = s .args in let ps = convertedAll (a .o .«coordinate_system») (now (a .xs)) (now (a .ys)) in firstOutside (pxs ps) (pys ps) 0
+found s = let a = s .args in let ps = convertedAll (a .o .«coordinate_system») (a .xs .now) (a .ys .now) in firstOutside (pxs ps) (pys ps) 0
 
-abbrev pair : tie.Start → Bool
-pair s = pairOk (now (s .args .xs)) (now (s .args .ys))
+abbrev weight : tie.Start → Outside
+weight s = firstOver (s .args .energies .now) 0
+
+abbrev triple : tie.Start → Bool
+triple s = tripleOk (s .args .xs .now) (s .args .ys .now) (s .args .energies .now)
 
 abbrev room : tie.Start → Bool
 room s =
     let a = s .args in
-    roomyBy (need (a .o) (length (now (a .xs)))) (a .x) (a .y) (a .seen) (a .id) (a .parent) (a .num) (a .ids) (a .coords) (a .near)
+    roomyBy (need (a .o) (length (a .xs .now))) (a .x) (a .y) (a .seen) (a .id) (a .parent) (a .num) (a .energy) (a .ids) (a .coords) (a .near)
 
-abbrev past-points : tie.After-is-roomy → tie.Else4
-past-points r = r .before .before .before .before .before
+-- ---- what is known past each test
 
-none-out : (r : tie.After-is-roomy) → found (start-of (past-points r)) ≡ Nothing
-none-out r = sym (r .before .before .before .before .first-outside .ensures) ∙ r .before .before .enum-told .given .1
+options-in : (e : tie.Else1) → optionsOk (e .before .before .before .before .before .args .o) ≡ true
+options-in e = sym (e .before .is-in-bounds .ensures) ∙ not-false _ (e .if1 .left)
+
+triple-in : (e : tie.Else5) → triple (e .before .before .before .before .before .before .before .before .before) ≡ true
+triple-in e =
+    let a = e .before .before .before .before .before .before .before .before .before .args in
+    rw (
+      le-leb 1 (length (a .xs .now)) (e .before .before .before .if2 .left),
+      le-leb (length (a .xs .now)) 1048576 (e .before .before .if3 .left),
+      eq-eqb (length (a .ys .now)) (length (a .xs .now)) (e .before .if4 .left),
+      eq-eqb (length (a .energies .now)) (length (a .xs .now)) (e .if5 .left),
+    )
+
+none-out : (f : tie.After-enum-told) → found (f .before .before .before .before .before .before .before .before .before .before .before .before) ≡ Nothing
+none-out f = sym (f .before .before .first-outside .ensures) ∙ f .enum-told .given .1
+
+none-over : (f : tie.After-enum-told2) → weight (f .before .before .before .before .before .before .before .before .before .before .before .before .before .before .before) ≡ Nothing
+none-over f = sym (f .before .before .first-over .ensures) ∙ f .enum-told2 .given .1
 
 -- as many tables as can be, of as many entries
 need-small : (o : Options) (n : ℕ) → optionsOk o ≡ true → n ≤ 1048576 → tableCount o * n ≤ 33554432
@@ -76,68 +85,84 @@ need-small o n e h =
     let t : tableCount o ≤ 32 = omega (arith, z .zooms, z .zoom-to) in
     le-trans (mul-le-mul t h) (lit≤ tt)
 
--- ---- the parts
-
 is-in-bounds-requires : tie.Need-is-in-bounds-requires
 is-in-bounds-requires c κs = search needs
 
 returns : tie.Need-returns
-returns c = let s = c .before .before .before .before in options-out (optionsOk (s .args .o)) (pair s) (found s) (room s) (sym (c .before .is-in-bounds .ensures) ∙ not-true _ (c .if1 .taken))
+returns c = let s = c .before .before .before .before .before in options-out (optionsOk (s .args .o)) (triple s) (found s) (weight s) (room s) (sym (c .before .is-in-bounds .ensures) ∙ not-true _ (c .if1 .taken))
 
 returns-2 : tie.Need-returns-2
-returns-2 c = let s = c .before .before .before .before .before in count-out (optionsOk (s .args .o)) (pair s) (found s) (room s) (options-in (c .before)) (rw (lt-leb _ _ (c .if2 .taken)))
+returns-2 c = let s = c .before .before .before .before .before .before in count-out (optionsOk (s .args .o)) (triple s) (found s) (weight s) (room s) (options-in (c .before)) (rw (lt-leb _ _ (c .if2 .taken)))
 
 returns-3 : tie.Need-returns-3
-returns-3 c = let s = c .before .before .before .before .before .before in count-out (optionsOk (s .args .o)) (pair s) (found s) (room s) (options-in (c .before .before)) (rw (le-leb _ _ (c .before .if2 .left), lt-leb _ _ (c .if3 .taken)))
+returns-3 c = let s = c .before .before .before .before .before .before .before in count-out (optionsOk (s .args .o)) (triple s) (found s) (weight s) (room s) (options-in (c .before .before)) (rw (le-leb _ _ (c .before .if2 .left), lt-leb _ _ (c .if3 .taken)))
 
 returns-4 : tie.Need-returns-4
-returns-4 c = let s = c .before .before .before .before .before .before .before in count-out (optionsOk (s .args .o)) (pair s) (found s) (room s) (options-in (c .before .before .before)) (rw (le-leb _ _ (c .before .before .if2 .left), le-leb _ _ (c .before .if3 .left), ne-eqb _ _ (c .if4 .taken)))
+returns-4 c = let s = c .before .before .before .before .before .before .before .before in count-out (optionsOk (s .args .o)) (triple s) (found s) (weight s) (room s) (options-in (c .before .before .before)) (rw (le-leb _ _ (c .before .before .if2 .left), le-leb _ _ (c .before .if3 .left), ne-eqb _ _ (c .if4 .taken)))
+
+returns-5 : tie.Need-returns-5
+returns-5 c = let s = c .before .before .before .before .before .before .before .before .before in count-out (optionsOk (s .args .o)) (triple s) (found s) (weight s) (room s) (options-in (c .before .before .before .before)) (rw (le-leb _ _ (c .before .before .before .if2 .left), le-leb _ _ (c .before .before .if3 .left), eq-eqb _ _ (c .before .if4 .left), ne-eqb _ _ (c .if5 .taken)))
 
 first-outside-requires : tie.Need-first-outside-requires
-first-outside-requires c κs = search needs
+first-outside-requires c κs = c .before .if4 .left
 
 enum-known-i : tie.Need-enum-known-i
 enum-known-i c = search needs
 
-returns-5 : tie.Need-returns-5
-returns-5 c =
+returns-6 : tie.Need-returns-6
+returns-6 c =
+    let s = c .before .before .before .before .before .before .before .before .before .before .before .before .before in
     let f = c .before .before .before in
-    let e = f .before in
-    point-out (optionsOk (start-of e .args .o)) (pair (start-of e)) (found (start-of e)) (room (start-of e)) (c .before .i .given .0 .0) (options-in (e .before .before .before)) (pair-in e) (sym (f .first-outside .ensures) ∙ c .before .i .given .1)
+    let i = c .before .i in
+    point-out (optionsOk (s .args .o)) (triple s) (found s) (weight s) (room s) (i .given .0 .0) (options-in (c .before .before .before .before .before .before .before .before)) (triple-in (c .before .before .before .before)) (sym (f .first-outside .ensures) ∙ i .given .1)
 
 enum-told : tie.Need-enum-told
 enum-told c = search needs
 
+first-over-requires : tie.Need-first-over-requires
+first-over-requires c κs = search needs
+
+enum-known-i-2 : tie.Need-enum-known-i-2
+enum-known-i-2 c = search needs
+
+returns-7 : tie.Need-returns-7
+returns-7 c =
+    let s = c .before .before .before .before .before .before .before .before .before .before .before .before .before .before .before .before in
+    let f = c .before .before .before in
+    let i = c .before .i2 in
+    energy-out (optionsOk (s .args .o)) (triple s) (found s) (weight s) (room s) (i .given .0 .0) (options-in (c .before .before .before .before .before .before .before .before .before .before .before)) (triple-in (c .before .before .before .before .before .before .before)) (none-out (c .before .before .before .before)) (sym (f .first-over .ensures) ∙ i .given .1)
+
+enum-told-2 : tie.Need-enum-told-2
+enum-told-2 c = search needs
+
 table-count-requires : tie.Need-table-count-requires
-table-count-requires c κs =
-    let e = c .before .before .before in
-    options-are (start-of e .args .o) (options-in (e .before .before .before)) .zooms
+table-count-requires c κs = options-are (c .before .before .before .before .before .before .before .before .before .before .before .before .before .before .before .args .o) (options-in (c .before .before .before .before .before .before .before .before .before .before)) .zooms
 
 mul-m : tie.Need-mul-m
 mul-m c =
-    let e = c .before .before .before .before in
-    let a = start-of e .args in
-    let h = need-small (a .o) (length (now (a .xs))) (options-in (e .before .before .before)) (e .before .if3 .left) in
-    let k : c .table-count .result * length (now (a .xs)) ≤ 33554432 = rw (c .table-count .ensures) h in
+    let a = c .before .before .before .before .before .before .before .before .before .before .before .before .before .before .before .before .args in
+    let h = need-small (a .o) (length (a .xs .now)) (options-in (c .before .before .before .before .before .before .before .before .before .before .before)) (c .before .before .before .before .before .before .before .before .before .if3 .left) in
+    let k : c .table-count .result * length (a .xs .now) ≤ 33554432 = rw (c .table-count .ensures) h in
     omega (arith, k)
 
 is-roomy-requires : tie.Need-is-roomy-requires
 is-roomy-requires c κs =
-    let e = c .before .before .before .before in
-    let a = start-of e .args in
-    rw (c .table-count .ensures) (need-small (a .o) (length (now (a .xs))) (options-in (e .before .before .before)) (e .before .if3 .left))
+    let a = c .before .before .before .before .before .before .before .before .before .before .before .before .before .before .before .before .args in
+    rw (c .table-count .ensures) (need-small (a .o) (length (a .xs .now)) (options-in (c .before .before .before .before .before .before .before .before .before .before .before)) (c .before .before .before .before .before .before .before .before .before .if3 .left))
 
-returns-6 : tie.Need-returns-6
-returns-6 c =
+returns-8 : tie.Need-returns-8
+returns-8 c =
     let r = c .before in
-    let e = past-points r in
-    tables-out (optionsOk (start-of e .args .o)) (pair (start-of e)) (found (start-of e)) (room (start-of e)) (options-in (e .before .before .before)) (pair-in e) (none-out r) (rw (← (r .before .table-count .ensures)) (sym (r .is-roomy .ensures) ∙ not-true _ (c .if5 .taken)))
+    let s = r .before .before .before .before .before .before .before .before .before .before .before .before .before .before .before .before .before in
+    tables-out (optionsOk (s .args .o)) (triple s) (found s) (weight s) (room s) (options-in (r .before .before .before .before .before .before .before .before .before .before .before .before)) (triple-in (r .before .before .before .before .before .before .before .before)) (none-out (r .before .before .before .before .before)) (none-over (r .before .before))
+    (rw (← (r .before .table-count .ensures)) (sym (r .is-roomy .ensures) ∙ not-true _ (c .if6 .taken)))
 
-returns-7 : tie.Need-returns-7
-returns-7 c =
+returns-9 : tie.Need-returns-9
+returns-9 c =
     let r = c .before in
-    let e = past-points r in
-    all-in (optionsOk (start-of e .args .o)) (pair (start-of e)) (found (start-of e)) (room (start-of e)) (options-in (e .before .before .before)) (pair-in e) (none-out r) (rw (← (r .before .table-count .ensures)) (sym (r .is-roomy .ensures) ∙ not-false _ (c .if5 .left)))
+    let s = r .before .before .before .before .before .before .before .before .before .before .before .before .before .before .before .before .before in
+    all-in (optionsOk (s .args .o)) (triple s) (found s) (weight s) (room s) (options-in (r .before .before .before .before .before .before .before .before .before .before .before .before)) (triple-in (r .before .before .before .before .before .before .before .before)) (none-out (r .before .before .before .before .before)) (none-over (r .before .before))
+    (rw (← (r .before .table-count .ensures)) (sym (r .is-roomy .ensures) ∙ not-false _ (c .if6 .left)))
 
 pub check-spec : {M : Type 1} → statement M
 check-spec =
@@ -148,12 +173,17 @@ check-spec =
     returns-2
     returns-3
     returns-4
+    returns-5
     first-outside-requires
     enum-known-i
-    returns-5
+    returns-6
     enum-told
+    first-over-requires
+    enum-known-i-2
+    returns-7
+    enum-told-2
     table-count-requires
     mul-m
     is-roomy-requires
-    returns-6
-    returns-7)
+    returns-8
+    returns-9)

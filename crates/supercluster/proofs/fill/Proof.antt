@@ -15,21 +15,21 @@ use Rattle.supercluster.proofs.fill.Statement.{statement}
 use Rattle.supercluster.proofs.fill.Tie as tie
 
 abbrev Inv-loop : tie.InvT-loop
-Inv-loop c xs ys x₀ y₀ seen₀ id₀ parent₀ num₀ i₀ x y seen id parent num i =
-    (i ≤ length xs) × Even (cols x y seen id parent num) × (length x ≡ length x₀) ×
-    (rows (cols x y seen id parent num) ≡ take i (lamps c xs ys) ++ drop i (rows (cols x₀ y₀ seen₀ id₀ parent₀ num₀)))
+Inv-loop c xs ys energies x₀ y₀ seen₀ id₀ parent₀ num₀ energy₀ i₀ x y seen id parent num energy i =
+    (i ≤ length xs) × Even (cols x y seen id parent num energy) × (length x ≡ length x₀) ×
+    (rows (cols x y seen id parent num energy) ≡ take i (lamps c xs ys energies) ++ drop i (rows (cols x₀ y₀ seen₀ id₀ parent₀ num₀ energy₀)))
 
 abbrev μ-loop : tie.MeasureT-loop
-μ-loop c xs ys x₀ y₀ seen₀ id₀ parent₀ num₀ i₀ x y seen id parent num i = length xs - i
+μ-loop c xs ys energies x₀ y₀ seen₀ id₀ parent₀ num₀ energy₀ i₀ x y seen id parent num energy i = length xs - i
 
 abbrev start-of : tie.At-loop Inv-loop μ-loop → tie.Start Inv-loop μ-loop
-start-of l = l .before .before .before .before .before .before .before .before .before
+start-of l = l .before .before .before .before .before .before .before .before .before .before .before
 
 abbrev columns : tie.Start Inv-loop μ-loop → Cols
-columns s = let a = s .args in (given (a .x) (a .y) (a .seen) (a .id) (a .parent) (a .num))
+columns s = let a = s .args in (given (a .x) (a .y) (a .seen) (a .id) (a .parent) (a .num) (a .energy))
 
 abbrev here : tie.At-loop Inv-loop μ-loop → Cols
-here h = let l = h .loop in (cols (l .x) (l .y) (l .seen) (l .id) (l .parent) (l .num))
+here h = let l = h .loop in (cols (l .x) (l .y) (l .seen) (l .id) (l .parent) (l .num) (l .energy))
 
 kept-by : (h : tie.At-loop Inv-loop μ-loop) → Kept (columns (start-of h)) (here h)
 kept-by h = kept-even (columns (start-of h)) (here h) (start-of h .pre .0) (h .loop .inv .1) (h .loop .inv .2)
@@ -38,32 +38,38 @@ kept-by h = kept-even (columns (start-of h)) (here h) (start-of h .pre .0) (h .l
 few : (i : tie.In-loop Inv-loop μ-loop) → i .before .loop .place < 1048576
 few i = omega (arith, i .loop-test .taken, start-of (i .before) .pre .3)
 
-abbrev test-of : tie.After-slice-known12 Inv-loop μ-loop → tie.In-loop Inv-loop μ-loop
-test-of c = c .before .before .before .before .before .before .before .before .before .before .before .before .before .before .before .before .before .before .before .before .before .before
+abbrev test-of : tie.After-slice-known14 Inv-loop μ-loop → tie.In-loop Inv-loop μ-loop
+test-of c = c .before .before .before .before .before .before .before .before .before .before .before .before .before .before .before .before .before .before .before .before .before .before .before .before .before .before
 
 loop-holds : tie.Need-loop-holds Inv-loop μ-loop
-loop-holds c = (omega arith, c .before .before .before .before .before .before .before .before .pre .0, refl, refl)
+loop-holds c = (omega arith, c .before .before .before .before .before .before .before .before .before .before .pre .0, refl, refl)
 
-mul-t13 : tie.Need-mul-t13 Inv-loop μ-loop
-mul-t13 c = search needs
+mul-t15 : tie.Need-mul-t15 Inv-loop μ-loop
+mul-t15 c = search needs
 
-shared-slice-read-t16 : tie.Need-shared-slice-read-t16 Inv-loop μ-loop
-shared-slice-read-t16 c = search needs
+shared-slice-read-t18 : tie.Need-shared-slice-read-t18 Inv-loop μ-loop
+shared-slice-read-t18 c = search needs
 
-mul-t17 : tie.Need-mul-t17 Inv-loop μ-loop
-mul-t17 c = search needs
+mul-t19 : tie.Need-mul-t19 Inv-loop μ-loop
+mul-t19 c = search needs
 
-shared-slice-read-t19 : tie.Need-shared-slice-read-t19 Inv-loop μ-loop
-shared-slice-read-t19 c = let i = c .before .before in omega (arith, i .loop-test .taken, start-of (i .before) .pre .1)
+shared-slice-read-t21 : tie.Need-shared-slice-read-t21 Inv-loop μ-loop
+shared-slice-read-t21 c = let i = c .before .before in omega (arith, i .loop-test .taken, start-of (i .before) .pre .1)
 
 convert-requires : tie.Need-convert-requires Inv-loop μ-loop
 convert-requires c κs = search needs
 
-cast-t21 : tie.Need-cast-t21 Inv-loop μ-loop
-cast-t21 c = search needs
+cast-t23 : tie.Need-cast-t23 Inv-loop μ-loop
+cast-t23 c = search needs
+
+mul-t15-2 : tie.Need-mul-t15-2 Inv-loop μ-loop
+mul-t15-2 c = search needs
+
+shared-slice-read-t25 : tie.Need-shared-slice-read-t25 Inv-loop μ-loop
+shared-slice-read-t25 c = let i = c .before .before .before .before in omega (arith, i .loop-test .taken, start-of (i .before) .pre .4)
 
 put-entry-requires : tie.Need-put-entry-requires Inv-loop μ-loop
-put-entry-requires c κs = let t = c .before .before .before .before .before .before .before .before .before in let l = t .before .loop in (l .inv .1, omega (arith, t .loop-test .taken, start-of (t .before) .pre .2, l .inv .2))
+put-entry-requires c κs = let t = c .before .before .before .before .before .before .before .before .before .before .before in let l = t .before .loop in (l .inv .1, omega (arith, t .loop-test .taken, start-of (t .before) .pre .2, l .inv .2))
 
 add-place : tie.Need-add-place Inv-loop μ-loop
 add-place c = omega (arith, few (test-of c))
@@ -74,21 +80,22 @@ loop-less c = omega (arith, test-of c .loop-test .taken)
 loop-again : tie.Need-loop-again Inv-loop μ-loop
 loop-again c =
     let t = test-of c in
-    let v = c .before .before .before .before .before .before .before .before .before .before .before .before .before .before .before .before .before .before .before in
+    let v = c .before .before .before .before .before .before .before .before .before .before .before .before .before .before .before .before .before .before .before .before .before .before .before in
     let h = t .before in
     let l = h .loop in
     let s = start-of h in
     let a = s .args in
     let i = t .loop-test .taken in
-    let w = c .before .before .before .before .before .before .before .before .before .before .before .before .put-entry in
-    let new : Cols = (cols (w .last .0) (w .last .1 .0) (w .last .1 .1 .0) (w .last .1 .1 .1 .0) (w .last .1 .1 .1 .1 .0) (w .last .1 .1 .1 .1 .1 .0)) in
-    let k : Kept (here h) new = (record { kx = w .kept .0; ky = w .kept .1 .0; ks = w .kept .1 .1 .0; ki = w .kept .1 .1 .1 .0; kp = w .kept .1 .1 .1 .1 .0; kn = w .kept .1 .1 .1 .1 .1 .0 }) in
-    let q = lamps-at (a .c) (a .xs .now) (a .ys .now) (s .pre .1) (l .place) i ∙ ap (λ (p : Point). lamp p (l .place)) (sym (v .convert .ensures)) in (
+    let w = c .before .before .before .before .before .before .before .before .before .before .before .before .before .before .put-entry in
+    let new : Cols = (cols (w .last .0) (w .last .1 .0) (w .last .1 .1 .0) (w .last .1 .1 .1 .0) (w .last .1 .1 .1 .1 .0) (w .last .1 .1 .1 .1 .1 .0) (w .last .1 .1 .1 .1 .1 .1 .0)) in
+    let k : Kept (here h) new = (record { kx = w .kept .0; ky = w .kept .1 .0; ks = w .kept .1 .1 .0; ki = w .kept .1 .1 .1 .0; kp = w .kept .1 .1 .1 .1 .0; kn = w .kept .1 .1 .1 .1 .1 .0; kw = w .kept .1 .1 .1 .1 .1 .1 .0 }) in
+    let e = getD (a .energies .now) (l .place) 0 in
+    let q = lamps-at (a .c) (a .xs .now) (a .ys .now) (a .energies .now) (s .pre .1) (l .place) i ∙ ap (λ (p : Point). lamp p e (l .place)) (sym (v .convert .ensures)) in (
       omega (arith, i),
       even-kept (here h) new k (l .inv .1),
       k .kx ∙ l .inv .2,
-      w .ensures ∙ fill-step none (lamps (a .c) (a .xs .now) (a .ys .now)) (rows (columns s)) (rows (here h)) (l .place) (lamp (v .convert .result) (l .place)) (l .inv .3)
-          (omega (arith, i, lamps-length (a .c) (a .xs .now) (a .ys .now) (s .pre .1))) (omega (arith, i, rows-length (columns s), s .pre .2)) q,
+      w .ensures ∙ fill-step none (lamps (a .c) (a .xs .now) (a .ys .now) (a .energies .now)) (rows (columns s)) (rows (here h)) (l .place) (lamp (v .convert .result) e (l .place)) (l .inv .3)
+          (omega (arith, i, lamps-length (a .c) (a .xs .now) (a .ys .now) (a .energies .now) (s .pre .1))) (omega (arith, i, rows-length (columns s), s .pre .2)) q,
     )
 
 same-length : tie.Need-same-length Inv-loop μ-loop
@@ -109,14 +116,17 @@ same-length-5 c = kept-by (c .before) .kp
 same-length-6 : tie.Need-same-length-6 Inv-loop μ-loop
 same-length-6 c = kept-by (c .before) .kn
 
+same-length-7 : tie.Need-same-length-7 Inv-loop μ-loop
+same-length-7 c = kept-by (c .before) .kw
+
 returns : tie.Need-returns Inv-loop μ-loop
 returns c =
     let h = c .before in
     let l = h .loop in
     let s = start-of h in
     let a = s .args in
-    fill-end (lamps (a .c) (a .xs .now) (a .ys .now)) (rows (columns s)) (rows (here h)) (l .place) (length (a .xs .now)) (l .inv .3)
-    (lamps-length (a .c) (a .xs .now) (a .ys .now) (s .pre .1)) (c .loop-test .left) (l .inv .0)
+    fill-end (lamps (a .c) (a .xs .now) (a .ys .now) (a .energies .now)) (rows (columns s)) (rows (here h)) (l .place) (length (a .xs .now)) (l .inv .3)
+    (lamps-length (a .c) (a .xs .now) (a .ys .now) (a .energies .now) (s .pre .1)) (c .loop-test .left) (l .inv .0)
 
 pub fill-spec : {M : Type 1} → statement M
 fill-spec =
@@ -125,12 +135,14 @@ fill-spec =
     Inv-loop
     μ-loop
     loop-holds
-    mul-t13
-    shared-slice-read-t16
-    mul-t17
-    shared-slice-read-t19
+    mul-t15
+    shared-slice-read-t18
+    mul-t19
+    shared-slice-read-t21
     convert-requires
-    cast-t21
+    cast-t23
+    mul-t15-2
+    shared-slice-read-t25
     put-entry-requires
     add-place
     loop-less
@@ -141,4 +153,5 @@ fill-spec =
     same-length-4
     same-length-5
     same-length-6
+    same-length-7
     returns)

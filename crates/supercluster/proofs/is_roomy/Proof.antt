@@ -29,18 +29,19 @@ returns-6 c = simp (le-leb _ _ (c .before .before .before .before .before .if1 .
 returns-7 : tie.Need-returns-7
 returns-7 c = simp (le-leb _ _ (c .before .before .before .before .before .before .if1 .left), le-leb _ _ (c .before .before .before .before .before .if2 .left), le-leb _ _ (c .before .before .before .before .if3 .left), le-leb _ _ (c .before .before .before .if4 .left), le-leb _ _ (c .before .before .if5 .left), le-leb _ _ (c .before .if6 .left), lt-leb _ _ (c .if7 .taken))
 
-mul-if8 : tie.Need-mul-if8
-mul-if8 c = search needs
-
 returns-8 : tie.Need-returns-8
 returns-8 c = simp (le-leb _ _ (c .before .before .before .before .before .before .before .if1 .left), le-leb _ _ (c .before .before .before .before .before .before .if2 .left), le-leb _ _ (c .before .before .before .before .before .if3 .left), le-leb _ _ (c .before .before .before .before .if4 .left), le-leb _ _ (c .before .before .before .if5 .left), le-leb _ _ (c .before .before .if6 .left), le-leb _ _ (c .before .if7 .left), lt-leb _ _ (c .if8 .taken))
 
--- all but the last are passed
+mul-if9 : tie.Need-mul-if9
+mul-if9 c = search needs
+
 returns-9 : tie.Need-returns-9
-returns-9 c =
-    let a = c .before .before .before .before .before .before .before .before .args in
-    sym (ap (λ (b : Bool). b && leb (a .m) (a .near))
-    (both-true (both-true (both-true (both-true (both-true (both-true (both-true (le-leb _ _ (c .before .before .before .before .before .before .before .if1 .left)) (le-leb _ _ (c .before .before .before .before .before .before .if2 .left))) (le-leb _ _ (c .before .before .before .before .before .if3 .left))) (le-leb _ _ (c .before .before .before .before .if4 .left))) (le-leb _ _ (c .before .before .before .if5 .left))) (le-leb _ _ (c .before .before .if6 .left))) (le-leb _ _ (c .before .if7 .left))) (le-leb _ _ (c .if8 .left))))
+returns-9 c = simp (le-leb _ _ (c .before .before .before .before .before .before .before .before .if1 .left), le-leb _ _ (c .before .before .before .before .before .before .before .if2 .left), le-leb _ _ (c .before .before .before .before .before .before .if3 .left), le-leb _ _ (c .before .before .before .before .before .if4 .left), le-leb _ _ (c .before .before .before .before .if5 .left), le-leb _ _ (c .before .before .before .if6 .left), le-leb _ _ (c .before .before .if7 .left), le-leb _ _ (c .before .if8 .left), lt-leb _ _ (c .if9 .taken))
+
+returns-10 : tie.Need-returns-10
+returns-10 c =
+    let a = c .before .before .before .before .before .before .before .before .before .args in
+    sym (ap (λ (b : Bool). b && leb (a .m) (a .near)) (both-true (both-true (both-true (both-true (both-true (both-true (both-true (both-true (le-leb _ _ (c .before .before .before .before .before .before .before .before .if1 .left)) (le-leb _ _ (c .before .before .before .before .before .before .before .if2 .left))) (le-leb _ _ (c .before .before .before .before .before .before .if3 .left))) (le-leb _ _ (c .before .before .before .before .before .if4 .left))) (le-leb _ _ (c .before .before .before .before .if5 .left))) (le-leb _ _ (c .before .before .before .if6 .left))) (le-leb _ _ (c .before .before .if7 .left))) (le-leb _ _ (c .before .if8 .left))) (le-leb _ _ (c .if9 .left))))
 
 pub is-roomy-spec : {M : Type 1} → statement M
 is-roomy-spec =
@@ -53,6 +54,7 @@ is-roomy-spec =
     returns-5
     returns-6
     returns-7
-    mul-if8
     returns-8
-    returns-9)
+    mul-if9
+    returns-9
+    returns-10)

@@ -3,8 +3,8 @@
 use mathlib.Core.Path.{_≡_, refl, ap, sym, _∙_, subst}
 use lib.ListN.{length}
 use borrow.Author.Needs.{needs}
-use Rattle.kdbush.specs.declared.BuildReply.{BuildReply}
-use Rattle.kdbush.specs.declared.BuildReply.the-variants.{Done, Options as No·Options, Count, Point, Tables}
+use Rattle.supercluster.specs.declared.LoadReply.{LoadReply}
+use Rattle.supercluster.specs.declared.LoadReply.the-variants.{Done, Options as No·Options, Count, Point, Energy, Tables}
 use Rattle.tables.specs.declared.Options.{Options}
 use Rattle.tables.specs.State.{newState}
 use Rattle.tables.specs.Rows.{cols}
@@ -16,24 +16,24 @@ use Rattle.supercluster.proofs.load.Statement.{statement}
 use Rattle.supercluster.proofs.load.Tie as tie
 
 -- what stands beside a refusal
-no-tables : (o : Options) (r : Loaded) (b : BuildReply) (l : Lent) → r .reply ≡ b → r .state ≡ newState o 0 → outcome r l ≡ refused o b l
+no-tables : (o : Options) (r : Loaded) (b : LoadReply) (l : Lent) → r .reply ≡ b → r .state ≡ newState o 0 → outcome r l ≡ refused o b l
 no-tables o r b l e f = λ i. record { reply = record { reply = e i; state = f i }; columns = l }
 
 abbrev old : tie.Start → Lent
-old s = let a = s .args in (givenAll (a .x) (a .y) (a .seen) (a .id) (a .parent) (a .num) (a .ids) (a .coords) (a .near))
+old s = let a = s .args in (givenAll (a .x) (a .y) (a .seen) (a .id) (a .parent) (a .num) (a .energy) (a .ids) (a .coords) (a .near))
 
 -- ---- what the check tells
 
 abbrev start-of : tie.After-check → tie.Start
-start-of k = k .before .before .before .before .before .before .before .before .before .before .before .before
+start-of k = k .before .before .before .before .before .before .before .before .before .before .before .before .before .before
 
-reply : (k : tie.After-check) → let a = start-of k .args in k .check .result ≡ checked (a .o) (a .xs .now) (a .ys .now) (old (start-of k))
+reply : (k : tie.After-check) → let a = start-of k .args in k .check .result ≡ checked (a .o) (a .xs .now) (a .ys .now) (a .energies .now) (old (start-of k))
 unfolding checked
 reply k = k .check .ensures
 
-told : (k : tie.After-check) (b : BuildReply) → k .check .result ≡ b
-    → let a = start-of k .args in loaded (a .o) (a .xs .now) (a .ys .now) (old (start-of k)) ≡ byReply (a .o) (a .xs .now) (a .ys .now) (old (start-of k)) b
-told k b e = let a = start-of k .args in by-reply (a .o) (a .xs .now) (a .ys .now) (old (start-of k)) (k .check .result) b (reply k) e
+told : (k : tie.After-check) (b : LoadReply) → k .check .result ≡ b
+    → let a = start-of k .args in loaded (a .o) (a .xs .now) (a .ys .now) (a .energies .now) (old (start-of k)) ≡ byReply (a .o) (a .xs .now) (a .ys .now) (a .energies .now) (old (start-of k)) b
+told k b e = let a = start-of k .args in by-reply (a .o) (a .xs .now) (a .ys .now) (a .energies .now) (old (start-of k)) (k .check .result) b (reply k) e
 
 check-requires : tie.Need-check-requires
 check-requires c κs = search needs
@@ -43,11 +43,11 @@ enum-told c = search needs
 
 build-all-requires : tie.Need-build-all-requires
 build-all-requires c κs =
-    let e = c .before .before .before .before .before .before .before .before .before in
+    let e = c .before .before .before .before .before .before .before .before .before .before in
     let k = e .before .before in
     let s = start-of k in
     let a = s .args in
-    let w = accepted (a .o) (a .xs .now) (a .ys .now) (old s) (sym (reply k) ∙ e .enum-told .given .1) in
+    let w = accepted (a .o) (a .xs .now) (a .ys .now) (a .energies .now) (old s) (sym (reply k) ∙ e .enum-told .given .1) in
     (w .0, holds (need (a .o) (length (a .xs .now))) (old s) (w .1))
 
 enum-told-2 : tie.Need-enum-told-2
@@ -68,46 +68,55 @@ enum-known-i c = search needs
 refused-requires-3 : tie.Need-refused-requires-3
 refused-requires-3 c κs = search needs
 
-enum-told-4 : tie.Need-enum-told-4
-enum-told-4 c = search needs
+enum-known-i-2 : tie.Need-enum-known-i-2
+enum-known-i-2 c = search needs
 
 refused-requires-4 : tie.Need-refused-requires-4
 refused-requires-4 c κs = search needs
 
+enum-told-4 : tie.Need-enum-told-4
+enum-told-4 c = search needs
+
+refused-requires-5 : tie.Need-refused-requires-5
+refused-requires-5 c κs = search needs
+
 same-length : tie.Need-same-length
-same-length c = c .before .before .before .before .before .before .before .before .before .before .before .before .before .before .before .before .before .before .build-all .kept .1 .1 .1 .0
+same-length c = c .before .before .before .before .before .before .before .before .before .before .before .before .before .before .before .before .before .before .before .before .build-all .kept .1 .1 .1 .1 .0
 
 same-length-2 : tie.Need-same-length-2
-same-length-2 c = c .before .before .before .before .before .before .before .before .before .before .before .before .before .before .before .before .before .before .build-all .kept .1 .1 .1 .1 .0
+same-length-2 c = c .before .before .before .before .before .before .before .before .before .before .before .before .before .before .before .before .before .before .before .before .build-all .kept .1 .1 .1 .1 .1 .0
 
 same-length-3 : tie.Need-same-length-3
-same-length-3 c = c .before .before .before .before .before .before .before .before .before .before .before .before .before .before .before .before .before .before .build-all .kept .1 .1 .1 .1 .1 .0
+same-length-3 c = c .before .before .before .before .before .before .before .before .before .before .before .before .before .before .before .before .before .before .before .before .build-all .kept .1 .1 .1 .1 .1 .1 .0
 
 same-length-4 : tie.Need-same-length-4
-same-length-4 c = c .before .before .before .before .before .before .before .before .before .before .before .before .before .before .before .before .before .before .build-all .kept .1 .1 .1 .1 .1 .1 .0
+same-length-4 c = c .before .before .before .before .before .before .before .before .before .before .before .before .before .before .before .before .before .before .before .before .build-all .kept .1 .1 .1 .1 .1 .1 .1 .0
 
 same-length-5 : tie.Need-same-length-5
-same-length-5 c = c .before .before .before .before .before .before .before .before .before .before .before .before .before .before .before .before .before .before .build-all .kept .1 .1 .1 .1 .1 .1 .1 .0
+same-length-5 c = c .before .before .before .before .before .before .before .before .before .before .before .before .before .before .before .before .before .before .before .before .build-all .kept .1 .1 .1 .1 .1 .1 .1 .1 .0
 
 same-length-6 : tie.Need-same-length-6
-same-length-6 c = c .before .before .before .before .before .before .before .before .before .before .before .before .before .before .before .before .before .before .build-all .kept .1 .1 .1 .1 .1 .1 .1 .1 .0
+same-length-6 c = c .before .before .before .before .before .before .before .before .before .before .before .before .before .before .before .before .before .before .before .before .build-all .kept .1 .1 .1 .1 .1 .1 .1 .1 .1 .0
 
 same-length-7 : tie.Need-same-length-7
-same-length-7 c = c .before .before .before .before .before .before .before .before .before .before .before .before .before .before .before .before .before .before .build-all .kept .1 .1 .1 .1 .1 .1 .1 .1 .1 .0
+same-length-7 c = c .before .before .before .before .before .before .before .before .before .before .before .before .before .before .before .before .before .before .before .before .build-all .kept .1 .1 .1 .1 .1 .1 .1 .1 .1 .1 .0
 
 same-length-8 : tie.Need-same-length-8
-same-length-8 c = c .before .before .before .before .before .before .before .before .before .before .before .before .before .before .before .before .before .before .build-all .kept .1 .1 .1 .1 .1 .1 .1 .1 .1 .1 .0
+same-length-8 c = c .before .before .before .before .before .before .before .before .before .before .before .before .before .before .before .before .before .before .before .before .build-all .kept .1 .1 .1 .1 .1 .1 .1 .1 .1 .1 .1 .0
 
 same-length-9 : tie.Need-same-length-9
-same-length-9 c = c .before .before .before .before .before .before .before .before .before .before .before .before .before .before .before .before .before .before .build-all .kept .1 .1 .1 .1 .1 .1 .1 .1 .1 .1 .1 .0
+same-length-9 c = c .before .before .before .before .before .before .before .before .before .before .before .before .before .before .before .before .before .before .before .before .build-all .kept .1 .1 .1 .1 .1 .1 .1 .1 .1 .1 .1 .1 .0
+
+same-length-10 : tie.Need-same-length-10
+same-length-10 c = c .before .before .before .before .before .before .before .before .before .before .before .before .before .before .before .before .before .before .before .before .build-all .kept .1 .1 .1 .1 .1 .1 .1 .1 .1 .1 .1 .1 .1 .0
 
 returns : tie.Need-returns
 returns c =
-    let b = c .before .before .before .before .before .before .before .before .before .before .before .before .before .before .before .before .before .before in
-    let e = b .before .before .before .before .before .before .before .before .before .before in
+    let b = c .before .before .before .before .before .before .before .before .before .before .before .before .before .before .before .before .before .before .before .before in
+    let e = b .before .before .before .before .before .before .before .before .before .before .before in
     let w = b .build-all in
     let l = w .last in
-    let left : Outcome = outcome (record { reply = Done; state = w .result }) (lent (cols (w .last .1 .1 .1 .0) (w .last .1 .1 .1 .1 .0) (w .last .1 .1 .1 .1 .1 .0) (w .last .1 .1 .1 .1 .1 .1 .0) (w .last .1 .1 .1 .1 .1 .1 .1 .0) (w .last .1 .1 .1 .1 .1 .1 .1 .1 .0)) (l .1 .1 .1 .1 .1 .1 .1 .1 .1 .0) (l .1 .1 .1 .1 .1 .1 .1 .1 .1 .1 .0) (l .1 .1 .1 .1 .1 .1 .1 .1 .1 .1 .1 .0)) in
+    let left : Outcome = outcome (record { reply = Done; state = w .result }) (lent (cols (w .last .1 .1 .1 .1 .0) (w .last .1 .1 .1 .1 .1 .0) (w .last .1 .1 .1 .1 .1 .1 .0) (w .last .1 .1 .1 .1 .1 .1 .1 .0) (w .last .1 .1 .1 .1 .1 .1 .1 .1 .0) (w .last .1 .1 .1 .1 .1 .1 .1 .1 .1 .0) (w .last .1 .1 .1 .1 .1 .1 .1 .1 .1 .1 .0)) (l .1 .1 .1 .1 .1 .1 .1 .1 .1 .1 .1 .0) (l .1 .1 .1 .1 .1 .1 .1 .1 .1 .1 .1 .1 .0) (l .1 .1 .1 .1 .1 .1 .1 .1 .1 .1 .1 .1 .1 .0)) in
     let built : left ≡ _ = λ i. record { reply = record { reply = Done; state = w .ensures .0 i }; columns = w .ensures .1 i } in
     built ∙ sym (told (e .before .before) Done (e .enum-told .given .1))
 
@@ -134,9 +143,16 @@ returns-4 c =
 
 returns-5 : tie.Need-returns-5
 returns-5 c =
-    let k = c .before .before .before in
+    let k = c .before .before .before .before in
     let s = start-of k in
     let w = c .refused4 in
+    no-tables (s .args .o) (w .result) (Energy (c .before .before .i2 .given .0 .0)) (old s) (w .ensures .0) (w .ensures .1) ∙ sym (told k (Energy (c .before .before .i2 .given .0 .0)) (c .before .before .i2 .given .1))
+
+returns-6 : tie.Need-returns-6
+returns-6 c =
+    let k = c .before .before .before in
+    let s = start-of k in
+    let w = c .refused5 in
     no-tables (s .args .o) (w .result) Tables (old s) (w .ensures .0) (w .ensures .1) ∙ sym (told k Tables (c .before .enum-told4 .given .1))
 
 pub load-spec : {M : Type 1} → statement M
@@ -152,8 +168,10 @@ load-spec =
     refused-requires-2
     enum-known-i
     refused-requires-3
-    enum-told-4
+    enum-known-i-2
     refused-requires-4
+    enum-told-4
+    refused-requires-5
     same-length
     same-length-2
     same-length-3
@@ -163,8 +181,10 @@ load-spec =
     same-length-7
     same-length-8
     same-length-9
+    same-length-10
     returns
     returns-2
     returns-3
     returns-4
-    returns-5)
+    returns-5
+    returns-6)

@@ -1,4 +1,4 @@
--- `tables::put_entry` meets its contract: six stores are one row set. Assumes nothing.
+-- `tables::put_entry` meets its contract: a store in each column is one row set. Assumes nothing.
 use borrow.Author.Needs.{needs}
 use Rattle.tables.specs.Rows.{rows-set}
 use Rattle.tables.proofs.put_entry.Statement.{statement}
@@ -37,6 +37,12 @@ mul-num c = search needs
 slice-write-num : tie.Need-slice-write-num
 slice-write-num c = search needs
 
+mul-energy : tie.Need-mul-energy
+mul-energy c = search needs
+
+slice-write-energy : tie.Need-slice-write-energy
+slice-write-energy c = search needs
+
 same-length : tie.Need-same-length
 same-length c = search needs
 
@@ -54,6 +60,9 @@ same-length-5 c = search needs
 
 same-length-6 : tie.Need-same-length-6
 same-length-6 c = search needs
+
+same-length-7 : tie.Need-same-length-7
+same-length-7 c = search needs
 
 returns : tie.Need-returns
 returns c = rows-set _ _ _ (search needs) (search needs)
@@ -73,10 +82,13 @@ put-entry-spec =
     slice-write-parent
     mul-num
     slice-write-num
+    mul-energy
+    slice-write-energy
     same-length
     same-length-2
     same-length-3
     same-length-4
     same-length-5
     same-length-6
+    same-length-7
     returns)

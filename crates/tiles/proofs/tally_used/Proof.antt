@@ -26,7 +26,7 @@ abbrev begin : tie.After-index → tie.Start
 begin i = search
 
 abbrev lent-columns : tie.Start → Columns
-lent-columns s = let a = s .args in givenColumns (a .x) (a .y) (a .seen) (a .id) (a .parent) (a .num) (a .ids) (a .coords)
+lent-columns s = let a = s .args in givenColumns (a .x) (a .y) (a .seen) (a .id) (a .parent) (a .num) (a .energy) (a .ids) (a .coords)
 
 abbrev from-of : tie.After-index → ℕ
 from-of i = getD (now (begin i .args .starts)) (i .index .result) 0
@@ -141,6 +141,10 @@ tally-used-spec =
     mul-c
     mul-d
     wide-requires
+    (λ c. let w : tie.After-index = search in omega (arith, spot-of w, begin w .good))
+    (λ c. let w : tie.After-index = search in omega (arith, spot-of w, begin w .good))
+    (λ c. let w : tie.After-index = search in omega (arith, spot-of w, begin w .good))
+    (λ c. let w : tie.After-index = search in omega (arith, spot-of w, begin w .good))
     (λ c. let w : tie.After-index = search in omega (arith, spot-of w, begin w .good))
     (λ c. let w : tie.After-index = search in omega (arith, spot-of w, begin w .good))
     (λ c. let w : tie.After-index = search in omega (arith, spot-of w, begin w .good))

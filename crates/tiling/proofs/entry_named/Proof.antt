@@ -18,7 +18,7 @@ abbrev begin : tie.After-index → tie.Start
 begin w = search
 
 abbrev columns : tie.After-index → Cols
-columns w = let a = begin w .args in given (a .x) (a .y) (a .seen) (a .id) (a .parent) (a .num)
+columns w = let a = begin w .args in given (a .x) (a .y) (a .seen) (a .id) (a .parent) (a .num) (a .energy)
 
 abbrev table : tie.After-index → Table
 table w = rows (columns w)

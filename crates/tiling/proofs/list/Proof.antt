@@ -22,7 +22,7 @@ use Rattle.tiling.proofs.list.Tie as tie
 -- ---- the start
 
 abbrev columns : tie.Start → Cols
-columns s = let a = s .args in given (a .x) (a .y) (a .seen) (a .id) (a .parent) (a .num)
+columns s = let a = s .args in given (a .x) (a .y) (a .seen) (a .id) (a .parent) (a .num) (a .energy)
 
 abbrev table : tie.Start → Table
 table s = rows (columns s)

@@ -25,15 +25,16 @@ use Rattle.tiling.proofs.list_by.Statement.{statement}
 use Rattle.tiling.proofs.list_by.Tie as tie
 
 abbrev Inv-loop : tie.InvT-loop
-Inv-loop g x y seen id parent num ids coords at out₀ px₀ py₀ q size n k₀ page₀ pages₀ out px py k page pages =
+Inv-loop g x y seen id parent num energy ids coords at out₀ px₀ py₀ q size n k₀ page₀ pages₀ out px py k page pages =
     (length out ≡ length out₀) × (length px ≡ length px₀) × (length py ≡ length py₀) × AllBelow n (aheadOf q size n coords page pages)
     × (k + length (aheadOf q size n coords page pages) ≤ at + n)
-    × (run (rows (cols x y seen id parent num)) k (visitsOf g (places ids (aheadOf q size n coords page pages))) out px py
-    ≡ run (rows (cols x y seen id parent num)) at (visitsOf g (places ids (walk q size n coords))) out₀ px₀ py₀)
+    × (run (rows (cols x y seen id parent num energy)) k (visitsOf g (places ids (aheadOf q size n coords page pages))) out px py
+    ≡ run (rows (cols x y seen id parent num energy)) at (visitsOf g (places ids (walk q size n coords))) out₀ px₀ py₀)
     × (length page ≡ 16)
 
 abbrev μ-loop : tie.MeasureT-loop
-μ-loop g x y seen id parent num ids coords at out₀ px₀ py₀ q size n k₀ page₀ pages₀ out px py k page pages = length (aheadOf q size n coords page pages)
+μ-loop g x y seen id parent num energy ids coords at out₀ px₀ py₀ q size n k₀ page₀ pages₀ out px py k page pages = length
+    (aheadOf q size n coords page pages)
 
 -- ---- the start, and the head of the loop
 
@@ -50,7 +51,7 @@ abbrev begin : Loop → Start
 begin l = search
 
 abbrev columns : Start → Cols
-columns s = let a = s .args in given (a .x) (a .y) (a .seen) (a .id) (a .parent) (a .num)
+columns s = let a = s .args in given (a .x) (a .y) (a .seen) (a .id) (a .parent) (a .num) (a .energy)
 
 abbrev table : Start → Table
 table s = rows (columns s)

@@ -27,15 +27,16 @@ use Rattle.tiling.proofs.tally_by.Statement.{statement}
 use Rattle.tiling.proofs.tally_by.Tie as tie
 
 abbrev Inv-loop : tie.InvT-loop
-Inv-loop h x y seen id parent num ids coords few marks₀ a₀ q size n page₀ pages₀ marks a page pages =
+Inv-loop h x y seen id parent num energy ids coords few marks₀ a₀ q size n page₀ pages₀ marks a page pages =
     AllBelow n (aheadOf q size n coords page pages) × (a .count + length (aheadOf q size n coords page pages) ≤ a₀ .count + n)
     × (a .sum ≤ a .count * 4294967295)
-    × (counted few (weightBy h) (rows (cols x y seen id parent num)) (a .count) (a .sum) (places ids (aheadOf q size n coords page pages)) marks
-    ≡ counted few (weightBy h) (rows (cols x y seen id parent num)) (a₀ .count) (a₀ .sum) (places ids (walk q size n coords)) marks₀)
+    × (counted few (weightBy h) (rows (cols x y seen id parent num energy)) (a .count) (a .sum)
+    (places ids (aheadOf q size n coords page pages)) marks
+    ≡ counted few (weightBy h) (rows (cols x y seen id parent num energy)) (a₀ .count) (a₀ .sum) (places ids (walk q size n coords)) marks₀)
     × (length page ≡ 16) × (length marks ≡ length marks₀) × (a .whole ≡ true) × (a .sure ≡ true)
 
 abbrev μ-loop : tie.MeasureT-loop
-μ-loop h x y seen id parent num ids coords few marks₀ a₀ q size n page₀ pages₀ marks a page pages = length
+μ-loop h x y seen id parent num energy ids coords few marks₀ a₀ q size n page₀ pages₀ marks a page pages = length
     (aheadOf q size n coords page pages)
 
 -- ---- the start, and the head of the loop
@@ -53,7 +54,7 @@ abbrev begin : Loop → Start
 begin l = search
 
 abbrev columns : Start → Cols
-columns s = let a = s .args in given (a .x) (a .y) (a .seen) (a .id) (a .parent) (a .num)
+columns s = let a = s .args in given (a .x) (a .y) (a .seen) (a .id) (a .parent) (a .num) (a .energy)
 
 abbrev table : Start → Table
 table s = rows (columns s)

@@ -21,7 +21,7 @@ use Rattle.tiling.proofs.tally_one.Statement.{statement}
 use Rattle.tiling.proofs.tally_one.Tie as tie
 
 abbrev columns : tie.Start → Cols
-columns s = let a = s .args in given (a .x) (a .y) (a .seen) (a .id) (a .parent) (a .num)
+columns s = let a = s .args in given (a .x) (a .y) (a .seen) (a .id) (a .parent) (a .num) (a .energy)
 
 abbrev table : tie.Start → Table
 table s = rows (columns s)
@@ -158,9 +158,6 @@ tested-of c = clear-of c .before
 abbrev added-of : tie.After-struct-known → Added
 added-of c = c .before .before .before
 
-add-t18 : tie.Need-add-t18
-add-t18 c = let s = start-of (tested-of (added-of c)) in omega (arith, s .pre .1 .1)
-
 same-length-2 : tie.Need-same-length-2
 same-length-2 c = added-of c .add-once .kept .0
 
@@ -199,6 +196,7 @@ tally-one-spec =
     returns-2
     weigh-requires
     add-once-requires
-    add-t18
+    -- one more is counted: below 2^64
+    (λ c. let s = start-of (tested-of (added-of c)) in omega (arith, s .pre .1 .1))
     same-length-2
     returns-3)

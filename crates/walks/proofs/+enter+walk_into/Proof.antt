@@ -42,7 +42,7 @@ use Rattle.walks.proofs.+enter+walk_into.Tie.{close}
 
 -- how many references each is lent
 abbrev refs : ℕ
-refs = 9
+refs = 10
 
 abbrev μ-enter : Measures refs enter-kinds.ps ℕ
 μ-enter κs a = 2 * (32 - a .1 .0 .table)
@@ -52,13 +52,14 @@ abbrev μ-into : Measures refs into-kinds.ps ℕ
 
 -- what the loop over the children keeps
 abbrev Inv : into-lts.InvT-loop
-Inv s leg x y seen id parent num ids coords cid origin out₀ g any₀ so₀ page₀ from₀ out any so page from =
-    let c = columns (cols x y seen id parent num) ids coords in
+Inv s leg x y seen id parent num energy ids coords cid origin out₀ g any₀ so₀ page₀ from₀ out any so page from =
+    let c = columns (cols x y seen id parent num energy) ids coords in
     (length page ≡ 16)
     × Walking s c (leg .limit) (leg .offset) cid (leg .table) origin so₀ out₀ g out any so (aheadIn g coords page from)
 
 abbrev μ : into-lts.MeasureT-loop
-μ s leg x y seen id parent num ids coords cid origin out₀ g any₀ so₀ page₀ from₀ out any so page from = length (aheadIn g coords page from)
+μ s leg x y seen id parent num energy ids coords cid origin out₀ g any₀ so₀ page₀ from₀ out any so page from =
+    length (aheadIn g coords page from)
 
 -- each measure is t
 module _ (t : ℕ) where
@@ -99,10 +100,12 @@ module _ (t : ℕ) where
 
   module _ (n : enter-lts.After-go-on enter-told enter-at enter.Post) where
     abbrev entered : enter-lts.Start enter-told enter-at enter.Post
-    entered = n .before .before .before .before .before .before .before .before .before .before
+    entered = search
 
     abbrev enter-lent : Columns
-    enter-lent = let a = entered .args in givenColumns (a .x) (a .y) (a .seen) (a .id) (a .parent) (a .num) (a .ids) (a .coords)
+    enter-lent =
+        let a = entered .args in
+        givenColumns (a .x) (a .y) (a .seen) (a .id) (a .parent) (a .num) (a .energy) (a .ids) (a .coords)
 
   enter-go-on-requires : enter-lts.Need-go-on-requires enter-told enter-at enter.Post
   enter-go-on-requires c κs = tt
@@ -143,14 +146,14 @@ module _ (t : ℕ) where
   -- ---- the children one after the other
 
   abbrev lent : into-lts.Start told into-at into.Post Inv μ → Columns
-  lent s = let a = s .args in givenColumns (a .x) (a .y) (a .seen) (a .id) (a .parent) (a .num) (a .ids) (a .coords)
+  lent s = let a = s .args in givenColumns (a .x) (a .y) (a .seen) (a .id) (a .parent) (a .num) (a .energy) (a .ids) (a .coords)
 
   module _ (w : into-lts.At-loop told into-at into.Post Inv μ) where
     abbrev ringed : into-lts.After-ring-of told into-at into.Post Inv μ
     ringed = w .before .before
 
     abbrev walked : into-lts.Start told into-at into.Post Inv μ
-    walked = ringed .before .before .before .before .before .before .before .before .before .before
+    walked = search
 
     abbrev ring : Ring
     ring = ringed .ring-of .result
@@ -172,7 +175,7 @@ module _ (t : ℕ) where
   -- the page that a search for the next child leaves
   module _ (n : into-lts.After-next-child told into-at into.Post Inv μ) where
     abbrev page : List ℕ
-    page = n .next-child .last .1 .1 .1 .1 .1 .1 .1 .1 .1 .1 .0
+    page = n .next-child .last .1 .1 .1 .1 .1 .1 .1 .1 .1 .1 .1 .0
 
     page-same : length page ≡ 16
     page-same = omega (arith, n .next-child .kept, n .before .before .loop .inv .0)

@@ -15,10 +15,10 @@ use Rattle.walks.proofs.children.Tie as tie
 -- where the id leads
 module _ (f : tie.After-find-target) where
   abbrev start : tie.Start
-  start = f .before .before .before .before .before .before .before .before .before .before .before
+  start = search
 
   abbrev lent : Columns
-  lent = let a = start .args in givenColumns (a .x) (a .y) (a .seen) (a .id) (a .parent) (a .num) (a .ids) (a .coords)
+  lent = let a = start .args in givenColumns (a .x) (a .y) (a .seen) (a .id) (a .parent) (a .num) (a .energy) (a .ids) (a .coords)
 
   led : Led (start .args .s) lent (start .args .cid) (f .before .room .result) (f .find-target .result)
   led = record { room = f .before .room .ensures; target = f .find-target .ensures }
@@ -36,7 +36,7 @@ module _ (l : tie.After-list-kids) where
   at = ring .before .before
 
   abbrev column : List ℕ
-  column = l .list-kids .last .1 .1 .1 .1 .1 .1 .1 .1 .1 .1 .0
+  column = l .list-kids .last .1 .1 .1 .1 .1 .1 .1 .1 .1 .1 .1 .0
 
   looked : let a = start (found at) .args in let p = at .table .given .0 in
       Looked (a .s) (lent (found at)) (a .cid) (p .0) (p .1 .0) (ring .ring-of .result) (now (a .out)) (l .list-kids .result) column

@@ -16,13 +16,14 @@ use Rattle.walks.proofs.expand_from.Statement.{statement}
 use Rattle.walks.proofs.expand_from.Tie as tie
 
 abbrev Inv-loop : tie.InvT-loop
-Inv-loop s cap x y seen id parent num ids coords cid table origin top z₀ of₀ at₀ from₀ first₀ z of at from first =
-    let c = columns (cols x y seen id parent num) ids coords in
+Inv-loop s cap x y seen id parent num energy ids coords cid table origin top z₀ of₀ at₀ from₀ first₀ z of at from first =
+    let c = columns (cols x y seen id parent num energy) ids coords in
     let top = s .options .«max_zoom» in
     Climbing s c cap top (expand s c (top + 1 - (table - 1)) (Target·At table origin) cid (table - 1) true) z of at from first
 
 abbrev μ-loop : tie.MeasureT-loop
-μ-loop s cap x y seen id parent num ids coords cid table origin top z₀ of₀ at₀ from₀ first₀ z of at from first = s .options .«max_zoom» + 1 - z
+μ-loop s cap x y seen id parent num energy ids coords cid table origin top z₀ of₀ at₀ from₀ first₀ z of at from first =
+    s .options .«max_zoom» + 1 - z
 
 abbrev Start : Type 0
 Start = tie.Start Inv-loop μ-loop
@@ -31,7 +32,7 @@ abbrev Loop : Type 0
 Loop = tie.At-loop Inv-loop μ-loop
 
 abbrev start : Loop → Start
-start w = w .before .before .before .before .before .before .before .before .before .before .before
+start w = search
 
 -- the zoom at the loop's head
 small : (w : Loop) → (w .loop .z ≤ start w .args .s .options .«max_zoom») × (start w .args .s .options .«max_zoom» ≤ 30)
@@ -75,11 +76,11 @@ returns-3 c =
 enum-told-3 : tie.Need-enum-told-3 Inv-loop μ-loop
 enum-told-3 c = search needs
 
-add-t27 : tie.Need-add-t27 Inv-loop μ-loop
-add-t27 c = omega (arith, small (c .before .before .before))
+add-t28 : tie.Need-add-t28 Inv-loop μ-loop
+add-t28 c = omega (arith, small (c .before .before .before))
 
-cast-t28 : tie.Need-cast-t28 Inv-loop μ-loop
-cast-t28 c = omega (arith, small (c .before .before .before))
+cast-t29 : tie.Need-cast-t29 Inv-loop μ-loop
+cast-t29 c = omega (arith, small (c .before .before .before))
 
 returns-4 : tie.Need-returns-4 Inv-loop μ-loop
 returns-4 c =
@@ -92,8 +93,8 @@ enum-known-child c = search needs
 add-z : tie.Need-add-z Inv-loop μ-loop
 add-z c = omega (arith, small (c .before .before .before .before))
 
-cast-t30 : tie.Need-cast-t30 Inv-loop μ-loop
-cast-t30 c = omega (arith, small (c .before .before .before .before .before))
+cast-t31 : tie.Need-cast-t31 Inv-loop μ-loop
+cast-t31 c = omega (arith, small (c .before .before .before .before .before))
 
 returns-5 : tie.Need-returns-5 Inv-loop μ-loop
 returns-5 c =
@@ -142,12 +143,12 @@ expand-from-spec =
     returns-2
     returns-3
     enum-told-3
-    add-t27
-    cast-t28
+    add-t28
+    cast-t29
     returns-4
     enum-known-child
     add-z
-    cast-t30
+    cast-t31
     returns-5
     go-on-requires
     enum-known-to

@@ -13,11 +13,11 @@ use Rattle.walks.proofs.fetch.Statement.{statement}
 use Rattle.walks.proofs.fetch.Tie as tie
 
 abbrev lent : tie.Start → Columns
-lent s = let a = s .args in givenColumns (a .x) (a .y) (a .seen) (a .id) (a .parent) (a .num) (a .ids) (a .coords)
+lent s = let a = s .args in givenColumns (a .x) (a .y) (a .seen) (a .id) (a .parent) (a .num) (a .energy) (a .ids) (a .coords)
 
 module _ (g : tie.After-ring-of) where
   abbrev start : tie.Start
-  start = g .before .before .before .before .before .before .before .before .before
+  start = search
 
   -- the columns reach over the ring
   reach : g .ring-of .result .start + g .ring-of .result .len ≤ roomOf (lent start)
@@ -29,7 +29,7 @@ module _ (l : tie.After-list-kids) where
   ring = l .before .before
 
   abbrev column : List ℕ
-  column = l .list-kids .last .1 .1 .1 .1 .1 .1 .1 .1 .1 .1 .0
+  column = l .list-kids .last .1 .1 .1 .1 .1 .1 .1 .1 .1 .1 .1 .0
 
   looked : let a = start ring .args in
       Looked (a .s) (lent (start ring)) (a .cid) (a .table) (a .origin) (ring .ring-of .result) (0 ∷ []) (l .list-kids .result) column

@@ -12,10 +12,10 @@ use Rattle.walks.proofs.leaves.Tie as tie
 -- where the id leads
 module _ (f : tie.After-find-target) where
   abbrev start : tie.Start
-  start = f .before .before .before .before .before .before .before .before .before .before .before
+  start = search
 
   abbrev lent : Columns
-  lent = let a = start .args in givenColumns (a .x) (a .y) (a .seen) (a .id) (a .parent) (a .num) (a .ids) (a .coords)
+  lent = let a = start .args in givenColumns (a .x) (a .y) (a .seen) (a .id) (a .parent) (a .num) (a .energy) (a .ids) (a .coords)
 
   led : Led (start .args .s) lent (start .args .cid) (f .before .room .result) (f .find-target .result)
   led = record { room = f .before .room .ensures; target = f .find-target .ensures }

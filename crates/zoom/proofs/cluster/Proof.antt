@@ -12,7 +12,7 @@ use Rattle.tables.specs.Entries.{Table}
 use Rattle.tables.specs.Lent.{given}
 use Rattle.tables.specs.Rows.{Cols, cols, rows, Even, Kept, even-kept, kept-even, rows-length}
 use Rattle.zoom.specs.Back.{lastCols, keptCols}
-use Rattle.zoom.specs.Zoom.{numOf, Scan}
+use Rattle.zoom.specs.Zoom.{numOf, energyOf, Scan}
 use Rattle.zoom.specs.Scanned.{scanOf}
 use Rattle.zoom.specs.Near.{nearOf, Placed}
 use Rattle.zoom.specs.Keeps.{Keeps, kept-all, keep-one}
@@ -22,17 +22,18 @@ use Rattle.zoom.proofs.cluster.Statement.{statement}
 use Rattle.zoom.proofs.cluster.Tie as tie
 
 abbrev Inv-loop : tie.InvT-loop
-Inv-loop x₀ y₀ seen₀ id₀ parent₀ num₀ ids coords near₀ size r len z n least d₀ i₀ x y seen id parent num near d i =
-    let c = cols x y seen id parent num in
+Inv-loop x₀ y₀ seen₀ id₀ parent₀ num₀ energy₀ ids coords near₀ size r len z n least d₀ i₀ x y seen id parent num energy near d i =
+    let c = cols x y seen id parent num energy in
     let around = nearOf size len ids coords r in
-    Even c × (length x ≡ length x₀) × (length near ≡ length near₀) × Scanning n least z around len (rows (cols x₀ y₀ seen₀ id₀ parent₀ num₀)) (rows c) d i
+    Even c × (length x ≡ length x₀) × (length near ≡ length near₀)
+    × Scanning n least z around len (rows (cols x₀ y₀ seen₀ id₀ parent₀ num₀ energy₀)) (rows c) d i
     × All Placed (take len (rows c)) × Noted n len around near (take len (rows c))
 
 abbrev μ-loop : tie.MeasureT-loop
-μ-loop x₀ y₀ seen₀ id₀ parent₀ num₀ ids coords near₀ size r len z n least d₀ i₀ x y seen id parent num near d i = len - i
+μ-loop x₀ y₀ seen₀ id₀ parent₀ num₀ energy₀ ids coords near₀ size r len z n least d₀ i₀ x y seen id parent num energy near d i = len - i
 
 abbrev columns : tie.Start Inv-loop μ-loop → Cols
-columns s = let a = s .args in (given (a .x) (a .y) (a .seen) (a .id) (a .parent) (a .num))
+columns s = let a = s .args in (given (a .x) (a .y) (a .seen) (a .id) (a .parent) (a .num) (a .energy))
 
 abbrev table : tie.Start Inv-loop μ-loop → Table
 table s = rows (columns s)
@@ -41,10 +42,11 @@ abbrev near-of : tie.Start Inv-loop μ-loop → Float → Float → List ℕ
 near-of s = let a = s .args in nearOf (a .node-size) (a .len) (a .ids .now) (a .coords .now) (a .r)
 
 abbrev start-of : tie.At-loop Inv-loop μ-loop → tie.Start Inv-loop μ-loop
-start-of l = l .before .before .before .before .before .before .before .before .before .before .before .before .before .before .before
+start-of l = l .before .before .before .before .before .before .before .before .before .before .before .before .before
+    .before .before .before
 
 abbrev here : tie.At-loop Inv-loop μ-loop → Cols
-here h = let l = h .loop in (cols (l .x) (l .y) (l .seen) (l .id) (l .parent) (l .num))
+here h = let l = h .loop in (cols (l .x) (l .y) (l .seen) (l .id) (l .parent) (l .num) (l .energy))
 
 kept-by : (h : tie.At-loop Inv-loop μ-loop) → Kept (columns (start-of h)) (here h)
 kept-by h = kept-even (columns (start-of h)) (here h) (start-of h .pre .0) (h .loop .inv .0) (h .loop .inv .1)
@@ -53,19 +55,20 @@ kept-by h = kept-even (columns (start-of h)) (here h) (start-of h .pre .0) (h .l
 long : (l : tie.At-loop Inv-loop μ-loop) → length (l .loop .near) ≡ length (start-of l .args .near .now)
 long l = l .loop .inv .2 ∙ l .before .before .before .note-all .kept .1 .1 .0
 
-abbrev test-of : tie.After-slice-known15 Inv-loop μ-loop → tie.In-loop Inv-loop μ-loop
+abbrev test-of : tie.After-slice-known17 Inv-loop μ-loop → tie.In-loop Inv-loop μ-loop
 test-of c = c .before .before .before .before .before .before .before .before .before .before .before .before .before
-    .before .before .before .before .before .before .before .before .before
+    .before .before .before .before .before .before .before .before .before .before .before .before
 
-abbrev stepping : tie.After-slice-known15 Inv-loop μ-loop → tie.After-scan-one Inv-loop μ-loop
-stepping c = c .before .before .before .before .before .before .before .before .before .before .before .before .before .before
+abbrev stepping : tie.After-slice-known17 Inv-loop μ-loop → tie.After-scan-one Inv-loop μ-loop
+stepping c = c .before .before .before .before .before .before .before .before .before .before .before .before .before
+    .before .before .before
 
 -- the columns after a step
-abbrev after : tie.After-slice-known15 Inv-loop μ-loop → Cols
+abbrev after : tie.After-slice-known17 Inv-loop μ-loop → Cols
 after c = lastCols (stepping c .scan-one .last)
 
 -- what stores in the table keep holds after a step of the scan
-kept-step : (c : tie.After-slice-known15 Inv-loop μ-loop) (P : Table → Type 0)
+kept-step : (c : tie.After-slice-known17 Inv-loop μ-loop) (P : Table → Type 0)
     → let h = test-of c
     .before in let a = start-of h .args in Keeps (a .z) P → P (take (a .len) (rows (here h))) → P (take (a .len) (rows (after c)))
 kept-step c P k p =
@@ -81,14 +84,14 @@ wide-requires c κs = search needs
 
 note-all-requires : tie.Need-note-all-requires Inv-loop μ-loop
 note-all-requires c κs =
-    let p = c .before .before .before .before .before .before .before .before .before .before .before .pre in
-    let e : c .wide .result ≡ c .before .before .before .before .before .before .before .before .before .before
+    let p = c .before .before .before .before .before .before .before .before .before .before .before .before .pre in
+    let e : c .wide .result ≡ c .before .before .before .before .before .before .before .before .before .before .before
     .before .args .n = c .wide .ensures in
     ((p .1, omega (arith, e, p .3), omega (arith, e, p .9), omega (arith, p .8, p .9)), p .7)
 
 loop-holds : tie.Need-loop-holds Inv-loop μ-loop
 loop-holds c =
-    let s = c .before .before .before .before .before .before .before .before .before .before .before .before .before .before in
+    let s = c .before .before .before .before .before .before .before .before .before .before .before .before .before .before .before in
     let a = s .args in
     let w = c .before .before in
     let noted = w .note-all .ensures (take (a .len) (table s)) (s .pre .6) in (
@@ -103,7 +106,7 @@ loop-holds c =
 
 scan-one-requires : tie.Need-scan-one-requires Inv-loop μ-loop
 scan-one-requires c κs =
-    let t = c .before .before .before .before .before .before .before in
+    let t = c .before .before .before .before .before .before .before .before in
     let l = t .before .loop in
     let s = start-of (t .before) in
     let v = l .inv .3 in
@@ -120,6 +123,7 @@ scan-one-requires c κs =
       p .9,
       p .10,
       omega (arith, v .light numOf (λ e q. refl), p .11),
+      omega (arith, v .light energyOf (λ e q. refl), p .12),
     )
 
 add-i : tie.Need-add-i Inv-loop μ-loop
@@ -139,7 +143,7 @@ loop-again c =
     let k = keptCols old (after c) (w .kept) in (
       even-kept old (after c) k (l .inv .0),
       k .kx ∙ l .inv .1,
-      w .kept .1 .1 .1 .1 .1 .1 .1 .1 .0 ∙ l .inv .2,
+      w .kept .1 .1 .1 .1 .1 .1 .1 .1 .1 .0 ∙ l .inv .2,
       scanning-step (a .n) (a .least) (a .z) (near-of s) (a .len) (table s) (rows old) (rows (after c)) (l .d) (w .result) (l .i) (l .inv .3)
           (test-of c .loop-test .taken) (w .ensures .1) (rows-length (after c) ∙ k .kx ∙ sym (rows-length old)),
       kept-step c (λ q. All Placed q) (kept-all Placed (a .z) (λ e q h. h) (λ e q h. h)) (l .inv .4),
@@ -166,7 +170,10 @@ same-length-6 : tie.Need-same-length-6 Inv-loop μ-loop
 same-length-6 c = kept-by (c .before) .kn
 
 same-length-7 : tie.Need-same-length-7 Inv-loop μ-loop
-same-length-7 c = long (c .before)
+same-length-7 c = kept-by (c .before) .kw
+
+same-length-8 : tie.Need-same-length-8 Inv-loop μ-loop
+same-length-8 c = long (c .before)
 
 returns : tie.Need-returns Inv-loop μ-loop
 returns c =
@@ -196,4 +203,5 @@ cluster-spec =
     same-length-5
     same-length-6
     same-length-7
+    same-length-8
     returns)

@@ -14,17 +14,17 @@ use Rattle.zoom.proofs.copy_near.Statement.{statement}
 use Rattle.zoom.proofs.copy_near.Tie as tie
 
 abbrev Inv-loop : tie.InvT-loop
-Inv-loop x₀ y₀ seen₀ id₀ parent₀ num₀ near len done z d₀ j₀ x y seen id parent num d j =
-    let c = cols x y seen id parent num in
-    Even c × (length x ≡ length x₀) × Copying len z near (rows (cols x₀ y₀ seen₀ id₀ parent₀ num₀)) done (rows c) d j
+Inv-loop x₀ y₀ seen₀ id₀ parent₀ num₀ energy₀ near len done z d₀ j₀ x y seen id parent num energy d j =
+    let c = cols x y seen id parent num energy in
+    Even c × (length x ≡ length x₀) × Copying len z near (rows (cols x₀ y₀ seen₀ id₀ parent₀ num₀ energy₀)) done (rows c) d j
 
 abbrev μ-loop : tie.MeasureT-loop
-μ-loop x₀ y₀ seen₀ id₀ parent₀ num₀ near len done z d₀ j₀ x y seen id parent num d j = length near - j
+μ-loop x₀ y₀ seen₀ id₀ parent₀ num₀ energy₀ near len done z d₀ j₀ x y seen id parent num energy d j = length near - j
 
 -- ---- a turn
 
 abbrev start-of : tie.In-loop Inv-loop μ-loop → tie.Start Inv-loop μ-loop
-start-of i = i .before .before .before .before .before .before .before .before .before
+start-of i = i .before .before .before .before .before .before .before .before .before .before
 
 -- the neighbour
 abbrev place : tie.In-loop Inv-loop μ-loop → ℕ
@@ -35,18 +35,19 @@ place-in i = let s = start-of i in below-at (s .args .len) (s .args .near .now) 
 
 -- the columns at the start and at the head
 abbrev first : tie.Start Inv-loop μ-loop → Cols
-first s = let a = s .args in (given (a .x) (a .y) (a .seen) (a .id) (a .parent) (a .num))
+first s = let a = s .args in (given (a .x) (a .y) (a .seen) (a .id) (a .parent) (a .num) (a .energy))
 
 abbrev here : tie.At-loop Inv-loop μ-loop → Cols
-here h = let l = h .loop in (cols (l .x) (l .y) (l .seen) (l .id) (l .parent) (l .num))
+here h = let l = h .loop in (cols (l .x) (l .y) (l .seen) (l .id) (l .parent) (l .num) (l .energy))
 
-kept-by : (h : tie.At-loop Inv-loop μ-loop) → Kept (first (h .before .before .before .before .before .before .before .before)) (here h)
-kept-by h = let s = h .before .before .before .before .before .before .before
+kept-by : (h : tie.At-loop Inv-loop μ-loop) → Kept (first (h .before .before .before .before .before .before .before .before
+    .before)) (here h)
+kept-by h = let s = h .before .before .before .before .before .before .before .before
     .before in kept-even (first s) (here h) (s .pre .0) (h .loop .inv .0) (h .loop .inv .1)
 
 loop-holds : tie.Need-loop-holds Inv-loop μ-loop
 loop-holds c =
-    let s = c .before .before .before .before .before .before .before in
+    let s = c .before .before .before .before .before .before .before .before in
     let a = s .args in
     (s .pre .0, refl, copying-start (a .len) (a .z) (a .near .now) (rows (first s)) (a .done) (rw (rows-length (first s)) (s .pre .2)))
 
@@ -61,32 +62,32 @@ cast-k c = omega (arith, place-in (c .before), start-of (c .before) .fits)
 
 copy-one-requires : tie.Need-copy-one-requires Inv-loop μ-loop
 copy-one-requires c κs =
-    let i = c .before .before .before .before .before .before .before in
+    let i = c .before .before .before .before .before .before .before .before in
     let v = i .before .loop .inv in
     (v .0, place-in i, rw (rows-length (here (i .before))) at (v .2 .room))
 
 add-j : tie.Need-add-j Inv-loop μ-loop
 add-j c =
     let i = c .before .before .before .before .before .before .before .before .before .before .before .before .before .before
-    .before .before .before .before .before .before in
-    omega (arith, i .loop-test .taken, start-of i .good .1 .1 .1 .1 .1 .1 .0 .0)
+    .before .before .before .before .before .before .before .before .before in
+    omega (arith, i .loop-test .taken, start-of i .good .1 .1 .1 .1 .1 .1 .1 .0 .0)
 
 loop-less : tie.Need-loop-less Inv-loop μ-loop
 loop-less c =
     omega (
       arith,
       c .before .before .before .before .before .before .before .before .before .before .before .before .before
-          .before .before .before .before .before .before .before .loop-test .taken,
+          .before .before .before .before .before .before .before .before .before .before .loop-test .taken,
     )
 
 loop-again : tie.Need-loop-again Inv-loop μ-loop
 loop-again c =
     let i = c .before .before .before .before .before .before .before .before .before .before .before .before .before .before
-    .before .before .before .before .before .before in
+    .before .before .before .before .before .before .before .before .before in
     let l = i .before .loop in
     let s = start-of i in
     let a = s .args in
-    let w = c .before .before .before .before .before .before .before .before .before .before .before .before .copy-one in
+    let w = c .before .before .before .before .before .before .before .before .before .before .before .before .before .before .copy-one in
     let old = here (i .before) in
     let new = lastCols (w .last) in
     let k = keptCols old new (w .kept) in (
@@ -114,11 +115,14 @@ same-length-5 c = kept-by (c .before) .kp
 same-length-6 : tie.Need-same-length-6 Inv-loop μ-loop
 same-length-6 c = kept-by (c .before) .kn
 
+same-length-7 : tie.Need-same-length-7 Inv-loop μ-loop
+same-length-7 c = kept-by (c .before) .kw
+
 returns : tie.Need-returns Inv-loop μ-loop
 returns c =
     let h = c .before in
     let l = h .loop in
-    let s = h .before .before .before .before .before .before .before .before in
+    let s = h .before .before .before .before .before .before .before .before .before in
     let a = s .args in
     copying-end (a .len) (a .z) (a .near .now) (rows (first s)) (a .done) (rows (here h)) (l .d) (l .j) (l .inv .2) (c .loop-test .left)
 
@@ -142,4 +146,5 @@ copy-near-spec =
     same-length-4
     same-length-5
     same-length-6
+    same-length-7
     returns)

@@ -16,7 +16,7 @@ use Rattle.zoom.proofs.copy_one.Statement.{statement}
 use Rattle.zoom.proofs.copy_one.Tie as tie
 
 abbrev columns : tie.Start → Cols
-columns s = let a = s .args in (given (a .x) (a .y) (a .seen) (a .id) (a .parent) (a .num))
+columns s = let a = s .args in (given (a .x) (a .y) (a .seen) (a .id) (a .parent) (a .num) (a .energy))
 
 abbrev table : tie.Start → Table
 table s = rows (columns s)
@@ -29,7 +29,8 @@ inside s = omega (arith, s .pre .1, s .pre .2)
 
 -- the branch of an unseen row
 abbrev start-of : tie.Else1 → tie.Start
-start-of e = e .before .before .before .before .before .before .before .before .before .before .before .before .before .before .before
+start-of e = e .before .before .before .before .before .before .before .before .before .before .before .before .before
+    .before .before .before .before
 
 unseen-k : (e : tie.Else1) → let s = start-of e in s .args .z < entry (table s) (s .args .k) .seen
 unseen-k e = rw (e .before .before .entry-at .ensures) at (e .if1 .left)
@@ -41,11 +42,11 @@ space e =
     rw (rows-length (columns s)) at (copy-room (table s) (a .len) (a .done) (a .k) (a .z) (s .pre .1) (room s) (unseen-k e))
 
 -- and after the row was put
-abbrev putting : tie.After-slice-known12 → tie.After-put-entry
-putting c = c .before .before .before .before .before .before .before .before .before .before .before .before
+abbrev putting : tie.After-slice-known14 → tie.After-put-entry
+putting c = c .before .before .before .before .before .before .before .before .before .before .before .before .before .before
 
 abbrev else-of : tie.After-put-entry → tie.Else1
-else-of c = c .before .before .before .before .before .before .before
+else-of c = c .before .before .before .before .before .before .before .before
 
 abbrev now-marked : tie.Start → Cols
 now-marked s = withSeen (columns s) (set (s .args .seen .now) (s .args .k) (s .args .z))
@@ -61,7 +62,7 @@ kept-by c =
 
 entry-at-requires : tie.Need-entry-at-requires
 entry-at-requires c κs =
-    let s = c .before .before .before .before .before .before .before .before .before .before .before .before in
+    let s = c .before .before .before .before .before .before .before .before .before .before .before .before .before .before in
     (s .pre .0, inside s)
 
 same-length : tie.Need-same-length
@@ -82,9 +83,13 @@ same-length-5 c = refl
 same-length-6 : tie.Need-same-length-6
 same-length-6 c = refl
 
+same-length-7 : tie.Need-same-length-7
+same-length-7 c = refl
+
 returns : tie.Need-returns
 returns c =
-    let s = c .before .before .before .before .before .before .before .before .before .before .before .before .before .before .before in
+    let s = c .before .before .before .before .before .before .before .before .before .before .before .before .before .before
+    .before .before .before in
     let a = s .args in
     skipped (table s) (a .len) (a .done) (a .k) (a .z) (s .pre .1) (room s)
     (rw (c .before .before .entry-at .ensures) at (c .if1 .taken))
@@ -95,35 +100,38 @@ slice-write-seen c = search needs
 add-put-entry : tie.Need-add-put-entry
 add-put-entry c =
     let s = c .before .before .before .before .before .before .before .before .before .before .before .before .before .before
-    .before .before .before .before .before .before .before in
-    omega (arith, space (c .before .before .before .before .before .before), s .good .0 .0)
+    .before .before .before .before .before .before .before .before .before .before in
+    omega (arith, space (c .before .before .before .before .before .before .before), s .good .0 .0)
 
 put-entry-requires : tie.Need-put-entry-requires
 put-entry-requires c κs =
     let s = c .before .before .before .before .before .before .before .before .before .before .before .before .before .before
-    .before .before .before .before .before .before .before in
-    (even-mark (columns s) (s .args .k) (s .args .z) (s .pre .0), space (c .before .before .before .before .before .before))
+    .before .before .before .before .before .before .before .before .before .before in
+    (even-mark (columns s) (s .args .k) (s .args .z) (s .pre .0), space (c .before .before .before .before .before .before .before))
 
 add-result : tie.Need-add-result
 add-result c = let e = else-of (putting c) in omega (arith, space e, start-of e .good .0 .0)
 
-same-length-7 : tie.Need-same-length-7
-same-length-7 c = kept-by (putting c) .kx
-
 same-length-8 : tie.Need-same-length-8
-same-length-8 c = kept-by (putting c) .ky
+same-length-8 c = kept-by (putting c) .kx
 
 same-length-9 : tie.Need-same-length-9
-same-length-9 c = kept-by (putting c) .ks
+same-length-9 c = kept-by (putting c) .ky
 
 same-length-10 : tie.Need-same-length-10
-same-length-10 c = kept-by (putting c) .ki
+same-length-10 c = kept-by (putting c) .ks
 
 same-length-11 : tie.Need-same-length-11
-same-length-11 c = kept-by (putting c) .kp
+same-length-11 c = kept-by (putting c) .ki
 
 same-length-12 : tie.Need-same-length-12
-same-length-12 c = kept-by (putting c) .kn
+same-length-12 c = kept-by (putting c) .kp
+
+same-length-13 : tie.Need-same-length-13
+same-length-13 c = kept-by (putting c) .kn
+
+same-length-14 : tie.Need-same-length-14
+same-length-14 c = kept-by (putting c) .kw
 
 returns-2 : tie.Need-returns-2
 returns-2 c =
@@ -152,15 +160,17 @@ copy-one-spec =
     same-length-4
     same-length-5
     same-length-6
+    same-length-7
     returns
     slice-write-seen
     add-put-entry
     put-entry-requires
     add-result
-    same-length-7
     same-length-8
     same-length-9
     same-length-10
     same-length-11
     same-length-12
+    same-length-13
+    same-length-14
     returns-2)

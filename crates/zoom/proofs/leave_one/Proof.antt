@@ -15,7 +15,7 @@ use Rattle.zoom.proofs.leave_one.Statement.{statement}
 use Rattle.zoom.proofs.leave_one.Tie as tie
 
 abbrev columns : tie.Start → Cols
-columns s = let a = s .args in (given (a .x) (a .y) (a .seen) (a .id) (a .parent) (a .num))
+columns s = let a = s .args in (given (a .x) (a .y) (a .seen) (a .id) (a .parent) (a .num) (a .energy))
 
 abbrev table : tie.Start → Table
 table s = rows (columns s)
@@ -30,7 +30,7 @@ space s = omega (arith, room s)
 
 abbrev start-of : tie.After-put-entry → tie.Start
 start-of w = w .before .before .before .before .before .before .before .before .before .before .before .before .before
-    .before .before .before .before .before .before .before .before
+    .before .before .before .before .before .before .before .before .before .before .before
 
 abbrev put : tie.After-put-entry → Cols
 put c = lastCols (c .put-entry .last)
@@ -42,17 +42,17 @@ put-is : (c : tie.After-put-entry) → let s = start-of c in
     rows (put c) ≡ set (table s) (s .args .len + s .args .done) (entry (table s) (s .args .i))
 put-is c =
     let s = start-of c in
-    let r = c .before .before .before .before .before .before .before .entry-at in
+    let r = c .before .before .before .before .before .before .before .before .entry-at in
     c .put-entry .ensures ∙ ap (λ (v : Entry). set (table s) (s .args .len + s .args .done) v) (r .ensures)
 
 -- ---- and after the copies
 
-abbrev copying : tie.After-slice-known18 → tie.After-copy-near
-copying c = c .before .before .before .before .before .before .before .before .before .before .before .before
+abbrev copying : tie.After-slice-known21 → tie.After-copy-near
+copying c = c .before .before .before .before .before .before .before .before .before .before .before .before .before .before
 
 abbrev putting : tie.After-copy-near → tie.After-put-entry
 putting c = c .before .before .before .before .before .before .before .before .before .before .before .before .before
-    .before .before .before .before .before .before
+    .before .before .before .before .before .before .before .before .before
 
 kept-by : (c : tie.After-copy-near) → Kept (columns (start-of (putting c))) (lastCols (c .copy-near .last))
 kept-by c =
@@ -62,32 +62,32 @@ kept-by c =
 
 entry-at-requires : tie.Need-entry-at-requires
 entry-at-requires c κs =
-    let s = c .before .before .before .before .before .before .before .before .before .before .before .before .before in
+    let s = c .before .before .before .before .before .before .before .before .before .before .before .before .before .before .before in
     (s .pre .0, omega (arith, s .pre .2, s .pre .3))
 
 add-put-entry : tie.Need-add-put-entry
 add-put-entry c =
     let s = c .before .before .before .before .before .before .before .before .before .before .before .before .before .before
-    .before .before .before .before .before .before in
+    .before .before .before .before .before .before .before .before .before in
     omega (arith, s .pre .3, s .good .0 .0)
 
 put-entry-requires : tie.Need-put-entry-requires
 put-entry-requires c κs =
     let s = c .before .before .before .before .before .before .before .before .before .before .before .before .before .before
-    .before .before .before .before .before .before in
+    .before .before .before .before .before .before .before .before .before in
     (s .pre .0, omega (arith, s .pre .3))
 
 add-copy-near : tie.Need-add-copy-near
 add-copy-near c =
     let s = c .before .before .before .before .before .before .before .before .before .before .before .before .before .before
     .before .before .before .before .before .before .before .before .before .before .before .before .before .before .before
-    .before .before .before .before .before .before .before .before .before .before in
+    .before .before .before .before .before .before .before .before .before .before .before .before .before .before .before .before in
     omega (arith, s .pre .3, s .good .0 .0)
 
 copy-near-requires : tie.Need-copy-near-requires
 copy-near-requires c κs =
     let w = c .before .before .before .before .before .before .before .before .before .before .before .before .before .before
-    .before .before .before .before in
+    .before .before .before .before .before .before .before in
     let s = start-of w in
     let a = s .args in
     let k = kept-put w in
@@ -115,6 +115,9 @@ same-length-5 c = kept-by (copying c) .kp
 same-length-6 : tie.Need-same-length-6
 same-length-6 c = kept-by (copying c) .kn
 
+same-length-7 : tie.Need-same-length-7
+same-length-7 c = kept-by (copying c) .kw
+
 returns : tie.Need-returns
 returns c =
     let v = copying c in
@@ -139,4 +142,5 @@ leave-one-spec =
     same-length-4
     same-length-5
     same-length-6
+    same-length-7
     returns)

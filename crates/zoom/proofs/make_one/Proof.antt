@@ -14,12 +14,12 @@ use Rattle.zoom.specs.Back.{lastCols, keptCols}
 use Rattle.zoom.specs.Stored.{made-with}
 use mathlib.Core.List.{List}
 use Rattle.zoom.specs.Scanned.{scanOf, Scanned}
-use Rattle.zoom.specs.Zoom.{Absorbed, absorbed, absorb, started, centre, madeAt}
+use Rattle.zoom.specs.Zoom.{energyOf, Absorbed, absorbed, absorb, started, centre, madeAt}
 use Rattle.zoom.proofs.make_one.Statement.{statement}
 use Rattle.zoom.proofs.make_one.Tie as tie
 
 abbrev columns : tie.Start → Cols
-columns s = let a = s .args in (given (a .x) (a .y) (a .seen) (a .id) (a .parent) (a .num))
+columns s = let a = s .args in (given (a .x) (a .y) (a .seen) (a .id) (a .parent) (a .num) (a .energy))
 
 inside : (s : tie.Start) → s .args .i < length (s .args .x .now)
 inside s = omega (arith, s .pre .2, s .pre .3)
@@ -28,14 +28,14 @@ inside s = omega (arith, s .pre .2, s .pre .3)
 
 abbrev start-of : tie.After-absorb-near → tie.Start
 start-of w = w .before .before .before .before .before .before .before .before .before .before .before .before .before
-    .before .before .before .before .before .before .before .before .before .before .before .before
+    .before .before .before .before .before .before .before .before .before .before .before .before .before .before .before
 
 abbrev naming : tie.After-absorb-near → tie.After-cluster-id
 naming w = w .before .before .before .before .before .before .before .before .before .before .before .before .before .before
-    .before .before .before
+    .before .before .before .before .before
 
 abbrev reading : tie.After-absorb-near → tie.After-entry-at
-reading w = w .before .before .before .before .before .before .before .before .before .before
+reading w = w .before .before .before .before .before .before .before .before .before .before .before
 
 -- its marks and its parents
 abbrev marks : tie.After-absorb-near → List ℕ
@@ -72,11 +72,11 @@ kept-hung w = kept-even (columns (start-of w)) (hung w) (start-of w .pre .0) (ev
 
 -- ---- and after the new entry was put
 
-abbrev putting : tie.After-slice-known14 → tie.After-put-entry
-putting c = c .before .before .before .before .before .before .before .before .before .before .before .before
+abbrev putting : tie.After-slice-known16 → tie.After-put-entry
+putting c = c .before .before .before .before .before .before .before .before .before .before .before .before .before .before
 
 abbrev absorbing : tie.After-put-entry → tie.After-absorb-near
-absorbing c = c .before .before .before .before .before .before .before .before .before .before .before .before .before .before
+absorbing c = c .before .before .before .before .before .before .before .before .before .before .before .before .before .before .before
 
 abbrev after : tie.After-put-entry → Cols
 after c = lastCols (c .put-entry .last)
@@ -87,11 +87,14 @@ kept-by c =
     kept-then (columns (start-of h)) (hung h) (after c) (keptCols (hung h) (after c) (c .put-entry .kept)) (kept-hung h)
 
 cluster-id-requires : tie.Need-cluster-id-requires
-cluster-id-requires c κs = let h = c .before .before .before .before .before .before .before .pre in (omega (arith, h .2, h .4), h .6, h .5)
+cluster-id-requires c κs =
+    let h = c .before .before .before .before .before .before .before .before .pre in
+    (omega (arith, h .2, h .4), h .6, h .5)
 
 entry-at-requires : tie.Need-entry-at-requires
 entry-at-requires c κs =
-    let s = c .before .before .before .before .before .before .before .before .before .before .before .before .before .before in
+    let s = c .before .before .before .before .before .before .before .before .before .before .before .before .before .before
+    .before .before in
     (s .pre .0, inside s)
 
 int-to-float-own : tie.Need-int-to-float-own
@@ -100,13 +103,18 @@ int-to-float-own c = search needs
 absorb-near-requires : tie.Need-absorb-near-requires
 absorb-near-requires c κs =
     let s = c .before .before .before .before .before .before .before .before .before .before .before .before .before .before
-    .before .before .before .before .before .before .before .before .before .before in
-    (s .pre .0, below-le (s .args .len) (length (s .args .x .now)) (s .args .near .now) (omega (arith, s .pre .3)) (s .pre .1))
+    .before .before .before .before .before .before .before .before .before .before .before .before .before in
+    let r = c .before .before .before .before .before .before .before .before .before .before .entry-at in (
+      s .pre .0,
+      below-le (s .args .len) (length (s .args .x .now)) (s .args .near .now) (omega (arith, s .pre .3)) (s .pre .1),
+      omega (arith, ap energyOf (r .ensures), s .pre .7),
+    )
 
 mul-parent : tie.Need-mul-parent
 mul-parent c =
     let h = c .before .before .before .before .before .before .before .before .before .before .before .before .before .before
-    .before .before .before .before .before .before .before .before .before .before .before .before .before .before .before .pre in
+    .before .before .before .before .before .before .before .before .before .before .before .before .before .before .before
+    .before .before .before .pre in
     omega (arith, h .2, h .4)
 
 slice-write-parent : tie.Need-slice-write-parent
@@ -121,12 +129,12 @@ add-put-entry : tie.Need-add-put-entry
 add-put-entry c =
     let s = c .before .before .before .before .before .before .before .before .before .before .before .before .before .before
     .before .before .before .before .before .before .before .before .before .before .before .before .before .before .before
-    .before .before .before .before .before .before .before .before .before in
+    .before .before .before .before .before .before .before .before .before .before .before .before .before in
     omega (arith, s .pre .3, s .good .0 .0)
 
 put-entry-requires : tie.Need-put-entry-requires
 put-entry-requires c κs =
-    let w = c .before .before .before .before .before .before .before .before .before .before .before .before .before in
+    let w = c .before .before .before .before .before .before .before .before .before .before .before .before .before .before in
     (even-hung w, start-of w .pre .3)
 
 same-length : tie.Need-same-length
@@ -147,6 +155,9 @@ same-length-5 c = kept-by (putting c) .kp
 same-length-6 : tie.Need-same-length-6
 same-length-6 c = kept-by (putting c) .kn
 
+same-length-7 : tie.Need-same-length-7
+same-length-7 c = kept-by (putting c) .kw
+
 returns : tie.Need-returns
 returns c =
     let put = putting c .put-entry in
@@ -158,7 +169,7 @@ returns c =
     let t = rows (columns s) in
     let n = rows-length (columns s) in
     let room : a .len + a .done < length t = rw n (s .pre .3) in
-    let f : Absorbed = absorbed (rows (absorbed-by w)) (ab .result .x) (ab .result .y) in
+    let f : Absorbed = absorbed (rows (absorbed-by w)) (ab .result .x) (ab .result .y) (ab .result .energy) in
     let e : f ≡ absorb (a .z) (id .result) (started t (entry t (a .i))) (a .near .now)
     = ab .ensures ∙ ap (λ (v : Entry). absorb (a .z) (id .result) (started t v) (a .near .now)) (reading w .entry-at .ensures) in
     let h = rows-parent (absorbed-by w) (a .i) (even-by w) (inside s) (id .result) in
@@ -186,4 +197,5 @@ make-one-spec =
     same-length-4
     same-length-5
     same-length-6
+    same-length-7
     returns)

@@ -17,7 +17,7 @@ use Rattle.tables.specs.Entries.{Table, entry, none, marked}
 use Rattle.tables.specs.Lent.{given}
 use Rattle.tables.specs.Rows.{Cols, rows, Kept, withSeen, rows-length, rows-mark, even-mark, kept-mark, kept-then}
 use Rattle.zoom.specs.Back.{lastCols, keptCols}
-use Rattle.zoom.specs.Zoom.{numOf}
+use Rattle.zoom.specs.Zoom.{numOf, energyOf}
 use Rattle.zoom.specs.Keeps.{all-at}
 use Rattle.zoom.specs.Near.{nearOf, Placed}
 use Rattle.zoom.specs.Notes.{Tells, noted-at}
@@ -28,7 +28,7 @@ use Rattle.zoom.proofs.scan_one.Tie as tie
 -- ---- what is known at the start
 
 abbrev columns : tie.Start → Cols
-columns s = let a = s .args in (given (a .x) (a .y) (a .seen) (a .id) (a .parent) (a .num))
+columns s = let a = s .args in (given (a .x) (a .y) (a .seen) (a .id) (a .parent) (a .num) (a .energy))
 
 abbrev table : tie.Start → Table
 table s = rows (columns s)
@@ -58,7 +58,7 @@ placed-i s =
 
 abbrev start-of : tie.After-entry-at → tie.Start
 start-of c = c .before .before .before .before .before .before .before .before .before .before .before .before .before
-    .before .before .before
+    .before .before .before .before .before
 
 abbrev places : tie.After-entry-at → List ℕ
 places c = near-of (start-of c) (c .entry-at .result .x) (c .entry-at .result .y)
@@ -105,11 +105,11 @@ front-of : (w : tie.After-neighbours) → take (w .neighbours .result) (listed w
 front-of w = w .neighbours .ensures .0 .front
 
 -- the visit
-abbrev visiting : tie.After-slice-known15 → tie.After-visit-one
-visiting c = c .before .before .before .before .before .before .before .before .before .before .before .before
+abbrev visiting : tie.After-slice-known17 → tie.After-visit-one
+visiting c = c .before .before .before .before .before .before .before .before .before .before .before .before .before .before
 
 abbrev listing : tie.After-visit-one → tie.After-neighbours
-listing v = v .before .before .before .before .before .before .before .before .before .before
+listing v = v .before .before .before .before .before .before .before .before .before .before .before
 
 kept-by : (c : tie.After-visit-one) → Kept (columns (start-of (reading (else-of (listing c))))) (lastCols (c .visit-one .last))
 kept-by c =
@@ -119,7 +119,8 @@ kept-by c =
 
 entry-at-requires : tie.Need-entry-at-requires
 entry-at-requires c κs =
-    let s = c .before .before .before .before .before .before .before .before .before .before .before .before .before .before .before in
+    let s = c .before .before .before .before .before .before .before .before .before .before .before .before .before .before
+    .before .before .before in
     (s .pre .0, inside s)
 
 same-length : tie.Need-same-length
@@ -140,10 +141,13 @@ same-length-5 c = refl
 same-length-6 : tie.Need-same-length-6
 same-length-6 c = refl
 
+same-length-7 : tie.Need-same-length-7
+same-length-7 c = refl
+
 returns : tie.Need-returns
 returns c =
     let s = c .before .before .before .before .before .before .before .before .before .before .before .before .before .before
-    .before .before .before .before in
+    .before .before .before .before .before .before in
     let a = s .args in
     let u = rw (c .before .before .entry-at .ensures) at (c .if1 .taken) in
     let h : a .len + a .done ≤ length (table s) = omega (arith, s .pre .7, rows-length (columns s)) in
@@ -152,7 +156,7 @@ returns c =
 slice-write-seen : tie.Need-slice-write-seen
 slice-write-seen c =
     let s = c .before .before .before .before .before .before .before .before .before .before .before .before .before .before
-    .before .before .before .before in
+    .before .before .before .before .before .before in
     omega (arith, inside s, s .pre .0 .es)
 
 wide-requires : tie.Need-wide-requires
@@ -161,13 +165,13 @@ wide-requires c κs = search needs
 add-note : tie.Need-add-note
 add-note c =
     let s = c .before .before .before .before .before .before .before .before .before .before .before .before .before .before
-    .before .before .before .before .before in
+    .before .before .before .before .before .before .before in
     omega (arith, note-in c .0, s .pre .4, s .pre .8, s .pre .9)
 
 mul-note : tie.Need-mul-note
 mul-note c =
     let s = c .before .before .before .before .before .before .before .before .before .before .before .before .before .before
-    .before .before .before .before .before in
+    .before .before .before .before .before .before .before in
     omega (arith, note-in c .0, s .pre .4, s .pre .8, s .pre .9)
 
 slice-read-note : tie.Need-slice-read-note
@@ -177,7 +181,7 @@ neighbours-requires : tie.Need-neighbours-requires
 neighbours-requires c κs =
     let w = c .before .before .wide in
     let s = c .before .before .before .before .before .before .before .before .before .before .before .before .before
-    .before .before .before .before .before .before .before .before in
+    .before .before .before .before .before .before .before .before .before .before in
     let r = c .before .before .before .before .before .entry-at in
     let a = s .args in
     let p = s .pre in
@@ -192,16 +196,16 @@ neighbours-requires c κs =
     )
 
 slice-reshare-prefix-visit-one : tie.Need-slice-reshare-prefix-visit-one
-slice-reshare-prefix-visit-one c = fits (c .before .before .before .before .before .before .before .before)
+slice-reshare-prefix-visit-one c = fits (c .before .before .before .before .before .before .before .before .before)
 
 slice-aggregate-visit-one : tie.Need-slice-aggregate-visit-one
 slice-aggregate-visit-one c =
-    let w = c .before .before .before .before .before .before .before .before .before in
+    let w = c .before .before .before .before .before .before .before .before .before .before in
     sym (length-take-le (w .neighbours .result) (listed w) (fits w))
 
 visit-one-requires : tie.Need-visit-one-requires
 visit-one-requires c κs =
-    let w = c .before .before .before .before .before .before .before .before .before in
+    let w = c .before .before .before .before .before .before .before .before .before .before in
     let e = else-of w in
     let r = reading e in
     let s = start-of r in
@@ -209,7 +213,7 @@ visit-one-requires c κs =
     let p = s .pre in
     let t = table s in
     let l = places r in
-    let fits = marked-fits t (a .len) (a .done) (a .z) (a .i) (p .4) (len-in s) (unseen-i e) numOf (λ e q. refl) (2 ^ 32) l (below-of r) (once r) in (
+    let fits = marked-fits t (a .len) (a .done) (a .z) (a .i) (p .4) (len-in s) (unseen-i e) in (
       even-mark (columns s) (a .i) (a .z) (p .0),
       rw (front-of w) (below-of r),
       p .4,
@@ -217,29 +221,33 @@ visit-one-requires c κs =
       omega (arith, p .8, p .9),
       p .9,
       p .10,
-      rw (mark-i s, front-of w) (fits (p .11)),
+      rw (mark-i s, front-of w) (fits numOf (λ e q. refl) (2 ^ 32) l (below-of r) (once r) (p .11)),
+      rw (mark-i s, front-of w) (fits energyOf (λ e q. refl) (2 ^ 64) l (below-of r) (once r) (p .12)),
     )
 
-same-length-7 : tie.Need-same-length-7
-same-length-7 c = kept-by (visiting c) .kx
-
 same-length-8 : tie.Need-same-length-8
-same-length-8 c = kept-by (visiting c) .ky
+same-length-8 c = kept-by (visiting c) .kx
 
 same-length-9 : tie.Need-same-length-9
-same-length-9 c = kept-by (visiting c) .ks
+same-length-9 c = kept-by (visiting c) .ky
 
 same-length-10 : tie.Need-same-length-10
-same-length-10 c = kept-by (visiting c) .ki
+same-length-10 c = kept-by (visiting c) .ks
 
 same-length-11 : tie.Need-same-length-11
-same-length-11 c = kept-by (visiting c) .kp
+same-length-11 c = kept-by (visiting c) .ki
 
 same-length-12 : tie.Need-same-length-12
-same-length-12 c = kept-by (visiting c) .kn
+same-length-12 c = kept-by (visiting c) .kp
 
 same-length-13 : tie.Need-same-length-13
-same-length-13 c = listing (visiting c) .neighbours .kept .1 .1 .0
+same-length-13 c = kept-by (visiting c) .kn
+
+same-length-14 : tie.Need-same-length-14
+same-length-14 c = kept-by (visiting c) .kw
+
+same-length-15 : tie.Need-same-length-15
+same-length-15 c = listing (visiting c) .neighbours .kept .1 .1 .0
 
 returns-2 : tie.Need-returns-2
 returns-2 c =
@@ -267,6 +275,7 @@ scan-one-spec =
     same-length-4
     same-length-5
     same-length-6
+    same-length-7
     returns
     slice-write-seen
     wide-requires
@@ -277,11 +286,12 @@ scan-one-spec =
     slice-reshare-prefix-visit-one
     slice-aggregate-visit-one
     visit-one-requires
-    same-length-7
     same-length-8
     same-length-9
     same-length-10
     same-length-11
     same-length-12
     same-length-13
+    same-length-14
+    same-length-15
     returns-2)

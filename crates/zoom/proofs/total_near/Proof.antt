@@ -16,17 +16,17 @@ use Rattle.zoom.proofs.total_near.Statement.{statement}
 use Rattle.zoom.proofs.total_near.Tie as tie
 
 abbrev Inv-loop : tie.InvT-loop
-Inv-loop x y seen id parent num near z own total₀ j₀ total j =
-    let t = rows (cols x y seen id parent num) in
+Inv-loop x y seen id parent num energy near z own total₀ j₀ total j =
+    let t = rows (cols x y seen id parent num energy) in
     total + more z t (drop j near) ≡ own + more z t near
 
 abbrev μ-loop : tie.MeasureT-loop
-μ-loop x y seen id parent num near z own total₀ j₀ total j = length near - j
+μ-loop x y seen id parent num energy near z own total₀ j₀ total j = length near - j
 
 -- ---- a turn
 
 abbrev start-of : tie.In-loop Inv-loop μ-loop → tie.Start Inv-loop μ-loop
-start-of i = i .before .before .before .before .before .before .before .before .before
+start-of i = i .before .before .before .before .before .before .before .before .before .before
 
 -- the neighbour
 abbrev place : tie.In-loop Inv-loop μ-loop → ℕ
@@ -37,7 +37,7 @@ place-in i = let s = start-of i in below-at (length (s .args .x .now)) (s .args 
     .before .loop .j) (s .pre .1) (i .loop-test .taken)
 
 abbrev table : tie.Start Inv-loop μ-loop → Table
-table s = let a = s .args in rows (given (a .x) (a .y) (a .seen) (a .id) (a .parent) (a .num))
+table s = let a = s .args in rows (given (a .x) (a .y) (a .seen) (a .id) (a .parent) (a .num) (a .energy))
 
 -- what the turn counts
 abbrev counts : tie.In-loop Inv-loop μ-loop → ℕ
@@ -74,7 +74,7 @@ add-total : tie.Need-add-total Inv-loop μ-loop
 add-total c = let i = c .before .before .before in omega (arith, added c, turn i, i .before .loop .inv, start-of i .pre .2)
 
 add-j : tie.Need-add-j Inv-loop μ-loop
-add-j c = let i = c .before .before .before in omega (arith, i .loop-test .taken, start-of i .good .1 .1 .1 .1 .1 .1 .0 .0)
+add-j c = let i = c .before .before .before in omega (arith, i .loop-test .taken, start-of i .good .1 .1 .1 .1 .1 .1 .1 .0 .0)
 
 loop-less : tie.Need-loop-less Inv-loop μ-loop
 loop-less c = omega (arith, c .before .before .before .loop-test .taken)
@@ -84,7 +84,7 @@ loop-again c = let i = c .before .before .before in omega (arith, added c, turn 
 
 returns : tie.Need-returns Inv-loop μ-loop
 returns c =
-    let s = c .before .before .before .before .before .before .before .before .before in
+    let s = c .before .before .before .before .before .before .before .before .before .before in
     let l = c .before .loop in
     omega (arith, l .inv, more-end numOf (s .args .z) (table s) (s .args .near .now) (l .j) (c .loop-test .left))
 

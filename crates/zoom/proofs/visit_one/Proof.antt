@@ -21,7 +21,7 @@ use Rattle.zoom.proofs.visit_one.Statement.{statement}
 use Rattle.zoom.proofs.visit_one.Tie as tie
 
 abbrev columns : tie.Start → Cols
-columns s = let a = s .args in (given (a .x) (a .y) (a .seen) (a .id) (a .parent) (a .num))
+columns s = let a = s .args in (given (a .x) (a .y) (a .seen) (a .id) (a .parent) (a .num) (a .energy))
 
 abbrev table : tie.Start → Table
 table s = rows (columns s)
@@ -37,11 +37,11 @@ len-in s = omega (arith, s .pre .3, rows-length (columns s))
 
 abbrev start-of : tie.After-total-near → tie.Start
 start-of c = c .before .before .before .before .before .before .before .before .before .before .before .before .before
-    .before .before .before .before .before .before .before .before
+    .before .before .before .before .before .before .before .before .before .before .before
 
 -- the entry that was read
 abbrev reading : tie.After-total-near → tie.After-entry-at
-reading c = c .before .before .before .before .before .before .before
+reading c = c .before .before .before .before .before .before .before .before
 
 own-is : (c : tie.After-total-near) → reading c .entry-at .result ≡ entry (scanned (start-of c)) (start-of c .args .i)
 own-is c = let s = start-of c in reading c .entry-at .ensures ∙ sym (getD-take (s .args .len) (table s) (s .args .i) none (s .pre .2))
@@ -63,32 +63,32 @@ enough-is c b e =
 
 -- ---- the branches
 
-abbrev making : tie.After-slice-known12 → tie.After-make-one
-making c = c .before .before .before .before .before .before .before .before .before .before .before .before
+abbrev making : tie.After-slice-known14 → tie.After-make-one
+making c = c .before .before .before .before .before .before .before .before .before .before .before .before .before .before
 
 kept-made : (c : tie.After-make-one) → Kept (columns (start-of (c .before .before .before .before .before .before .before
-    .before .before))) (lastCols (c .make-one .last))
-kept-made c = let s = start-of (c .before .before .before .before .before .before .before .before
+    .before .before .before))) (lastCols (c .make-one .last))
+kept-made c = let s = start-of (c .before .before .before .before .before .before .before .before .before
     .before) in keptCols (columns s) (lastCols (c .make-one .last)) (c .make-one .kept)
 
-abbrev leaving : tie.After-slice-known18 → tie.After-leave-one
-leaving c = c .before .before .before .before .before .before .before .before .before .before .before .before
+abbrev leaving : tie.After-slice-known21 → tie.After-leave-one
+leaving c = c .before .before .before .before .before .before .before .before .before .before .before .before .before .before
 
 kept-left : (c : tie.After-leave-one) → Kept (columns (start-of (c .before .before .before .before .before .before .before
-    .before .before))) (lastCols (c .leave-one .last))
-kept-left c = let s = start-of (c .before .before .before .before .before .before .before .before
+    .before .before .before))) (lastCols (c .leave-one .last))
+kept-left c = let s = start-of (c .before .before .before .before .before .before .before .before .before
     .before) in keptCols (columns s) (lastCols (c .leave-one .last)) (c .leave-one .kept)
 
 entry-at-requires : tie.Need-entry-at-requires
 entry-at-requires c κs =
-    let s = c .before .before .before .before .before .before .before .before .before .before .before .before .before in
+    let s = c .before .before .before .before .before .before .before .before .before .before .before .before .before .before .before in
     (s .pre .0, omega (arith, s .pre .2, s .pre .3))
 
 total-near-requires : tie.Need-total-near-requires
 total-near-requires c κs =
     let s = c .before .before .before .before .before .before .before .before .before .before .before .before .before .before
-    .before .before .before .before .before .before in
-    let r = c .before .before .before .before .before .before .entry-at in (
+    .before .before .before .before .before .before .before .before .before in
+    let r = c .before .before .before .before .before .before .before .entry-at in (
       s .pre .0,
       below-le (s .args .len) (length (s .args .x .now)) (s .args .near .now) (omega (arith, s .pre .3)) (s .pre .1),
       rw (r .ensures) (s .pre .7),
@@ -100,14 +100,16 @@ is-enough-requires c κs = search needs
 make-one-requires : tie.Need-make-one-requires
 make-one-requires c κs =
     let p = c .before .before .before .before .before .before .before .before .before .before .before .before .before .before
-    .before .before .before .before .before .before .before .before .before .before .before .before .before .before .before .pre in
-    (p .0, p .1, p .2, omega (arith, p .3), p .4, p .5, p .6)
+    .before .before .before .before .before .before .before .before .before .before .before .before .before .before .before
+    .before .before .before .before .pre in
+    (p .0, p .1, p .2, omega (arith, p .3), p .4, p .5, p .6, p .8)
 
 add-result : tie.Need-add-result
 add-result c =
     let s = c .before .before .before .before .before .before .before .before .before .before .before .before .before .before
     .before .before .before .before .before .before .before .before .before .before .before .before .before .before .before
-    .before .before .before .before .before .before .before .before .before .before .before .before .before in
+    .before .before .before .before .before .before .before .before .before .before .before .before .before .before .before
+    .before .before .before .before in
     omega (arith, s .pre .3, s .good .0 .0)
 
 same-length : tie.Need-same-length
@@ -128,10 +130,13 @@ same-length-5 c = kept-made (making c) .kp
 same-length-6 : tie.Need-same-length-6
 same-length-6 c = kept-made (making c) .kn
 
+same-length-7 : tie.Need-same-length-7
+same-length-7 c = kept-made (making c) .kw
+
 returns : tie.Need-returns
 returns c =
     let v = making c in
-    let t = v .before .before .before .before .before .before .before in
+    let t = v .before .before .before .before .before .before .before .before in
     let k = t .before .before in
     let s = start-of k in
     let a = s .args in
@@ -142,31 +147,35 @@ returns c =
 leave-one-requires : tie.Need-leave-one-requires
 leave-one-requires c κs =
     let p = c .before .before .before .before .before .before .before .before .before .before .before .before .before .before
-    .before .before .before .before .before .before .before .before .before .before .before .before .before .before .before .pre in
+    .before .before .before .before .before .before .before .before .before .before .before .before .before .before .before
+    .before .before .before .before .pre in
     (p .0, p .1, p .2, p .3)
 
-same-length-7 : tie.Need-same-length-7
-same-length-7 c = kept-left (leaving c) .kx
-
 same-length-8 : tie.Need-same-length-8
-same-length-8 c = kept-left (leaving c) .ky
+same-length-8 c = kept-left (leaving c) .kx
 
 same-length-9 : tie.Need-same-length-9
-same-length-9 c = kept-left (leaving c) .ks
+same-length-9 c = kept-left (leaving c) .ky
 
 same-length-10 : tie.Need-same-length-10
-same-length-10 c = kept-left (leaving c) .ki
+same-length-10 c = kept-left (leaving c) .ks
 
 same-length-11 : tie.Need-same-length-11
-same-length-11 c = kept-left (leaving c) .kp
+same-length-11 c = kept-left (leaving c) .ki
 
 same-length-12 : tie.Need-same-length-12
-same-length-12 c = kept-left (leaving c) .kn
+same-length-12 c = kept-left (leaving c) .kp
+
+same-length-13 : tie.Need-same-length-13
+same-length-13 c = kept-left (leaving c) .kn
+
+same-length-14 : tie.Need-same-length-14
+same-length-14 c = kept-left (leaving c) .kw
 
 returns-2 : tie.Need-returns-2
 returns-2 c =
     let v = leaving c in
-    let t = v .before .before .before .before .before .before .before in
+    let t = v .before .before .before .before .before .before .before .before in
     let k = t .before .before in
     let s = start-of k in
     let a = s .args in
@@ -189,12 +198,14 @@ visit-one-spec =
     same-length-4
     same-length-5
     same-length-6
+    same-length-7
     returns
     leave-one-requires
-    same-length-7
     same-length-8
     same-length-9
     same-length-10
     same-length-11
     same-length-12
+    same-length-13
+    same-length-14
     returns-2)

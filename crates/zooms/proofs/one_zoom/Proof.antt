@@ -11,7 +11,7 @@ use Rattle.zooms.specs.Zooms.{Plan, planOf}
 use Rattle.zoom.specs.Near.{Radius}
 use Rattle.zooms.specs.Running.{Running, cur-promised}
 use Rattle.zooms.specs.OwnPlace.{cur-slotted, cur-owned}
-use Rattle.zooms.specs.Zooming.{Zoomed, z-few, step-room, step-light, step-radius, step-placed, made-some, made-few, made-body, scanned, inside-made, advanced}
+use Rattle.zooms.specs.Zooming.{Zoomed, z-few, step-room, step-light, step-watts, step-radius, step-placed, made-some, made-few, made-body, scanned, inside-made, advanced}
 use Rattle.zooms.proofs.one_zoom.Statement.{statement}
 use Rattle.zooms.proofs.one_zoom.Tie as tie
 
@@ -21,7 +21,7 @@ abbrev plan : tie.Start → Plan
 plan s = planOf (s .args .o) (s .args .n)
 
 abbrev columns : tie.Start → Cols
-columns s = let a = s .args in (given (a .x) (a .y) (a .seen) (a .id) (a .parent) (a .num))
+columns s = let a = s .args in (given (a .x) (a .y) (a .seen) (a .id) (a .parent) (a .num) (a .energy))
 
 abbrev table : tie.Start → Table
 table s = rows (columns s)
@@ -38,13 +38,13 @@ room s = let a = s .args in step-room (plan s) (length (a .x .now)) (a .z) (a .s
 -- ---- and after the scan
 
 abbrev start-of : tie.After-zoom-step → tie.Start
-start-of w = w .before .before .before .before .before .before .before .before .before .before .before .before .before .before .before .before .before .before .before .before
+start-of w = w .before .before .before .before .before .before .before .before .before .before .before .before .before .before .before .before .before .before .before .before .before .before
 
 abbrev came : tie.After-zoom-step → Cols
-came c = let w = c .zoom-step in (cols (w .last .0) (w .last .1 .0) (w .last .1 .1 .0) (w .last .1 .1 .1 .0) (w .last .1 .1 .1 .1 .0) (w .last .1 .1 .1 .1 .1 .0))
+came c = let w = c .zoom-step in (cols (w .last .0) (w .last .1 .0) (w .last .1 .1 .0) (w .last .1 .1 .1 .0) (w .last .1 .1 .1 .1 .0) (w .last .1 .1 .1 .1 .1 .0) (w .last .1 .1 .1 .1 .1 .1 .0))
 
 kept-by : (c : tie.After-zoom-step) → Kept (columns (start-of c)) (came c)
-kept-by c = let w = c .zoom-step in (record { kx = w .kept .0; ky = w .kept .1 .0; ks = w .kept .1 .1 .0; ki = w .kept .1 .1 .1 .0; kp = w .kept .1 .1 .1 .1 .0; kn = w .kept .1 .1 .1 .1 .1 .0 })
+kept-by c = let w = c .zoom-step in (record { kx = w .kept .0; ky = w .kept .1 .0; ks = w .kept .1 .1 .0; ki = w .kept .1 .1 .1 .0; kp = w .kept .1 .1 .1 .1 .0; kn = w .kept .1 .1 .1 .1 .1 .0; kw = w .kept .1 .1 .1 .1 .1 .1 .0 })
 
 even : (w : tie.After-zoom-step) → Even (came w)
 even w = even-kept (columns (start-of w)) (came w) (kept-by w) (start-of w .pre .0)
@@ -53,7 +53,7 @@ zoomed : (w : tie.After-zoom-step) → let a = start-of w .args in Zoomed (plan 
 zoomed w =
     let s = start-of w in
     let a = s .args in
-    let r = w .before .before .before .before .before .before .before .before .before .before .radius-at in
+    let r = w .before .before .before .before .before .before .before .before .before .before .before .radius-at in
     scanned (plan s) (length (a .x .now)) (a .z) (a .start) (a .len) (table s) (a .ids .now) (a .coords .now) (s .pre .2) (running s) (r .result) (r .ensures) (rows (came w)) (w .zoom-step .result) (w .zoom-step .ensures)
 
 some : (w : tie.After-zoom-step) → 1 ≤ w .zoom-step .result
@@ -62,21 +62,21 @@ some w = let s = start-of w in let a = s .args in omega (arith, zoomed w .count,
 short : (w : tie.After-zoom-step) → w .zoom-step .result ≤ start-of w .args .len
 short w = let s = start-of w in let a = s .args in omega (arith, zoomed w .count, made-few (plan s) (length (a .x .now)) (a .z) (a .start) (a .len) (table s) (a .ids .now) (a .coords .now) (s .pre .2) (running s))
 
-abbrev indexed-of : tie.After-slice-known18 → tie.After-index-part
+abbrev indexed-of : tie.After-slice-known20 → tie.After-index-part
 indexed-of c = c .before .before .before .before
 
 abbrev step-of : tie.After-index-part → tie.After-zoom-step
-step-of c = c .before .before .before .before .before .before .before .before .before .before .before .before .before .before .before .before .before .before .before
+step-of c = c .before .before .before .before .before .before .before .before .before .before .before .before .before .before .before .before .before .before .before .before .before
 
 radius-at-requires : tie.Need-radius-at-requires
-radius-at-requires c κs = omega (arith, few (c .before .before .before .before .before .before .before .before .before))
+radius-at-requires c κs = omega (arith, few (c .before .before .before .before .before .before .before .before .before .before))
 
 zoom-step-requires : tie.Need-zoom-step-requires
 zoom-step-requires c κs =
-    let s = c .before .before .before .before .before .before .before .before .before .before .before .before .before .before .before .before .before .before .before in
+    let s = c .before .before .before .before .before .before .before .before .before .before .before .before .before .before .before .before .before .before .before .before .before in
     let a = s .args in
     let r = running s in
-    let rad = c .before .before .before .before .before .before .before .before .before .radius-at in
+    let rad = c .before .before .before .before .before .before .before .before .before .before .radius-at in
     let radius : Radius (rad .result) = rw (rad .ensures) (step-radius (plan s) (length (a .x .now)) (a .z) (a .start) (a .len) (table s) (a .ids .now) (a .coords .now) (s .pre .2) (running s)) in (
       s .pre .0,
       cur-promised (plan s) (length (a .x .now)) (suc (a .z - a .o .«min_zoom»)) (a .start) (a .len) (table s) (a .ids .now) (a .coords .now) r,
@@ -93,14 +93,15 @@ zoom-step-requires c κs =
       few s,
       cur-slotted (plan s) (length (a .x .now)) (suc (a .z - a .o .«min_zoom»)) (a .start) (a .len) (table s) (a .ids .now) (a .coords .now) r,
       cur-owned (plan s) (length (a .x .now)) (suc (a .z - a .o .«min_zoom»)) (a .start) (a .len) (table s) (a .ids .now) (a .coords .now) r (rad .result) (radius .0),
+      step-watts (plan s) (length (a .x .now)) (a .z) (a .start) (a .len) (table s) (a .ids .now) (a .coords .now) (s .pre .2) (running s),
     )
 
 add-next : tie.Need-add-next
-add-next c = let s = c .before .before .before .before .before .before .before .before .before .before .before .before .before .before .before .before .before .before .before .before .before .before .before .before .before .before .before .before .before .before .before .before .before .before in omega (arith, room s, running s .M-few)
+add-next c = let s = c .before .before .before .before .before .before .before .before .before .before .before .before .before .before .before .before .before .before .before .before .before .before .before .before .before .before .before .before .before .before .before .before .before .before .before .before .before .before in omega (arith, room s, running s .M-few)
 
 index-part-requires : tie.Need-index-part-requires
 index-part-requires c κs =
-    let w = c .before .before .before .before .before .before .before .before .before .before .before .before .before .before .before .before .before .before in
+    let w = c .before .before .before .before .before .before .before .before .before .before .before .before .before .before .before .before .before .before .before .before in
     let s = start-of w in
     let a = s .args in
     let r = running s in
@@ -131,13 +132,16 @@ same-length-6 : tie.Need-same-length-6
 same-length-6 c = kept-by (step-of (indexed-of c)) .kn
 
 same-length-7 : tie.Need-same-length-7
-same-length-7 c = indexed-of c .index-part .kept .1 .1 .0
+same-length-7 c = kept-by (step-of (indexed-of c)) .kw
 
 same-length-8 : tie.Need-same-length-8
-same-length-8 c = indexed-of c .index-part .kept .1 .1 .1 .0
+same-length-8 c = indexed-of c .index-part .kept .1 .1 .0
 
 same-length-9 : tie.Need-same-length-9
-same-length-9 c = step-of (indexed-of c) .zoom-step .kept .1 .1 .1 .1 .1 .1 .1 .1 .0
+same-length-9 c = indexed-of c .index-part .kept .1 .1 .1 .0
+
+same-length-10 : tie.Need-same-length-10
+same-length-10 c = step-of (indexed-of c) .zoom-step .kept .1 .1 .1 .1 .1 .1 .1 .1 .1 .0
 
 returns : tie.Need-returns
 returns c =
@@ -166,4 +170,5 @@ one-zoom-spec =
     same-length-7
     same-length-8
     same-length-9
+    same-length-10
     returns)

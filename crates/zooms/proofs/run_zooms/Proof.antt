@@ -18,50 +18,50 @@ use Rattle.zooms.proofs.run_zooms.Statement.{statement}
 use Rattle.zooms.proofs.run_zooms.Tie as tie
 
 abbrev Inv-loop : tie.InvT-loop
-Inv-loop x₀ y₀ seen₀ id₀ parent₀ num₀ ids₀ coords₀ near₀ n o low st₀ z₀ start₀ len₀ x y seen id parent num ids coords near st z start len =
-    Even (cols x y seen id parent num) × (length x ≡ length x₀) × (length near ≡ length near₀) × (o .«min_zoom» ≤ z) ×
-    Running (planOf o n) (length x₀) (z - o .«min_zoom») start len (rows (cols x y seen id parent num)) ids coords ×
-    Progress (planOf o n) (wholeOf (planOf o n) (z₀ - o .«min_zoom») (part 0 len₀ (rows (cols x₀ y₀ seen₀ id₀ parent₀ num₀))) (st₀ .starts) (st₀ .lens))
-    (rows (cols x₀ y₀ seen₀ id₀ parent₀ num₀)) ids₀ coords₀ (z - o .«min_zoom») start len (rows (cols x y seen id parent num)) ids coords (st .starts) (st .lens) ×
+Inv-loop x₀ y₀ seen₀ id₀ parent₀ num₀ energy₀ ids₀ coords₀ near₀ n o low st₀ z₀ start₀ len₀ x y seen id parent num energy ids coords near st z start len =
+    Even (cols x y seen id parent num energy) × (length x ≡ length x₀) × (length near ≡ length near₀) × (o .«min_zoom» ≤ z) ×
+    Running (planOf o n) (length x₀) (z - o .«min_zoom») start len (rows (cols x y seen id parent num energy)) ids coords ×
+    Progress (planOf o n) (wholeOf (planOf o n) (z₀ - o .«min_zoom») (part 0 len₀ (rows (cols x₀ y₀ seen₀ id₀ parent₀ num₀ energy₀))) (st₀ .starts) (st₀ .lens))
+    (rows (cols x₀ y₀ seen₀ id₀ parent₀ num₀ energy₀)) ids₀ coords₀ (z - o .«min_zoom») start len (rows (cols x y seen id parent num energy)) ids coords (st .starts) (st .lens) ×
     (st .options ≡ st₀ .options) × (st .count ≡ st₀ .count)
 
 abbrev μ-loop : tie.MeasureT-loop
-μ-loop x₀ y₀ seen₀ id₀ parent₀ num₀ ids₀ coords₀ near₀ n o low st₀ z₀ start₀ len₀ x y seen id parent num ids coords near st z start len = z
+μ-loop x₀ y₀ seen₀ id₀ parent₀ num₀ energy₀ ids₀ coords₀ near₀ n o low st₀ z₀ start₀ len₀ x y seen id parent num energy ids coords near st z start len = z
 
 -- ---- the places
 
 abbrev start-of : tie.At-loop Inv-loop μ-loop → tie.Start Inv-loop μ-loop
-start-of h = h .before .before .before .before .before .before .before .before .before .before .before .before
+start-of h = h .before .before .before .before .before .before .before .before .before .before .before .before .before
 
 abbrev test-of : tie.After-one-zoom Inv-loop μ-loop → tie.In-loop Inv-loop μ-loop
-test-of c = c .before .before .before .before .before .before .before .before .before .before
+test-of c = c .before .before .before .before .before .before .before .before .before .before .before
 
-abbrev zoom-of : tie.After-slice-known18 Inv-loop μ-loop → tie.After-one-zoom Inv-loop μ-loop
-zoom-of c = c .before .before .before .before .before .before .before .before .before .before .before .before .before .before .before .before .before .before
+abbrev zoom-of : tie.After-slice-known20 Inv-loop μ-loop → tie.After-one-zoom Inv-loop μ-loop
+zoom-of c = c .before .before .before .before .before .before .before .before .before .before .before .before .before .before .before .before .before .before .before .before
 
 abbrev plan : tie.Start Inv-loop μ-loop → Plan
 plan s = planOf (s .args .s .options) (s .args .n)
 
 abbrev columns : tie.Start Inv-loop μ-loop → Cols
-columns s = let a = s .args in (given (a .x) (a .y) (a .seen) (a .id) (a .parent) (a .num))
+columns s = let a = s .args in (given (a .x) (a .y) (a .seen) (a .id) (a .parent) (a .num) (a .energy))
 
 abbrev first : tie.Start Inv-loop μ-loop → Table
 first s = rows (columns s)
 
 abbrev here : tie.At-loop Inv-loop μ-loop → Cols
-here h = let l = h .loop in (cols (l .x) (l .y) (l .seen) (l .id) (l .parent) (l .num))
+here h = let l = h .loop in (cols (l .x) (l .y) (l .seen) (l .id) (l .parent) (l .num) (l .energy))
 
 abbrev table : tie.At-loop Inv-loop μ-loop → Table
 table h = rows (here h)
 
 abbrev came : tie.After-one-zoom Inv-loop μ-loop → Cols
-came c = let w = c .one-zoom in (cols (w .last .0) (w .last .1 .0) (w .last .1 .1 .0) (w .last .1 .1 .1 .0) (w .last .1 .1 .1 .1 .0) (w .last .1 .1 .1 .1 .1 .0))
+came c = let w = c .one-zoom in (cols (w .last .0) (w .last .1 .0) (w .last .1 .1 .0) (w .last .1 .1 .1 .0) (w .last .1 .1 .1 .1 .0) (w .last .1 .1 .1 .1 .1 .0) (w .last .1 .1 .1 .1 .1 .1 .0))
 
 abbrev next : tie.After-one-zoom Inv-loop μ-loop → Table
 next w = rows (came w)
 
 kept-zoom : (c : tie.After-one-zoom Inv-loop μ-loop) → Kept (here (test-of c .before)) (came c)
-kept-zoom c = let w = c .one-zoom in (record { kx = w .kept .0; ky = w .kept .1 .0; ks = w .kept .1 .1 .0; ki = w .kept .1 .1 .1 .0; kp = w .kept .1 .1 .1 .1 .0; kn = w .kept .1 .1 .1 .1 .1 .0 })
+kept-zoom c = let w = c .one-zoom in (record { kx = w .kept .0; ky = w .kept .1 .0; ks = w .kept .1 .1 .0; ki = w .kept .1 .1 .1 .0; kp = w .kept .1 .1 .1 .1 .0; kn = w .kept .1 .1 .1 .1 .1 .0; kw = w .kept .1 .1 .1 .1 .1 .1 .0 })
 
 kept-by : (h : tie.At-loop Inv-loop μ-loop) → Kept (columns (start-of h)) (here h)
 kept-by h = kept-even (columns (start-of h)) (here h) (start-of h .pre .0) (h .loop .inv .0) (h .loop .inv .1)
@@ -79,7 +79,7 @@ same : (w : tie.After-one-zoom Inv-loop μ-loop) → length (next w) ≡ length 
 same w = rows-length (came w) ∙ kept-zoom w .kx ∙ sym (rows-length (here (test-of w .before)))
 
 moved : (w : tie.After-one-zoom Inv-loop μ-loop) → let c = test-of w in let l = c .before .loop in let s = start-of (c .before) in let q = w .one-zoom .last in
-    Running (plan s) (length (s .args .x .now)) (l .z - 1 - s .args .s .options .«min_zoom») (l .start + l .len) (w .one-zoom .result) (next w) (q .1 .1 .1 .1 .1 .1 .0) (q .1 .1 .1 .1 .1 .1 .1 .0)
+    Running (plan s) (length (s .args .x .now)) (l .z - 1 - s .args .s .options .«min_zoom») (l .start + l .len) (w .one-zoom .result) (next w) (q .1 .1 .1 .1 .1 .1 .1 .0) (q .1 .1 .1 .1 .1 .1 .1 .1 .0)
 moved w =
     let c = test-of w in
     let s = start-of (c .before) in
@@ -87,14 +87,14 @@ moved w =
     let z = w .one-zoom in
     let q = z .last in
     turn-running (plan s) (length (s .args .x .now)) (l .z) (l .start) (l .len) (table (c .before)) (l .ids) (l .coords) (c .loop-test .taken) (l .inv .4)
-    (z .result) (next w) (q .1 .1 .1 .1 .1 .1 .0) (q .1 .1 .1 .1 .1 .1 .1 .0) (z .ensures) (same w) (z .kept .1 .1 .1 .1 .1 .1 .0) (z .kept .1 .1 .1 .1 .1 .1 .1 .0)
+    (z .result) (next w) (q .1 .1 .1 .1 .1 .1 .1 .0) (q .1 .1 .1 .1 .1 .1 .1 .1 .0) (z .ensures) (same w) (z .kept .1 .1 .1 .1 .1 .1 .1 .0) (z .kept .1 .1 .1 .1 .1 .1 .1 .1 .0)
 
 add-z : tie.Need-add-z Inv-loop μ-loop
-add-z c = let s = c .before .before .before .before .before .before .before .before .before .before .before in omega (arith, s .pre .3 .low-few, s .pre .2)
+add-z c = let s = c .before .before .before .before .before .before .before .before .before .before .before .before in omega (arith, s .pre .3 .low-few, s .pre .2)
 
 loop-holds : tie.Need-loop-holds Inv-loop μ-loop
 loop-holds c =
-    let s = c .before .before .before .before .before .before .before .before .before .before .before in
+    let s = c .before .before .before .before .before .before .before .before .before .before .before .before in
     let a = s .args in (
       s .pre .0,
       refl,
@@ -111,7 +111,7 @@ sub-z c = omega (arith, c .loop-test .taken)
 
 one-zoom-requires : tie.Need-one-zoom-requires Inv-loop μ-loop
 one-zoom-requires c κs =
-    let t = c .before .before .before .before .before .before .before .before .before in
+    let t = c .before .before .before .before .before .before .before .before .before .before in
     let s = start-of (t .before) in
     let l = t .before .loop in (
       l .inv .0,
@@ -151,11 +151,11 @@ loop-again c =
     let e = c .with-table .ensures in (
       even-kept (here (t .before)) (came w) (kept-zoom w) (l .inv .0),
       k .0 ∙ l .inv .1,
-      k .1 .1 .1 .1 .1 .1 .1 .1 .0 ∙ l .inv .2,
+      k .1 .1 .1 .1 .1 .1 .1 .1 .1 .0 ∙ l .inv .2,
       omega (arith, t .loop-test .taken),
       moved w,
       turn-progress (plan s) (length (a .x .now)) (l .z) (l .start) (l .len) (table (t .before)) (l .ids) (l .coords) (t .loop-test .taken) (l .inv .4)
-          (z .result) (next w) (q .1 .1 .1 .1 .1 .1 .0) (q .1 .1 .1 .1 .1 .1 .1 .0) (z .ensures) (same w) (k .1 .1 .1 .1 .1 .1 .0) (k .1 .1 .1 .1 .1 .1 .1 .0)
+          (z .result) (next w) (q .1 .1 .1 .1 .1 .1 .1 .0) (q .1 .1 .1 .1 .1 .1 .1 .1 .0) (z .ensures) (same w) (k .1 .1 .1 .1 .1 .1 .1 .0) (k .1 .1 .1 .1 .1 .1 .1 .1 .0)
           (wholeOf (plan s) (zoomsOf (a .s .options)) (part 0 (a .n) (first s)) (a .s .starts) (a .s .lens)) (first s) (a .ids .now) (a .coords .now)
           (l .st .starts) (l .st .lens) (c .with-table .result .starts) (c .with-table .result .lens) (l .inv .5) (ap (λ (v : State). v .starts) e) (ap (λ (v : State). v .lens) e),
       ap (λ (v : State). v .options) e ∙ l .inv .6,
@@ -181,13 +181,16 @@ same-length-6 : tie.Need-same-length-6 Inv-loop μ-loop
 same-length-6 c = kept-by (c .before) .kn
 
 same-length-7 : tie.Need-same-length-7 Inv-loop μ-loop
-same-length-7 c = c .before .loop .inv .4 .ids-long ∙ sym (start-of (c .before) .pre .3 .ids-long)
+same-length-7 c = kept-by (c .before) .kw
 
 same-length-8 : tie.Need-same-length-8 Inv-loop μ-loop
-same-length-8 c = c .before .loop .inv .4 .co-long ∙ sym (start-of (c .before) .pre .3 .co-long)
+same-length-8 c = c .before .loop .inv .4 .ids-long ∙ sym (start-of (c .before) .pre .3 .ids-long)
 
 same-length-9 : tie.Need-same-length-9 Inv-loop μ-loop
-same-length-9 c = c .before .loop .inv .2
+same-length-9 c = c .before .loop .inv .4 .co-long ∙ sym (start-of (c .before) .pre .3 .co-long)
+
+same-length-10 : tie.Need-same-length-10 Inv-loop μ-loop
+same-length-10 c = c .before .loop .inv .2
 
 returns : tie.Need-returns Inv-loop μ-loop
 returns c =
@@ -223,4 +226,5 @@ run-zooms-spec =
     same-length-7
     same-length-8
     same-length-9
+    same-length-10
     returns)

@@ -13,7 +13,7 @@ use Rattle.zooms.proofs.zoom_step.Statement.{statement}
 use Rattle.zooms.proofs.zoom_step.Tie as tie
 
 abbrev columns : tie.Start → Cols
-columns s = let a = s .args in (given (a .x) (a .y) (a .seen) (a .id) (a .parent) (a .num))
+columns s = let a = s .args in (given (a .x) (a .y) (a .seen) (a .id) (a .parent) (a .num) (a .energy))
 
 -- the lent parts of the index's columns
 ids-part : (s : tie.Start) → s .args .start + s .args .len - s .args .start ≡ s .args .len
@@ -30,20 +30,20 @@ lent-rows : (s : tie.Start) → rows (lent s) ≡ drop (s .args .start) (rows (c
 lent-rows s = rows-from (s .args .start) (columns s)
 
 -- after the scan
-abbrev scan-of : tie.After-slice-known14 → tie.After-cluster
-scan-of c = c .before .before .before .before .before .before .before .before .before .before .before .before .before .before
+abbrev scan-of : tie.After-slice-known16 → tie.After-cluster
+scan-of c = c .before .before .before .before .before .before .before .before .before .before .before .before .before .before .before .before
 
 abbrev start-of : tie.After-cluster → tie.Start
-start-of c = c .before .before .before .before .before .before .before .before .before .before .before .before .before .before .before .before .before .before .before
+start-of c = c .before .before .before .before .before .before .before .before .before .before .before .before .before .before .before .before .before .before .before .before .before
 
 abbrev came : tie.After-cluster → Cols
-came c = let w = c .cluster in (cols (w .last .0) (w .last .1 .0) (w .last .1 .1 .0) (w .last .1 .1 .1 .0) (w .last .1 .1 .1 .1 .0) (w .last .1 .1 .1 .1 .1 .0))
+came c = let w = c .cluster in (cols (w .last .0) (w .last .1 .0) (w .last .1 .1 .0) (w .last .1 .1 .1 .0) (w .last .1 .1 .1 .1 .0) (w .last .1 .1 .1 .1 .1 .0) (w .last .1 .1 .1 .1 .1 .1 .0))
 
 kept-by : (c : tie.After-cluster) → Kept (columns (start-of c)) (each2 (λ A l q. back (start-of c .args .start) l q) (columns (start-of c)) (came c))
 kept-by c =
     let s = start-of c in
     let w = c .cluster in
-    let k : Kept (lent s) (came c) = (record { kx = w .kept .0; ky = w .kept .1 .0; ks = w .kept .1 .1 .0; ki = w .kept .1 .1 .1 .0; kp = w .kept .1 .1 .1 .1 .0; kn = w .kept .1 .1 .1 .1 .1 .0 }) in
+    let k : Kept (lent s) (came c) = (record { kx = w .kept .0; ky = w .kept .1 .0; ks = w .kept .1 .1 .0; ki = w .kept .1 .1 .1 .0; kp = w .kept .1 .1 .1 .1 .0; kn = w .kept .1 .1 .1 .1 .1 .0; kw = w .kept .1 .1 .1 .1 .1 .1 .0 }) in
     kept-back (s .args .start) (columns s) (came c) k
 
 add-end : tie.Need-add-end
@@ -148,9 +148,21 @@ part-cluster-start-8 c = search needs
 part-cluster-end-8 : tie.Need-part-cluster-end-8
 part-cluster-end-8 c = search needs
 
+mul-cluster-8 : tie.Need-mul-cluster-8
+mul-cluster-8 c = search needs
+
+sub-cluster-9 : tie.Need-sub-cluster-9
+sub-cluster-9 c = search needs
+
+part-cluster-start-9 : tie.Need-part-cluster-start-9
+part-cluster-start-9 c = search needs
+
+part-cluster-end-9 : tie.Need-part-cluster-end-9
+part-cluster-end-9 c = search needs
+
 cluster-requires : tie.Need-cluster-requires
 cluster-requires c κs =
-    let s = c .before .before .before .before .before .before .before .before .before .before .before .before .before .before .before .before .before .before in
+    let s = c .before .before .before .before .before .before .before .before .before .before .before .before .before .before .before .before .before .before .before .before in
     let a = s .args in
     let p = s .pre in (
       even-from (a .start) (columns s) (p .0),
@@ -165,6 +177,7 @@ cluster-requires c κs =
       p .11,
       p .12,
       rw (lent-rows s) (p .8),
+      rw (lent-rows s) (p .15),
     )
 
 same-length : tie.Need-same-length
@@ -186,7 +199,10 @@ same-length-6 : tie.Need-same-length-6
 same-length-6 c = kept-by (scan-of c) .kn
 
 same-length-7 : tie.Need-same-length-7
-same-length-7 c = scan-of c .cluster .kept .1 .1 .1 .1 .1 .1 .1 .1 .0
+same-length-7 c = kept-by (scan-of c) .kw
+
+same-length-8 : tie.Need-same-length-8
+same-length-8 c = scan-of c .cluster .kept .1 .1 .1 .1 .1 .1 .1 .1 .1 .0
 
 returns : tie.Need-returns
 returns c =
@@ -234,6 +250,10 @@ zoom-step-spec =
     sub-cluster-8
     part-cluster-start-8
     part-cluster-end-8
+    mul-cluster-8
+    sub-cluster-9
+    part-cluster-start-9
+    part-cluster-end-9
     cluster-requires
     same-length
     same-length-2
@@ -242,4 +262,5 @@ zoom-step-spec =
     same-length-5
     same-length-6
     same-length-7
+    same-length-8
     returns)

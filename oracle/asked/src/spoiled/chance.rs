@@ -1,7 +1,8 @@
 //! Tables of clusters by chance. Their entries lie so close that every search for children finds all of them;
 //! parents are clusters of their table, and clusters name some of which there are children.
 
-use crate::{Build, Columns};
+use crate::Build;
+use columns::{Columns, Entry};
 use options::{corners, Options, Plane};
 use points::{Points, Shape};
 use questions::{encoded, State, ZOOMS};
@@ -52,7 +53,8 @@ fn made(
         // The equator, of which y is known to the bit.
         (points[1], ys) = (vec![0.0; count], vec![0.5; count]);
     }
-    Build { what: what.to_string(), points, ys, on_the_globe, state, columns }
+    let energies = columns.energy[..count].to_vec();
+    Build { what: what.to_string(), points, ys, energies, on_the_globe, state, columns }
 }
 
 /// Tables on their way, and the ids of clusters that have children in them.
@@ -96,13 +98,11 @@ impl Tables {
         if parent != u32::MAX {
             self.parents.push(parent);
         }
-        let Columns { x, y, seen, id: ids, parent: parents, num: nums, .. } = &mut self.columns;
-        x.push(near(source));
-        y.push(near(source));
-        seen.push(source.bits() as u8);
-        ids.push(id);
-        parents.push(parent);
-        nums.push(num);
+        let [x, y] = [near(source), near(source)];
+        let seen = source.bits() as u8;
+        // Any energy: no question looks at it.
+        let energy = Splitmix(x.to_bits() ^ u64::from(id)).bits();
+        self.columns.push_entry(&Entry { x, y, seen, id, parent, num, energy });
     }
 
     /// The index: the entries, each in one slot, in any order.

@@ -105,6 +105,14 @@ pub fn nums(build: &mut Build, source: &mut Splitmix) {
     });
 }
 
+/// Energies, which no question looks at: any.
+pub fn energies(build: &mut Build, source: &mut Splitmix) {
+    some(&mut build.columns.energy, source, |_, source| match source.below(3) {
+        0 => source.pick(&[0, u64::MAX, 1 << 63]),
+        _ => source.bits(),
+    });
+}
+
 /// Marks, which no question looks at.
 pub fn marks(build: &mut Build, source: &mut Splitmix) {
     some(&mut build.columns.seen, source, |_, source| source.bits() as u8);

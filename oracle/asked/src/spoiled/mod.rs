@@ -7,7 +7,7 @@ mod most;
 mod slots;
 mod states;
 
-use crate::{large, Build, Form};
+use crate::{large, lengthen, Build, Form};
 use options::{corners, Options};
 use splitmix::Splitmix;
 
@@ -15,7 +15,7 @@ use splitmix::Splitmix;
 type Change = fn(&mut Build, &mut Splitmix);
 
 /// The changes, by their names.
-const CHANGES: [(&str, Change); 22] = [
+const CHANGES: [(&str, Change); 23] = [
     ("a length", states::length),
     ("a start", states::start),
     ("the count", states::count),
@@ -35,6 +35,7 @@ const CHANGES: [(&str, Change); 22] = [
     ("sole children", entries::sole_children),
     ("nums", entries::nums),
     ("marks", entries::marks),
+    ("energies", entries::energies),
     ("coordinates of slots", slots::coordinates),
     ("slots past the table", slots::past_the_table),
     ("slots named twice", slots::named_twice),
@@ -80,7 +81,7 @@ fn changed_slots(
 /// A state with a number for its name: what it is made of is changed once, or not at all, or up to three times.
 pub fn one(number: usize, source: &mut Splitmix) -> Build {
     let mut build = base(source);
-    build.columns.lengthen(source);
+    lengthen(&mut build.columns, source);
     let mut what = format!("spoiled {number}: {}", build.what);
     for _ in 0..source.pick(&[0, 1, 1, 1, 1, 1, 2, 3]) {
         let (name, change) = source.pick(&CHANGES);

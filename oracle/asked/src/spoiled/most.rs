@@ -1,6 +1,7 @@
 //! As many points as a build can have, and one more.
 
-use crate::{Build, Columns};
+use crate::Build;
+use columns::{Columns, Entry, Slot};
 use options::{Options, USUAL};
 use questions::{State, MOST_POINTS, ZOOMS};
 
@@ -13,23 +14,20 @@ pub fn states() -> [Build; 2] {
         let columns = row(count);
         let points = [&columns.x, &columns.y].map(|column| column[..count as usize].to_vec());
         let ys = points[1].clone();
+        let energies = vec![1; count as usize];
         let state = State { options, count, starts, lens };
-        Build { what: format!("{count} lamps"), points, ys, on_the_globe: false, state, columns }
+        let what = format!("{count} lamps");
+        Build { what, points, ys, energies, on_the_globe: false, state, columns }
     })
 }
 
 /// Lamps in a row, which is in order as an index too, and the first of them once more.
 fn row(count: u32) -> Columns {
-    let places: Vec<u32> = (0..count).chain([0]).collect();
-    let x: Vec<f64> = places.iter().map(|place| f64::from(*place) / f64::from(count)).collect();
-    Columns {
-        y: vec![0.5; x.len()],
-        seen: vec![0; x.len()],
-        parent: vec![u32::MAX; x.len()],
-        num: vec![1; x.len()],
-        coords: x.iter().flat_map(|x| [*x, 0.5]).collect(),
-        id: places.clone(),
-        ids: places,
-        x,
+    let mut columns = Columns::default();
+    for place in (0..count).chain([0]) {
+        let [x, y] = [f64::from(place) / f64::from(count), 0.5];
+        let lamp = Entry { x, y, seen: 0, id: place, parent: u32::MAX, num: 1, energy: 1 };
+        columns.push(&lamp, &Slot { place, at: [x, y] });
     }
+    columns
 }

@@ -1,6 +1,7 @@
 //! Changes of a state, and of how long its columns are.
 
 use crate::Build;
+use columns::{width, Change, Value, NAMES};
 use options::{Options, Plane, Range, UNIT};
 use questions::{State, MOST_POINTS, ZOOMS};
 use splitmix::Splitmix;
@@ -141,16 +142,24 @@ pub fn short_column(build: &mut Build, source: &mut Splitmix) {
         1 => end,
         _ => end.wrapping_sub(1),
     };
-    let columns = &mut build.columns;
-    match source.below(9) {
-        0 => columns.x.truncate(length),
-        1 => columns.y.truncate(length),
-        2 => columns.seen.truncate(length),
-        3 => columns.id.truncate(length),
-        4 => columns.parent.truncate(length),
-        5 => columns.num.truncate(length),
-        6 => columns.ids.truncate(length),
-        7 => columns.coords.truncate(length.saturating_mul(2)),
-        _ => columns.coords.truncate(length.saturating_mul(2).saturating_add(1)),
+    // The last but one has two numbers an entry, and may have one of them more.
+    let at = source.below(NAMES.len() as u64 + 1) as usize;
+    let odd = usize::from(at == NAMES.len());
+    let name = NAMES[at.min(NAMES.len() - 1)];
+    let length = length.saturating_mul(width(name)).saturating_add(odd);
+    build.columns.change(&mut Truncated { name, length });
+}
+
+/// One column, cut off.
+struct Truncated {
+    name: &'static str,
+    length: usize,
+}
+
+impl Change for Truncated {
+    fn column<T: Value>(&mut self, name: &'static str, column: &mut Vec<T>) {
+        if name == self.name {
+            column.truncate(self.length);
+        }
     }
 }

@@ -3,11 +3,13 @@
 
 use super::{changed, fences};
 use crate::{
-    load_vectors::tables,
+    load_vectors::{energies_of, tables},
     plain::{columns, points as in_parts, ABOVE_QUARTER, LAMPS, REACHED, REACHING, WORKED},
 };
-use asked::{few, rooms, spoiled, Build, Columns, Rooms, ODD_LONGITUDES};
+use asked::{few, rooms, spoiled, Build, Rooms, ODD_LONGITUDES};
 use beside::{judge::Untouched, Rust, Said};
+use builds::Tables;
+use columns::Given;
 use options::{corners, Options, Plane};
 use points::{Drawn, SHAPES};
 use questions::{Out, Question, State};
@@ -40,12 +42,14 @@ pub fn all() -> Vec<Case> {
 
 /// A build of points as the port takes them.
 pub fn built(what: &str, options: Options, points: [Vec<f64>; 2]) -> Build {
-    let tables = tables(&options, &points);
-    let (starts, lens) = (tables.starts, tables.lens);
-    let state = State { options, count: points[0].len() as u32, starts, lens };
-    let (ys, columns) = (points[1].clone(), Columns::from(tables));
+    let [xs, ys] = &points;
+    let energies = energies_of(&points);
+    let given = Given { xs, ys, energies: &energies };
+    let Tables { columns, starts, lens } = tables(&options, &given);
+    let state = State { options, count: xs.len() as u32, starts, lens };
+    let ys = ys.clone();
     // The Rust is asked for latitudes of which y is the same everywhere: the poles and the equator.
-    Build { what: what.to_string(), points, ys, on_the_globe: false, state, columns }
+    Build { what: what.to_string(), points, ys, energies, on_the_globe: false, state, columns }
 }
 
 /// Each question with lengths of output columns around its answer's.

@@ -10,7 +10,7 @@ use splitmix::Splitmix;
 const NONE: u32 = u32::MAX;
 
 /// The changes to the build of four lamps.
-const CHANGES: [fn(&mut Build); 16] = [
+const CHANGES: [fn(&mut Build); 18] = [
     // A child cluster with an id below N; a table that is not larger; one that is not built; an origin past
     // its table; no children.
     |build| build.columns.id[4] = 3,
@@ -32,6 +32,9 @@ const CHANGES: [fn(&mut Build); 16] = [
     // A slot past the table after a child of the cluster; no child of the cluster.
     |build| build.columns.ids[5] = 2,
     |build| (build.columns.parent[4], build.columns.parent[5]) = (NONE, NONE),
+    // Energies that no build leaves, and one energy less than there are entries.
+    |build| build.columns.energy = vec![u64::MAX; 7],
+    |build| build.columns.energy.truncate(6),
 ];
 
 /// A case for each, and the build of three lamps of which one cluster is found twice.

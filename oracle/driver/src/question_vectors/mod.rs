@@ -7,9 +7,10 @@ mod changed;
 mod fences;
 
 use crate::{load_vectors::option_words, questions::Over};
-use asked::{Build, Columns, Rooms};
+use asked::{Build, Rooms};
 use beside::Verdict;
 use cases::Case;
+use columns::{width, Read, Value};
 use questions::{Out, Outcome, Question, State};
 use std::io::{self, Write};
 
@@ -44,7 +45,9 @@ fn held_to_the_rust(Case { build, questions }: &Case) {
 fn words(Case { build, questions }: &Case) -> Vec<u64> {
     let mut words = option_words(&build.state.options);
     words.extend(state_words(&build.state));
-    words.extend(column_words(&build.columns));
+    let mut columns = Words(Vec::new());
+    build.columns.lent().read(&mut columns);
+    words.extend(columns.0);
     words.push(bounded(questions.len()));
     for (question, rooms) in questions {
         words.extend(question_words(question));
@@ -59,9 +62,13 @@ fn bounded(number: usize) -> u64 {
     number as u64
 }
 
-/// The bits of a float; one pattern for every NaN.
-fn bits(v: f64) -> u64 {
-    if v.is_nan() { f64::NAN } else { v }.to_bits()
+/// The bits of a number; one pattern for every NaN.
+fn bits<T: Value>(v: T) -> u64 {
+    if v != v {
+        f64::NAN.bits()
+    } else {
+        v.bits()
+    }
 }
 
 /// N, where the table of each zoom starts, and how long each is.
@@ -72,23 +79,15 @@ fn state_words(state: &State) -> Vec<u64> {
     words
 }
 
-/// The eight columns, each with its length before it.
-fn column_words(columns: &Columns) -> Vec<u64> {
-    let Columns { x, y, seen, id, parent, num, ids, coords } = columns;
-    let floats = |column: &[f64]| column.iter().map(|v| bits(*v)).collect::<Vec<_>>();
-    let wholes = |column: &[u32]| column.iter().map(|v| u64::from(*v)).collect::<Vec<_>>();
-    let seen = seen.iter().map(|v| u64::from(*v)).collect();
-    let entries =
-        [floats(x), floats(y), seen, wholes(id), wholes(parent), wholes(num), wholes(ids)];
-    let mut words = Vec::new();
-    for column in entries {
-        words.push(bounded(column.len()));
-        words.extend(column);
+/// The words of the columns, each with its length before it.
+struct Words(Vec<u64>);
+
+impl Read for Words {
+    fn column<T: Value>(&mut self, name: &'static str, column: &[T]) {
+        assert!(column.len() <= MOST * width(name), "{name} is too long for a case");
+        self.0.push(column.len() as u64);
+        self.0.extend(column.iter().map(|v| bits(*v)));
     }
-    assert!(coords.len() <= 2 * MOST, "{} coordinates are too many for a case", coords.len());
-    words.push(coords.len() as u64);
-    words.extend(floats(coords));
-    words
 }
 
 /// The kind of a question and its words.

@@ -75,9 +75,8 @@ impl Efforts {
     fn build(&mut self, build: &Build, source: &mut Splitmix) {
         let port = match Port::loaded(build) {
             Ok(port) => port,
-            Err(reply) => {
-                let difference = Some(format!("the port does not load: {reply:?}"));
-                return self.groups[ONE].compare(|| build.name(), difference);
+            Err(difference) => {
+                return self.groups[ONE].compare(|| build.name(), Some(difference));
             }
         };
         let asked = Asked { build, port, rust: Rust::loaded(build) };

@@ -43,7 +43,7 @@ pub fn each(form: Form, source: &mut Splitmix, mut compare: impl FnMut(&Both)) -
             continue;
         }
         let port = Port::loaded(&build);
-        let port = port.unwrap_or_else(|reply| panic!("{}: not loaded: {reply:?}", build.name()));
+        let port = port.unwrap_or_else(|how| panic!("{}: {how}", build.name()));
         compare(&Both { build: &build, port, rust: Rust::loaded(&build) });
         builds += 1;
     }

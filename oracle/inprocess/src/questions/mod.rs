@@ -7,6 +7,7 @@ pub mod columns;
 pub mod overlap;
 pub mod port;
 mod rust;
+mod short;
 
 use crate::{
     report::{finish, Group},
@@ -14,8 +15,9 @@ use crate::{
 };
 use asked::{rooms, spoiled, Build, Scene};
 use both::differs;
-use questions::Question;
+use questions::{Lent, Question};
 use rust::BesideRust;
+use short::Short;
 use splitmix::Splitmix;
 use std::process::ExitCode;
 
@@ -49,16 +51,17 @@ pub fn run(over_builds: Form, over_spoiled: Form) -> ExitCode {
     // copied before they are lent: a copy has no room behind it, so that the address sanitizer sees their ends.
     let (mut source, mut lengths) = (Splitmix(1), Splitmix(2));
     let mut builds = OVER_BUILDS.map(Group::new);
-    let mut beside = BesideRust::new();
+    let (mut beside, mut short) = (BesideRust::new(), Short::new());
     asked::each(over_builds, &mut source, |build, source| {
         // Past the tables the columns hold what belongs to none.
         let mut columns = build.columns.clone();
-        columns.lengthen(&mut lengths);
+        asked::lengthen(&mut columns, &mut lengths);
         let columns = columns.clone();
         let scene = Scene { lent: columns.lent(), ..build.scene() };
         let questions = asked::many(&build.scene(), source);
         compare(build, &scene, &questions, &mut lengths, &mut builds);
         beside.compare(build, &questions);
+        short.compare(build, &questions);
     });
     let mut spoiled = OVER_SPOILED.map(Group::new);
     spoiled::each(over_spoiled, &mut source, |build, source| {
@@ -67,10 +70,11 @@ pub fn run(over_builds: Form, over_spoiled: Form) -> ExitCode {
         let scene = Scene { lent: columns.lent(), ..build.scene() };
         compare(build, &scene, &questions, &mut lengths, &mut spoiled);
     });
-    finish("questions", beside.told().into_iter().chain(builds).chain(spoiled).collect())
+    let groups = beside.told().into_iter().chain(builds).chain([short.told()]).chain(spoiled);
+    finish("questions", groups.collect())
 }
 
-/// Compares the answers to these questions, each with two sets of output columns.
+/// Compares the answers to these questions, each with two sets of output columns; the second time every energy is any.
 fn compare(
     build: &Build,
     scene: &Scene,
@@ -78,9 +82,12 @@ fn compare(
     lengths: &mut Splitmix,
     groups: &mut [Group],
 ) {
+    let mut source = Splitmix(scene.lent.energy.len() as u64);
+    let energies: Vec<u64> = scene.lent.energy.iter().map(|_| source.bits()).collect();
+    let other = Scene { lent: Lent { energy: &energies, ..scene.lent }, ..*scene };
     for question in questions {
         let outcome = question.answered(scene.state, &scene.lent);
-        for _ in 0..2 {
+        for scene in [scene, &other] {
             let rooms = rooms(outcome.length(), lengths);
             let about = || format!("{}, {question:?}, {rooms:?}", build.name());
             let difference = differs(scene, question, &outcome, &rooms);

@@ -1,37 +1,37 @@
 //! The port, asked a question over a state and columns; and its own build of points, asked with room for all.
 
 use super::columns::Columns;
+use crate::tables::Request;
 use asked::{Build, Rooms};
-use ported::{Asked, Reply};
+use ported::{needed, Asked, Reply, ZOOMS};
 use questions::{Lent, Out, Outcome, Question, State};
 
 /// The port's own build of the points of a build: its state and its columns.
 pub struct Port {
     pub state: State,
-    columns: asked::Columns,
+    columns: columns::Columns,
 }
 
 impl Port {
-    /// The points, loaded; or the reply that refuses them.
-    pub fn loaded(build: &Build) -> Result<Port, Reply> {
-        let (options, [xs, _], ys) = (build.state.options, &build.points, &build.ys);
-        let mut columns = ported::Columns::zeros(&options, xs.len());
-        let [mut starts, mut lens] = [[0; questions::ZOOMS]; 2];
-        let state = ported::State { starts: &mut starts, lens: &mut lens };
-        let reply = ported::load(&options, xs, ys, columns.lent(), state);
-        if reply.number != 0 {
-            return Err(reply);
+    /// The points, loaded; or how the tables are not the Rust's, which are those of the build.
+    pub fn loaded(build: &Build) -> Result<Port, String> {
+        let State { options, count, starts, lens } = &build.state;
+        let lengths = needed(options, *count as usize);
+        let outcome = Request { options, given: build.given(), lengths, zooms: ZOOMS }.made();
+        match outcome.is_not_of(&build.columns.lent(), [starts, lens]) {
+            Some(difference) => Err(format!("the port's tables are others: {difference}")),
+            None => {
+                let (columns, [starts, lens]) = outcome.left();
+                let state = State { options: *options, count: *count, starts, lens };
+                Ok(Port { state, columns })
+            }
         }
-        let ported::Columns { x, y, seen, id, parent, num, ids, coords, .. } = columns;
-        Ok(Port {
-            state: State { options, count: xs.len() as u32, starts, lens },
-            columns: asked::Columns { x, y, seen, id, parent, num, ids, coords },
-        })
     }
 
-    /// The columns that its questions are lent.
+    /// The columns that its questions are lent: they end with the last table.
     pub fn lent(&self) -> Lent<'_> {
-        self.columns.lent()
+        let entries = self.state.lens.iter().map(|length| *length as usize).sum();
+        self.columns.lent().fronts(columns::needed(entries))
     }
 
     /// What it answers, as it stands in columns with room for all; or what is amiss with that.
@@ -74,13 +74,6 @@ pub fn as_asked<'a>(state: &'a State, lent: &Lent<'a>) -> Asked<'a> {
         count: state.count,
         starts: &state.starts,
         lens: &state.lens,
-        x: lent.x,
-        y: lent.y,
-        seen: lent.seen,
-        id: lent.id,
-        parent: lent.parent,
-        num: lent.num,
-        ids: lent.ids,
-        coords: lent.coords,
+        columns: *lent,
     }
 }

@@ -37,7 +37,7 @@ impl BesideRust {
         for question in questions {
             let verdict = match &port {
                 Ok(port) => judged(port, &rusts, question),
-                Err(reply) => Verdict::Different(format!("the port does not load: {reply:?}")),
+                Err(difference) => Verdict::Different(difference.clone()),
             };
             self.beside.count(verdict, question, || format!("{}, {question:?}", build.name()));
         }

@@ -21,9 +21,8 @@ pub fn run() -> Group {
     all.push(Options { plane: Plane::Globe, ..USUAL });
     for options in all {
         for count in [1, 7] {
-            let [xs, ys] = spread(count);
-            let asked = Asked { options, xs, ys, lengths: roomy(&options, count) };
-            judge(&asked, &mut group);
+            let (points, lengths) = (spread(count), roomy(&options, count));
+            judge(&Asked { options, points, lengths }, &mut group);
         }
     }
     group

@@ -2,6 +2,7 @@
 //! the rounded edges of rings.
 
 use crate::Form;
+use columns::Given;
 use options::{corners, Options};
 use points::{Drawn, Shape, SHAPES};
 use splitmix::Splitmix;
@@ -13,6 +14,7 @@ pub struct Case {
     what: String,
     pub xs: Vec<f64>,
     pub ys: Vec<f64>,
+    pub energies: Vec<u64>,
 }
 
 const DRAWN: [Drawn; 6] =
@@ -28,8 +30,18 @@ impl Case {
         source: &mut Splitmix,
     ) -> Case {
         let points = points::made(shape, count, source).drawn(drawn, source);
-        let [xs, ys] = points.placed(&options.plane);
-        Case { options, what: format!("{shape:?}, drawn {drawn:?}"), xs, ys }
+        Case::of(options, format!("{shape:?}, drawn {drawn:?}"), points.placed(&options.plane))
+    }
+
+    /// These points.
+    fn of(options: Options, what: String, [xs, ys]: [Vec<f64>; 2]) -> Case {
+        let energies = points::energies(&xs, &ys);
+        Case { options, what, xs, ys, energies }
+    }
+
+    /// The points as a caller of the port has them, where these are its y.
+    pub fn given<'a>(&'a self, ys: &'a [f64]) -> Given<'a> {
+        Given { xs: &self.xs, ys, energies: &self.energies }
     }
 
     /// In words.
@@ -113,7 +125,7 @@ pub fn at_rings(form: Form, source: &mut Splitmix, mut compare: impl FnMut(&Case
     };
     for _ in 0..builds {
         let count = 1 + source.below(30) as usize;
-        let (options, [xs, ys]) = points::reached(count, source);
-        compare(&Case { options, what: "at a ring".to_string(), xs, ys }, source);
+        let (options, points) = points::reached(count, source);
+        compare(&Case::of(options, "at a ring".to_string(), points), source);
     }
 }

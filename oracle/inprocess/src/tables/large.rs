@@ -1,10 +1,10 @@
 //! Ten builds of 100,000 to 1,048,576 points, beside the patched Rust.
 
-use super::{cases::Case, needed, outcome::Request};
+use super::{cases::Case, outcome::Request};
 use crate::report::Group;
 use options::{corners, Options, Plane, USUAL};
 use points::{Drawn, Shape};
-use ported::ZOOMS;
+use ported::{needed, ZOOMS};
 use splitmix::Splitmix;
 
 /// Number of points, shape, how they are drawn together, options.
@@ -40,8 +40,8 @@ fn builds(source: &mut Splitmix) -> [Build; 10] {
 /// How the port's build is not the patched Rust's, if it is not.
 fn differs(case: &Case) -> Option<String> {
     let Case { options, xs, ys, .. } = case;
-    let patched = builds::patched::tables(options, xs, ys);
+    let patched = builds::patched::tables(options, &case.given(ys));
     let ys = patched.lent_ys(&options.plane, ys);
     let lengths = needed(options, xs.len());
-    Request { options, xs, ys: &ys, lengths, zooms: ZOOMS }.made().is_not(&patched)
+    Request { options, given: case.given(&ys), lengths, zooms: ZOOMS }.made().is_not(&patched)
 }

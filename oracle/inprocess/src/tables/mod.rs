@@ -2,19 +2,21 @@
 
 mod bounds;
 mod cases;
+mod energies;
 mod large;
 mod outcome;
 mod refusals;
 
 use crate::{
-    report::{finish, Group},
+    report::{finish, other, Group},
     Form,
 };
 use builds::{patched, ringed, skipped, untouched, WITHOUT_WINDOW};
 use cases::Case;
-use options::Options;
-use outcome::{Outcome, Request};
-use ported::{Lengths, COLUMNS, ZOOMS};
+use columns::width;
+use outcome::Outcome;
+pub use outcome::Request;
+use ported::{needed, Lengths, COLUMNS, ZOOMS};
 use splitmix::Splitmix;
 use std::process::ExitCode;
 
@@ -29,6 +31,7 @@ pub fn run(form: Form) -> ExitCode {
     if form == Form::Full {
         groups.push(large::run(&mut source));
     }
+    groups.push(energies::at_their_bound());
     groups.push(bounds::run());
     groups.push(refusals::run());
     groups.push(refusals::of_short_columns());
@@ -41,6 +44,7 @@ struct Beside {
     patched: Group,
     ringed: Group,
     untouched: Group,
+    totals: Group,
     skips: usize,
 }
 
@@ -50,6 +54,7 @@ impl Beside {
             patched: Group::new("tables, beside the patched Rust"),
             ringed: Group::new("tables, beside the ringed Rust"),
             untouched: Group::new("tables, beside the untouched Rust"),
+            totals: Group::new("tables, the energies of a table beside the points'"),
             skips: 0,
         }
     }
@@ -57,12 +62,17 @@ impl Beside {
     /// Compares one build, in columns that are longer than need be by a few entries.
     fn compare(&mut self, case: &Case, source: &mut Splitmix) {
         let Case { options, xs, ys, .. } = case;
-        let patched = patched::tables(options, xs, ys);
+        let patched = patched::tables(options, &case.given(ys));
         let lent_ys = patched.lent_ys(&options.plane, ys);
         let lengths = needed(options, xs.len()).map(|length| length + source.below(3) as usize);
-        let request = Request { options, xs, ys: &lent_ys, lengths, zooms: ZOOMS };
-        let outcome = request.made();
+        let given = case.given(&lent_ys);
+        let outcome = Request { options, given, lengths, zooms: ZOOMS }.made();
         self.patched.compare(|| case.name(), outcome.is_not(&patched));
+        let points: u128 = case.energies.iter().map(|energy| u128::from(*energy)).sum();
+        for (zoom, total) in outcome.totals() {
+            let about = || format!("table {zoom}, {}", case.name());
+            self.totals.compare(about, other("energies", points, total));
+        }
         if xs.len() <= WITHOUT_WINDOW {
             self.compare_others(case, &outcome);
         }
@@ -71,11 +81,11 @@ impl Beside {
     /// The two builds with the window block, where it does not run. What the untouched one differs in must come of
     /// what its rings skip.
     fn compare_others(&mut self, case: &Case, outcome: &Outcome) {
-        let Case { options, xs, ys, .. } = case;
+        let Case { options, xs, ys, energies, .. } = case;
         let ringed = ringed::loaded(options, xs, ys);
         let untouched = untouched::loaded(options, xs, ys);
-        self.ringed.compare(|| case.name(), outcome.is_not(&ringed::packed(&ringed)));
-        let mut difference = outcome.is_not(&untouched::packed(&untouched));
+        self.ringed.compare(|| case.name(), outcome.is_not(&ringed::packed(&ringed, energies)));
+        let mut difference = outcome.is_not(&untouched::packed(&untouched, energies));
         if difference.is_some() && skipped::tables(&ringed, &untouched) == skipped::Beside::Skips {
             self.skips += 1;
             difference = None;
@@ -88,26 +98,12 @@ impl Beside {
         let never = (self.skips == 0).then(|| "nothing is skipped".to_string());
         self.untouched.compare(|| "all builds".to_string(), never);
         println!("differences listed under E5: {}", self.skips);
-        vec![self.patched, self.ringed, self.untouched]
+        vec![self.patched, self.ringed, self.untouched, self.totals]
     }
-}
-
-/// The lengths that 01 asks of the columns: the coordinates have two to an entry.
-fn needed(options: &Options, count: usize) -> Lengths {
-    let entries = options.tables() * count;
-    COLUMNS.map(|name| entries * width(name))
 }
 
 /// How many entries the columns of these lengths all have room for.
 fn room(lengths: &Lengths) -> usize {
     let entries = COLUMNS.iter().zip(lengths).map(|(name, length)| length / width(name));
     entries.min().unwrap_or(0)
-}
-
-/// How much of a column is one entry's.
-fn width(name: &str) -> usize {
-    match name {
-        "coords" => 2,
-        _ => 1,
-    }
 }

@@ -2,9 +2,9 @@
 
 use crate::report::other;
 use builds::Tables;
+use columns::{Change, Given, Lent, ReadBoth, Value};
 use options::Options;
-use ported::{Columns, Lengths, Reply, State, COLUMNS, ZOOMS};
-use std::fmt::Debug;
+use ported::{Columns, Lengths, Reply, State, ZOOMS};
 
 /// How many entries stand behind a lent column, out of the callee's reach.
 const GUARD: usize = 2;
@@ -12,8 +12,7 @@ const GUARD: usize = 2;
 /// What a build is asked for: options, points, and the lengths of the lent columns.
 pub struct Request<'a> {
     pub options: &'a Options,
-    pub xs: &'a [f64],
-    pub ys: &'a [f64],
+    pub given: Given<'a>,
     pub lengths: Lengths,
     /// How much of the state there is room for.
     pub zooms: usize,
@@ -32,29 +31,50 @@ pub struct Outcome {
 impl Request<'_> {
     /// The port's build, in columns with old contents.
     pub fn made(&self) -> Outcome {
-        let mut columns = old_columns(self.lengths.map(|length| length + GUARD));
+        let mut columns = old_columns(self.lengths);
         let [mut starts, mut lens] = [STARTS, LENS].map(|name| old(name, self.zooms + GUARD));
         let state = State { starts: &mut starts[..self.zooms], lens: &mut lens[..self.zooms] };
         let lent = columns.fronts(self.lengths);
-        let reply = ported::load(self.options, self.xs, self.ys, lent, state);
-        Outcome { count: self.xs.len(), zooms: self.zooms, reply, columns, starts, lens }
+        let reply = ported::load(self.options, &self.given, lent, state);
+        Outcome { count: self.given.xs.len(), zooms: self.zooms, reply, columns, starts, lens }
     }
 }
 
 impl Outcome {
     /// How this is not a build of these tables, if it is not.
     pub fn is_not(&self, tables: &Tables) -> Option<String> {
+        self.is_not_of(&tables.columns.lent(), [&tables.starts, &tables.lens])
+    }
+
+    /// The same of tables in these columns, with their starts and lengths.
+    pub fn is_not_of(&self, columns: &Lent, [starts, lens]: [&[u32]; 2]) -> Option<String> {
         let near = vec![0; 2 * self.count];
         other("reply", Reply { number: 0, carried: 0 }, self.reply)
-            .or_else(|| self.other_state(&tables.starts, &tables.lens))
-            .or_else(|| self.other_columns(tables, &near))
+            .or_else(|| self.other_state(starts, lens))
+            .or_else(|| self.other_columns(columns, &near))
+    }
+
+    /// The energies of each table that was built, by its zoom, added up.
+    pub fn totals(&self) -> impl Iterator<Item = (usize, u128)> + '_ {
+        let built = (0..ZOOMS).filter(|zoom| self.lens[*zoom] > 0);
+        built.map(|zoom| {
+            let (start, length) = (self.starts[zoom] as usize, self.lens[zoom] as usize);
+            let table = &self.columns.tables.energy[start..start + length];
+            (zoom, table.iter().map(|energy| u128::from(*energy)).sum())
+        })
+    }
+
+    /// What is left: the columns of the tables, starts and lengths.
+    pub fn left(self) -> (columns::Columns, [[u32; ZOOMS]; 2]) {
+        let whole = |column: Vec<u32>| column[..ZOOMS].try_into().expect("room for the state");
+        (self.columns.tables, [self.starts, self.lens].map(whole))
     }
 
     /// How this is not a build refused by this reply, if it is not.
     pub fn is_not_refused(&self, reply: Reply) -> Option<String> {
         other("reply", reply, self.reply)
             .or_else(|| self.other_state(&[0; ZOOMS], &[0; ZOOMS]))
-            .or_else(|| self.other_columns(&Tables::default(), &[]))
+            .or_else(|| self.other_columns(&columns::Columns::default().lent(), &[]))
     }
 
     fn other_state(&self, starts: &[u32], lens: &[u32]) -> Option<String> {
@@ -63,93 +83,72 @@ impl Outcome {
             .or_else(|| other_front(LENS, &lens[..written], &self.lens))
     }
 
-    fn other_columns(&self, tables: &Tables, near: &[u32]) -> Option<String> {
-        let found = &self.columns;
-        other_front(COLUMNS[0], &tables.x, &found.x)
-            .or_else(|| other_front(COLUMNS[1], &tables.y, &found.y))
-            .or_else(|| other_front(COLUMNS[2], &tables.seen, &found.seen))
-            .or_else(|| other_front(COLUMNS[3], &tables.id, &found.id))
-            .or_else(|| other_front(COLUMNS[4], &tables.parent, &found.parent))
-            .or_else(|| other_front(COLUMNS[5], &tables.num, &found.num))
-            .or_else(|| other_front(COLUMNS[6], &tables.ids, &found.ids))
-            .or_else(|| other_front(COLUMNS[7], &tables.coords, &found.coords))
-            .or_else(|| other_front(COLUMNS[8], near, &found.near))
+    fn other_columns(&self, columns: &Lent, near: &[u32]) -> Option<String> {
+        let mut other = Other(None);
+        columns.read_beside(&self.columns.tables.lent(), &mut other);
+        other.0.or_else(|| other_front(NEAR, near, &self.columns.near))
     }
 }
 
 const STARTS: &str = "starts";
 const LENS: &str = "lens";
+const NEAR: &str = "near";
 
-/// Columns that hold nothing of a build yet.
-fn old_columns([x, y, seen, id, parent, num, ids, coords, near]: Lengths) -> Columns {
-    Columns {
-        x: old(COLUMNS[0], x),
-        y: old(COLUMNS[1], y),
-        seen: old(COLUMNS[2], seen),
-        id: old(COLUMNS[3], id),
-        parent: old(COLUMNS[4], parent),
-        num: old(COLUMNS[5], num),
-        ids: old(COLUMNS[6], ids),
-        coords: old(COLUMNS[7], coords),
-        near: old(COLUMNS[8], near),
+/// Where a column first is not the expected one and old contents from its end on.
+struct Other(Option<String>);
+
+impl ReadBoth for Other {
+    fn columns<T: Value>(&mut self, name: &'static str, expected: &[T], found: &[T]) {
+        if self.0.is_none() {
+            self.0 = other_front(name, expected, found);
+        }
     }
 }
 
-/// An entry of a column.
-trait Entry: Copy + Debug + PartialEq {
-    /// What a column holds at a position before a build: `salt` tells the columns apart.
-    fn old(salt: usize, at: usize) -> Self;
-
-    /// Whether this is that, by its bits, the two zeros being equal.
-    fn is(self, that: Self) -> bool;
+/// Columns that hold nothing of a build yet, with something behind what is lent of them.
+fn old_columns(lengths: Lengths) -> Columns {
+    let mut columns = Columns::zeros(lengths.map(|length| length + GUARD));
+    columns.tables.change(&mut Old);
+    columns.near = old(NEAR, columns.near.len());
+    columns
 }
 
-impl Entry for f64 {
-    fn old(salt: usize, at: usize) -> f64 {
-        -1.5 - (salt << 32 | at) as f64
-    }
+/// Old contents in place of all that a column holds.
+struct Old;
 
-    fn is(self, that: f64) -> bool {
-        self.to_bits() == that.to_bits() || (self == 0.0 && that == 0.0)
-    }
-}
-
-impl Entry for u32 {
-    fn old(salt: usize, at: usize) -> u32 {
-        0xc000_0000 | (salt << 25 ^ at) as u32
-    }
-
-    fn is(self, that: u32) -> bool {
-        self == that
+impl Change for Old {
+    fn column<T: Value>(&mut self, name: &'static str, column: &mut Vec<T>) {
+        *column = old(name, column.len());
     }
 }
 
-impl Entry for u8 {
-    fn old(salt: usize, at: usize) -> u8 {
-        (31 * at + salt) as u8
-    }
-
-    fn is(self, that: u8) -> bool {
-        self == that
-    }
+/// So many old numbers of a column.
+fn old<T: Value>(name: &str, length: usize) -> Vec<T> {
+    let salt = salt(name);
+    (0..length).map(|at| old_at(salt, at)).collect()
 }
 
-/// So many old entries of a column.
-fn old<T: Entry>(name: &str, length: usize) -> Vec<T> {
-    (0..length).map(|at| T::old(salt(name), at)).collect()
+/// What a column holds at a position before a build: nothing that a build writes there. `salt` tells the columns apart.
+fn old_at<T: Value>(salt: u64, at: usize) -> T {
+    T::of_bits(0xc000_0000_c000_0000 | salt << 24 ^ (31 * at as u64 + salt))
 }
 
 /// A number for a column's name.
-fn salt(name: &str) -> usize {
-    name.bytes().fold(0, |sum, byte| (5 * sum + usize::from(byte)) % 32)
+fn salt(name: &str) -> u64 {
+    name.bytes().fold(0, |sum, byte| (5 * sum + u64::from(byte)) % 32)
+}
+
+/// Whether one number is the other, by its bits, the two zeros being equal.
+fn is<T: Value>(one: T, other: T) -> bool {
+    one.bits() == other.bits() || one == other
 }
 
 /// Where a column is not this front and old contents from there on, if it is not.
-fn other_front<T: Entry>(name: &str, front: &[T], found: &[T]) -> Option<String> {
+fn other_front<T: Value>(name: &str, front: &[T], found: &[T]) -> Option<String> {
     let salt = salt(name);
-    let expected = |at: usize| front.get(at).copied().unwrap_or_else(|| T::old(salt, at));
+    let expected = |at: usize| front.get(at).copied().unwrap_or_else(|| old_at(salt, at));
     let last = front.len().max(found.len());
-    let differs = |at: &usize| found.get(*at).is_none_or(|found| !found.is(expected(*at)));
+    let differs = |at: &usize| found.get(*at).is_none_or(|found| !is(*found, expected(*at)));
     let at = (0..last).find(differs)?;
     Some(format!("{name}[{at}]: expected {:?}, found {:?}", expected(at), found.get(at)))
 }

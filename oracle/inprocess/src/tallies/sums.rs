@@ -37,10 +37,7 @@ impl Sums {
     pub fn compare(&mut self, build: &Build) {
         let port = match Port::loaded(build) {
             Ok(port) => port,
-            Err(reply) => {
-                let difference = Some(format!("the port does not load: {reply:?}"));
-                return self.sum.compare(|| build.name(), difference);
-            }
+            Err(difference) => return self.sum.compare(|| build.name(), Some(difference)),
         };
         self.builds += 1;
         self.state(build, &port, &port.state);

@@ -22,7 +22,23 @@ const COUNTS: [usize; 10] = [0, 1, 2, 3, 575, 576, 577, 1_151, 1_152, 1_153];
 const COORDINATES: [u64; 9] =
     [0, 1, 65_535, 65_536, 65_537, 999_999, 1_000_000, 9_999_999, 10_000_000];
 
-/// 01's example with one number at a bound or past it; both zooms; numbers of points; each coordinate.
+/// Energies around seven digits, around what a build takes, and around what 64 bits hold.
+const ENERGIES: [u64; 12] = [
+    0,
+    1,
+    9,
+    10,
+    999_999,
+    1_000_000,
+    9_999_999,
+    10_000_000,
+    1_099_511_627_776,
+    1_099_511_627_777,
+    18_446_744_073_709_551_615,
+    4_294_967_296,
+];
+
+/// 01's example with one number at a bound or past it; both zooms; numbers of points; each coordinate and each energy.
 pub fn at_bounds() -> Vec<Draft> {
     let mut all = vec![example()];
     for (key, values) in VALUES.iter().enumerate() {
@@ -41,6 +57,13 @@ pub fn at_bounds() -> Vec<Draft> {
         for (point, axis) in [(0, 0), (0, 1), (1, 0), (2, 1), (3, 0), (3, 1)] {
             let mut draft = example();
             draft.points[point][axis] = value;
+            all.push(draft);
+        }
+    }
+    for value in ENERGIES {
+        for points in [0..1, 2..3, 3..4, 0..4] {
+            let mut draft = example();
+            draft.points[points].iter_mut().for_each(|point| point[2] = value);
             all.push(draft);
         }
     }
@@ -71,6 +94,6 @@ fn with_option(key: usize, value: u64) -> Draft {
 
 /// So many points in even steps, with one table beside the finest.
 fn of_count(count: usize) -> Draft {
-    let points = (0..count as u64).map(|i| [i * 40_503 % 65_537, i * 25_033 % 65_537]).collect();
-    Draft::new([3, 3, 2, 64, 512, 64], points)
+    let point = |i: u64| [i * 40_503 % 65_537, i * 25_033 % 65_537, i * 7_654_321 % 10_000_000];
+    Draft::new([3, 3, 2, 64, 512, 64], (0..count as u64).map(point).collect())
 }

@@ -10,12 +10,13 @@ pub const KEYS: [&str; 6] = ["min_zoom", "max_zoom", "min_points", "radius", "ex
 pub struct Draft {
     pub options: [u64; KEYS.len()],
     pub count: u64,
-    pub points: Vec<[u64; 2]>,
+    /// x, y and energy of each.
+    pub points: Vec<[u64; 3]>,
 }
 
 impl Draft {
     /// The values of a text that states how many points it has.
-    pub fn new(options: [u64; KEYS.len()], points: Vec<[u64; 2]>) -> Draft {
+    pub fn new(options: [u64; KEYS.len()], points: Vec<[u64; 3]>) -> Draft {
         Draft { options, count: points.len() as u64, points }
     }
 
@@ -29,9 +30,10 @@ impl Draft {
             line(key, value);
         }
         line("count", self.count);
-        for [x, y] in &self.points {
+        for [x, y, energy] in &self.points {
             line("x", *x);
             line("y", *y);
+            line("wh", *energy);
         }
         text.into_bytes()
     }
@@ -43,8 +45,9 @@ impl Draft {
     }
 }
 
-/// 01's example.
+/// 01's example, with 02's energies.
 pub fn example() -> Draft {
-    let lamps = [[16_384, 32_768], [20_480, 32_768], [26_624, 32_768], [26_624, 32_768]];
+    let lamps =
+        [[16_384, 32_768, 10], [20_480, 32_768, 20], [26_624, 32_768, 30], [26_624, 32_768, 40]];
     Draft::new([0, 1, 2, 64, 512, 64], lamps.to_vec())
 }

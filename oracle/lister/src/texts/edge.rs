@@ -14,11 +14,11 @@ const FIRST: u64 = 337_214;
 /// median, and the one beside the lamp is in the part on its left, which the rounded edge cuts off in the
 /// untouched Rust.
 pub fn rounded_edge(node_size: u64) -> Draft {
-    let mut points = vec![[65_536, 32_768]];
+    let mut points = vec![[65_536, 32_768, 1_000]];
     for y in [65_000, 32_768] {
         let (each, more) = (FIRST / 35, FIRST % 35);
-        points.extend((0..35).map(|i| [each + u64::from(i < more), y]));
-        points.push([36 * CENTRE - FIRST, y]);
+        points.extend((0..35).map(|i| [each + u64::from(i < more), y, i]));
+        points.push([36 * CENTRE - FIRST, y, 9_999_999]);
     }
     Draft::new([0, 3, 2, 65_536 - CENTRE, 65_536, node_size], points)
 }
@@ -28,21 +28,24 @@ mod tests {
     use super::*;
     use crate::{answer_to, lines::build_of, read};
     use builds::untouched;
+    use columns::Given;
 
     /// The nums of the last table.
     fn nums(node_size: u64) -> Vec<String> {
         let printed =
             String::from_utf8(answer_to(&rounded_edge(node_size).text()).printed).unwrap();
         let last = printed.lines().filter(|line| line.starts_with("0 "));
-        last.map(|line| line.rsplit(' ').next().unwrap().to_string()).collect()
+        last.map(|line| line.rsplit(' ').nth(1).unwrap().to_string()).collect()
     }
 
     /// The same by the untouched Rust.
     fn untouched_nums(node_size: u64) -> Vec<u32> {
-        let (options, [xs, ys]) = build_of(&read(&rounded_edge(node_size).text()).unwrap());
-        let tables = untouched::tables(&options, &xs, &ys);
+        let input = read(&rounded_edge(node_size).text()).unwrap();
+        let (options, [xs, ys], energies) = build_of(&input);
+        let given = Given { xs: &xs, ys: &ys, energies: &energies };
+        let tables = untouched::tables(&options, &given);
         let [start, len] = [tables.starts[0], tables.lens[0]].map(|number| number as usize);
-        tables.num[start..start + len].to_vec()
+        tables.columns.num[start..start + len].to_vec()
     }
 
     #[test]

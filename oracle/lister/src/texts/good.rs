@@ -43,6 +43,10 @@ const OUTSIDE: [u64; 5] = [65_537, 65_538, 131_072, 1_000_000, 9_999_999];
 const ANY_SMALL: [u64; 10] = [0, 0, 1, 2, 3, 16, 30, 31, 254, 255];
 const ANY: [u64; 10] = [0, 1, 2, 64, 512, 65_535, 65_536, 65_537, 1_000_000, 9_999_999];
 
+/// The largest energy that a text can state, and how many kinds of them there are.
+const MOST_ENERGY: u64 = 9_999_999;
+const KINDS_OF_ENERGIES: u64 = 5;
+
 /// How many kinds there are.
 pub const KINDS: usize = 12;
 
@@ -61,15 +65,27 @@ pub fn good(number: usize, source: &mut Splitmix) -> Draft {
     }
 }
 
-/// So many points of a shape by chance, drawn together or not, in 65,536ths.
-pub fn spread(count: usize, source: &mut Splitmix) -> Vec<[u64; 2]> {
+/// So many points of a shape by chance, drawn together or not, in 65,536ths, each with an energy.
+pub fn spread(count: usize, source: &mut Splitmix) -> Vec<[u64; 3]> {
     if count == 0 {
         return Vec::new();
     }
     let (shape, drawn) = (source.pick(&SHAPES), source.pick(&DRAWN));
     let made = points::made(shape, count, source).drawn(drawn, source);
     let parts = |v: f64| (v * 65_536.0).round() as u64;
-    made.xs.iter().zip(&made.ys).map(|(x, y)| [parts(*x), parts(*y)]).collect()
+    let kind = source.below(KINDS_OF_ENERGIES);
+    let points = made.xs.iter().zip(&made.ys);
+    points.map(|(x, y)| [parts(*x), parts(*y), energy(kind, source)]).collect()
+}
+
+/// An energy of a kind: none, the most, a few, any.
+fn energy(kind: u64, source: &mut Splitmix) -> u64 {
+    match kind {
+        0 => 0,
+        1 => MOST_ENERGY,
+        2 => source.pick(&[0, 1, 9, 10, 99, 1_000_000, MOST_ENERGY]),
+        _ => source.below(MOST_ENERGY + 1),
+    }
 }
 
 /// Options as users have them.
@@ -175,8 +191,8 @@ fn any(source: &mut Splitmix) -> Draft {
     ];
     let inside = source.below(2) == 0;
     let point = |source: &mut Splitmix| match inside {
-        true => [source.below(65_537), source.below(65_537)],
-        false => [source.pick(&ANY), source.pick(&ANY)],
+        true => [source.below(65_537), source.below(65_537), source.pick(&ANY)],
+        false => [source.pick(&ANY), source.pick(&ANY), source.pick(&ANY)],
     };
     let points = (0..source.below(7)).map(|_| point(source)).collect();
     Draft::new(options, points)

@@ -10,7 +10,7 @@ use std::collections::HashSet;
 
 const SEED: u64 = 1;
 
-/// The most bytes of a stored text, and the most points of one whose tables may be long.
+/// The most bytes of a stored text that is damaged, and the most points of one whose tables may be long.
 const MOST_BYTES: usize = 20_000;
 const MOST_POINTS: usize = 100;
 
@@ -89,7 +89,7 @@ fn faults() -> Vec<Vec<u8>> {
     for options in [[0, 30, 2, 64, 512, 64], [0, 31, 2, 64, 512, 64], [0, 30, 2, 64, 0, 64]] {
         for points in faulty_points() {
             let text = Draft::new(options, points).text();
-            let twice = [&text[..], b"x=1\ny=1\n"].concat();
+            let twice = [&text[..], b"x=1\ny=1\nwh=1\n"].concat();
             let without_end = text[..text.len() - 1].to_vec();
             let return_first = [b"\r", &text[..]].concat();
             all.extend([text, twice, without_end, return_first]);
@@ -99,20 +99,21 @@ fn faults() -> Vec<Vec<u8>> {
 }
 
 /// Points that are fine, none, one outside as the first and as the last, too many, and both of these.
-fn faulty_points() -> [Vec<[u64; 2]>; 6] {
-    let outside = [1, 65_537];
-    let many: Vec<[u64; 2]> = (0..37).map(|i| [1_000 * i, 30_000]).collect();
+fn faulty_points() -> [Vec<[u64; 3]>; 6] {
+    let outside = [1, 65_537, 7];
+    let many: Vec<[u64; 3]> = (0..37).map(|i| [1_000 * i, 30_000, i]).collect();
     let mut both = many.clone();
     both[36] = outside;
-    let near = vec![[7, 9], [8, 9], [65_536, 0]];
-    [near, Vec::new(), vec![outside, [1, 1]], vec![[1, 1], [0, 65_536], outside], many, both]
+    let near = vec![[7, 9, 9_999_999], [8, 9, 0], [65_536, 0, 1]];
+    let [one, two] = [[1, 1, 0], [0, 65_536, 5]];
+    [near, Vec::new(), vec![outside, one], vec![one, two, outside], many, both]
 }
 
 /// Each damage to a few short texts.
 fn damaged(source: &mut Splitmix) -> Vec<Vec<u8>> {
     let none = Draft::new([0, 3, 2, 40, 512, 64], Vec::new());
-    let two = Draft::new([10, 12, 0, 65_536, 9, 1], vec![[0, 65_536], [65_536, 0]]);
-    let outside = Draft::new([0, 1, 5, 0, 1, 2], vec![[100_000, 1], [1, 1]]);
+    let two = Draft::new([10, 12, 0, 65_536, 9, 1], vec![[0, 65_536, 0], [65_536, 0, 9_999_999]]);
+    let outside = Draft::new([0, 1, 5, 0, 1, 2], vec![[100_000, 1, 1], [1, 1, 12]]);
     let texts = [example(), none, two, outside].map(|draft| draft.text());
     let kinds = DAMAGES.iter().flat_map(|(_, damage)| [*damage; DAMAGED]);
     let turns = kinds.enumerate().map(|(turn, damage): (usize, Damage)| {
@@ -140,6 +141,6 @@ mod tests {
         let sizes =
             texts.iter().zip(&answers).map(|(text, answer)| text.len() + answer.printed.len());
         let bytes: usize = sizes.sum();
-        assert!(bytes < 400_000, "{bytes} bytes");
+        assert!(bytes < 500_000, "{bytes} bytes");
     }
 }

@@ -78,9 +78,8 @@ impl Overlap {
     fn build(&mut self, build: &Build, range: Range, source: &mut Splitmix) {
         let port = match Port::loaded(build) {
             Ok(port) => port,
-            Err(reply) => {
-                let difference = Some(format!("the port does not load: {reply:?}"));
-                return self.groups[ALONE].compare(|| build.name(), difference);
+            Err(difference) => {
+                return self.groups[ALONE].compare(|| build.name(), Some(difference));
             }
         };
         let rusts = Rusts::loaded(build);

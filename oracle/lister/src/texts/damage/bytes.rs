@@ -4,7 +4,7 @@ use super::place;
 use splitmix::Splitmix;
 
 /// What bytes are put where they do not belong: parts of the form, and what looks like them.
-const STRAY: [&[u8]; 12] = [
+const STRAY: [&[u8]; 14] = [
     b"\n",
     b"\r\n",
     b" ",
@@ -15,7 +15,9 @@ const STRAY: [&[u8]; 12] = [
     b"x",
     b"x=1\n",
     b"y=1\n",
+    b"wh=1\n",
     b"x=1\ny=1\n",
+    b"x=1\ny=1\nwh=1\n",
     b"count=0\n",
 ];
 
@@ -95,7 +97,7 @@ pub fn leading(text: &[u8], source: &mut Splitmix) -> Vec<u8> {
 pub fn padded(text: &[u8], length: usize, source: &mut Splitmix) -> Vec<u8> {
     let missing = length.saturating_sub(text.len());
     let (at, pad): (usize, &[u8]) = match source.below(4) {
-        0 => (text.len(), b"x=1\ny=1\n"),
+        0 => (text.len(), b"x=1\ny=1\nwh=1\n"),
         1 => (text.len(), b"\n"),
         2 => (text.len(), b"\0"),
         _ => (text.iter().rposition(|byte| *byte == b'=').map_or(0, |at| at + 1), b"0"),

@@ -84,15 +84,46 @@ pub fn carriage_returns(text: &[u8], _: &mut Splitmix) -> Vec<u8> {
     })
 }
 
-/// A point more than is stated, or the x of one.
+/// A point more than is stated, or a part of one.
 pub fn point_more(text: &[u8], source: &mut Splitmix) -> Vec<u8> {
-    [text, source.pick(&[b"x=16384\ny=32768\n", b"x=16384\n"])].concat()
+    let more: [&[u8]; 3] = [b"x=16384\ny=32768\nwh=10\n", b"x=16384\ny=32768\n", b"x=16384\n"];
+    [text, source.pick(&more)].concat()
 }
 
-/// A point less than is stated, or its y alone.
+/// A point less than is stated, or a part of one.
 pub fn point_less(text: &[u8], source: &mut Splitmix) -> Vec<u8> {
     let mut lines = lines(text);
-    let left = lines.len().saturating_sub(1 + source.below(2) as usize);
+    let left = lines.len().saturating_sub(1 + source.below(3) as usize);
     lines.truncate(left);
     lines.concat()
+}
+
+/// No energies, as before 02's #108, or one of them missing.
+pub fn without_energy(text: &[u8], source: &mut Splitmix) -> Vec<u8> {
+    let (mut lines, energies) = apart(text);
+    if source.below(2) == 0 && !energies.is_empty() {
+        let (missing, _) = energies[place(energies.len(), source)];
+        lines = self::lines(text);
+        lines.remove(missing);
+    }
+    lines.concat()
+}
+
+/// Every energy elsewhere: behind all points, before them, before its x, or between its x and its y.
+pub fn energies_elsewhere(text: &[u8], source: &mut Splitmix) -> Vec<u8> {
+    let places: [fn(usize) -> usize; 4] =
+        [|_| usize::MAX, |number| 7 + number, |number| 7 + 3 * number, |number| 8 + 3 * number];
+    let place = source.pick(&places);
+    let (mut lines, energies) = apart(text);
+    for (number, (_, energy)) in energies.into_iter().enumerate() {
+        lines.insert(place(number).min(lines.len()), energy);
+    }
+    lines.concat()
+}
+
+/// The lines that state no energy, and those that do, with their numbers.
+fn apart(text: &[u8]) -> (Vec<&[u8]>, Vec<(usize, &[u8])>) {
+    let all = lines(text).into_iter().enumerate();
+    let (energies, others): (Vec<_>, Vec<_>) = all.partition(|(_, line)| line.starts_with(b"wh"));
+    (others.into_iter().map(|(_, line)| line).collect(), energies)
 }

@@ -11,7 +11,7 @@ pub type Damage = fn(&[u8], &mut Splitmix) -> Vec<u8>;
 
 /// Every kind, with its name.
 #[rustfmt::skip]
-pub const DAMAGES: [(&str, Damage); 43] = [
+pub const DAMAGES: [(&str, Damage); 46] = [
     ("a byte changed", bytes::changed),
     ("a bit of a byte changed", bytes::bit_changed),
     ("a byte dropped", bytes::dropped),
@@ -40,6 +40,9 @@ pub const DAMAGES: [(&str, Damage); 43] = [
     ("carriage returns at every end", lines::carriage_returns),
     ("a point more", lines::point_more),
     ("a point less", lines::point_less),
+    ("an energy missing", lines::without_energy),
+    ("an energy missing", lines::without_energy),
+    ("energies elsewhere", lines::energies_elsewhere),
     ("a leading zero", values::leading_zero),
     ("an eighth digit", values::eighth_digit),
     ("nine digits or more", values::long),
