@@ -47,7 +47,7 @@ use Rattle.supercluster.specs.Build.{Lent, need}
 use Rattle.supercluster.specs.Load.{Holds}
 use Rattle.builds.specs.Given.{Given, Accepted, points, minZ, maxZ}
 use Rattle.builds.specs.Came.{tableAt as built}
-use Rattle.zooms.specs.OwnPlace.{index-of}
+use Rattle.kdbush.specs.Indexed.{index-of}
 use Rattle.builds.specs.RightAt.{right-at}
 use Rattle.answers.specs.Stored.{stateBy, columnsBy, long-is, state-sound, ids-are, coords-are}
 

@@ -1,4 +1,5 @@
-// A walk over an index's answers by the cursor, through what kdwalk states and nothing else: how many slots a query answers, with no column to write them in.
+// A walk over an index's answers by the cursor, through what kdwalk states and nothing else: how many slots a query answers, with no
+// column to write them in.
 use kdslots::Query;
 use kdwalk::Step;
 ghost use mathlib.Core.Path.{_≡_};

@@ -3,4 +3,5 @@ pub mod Run
 pub mod Reply
 pub mod Built
 pub mod Promise
+pub mod Indexed
 pub mod Replies

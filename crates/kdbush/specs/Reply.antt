@@ -9,6 +9,7 @@ use lib.Ieee.{Float}
 use Rattle.floats.specs.Unit.{in01}
 use Rattle.kdsort.specs.Cols.{Cols}
 use Rattle.kdsort.specs.Sort.{indexed}
+use Rattle.kdsort.specs.Indexes.{blank}
 use Rattle.kdslots.specs.declared.Query.{Query}
 use Rattle.kdbush.specs.declared.BuildReply.{BuildReply}
 use Rattle.kdbush.specs.declared.BuildReply.the-variants.{Done as Build·Done, Options, Count, Point, Tables}
@@ -82,6 +83,10 @@ builtBy Tables size xs ys s = s
 
 abbrev pub built : ℕ → List Float → List Float → Cols → Cols
 built size xs ys s = builtBy (checked size xs ys s) size xs ys s
+
+-- the index of points, in columns that just hold it
+unfoldable pub indexOf : ℕ → List Float → List Float → Cols
+indexOf size xs ys = indexed size xs ys (blank (length xs))
 
 -- ---- the searches, over any lent columns
 

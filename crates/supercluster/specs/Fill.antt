@@ -24,7 +24,7 @@ use Rattle.zoom.specs.Lamps.{sumOf, total}
 use Rattle.zoom.specs.Zoom.{energyOf}
 use Rattle.zoom.specs.Sound.{Next}
 use Rattle.zooms.specs.Zooms.{over}
-use Rattle.zooms.specs.Parts.{Inside}
+use Rattle.kdbush.specs.Indexed.{Inside}
 use Rattle.supercluster.specs.Build.{convertedAll, lamp, finest, mostEnergy, firstOver}
 
 -- the columns of points

@@ -39,7 +39,13 @@ pub struct State {
     pub lens: [u32; 32],
 }
 
-// An entry of a table. seen 255 stands for the Rust's infinity, parent 4,294,967,295 for its -1: unset.
+// What `seen` is before any zoom has seen an entry: it stands for the Rust's infinity.
+pub const NEVER: u8 = 255;
+
+// What `parent` is where no cluster has absorbed an entry: it stands for the Rust's -1.
+pub const UNSET: u32 = 4294967295;
+
+// An entry of a table.
 pub struct Entry {
     pub x: f64,
     pub y: f64,
@@ -176,12 +182,15 @@ impl State {
         lens[zoom] as usize
     }
 
-    // Whether the finest table has N entries, and the tables are packed from 0 on, the largest zoom first, within columns of cap entries. The state's arrays
-    // are lent beside it, so that they are read in place.
+    // Whether the finest table has N entries, and the tables are packed from 0 on, the largest zoom first, within columns of cap entries.
+    // The state's arrays are lent beside it, so that they are read in place.
     fn is_filled(self, starts: &[u32; 32], lens: &[u32; 32], cap: usize) -> bool
-        requires { ⌜ (self .options .«min_zoom» ≤ self .options .«max_zoom») × (self .options .«max_zoom» ≤ 30) × (self .count ≤ 1048576) ⌝ }
+        requires { ⌜ (self .options .«min_zoom» ≤ self .options .«max_zoom») × (self .options .«max_zoom» ≤ 30)
+            × (self .count ≤ 1048576) ⌝ }
         requires { ⌜ (now starts ≡ self .starts) × (now lens ≡ self .lens) ⌝ }
-        ensures { λ r. ⌜ r ≡ (eqb (lenOf self (self .options .«max_zoom» + 1)) (self .count) && packed self cap (tableCount (self .options)) 0) ⌝ }
+        ensures { λ r.
+            let o = self .options in
+            ⌜ r ≡ (eqb (lenOf self (o .«max_zoom» + 1)) (self .count) && packed self cap (tableCount o) 0) ⌝ }
     {
         let o = self.options;
         if lens[o.max_zoom as usize + 1] != self.count {

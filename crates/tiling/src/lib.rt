@@ -29,7 +29,8 @@ ghost use Rattle.tiling.specs.Home.{edgesOf, weightBy};
 ghost use Rattle.tiling.specs.Counting.{heldOf, placesIn, markOf, marksFor, doubt, added, marking, counted, runningOf};
 ghost use Rattle.tiling.specs.Told.{Blank};
 
-// One search of a tile: whether the tile has it, what it asks of the index, and what stands for the tile's x and y in the items that it finds.
+// One search of a tile: whether the tile has it, what it asks of the index, and what stands for the tile's x and y in the items that it
+// finds.
 pub struct Search {
     pub made: bool,
     pub query: Query,

@@ -16,7 +16,8 @@ use Rattle.tables.specs.declared.State.{State}
 use Rattle.tables.specs.Options.{optionsOk}
 use Rattle.tables.specs.Sound.{packed, stateOk}
 use Rattle.tables.specs.Entries.{Table, never, unset}
-use Rattle.zooms.specs.Zooms.{indexOf, slotsOf, joined, joinedIds, joinedCo, starts, lens}
+use Rattle.kdbush.specs.Reply.{indexOf}
+use Rattle.zooms.specs.Zooms.{slotsOf, joined, joinedIds, joinedCo, starts, lens}
 use Rattle.supercluster.specs.declared.LoadReply.the-variants.{Done, Tables}
 use Rattle.supercluster.specs.Build.{convertedAll, Lent, firstOver, written, stateOf, roomy, checked, Outcome, outcome, byReply, loaded}
 use Rattle.asking.specs.Columns.{Columns, columns, roomOf}

@@ -25,7 +25,8 @@ use Rattle.tables.specs.Radius.{radiusAt}
 use Rattle.tables.specs.Rows.{rows}
 use Rattle.tables.specs.Sound.{packed, stateOk}
 use Rattle.zoom.specs.Zoom.{moreOf, absorbOne, absorb, copyOne, copyAll, visit, scanOne, scanFrom, cluster}
-use Rattle.zooms.specs.Zooms.{indexOf, slotsOf, run, joined, joinedIds, joinedCo, starts, lens}
+use Rattle.kdbush.specs.Reply.{indexOf}
+use Rattle.zooms.specs.Zooms.{slotsOf, run, joined, joinedIds, joinedCo, starts, lens}
 use Rattle.supercluster.specs.declared.LoadReply.the-variants.{Done, Tables}
 use Rattle.supercluster.specs.Build.{convertedAll, finest, tablesOf, Lent, written, roomy, firstOver, checked, loadNumber, Outcome, loaded}
 use Rattle.asking.specs.declared.Answer.the-variants.{NoRoom}

@@ -12,7 +12,8 @@ use Rattle.kdbush.specs.Run.{places}
 use Rattle.tables.specs.Radius.{radiusAt}
 use Rattle.zoom.specs.Zoom.{moreOf, absorbOne, absorb, copyOne, copyAll, visit, scanOne, scanFrom, cluster}
 use Rattle.groups.specs.Groups.{weighed}
-use Rattle.zooms.specs.Zooms.{indexOf, slotsOf, run}
+use Rattle.kdbush.specs.Reply.{indexOf}
+use Rattle.zooms.specs.Zooms.{slotsOf, run}
 use Rattle.supercluster.specs.Build.{convertedAll, finest, tablesOf}
 use Rattle.builds.specs.Given.{Given, given}
 use Rattle.builds.specs.Came.{comes, came, tableAt}

@@ -24,7 +24,8 @@ use Rattle.tables.specs.Entries.{Table, never, unset}
 use Rattle.tables.specs.Radius.{radiusAt}
 use Rattle.tables.specs.Rows.{cols}
 use Rattle.zoom.specs.Zoom.{moreOf, absorbOne, absorb, copyOne, copyAll, visit, scanOne, scanFrom, cluster}
-use Rattle.zooms.specs.Zooms.{indexOf, slotsOf, run, starts}
+use Rattle.kdbush.specs.Reply.{indexOf}
+use Rattle.zooms.specs.Zooms.{slotsOf, run, starts}
 use Rattle.supercluster.specs.declared.LoadReply.the-variants.{Tables}
 use Rattle.supercluster.specs.Build.{convertedAll, finest, tablesOf, Lent, lent, firstOver, checked, loaded}
 

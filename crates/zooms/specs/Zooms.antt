@@ -5,8 +5,7 @@ use Prim.Native.Nat.{ℕ, zero, suc, _+_, _-_}
 use lib.ListN.{length, set, drop}
 use lib.Ieee.{Float}
 use Rattle.kdsort.specs.Cols.{Cols}
-use Rattle.kdsort.specs.Sort.{indexed}
-use Rattle.kdsort.specs.Indexes.{blank}
+use Rattle.kdbush.specs.Reply.{indexOf}
 use Rattle.tables.specs.declared.Options.{Options}
 use Rattle.tables.specs.Entries.{Table, xsOf, ysOf}
 use Rattle.tables.specs.Radius.{radiusAt}
@@ -15,10 +14,7 @@ use Rattle.zoom.specs.Near.{nearOf}
 
 -- ---- the tables
 
--- the index of points, in columns that just hold it; and of a table
-unfoldable pub indexOf : ℕ → List Float → List Float → Cols
-indexOf size xs ys = indexed size xs ys (blank (length xs))
-
+-- the index of a table
 unfoldable pub slotsOf : ℕ → Table → Cols
 slotsOf size t = indexOf size (xsOf t) (ysOf t)
 

@@ -13,7 +13,8 @@ use Rattle.tables.specs.Columns.{part}
 use Rattle.tables.specs.Rows.{Cols, cols, rows, Even, Kept, even-kept, kept-then, rows-length}
 use Rattle.tables.specs.Lent.{given}
 use Rattle.tables.specs.State.{withTable}
-use Rattle.zooms.specs.Zooms.{slotsOf, indexOf}
+use Rattle.kdbush.specs.Reply.{indexOf}
+use Rattle.zooms.specs.Zooms.{slotsOf}
 use Rattle.zooms.specs.Parts.{putAt}
 use Rattle.zooms.specs.Zooming.{part-index}
 use Rattle.supercluster.specs.Build.{need}

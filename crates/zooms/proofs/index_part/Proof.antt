@@ -10,8 +10,8 @@ use borrow.Author.Needs.{needs}
 use Rattle.kdsort.specs.Cols.{Cols, cols}
 use Rattle.kdbush.specs.Reply.{built}
 use Rattle.tables.specs.Columns.{part, part-long}
-use Rattle.zooms.specs.Zooms.{indexOf}
-use Rattle.zooms.specs.Parts.{Indexable, built-is}
+use Rattle.kdbush.specs.Reply.{indexOf}
+use Rattle.kdbush.specs.Indexed.{Indexable, built-is}
 use Rattle.zooms.proofs.index_part.Statement.{statement}
 use Rattle.zooms.proofs.index_part.Tie as tie
 

@@ -1,4 +1,4 @@
--- `zoom::count_slots` meets its contract: what is counted and what is left of the slots are all that are answered. Assumes nothing.
+-- `kdcount::count_slots` meets its contract: what is counted and what is left of the slots are all that are answered. Assumes nothing.
 use mathlib.Core.Path.{_≡_, sym, ap, _∙_}
 use mathlib.Core.Bool.{Bool}
 use Prim.Native.Nat.{_+_, _-_}
@@ -7,11 +7,11 @@ use mir.Val.{boolByte}
 use lib.ListN.{length}
 use denote.Ref.{now}
 use Rattle.kdslots.specs.Slots.{over, scanned}
-use Rattle.zoom.proofs.Counts.{count-more, count-done, scanned-few}
-use Rattle.zoom.proofs.count_slots.Statement.{statement}
-use Rattle.zoom.proofs.count_slots.Tie as tie
-use Rattle.zoom.proofs.count_slots.Reads as reads
-use Rattle.zoom.proofs.count_slots.Lts as lts
+use Rattle.kdcount.proofs.Counts.{count-more, count-done, scanned-few}
+use Rattle.kdcount.proofs.count_slots.Statement.{statement}
+use Rattle.kdcount.proofs.count_slots.Tie as tie
+use Rattle.kdcount.proofs.count_slots.Reads as reads
+use Rattle.kdcount.proofs.count_slots.Lts as lts
 use Rattle.kdslots.proofs.test_at.Reads as test-at-reads
 
 abbrev Inv-loop : tie.InvT-loop

@@ -1,13 +1,13 @@
--- `zoom::count_near` meets its contract: the narrowed interval answers what the whole index answers. Assumes nothing.
+-- `kdcount::count` meets its contract: the narrowed interval answers what the whole index answers. Assumes nothing.
 use mathlib.Core.Path.{ap, _∙_}
 use lib.ListN.{length}
 use borrow.Author.Needs.{needs}
-use Rattle.zoom.proofs.count_near.Statement.{statement}
-use Rattle.zoom.proofs.count_near.Tie as tie
-use Rattle.zoom.proofs.count_near.Reads as reads
-use Rattle.zoom.proofs.count_near.Lts as lts
+use Rattle.kdcount.proofs.count.Statement.{statement}
+use Rattle.kdcount.proofs.count.Tie as tie
+use Rattle.kdcount.proofs.count.Reads as reads
+use Rattle.kdcount.proofs.count.Lts as lts
 use Rattle.kdslots.proofs.narrow.Reads as narrow-reads
-use Rattle.zoom.proofs.count_part.Reads as count-part-reads
+use Rattle.kdcount.proofs.count_part.Reads as count-part-reads
 
 add-narrow : tie.Need-add-narrow
 add-narrow c = search needs
@@ -24,6 +24,6 @@ count-part-requires c κs = search needs
 returns : tie.Need-returns
 returns c = c .count-part .ensures ∙ ap length (c .before .narrow .ensures .0)
 
-pub count-near-spec : {M : Type 1} → statement M
-count-near-spec =
+pub count-spec : {M : Type 1} → statement M
+count-spec =
     tie.close (tie.spec add-narrow narrow-requires add-count-part count-part-requires returns)

@@ -1,4 +1,4 @@
--- `zoom::count_part` meets its contract: a leaf is counted slot by slot; a node is its median, its right part and its left, each if it is searched. The
+-- `kdcount::count_part` meets its contract: a leaf is counted slot by slot; a node is its median, its right part and its left, each if it is searched. The
 -- measure is the interval's length. Assumes nothing.
 use mathlib.Core.Path.{ap, _∙_}
 use mathlib.Core.Bool.{Bool}
@@ -10,18 +10,18 @@ use lib.ListN.{length}
 use denote.Ref.{now}
 use Rattle.kdsort.specs.Shape.{shape, mid}
 use Rattle.kdslots.specs.Slots.{Search, over, when, slots}
-use Rattle.zoom.proofs.Counts.{byte-most, count-few, count-skipped, count-leaf, count-node}
+use Rattle.kdcount.proofs.Counts.{byte-most, count-few, count-skipped, count-leaf, count-node}
 use borrow.Fn.Kinds.{In}
 use borrow.Fn.PlainCycle.{Measures, is, falls, and}
-use Rattle.zoom.proofs.count_part.Reads as count-part
-use Rattle.zoom.proofs.count_part.Kinds as count-part-kinds
-use Rattle.zoom.proofs.+count_part.Lts-count_part as count-part-lts
+use Rattle.kdcount.proofs.count_part.Reads as count-part
+use Rattle.kdcount.proofs.count_part.Kinds as count-part-kinds
+use Rattle.kdcount.proofs.+count_part.Lts-count_part as count-part-lts
 use Rattle.kdslots.proofs.left_at.Reads as left-at-reads
 use Rattle.kdslots.proofs.right_at.Reads as right-at-reads
 use Rattle.kdslots.proofs.test_at.Reads as test-at-reads
-use Rattle.zoom.proofs.count_slots.Reads as count-slots-reads
-use Rattle.zoom.proofs.+count_part.{statement}
-use Rattle.zoom.proofs.+count_part.Tie.{close}
+use Rattle.kdcount.proofs.count_slots.Reads as count-slots-reads
+use Rattle.kdcount.proofs.+count_part.{statement}
+use Rattle.kdcount.proofs.+count_part.Tie.{close}
 
 abbrev μ-count-part : Measures 1 count-part-kinds.ps ℕ
 μ-count-part κs a = a .1 .1 .1 .1 .1 .0 - a .1 .1 .1 .1 .0
