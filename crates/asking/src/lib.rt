@@ -196,7 +196,7 @@ pub fn find_target(s: State, cap: usize, id: u32) -> Target
     if table == o.min_zoom as usize {
         return Target::NoCluster;
     }
-    if s.len_of(table) <= origin {
+    if tables::len_of(s, table) <= origin {
         return Target::NoCluster;
     }
     Target::At { table, origin }
@@ -217,7 +217,7 @@ pub fn go_on(s: State, table: usize, id: u32) -> Target
     if !is_built(s, next) {
         return Target::Spoiled;
     }
-    if s.len_of(next) <= origin {
+    if tables::len_of(s, next) <= origin {
         return Target::Spoiled;
     }
     Target::At {
@@ -257,8 +257,8 @@ pub fn ring_of(
         ⌜ r ≡ ringOf s (part (startOf s table) (lenOf s table) (rows (c .entry))) table origin ⌝ }
 {
     let o = s.options;
-    let start = s.start_of(table);
-    let len = s.len_of(table);
+    let start = tables::start_of(s, table);
+    let len = tables::len_of(s, table);
     let e = entry_in(start, len, x, y, seen, id, parent, num, energy, origin);
     let radius = tables::radius_at(o.radius, o.extent, (table - 1) as u8);
     Ring {

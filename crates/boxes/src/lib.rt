@@ -122,7 +122,15 @@ fn list_used(p: Plan, s: State, ids: &[u32], coords: &[f64], zoom: u8, out: &mut
 {
     let o = s.options;
     let z = o.zoom_used(zoom) as usize;
-    list_at(p, o.node_size, s.start_of(z), s.len_of(z), ids, coords, out)
+    list_at(
+        p,
+        o.node_size,
+        tables::start_of(s, z),
+        tables::len_of(s, z),
+        ids,
+        coords,
+        out,
+    )
 }
 
 // The zoom whose table a question at this zoom goes to.

@@ -69,8 +69,8 @@ fn effort_used(
     effort_at(
         p,
         o.node_size,
-        s.start_of(z),
-        s.len_of(z),
+        tables::start_of(s, z),
+        tables::len_of(s, z),
         ids,
         coords,
         allowance,

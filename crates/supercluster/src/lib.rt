@@ -205,7 +205,7 @@ fn build_all(
 {
     let n = xs.len();
     let w = n + n;
-    let m = o.table_count() * n;
+    let m = tables::table_count(o) * n;
     let c = m * 2;
     build_in(
         o,
@@ -353,7 +353,7 @@ fn check(
     if let Outside::At(i) = first_over(energies) {
         return LoadReply::Energy(i);
     }
-    let m = o.table_count() * n;
+    let m = tables::table_count(o) * n;
     if !is_roomy(m, x, y, seen, id, parent, num, energy, ids, coords, near) {
         return LoadReply::Tables;
     }

@@ -128,7 +128,8 @@ pub fn tile_lent(
         starts: *starts,
         lens: *lens,
     };
-    if !s.is_sound_by(
+    if !tables::is_sound_by(
+        s,
         starts,
         lens,
         asking::room(x, y, seen, id, parent, num, energy, ids, coords),
@@ -300,7 +301,8 @@ pub fn tally_lent(
         starts: *starts,
         lens: *lens,
     };
-    if !s.is_sound_by(
+    if !tables::is_sound_by(
+        s,
         starts,
         lens,
         asking::room(x, y, seen, id, parent, num, energy, ids, coords),

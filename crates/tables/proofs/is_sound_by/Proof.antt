@@ -1,4 +1,4 @@
--- `State::is_sound_by` meets its contract: each test is one of `stateOk`, in its order. Assumes nothing.
+-- `tables::is_sound_by` meets its contract: each test is one of `stateOk`, in its order. Assumes nothing.
 use mathlib.Core.Path.{_≡_, sym, _∙_}
 use mathlib.Core.Bool.{true}
 use borrow.Author.Tests.{le-leb, lt-leb, not-true, not-false}
@@ -6,8 +6,8 @@ use borrow.Author.Needs.{needs}
 use Rattle.tables.specs.Options.{optionsOk}
 use Rattle.tables.specs.Bounds.{InBounds, options-are}
 use Rattle.tables.specs.Sound.{stateOk}
-use Rattle.tables.proofs.State.is_sound_by.Statement.{statement}
-use Rattle.tables.proofs.State.is_sound_by.Tie as tie
+use Rattle.tables.proofs.is_sound_by.Statement.{statement}
+use Rattle.tables.proofs.is_sound_by.Tie as tie
 
 -- ---- the branches that were not taken, from the later ones
 
@@ -18,10 +18,10 @@ abbrev second : tie.Else3 → tie.Else2
 second e = e .before .before
 
 -- past the first the options are within bounds
-options : (e : tie.Else1) → optionsOk (e .before .before .before .args .self .options) ≡ true
+options : (e : tie.Else1) → optionsOk (e .before .before .before .args .s .options) ≡ true
 options e = sym (e .before .is-in-bounds .ensures) ∙ not-false _ (e .if1 .left)
 
-bounds : (e : tie.Else3) → InBounds (first (second e) .before .before .before .args .self .options)
+bounds : (e : tie.Else3) → InBounds (first (second e) .before .before .before .args .s .options)
 bounds e = options-are _ (options (first (second e)))
 
 -- ---- the parts
