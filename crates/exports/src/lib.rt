@@ -1,5 +1,7 @@
-// The public functions by C names, for Rust and C: numbers and slices only. A slice is passed as a pointer and a length, a `&mut usize` or a `&[u32; 32]` as a pointer.
-// Each answers 01's number of the reply, 0 where there is no refusal, and leaves what the reply carries in `carried`, 0 where it carries nothing.
+// The public functions by C names, for Rust and C: numbers, slices, and arrays of 32. A slice is passed as a pointer and a length,
+// a `&mut usize` or a `&[u32; 32]` as a pointer.
+// Each answers 01's number of the reply, 0 where there is no refusal, and leaves what the reply carries in `carried`, 0 where it
+// carries nothing. Proved: each tells what the public function promises, and writes nothing else. Assumed: nothing.
 use kdbush::SearchReply;
 use kdslots::Query;
 use kdwalk::Step;
@@ -15,7 +17,6 @@ ghost use Rattle.exports.specs.Numbers.{slotOf};
 ghost use Rattle.exports.specs.Given.{given};
 ghost use Rattle.exports.specs.Told.{said, zoomSaid, tallySaid, told, toldOf, effortTold, effortToldOf, tileTold, tileOf};
 ghost use Rattle.exports.specs.Laid.{replied, repliedOf, laid, laidOf};
-ghost use Rattle.kdbush.specs.Run.{filled};
 ghost use Rattle.supercluster.specs.Build.{loaded};
 ghost use Rattle.supercluster.specs.Lent.{lentAll};
 ghost use Rattle.kdsort.specs.Cols.{cols};
@@ -262,7 +263,9 @@ fn options(
     scale: f64,
     longitude_strips_only: bool,
 ) -> Options
-    ensures { λ r. ⌜ r ≡ given «min_zoom» «max_zoom» «min_points» radius extent «node_size» cartesian «min_x» «min_y» «max_x» «max_y» «offset_given» offset «scale_given» scale «longitude_strips_only» ⌝ }
+    ensures { λ r.
+        ⌜ r ≡ given «min_zoom» «max_zoom» «min_points» radius extent «node_size» cartesian «min_x» «min_y» «max_x» «max_y»
+        «offset_given» offset «scale_given» scale «longitude_strips_only» ⌝ }
 {
     let range = DataRange {
         min_x,
@@ -297,32 +300,28 @@ fn state(options: Options, count: u32, starts: &[u32; 32], lens: &[u32; 32]) -> 
     }
 }
 
-// Writes the 32 numbers of a state, as many as fit.
-fn store(values: [u32; 32], out: &mut [u32])
-    ensures { λ _. ⌜ new out ≡ filled values (old out) ⌝ }
+// Writes where the tables of a state start, and how long they are.
+fn store(state: State, starts: &mut [u32; 32], lens: &mut [u32; 32])
+    ensures { λ _. ⌜ (new starts ≡ state .starts) × (new lens ≡ state .lens) ⌝ }
 {
-    let mut i = 0;
-    while i < out.len() {
-        if 32 <= i {
-            return;
-        }
-        out[i] = values[i];
-        i += 1;
-    }
+    let first = state.starts;
+    *starts = first;
+    let long = state.lens;
+    *lens = long;
 }
 
-// The reply of a build, as numbers: 01's number is the answer, the rest goes behind pointers.
-fn tell(loaded: Loaded, starts: &mut [u32], lens: &mut [u32], carried: &mut usize) -> u32
+// The reply of a build, as numbers: 01's number is the answer, the rest goes behind pointers. A refusal leaves the two arrays as they were.
+fn tell(loaded: Loaded, starts: &mut [u32; 32], lens: &mut [u32; 32], carried: &mut usize) -> u32
     ensures { λ r. ⌜ replied r (new carried) (new starts) (new lens) ≡ repliedOf loaded (old starts) (old lens) ⌝ }
 {
-    let state = loaded.state;
-    let first = state.starts;
-    store(first, starts);
-    let long = state.lens;
-    store(long, lens);
     let r = loaded.reply;
     *carried = r.carried();
-    r.number()
+    let number = r.number();
+    if 0 < number {
+        return number;
+    }
+    store(loaded.state, starts, lens);
+    number
 }
 
 #[no_mangle]
@@ -356,8 +355,8 @@ pub extern "C" fn supercluster_load(
     ids: &mut [u32],
     coords: &mut [f64],
     near: &mut [u32],
-    starts: &mut [u32],
-    lens: &mut [u32],
+    starts: &mut [u32; 32],
+    lens: &mut [u32; 32],
     carried: &mut usize,
 ) -> u32
     ensures { λ r.
@@ -466,8 +465,8 @@ pub extern "C" fn supercluster_box(
     r.number()
 }
 
-// The same within so many tests, which run over both halves of a box across the date line; beside what was found, how many slots were tested, and whether it
-// stopped with a test still due.
+// The same within so many tests, which run over both halves of a box across the date line; beside what was found, how many slots were
+// tested, and whether it stopped with a test still due.
 #[no_mangle]
 pub extern "C" fn supercluster_box_effort(
     min_zoom: u8,

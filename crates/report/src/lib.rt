@@ -321,12 +321,9 @@ fn report_read(
     put_refusal(out, number, reply.carried())
 }
 
-// What the lister prints for a text, at the start of `out`. How many bytes that is.
+// What the lister prints for a text, at the start of `out`. How many bytes that is. The points that are read stand in columns of its own.
 pub fn report(
     text: &[u8],
-    px: &mut [f64; 1152],
-    py: &mut [f64; 1152],
-    pe: &mut [u64; 1152],
     x: &mut [f64; 1152],
     y: &mut [f64; 1152],
     seen: &mut [u8; 1152],
@@ -340,18 +337,20 @@ pub fn report(
     out: &mut [u8; 156672],
 ) -> usize
     ensures { λ r.
-        let p = lentPoints px py pe in
         let l = lentAll x y seen id parent num energy ids coords near in
-        ⌜ Reports (old text) (lending (p .entry) (l .entry) (old out)) r (lending (p .exit) (l .exit) (new out)) ⌝ }
+        ⌜ Reports (old text) (lending (l .entry) (old out)) r (lending (l .exit) (new out)) ⌝ }
 {
-    let Parsed::Read(h) = listing::parse(text, px, py, pe) else {
+    let mut px = [0.0f64; 1152];
+    let mut py = [0.0f64; 1152];
+    let mut pe = [0u64; 1152];
+    let Parsed::Read(h) = listing::parse(text, &mut px, &mut py, &mut pe) else {
         return put_refusal(out, 12, 0);
     };
     report_read(
         h,
-        px,
-        py,
-        pe,
+        &px,
+        &py,
+        &pe,
         x,
         y,
         seen,

@@ -56,6 +56,4 @@ supercluster-load-spec =
     (λ c. let w : tie.After-load = search in omega (arith, w .load .kept))
     (λ c. let w : tie.After-load = search in omega (arith, w .load .kept))
     (λ c. let w : tie.After-load = search in omega (arith, w .load .kept))
-    (λ c. let t : tie.After-tell = search in omega (arith, t .tell .kept))
-    (λ c. let t : tie.After-tell = search in omega (arith, t .tell .kept))
     returns)
