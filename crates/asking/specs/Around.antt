@@ -8,12 +8,12 @@ use lib.Ieee.{Float}
 use Rattle.kdslots.specs.declared.Query.{Query}
 use Rattle.kdslots.specs.declared.Query.the-variants.{Within}
 use Rattle.kdwalk.specs.declared.Step.the-variants.{Slot, Done}
-use Rattle.kdwalk.specs.declared.Pages.{Pages}
-use Rattle.kdwalk.specs.declared.Turned.{Turned}
+use Rattle.kdpages.specs.declared.Pages.{Pages}
+use Rattle.kdpages.specs.declared.Turned.{Turned}
 use Rattle.kdslots.specs.All.{AllBelow}
 use Rattle.kdwalk.specs.Reply.{walk, nextStep}
 use Rattle.kdwalk.specs.Walk.{walk-length}
-use Rattle.kdwalk.specs.Pages.{begun, aheadOf, tailOf, ahead-begun, walk-below, next-slot, below-next, next-end}
+use Rattle.kdpages.specs.Pages.{begun, aheadOf, tailOf, ahead-begun, walk-below, next-slot, below-next, next-end}
 use Rattle.tables.specs.declared.State.{State}
 use Rattle.tables.specs.State.{startOf, lenOf}
 use Rattle.tables.specs.Entries.{Table, entry}

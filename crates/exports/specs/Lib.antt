@@ -1,4 +1,3 @@
-pub mod Numbers
 pub mod Given
 pub mod Told
 pub mod Laid

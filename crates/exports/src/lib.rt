@@ -2,9 +2,7 @@
 // a `&mut usize` or a `&[u32; 32]` as a pointer.
 // Each answers 01's number of the reply, 0 where there is no refusal, and leaves what the reply carries in `carried`, 0 where it
 // carries nothing. Proved: each tells what the public function promises, and writes nothing else. Assumed: nothing.
-use kdbush::SearchReply;
 use kdslots::Query;
-use kdwalk::Step;
 use range::DataRange;
 use supercluster::Loaded;
 use tables::Options;
@@ -12,8 +10,7 @@ use tables::State;
 ghost use mathlib.Core.Path.{_≡_};
 ghost use lib.ListN.{length};
 ghost use Rattle.kdbush.specs.Reply.{buildNumber, buildCarried, built, checked, searchNumber, searchCarried, searched, columnAfter};
-ghost use Rattle.kdwalk.specs.Reply.{stepNumber, firstStep, afterStep};
-ghost use Rattle.exports.specs.Numbers.{slotOf};
+ghost use Rattle.kdwalk.specs.Reply.{stepNumber, stepCarried, firstStep, afterStep};
 ghost use Rattle.exports.specs.Given.{given};
 ghost use Rattle.exports.specs.Told.{said, zoomSaid, tallySaid, told, toldOf, effortTold, effortToldOf, tileTold, tileOf};
 ghost use Rattle.exports.specs.Laid.{replied, repliedOf, laid, laidOf};
@@ -30,54 +27,6 @@ ghost use Rattle.walks.specs.Leaves.{leavesOf};
 ghost use Rattle.walks.specs.Expansion.{zoomOf};
 ghost use Rattle.tiles.specs.Asked.{tiled};
 ghost use Rattle.tiles.specs.Tallied.{tallied};
-
-// The number of a search's reply.
-fn search_number(r: SearchReply) -> u32
-    ensures { λ n. ⌜ n ≡ searchNumber r ⌝ }
-{
-    match r {
-        SearchReply::Found(_) => 0,
-        SearchReply::Box => 9,
-        SearchReply::NoRoom(_) => 10,
-        SearchReply::Spoiled => 11,
-    }
-}
-
-// What a search's reply carries.
-fn search_carried(r: SearchReply) -> usize
-    ensures { λ n. ⌜ n ≡ searchCarried r ⌝ }
-{
-    match r {
-        SearchReply::Found(k) => k,
-        SearchReply::Box => 0,
-        SearchReply::NoRoom(k) => k,
-        SearchReply::Spoiled => 0,
-    }
-}
-
-// The number of a step.
-fn step_number(s: Step) -> u32
-    ensures { λ n. ⌜ n ≡ stepNumber s ⌝ }
-{
-    match s {
-        Step::Slot(_) => 0,
-        Step::Done => 0,
-        Step::Box => 9,
-        Step::Spoiled => 11,
-    }
-}
-
-// The slot of a step; the largest usize where there is none.
-fn step_slot(s: Step) -> usize
-    ensures { λ n. ⌜ n ≡ slotOf s ⌝ }
-{
-    match s {
-        Step::Slot(i) => i,
-        Step::Done => 0xffff_ffff_ffff_ffff,
-        Step::Box => 0xffff_ffff_ffff_ffff,
-        Step::Spoiled => 0xffff_ffff_ffff_ffff,
-    }
-}
 
 #[no_mangle]
 pub extern "C" fn kdbush_build(
@@ -121,8 +70,8 @@ pub extern "C" fn kdbush_range(
         ⌜ new out ≡ columnAfter q «node_size» n (old ids) (old coords) (old out) ⌝ }
 {
     let r = kdbush::range(node_size, n, ids, coords, min_x, min_y, max_x, max_y, out);
-    *carried = search_carried(r);
-    search_number(r)
+    *carried = r.carried();
+    r.number()
 }
 
 #[no_mangle]
@@ -144,8 +93,8 @@ pub extern "C" fn kdbush_within(
     ensures { λ _. ⌜ new out ≡ columnAfter (Query.Within qx qy radius) «node_size» n (old ids) (old coords) (old out) ⌝ }
 {
     let r = kdbush::within(node_size, n, ids, coords, qx, qy, radius, out);
-    *carried = search_carried(r);
-    search_number(r)
+    *carried = r.carried();
+    r.number()
 }
 
 #[no_mangle]
@@ -164,7 +113,7 @@ pub extern "C" fn kdbush_range_first(
         ⌜ r ≡ stepNumber (firstStep q «node_size» n (old coords)) ⌝ }
     ensures { λ _.
         let q = Query.Range «min_x» «min_y» «max_x» «max_y» in
-        ⌜ new slot ≡ slotOf (firstStep q «node_size» n (old coords)) ⌝ }
+        ⌜ new slot ≡ stepCarried (firstStep q «node_size» n (old coords)) ⌝ }
 {
     let q = Query::Range {
         min_x,
@@ -173,8 +122,8 @@ pub extern "C" fn kdbush_range_first(
         max_y,
     };
     let s = kdwalk::first(q, node_size, n, coords);
-    *slot = step_slot(s);
-    step_number(s)
+    *slot = s.carried();
+    s.number()
 }
 
 #[no_mangle]
@@ -194,7 +143,7 @@ pub extern "C" fn kdbush_range_after(
         ⌜ r ≡ stepNumber (afterStep q «node_size» n (old coords) slot) ⌝ }
     ensures { λ _.
         let q = Query.Range «min_x» «min_y» «max_x» «max_y» in
-        ⌜ new next ≡ slotOf (afterStep q «node_size» n (old coords) slot) ⌝ }
+        ⌜ new next ≡ stepCarried (afterStep q «node_size» n (old coords) slot) ⌝ }
 {
     let q = Query::Range {
         min_x,
@@ -203,8 +152,8 @@ pub extern "C" fn kdbush_range_after(
         max_y,
     };
     let s = kdwalk::after(q, node_size, n, coords, slot);
-    *next = step_slot(s);
-    step_number(s)
+    *next = s.carried();
+    s.number()
 }
 
 #[no_mangle]
@@ -218,11 +167,11 @@ pub extern "C" fn kdbush_within_first(
     slot: &mut usize,
 ) -> u32
     ensures { λ r. ⌜ r ≡ stepNumber (firstStep (Query.Within qx qy radius) «node_size» n (old coords)) ⌝ }
-    ensures { λ _. ⌜ new slot ≡ slotOf (firstStep (Query.Within qx qy radius) «node_size» n (old coords)) ⌝ }
+    ensures { λ _. ⌜ new slot ≡ stepCarried (firstStep (Query.Within qx qy radius) «node_size» n (old coords)) ⌝ }
 {
     let s = kdwalk::first(Query::Within { qx, qy, radius }, node_size, n, coords);
-    *slot = step_slot(s);
-    step_number(s)
+    *slot = s.carried();
+    s.number()
 }
 
 #[no_mangle]
@@ -237,11 +186,11 @@ pub extern "C" fn kdbush_within_after(
     next: &mut usize,
 ) -> u32
     ensures { λ r. ⌜ r ≡ stepNumber (afterStep (Query.Within qx qy radius) «node_size» n (old coords) slot) ⌝ }
-    ensures { λ _. ⌜ new next ≡ slotOf (afterStep (Query.Within qx qy radius) «node_size» n (old coords) slot) ⌝ }
+    ensures { λ _. ⌜ new next ≡ stepCarried (afterStep (Query.Within qx qy radius) «node_size» n (old coords) slot) ⌝ }
 {
     let s = kdwalk::after(Query::Within { qx, qy, radius }, node_size, n, coords, slot);
-    *next = step_slot(s);
-    step_number(s)
+    *next = s.carried();
+    s.number()
 }
 
 // The options.

@@ -20,6 +20,13 @@ stepNumber Done = 0
 stepNumber Box = 9
 stepNumber Spoiled = 11
 
+-- the slot that a step carries, or the largest usize where it carries none
+abbrev pub stepCarried : Step → ℕ
+stepCarried (Slot i) = i
+stepCarried Done = 18446744073709551615
+stepCarried Box = 18446744073709551615
+stepCarried Spoiled = 18446744073709551615
+
 -- the first of the list, or how it ends
 abbrev pub nextStep : Step → List ℕ → Step
 nextStep e [] = e

@@ -11,12 +11,12 @@ use lib.Seq.{append-snoc}
 use denote.Enum.Declared.{tagOf}
 use types.Run.{OneOf}
 use Rattle.kdwalk.proofs.Step.{the-type}
-use Rattle.kdwalk.specs.declared.Pages.{Pages}
+use Rattle.kdpages.specs.declared.Pages.{Pages}
 use Rattle.kdwalk.specs.declared.Step.{Step}
 use Rattle.kdwalk.specs.declared.Step.the-variants.{Slot, Done, Box, Spoiled as Step·Spoiled}
-use Rattle.kdwalk.specs.declared.Turned.{Turned}
+use Rattle.kdpages.specs.declared.Turned.{Turned}
 use Rattle.kdwalk.specs.Reply.{nextStep}
-use Rattle.kdwalk.specs.Pages.{tailOf}
+use Rattle.kdpages.specs.Pages.{tailOf}
 use Rattle.kdslots.specs.All.{AllBelow}
 use Rattle.kdbush.specs.Run.{filled}
 use Rattle.tables.specs.declared.Entry.{Entry}

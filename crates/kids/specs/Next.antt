@@ -10,7 +10,7 @@ use borrow.Author.Tests.{lt-ltb, le-ltb, eq-eqb, ne-eqb, ltb-true}
 use lib.Dec.{ltb, eqb}
 use lib.ListN.{length, getD}
 use lib.Ieee.{Float}
-use Rattle.kdwalk.specs.declared.Pages.{Pages}
+use Rattle.kdpages.specs.declared.Pages.{Pages}
 use Rattle.kdslots.specs.All.{All, AllBelow}
 use Rattle.kdbush.specs.Run.{places, sound, whole, filled}
 use Rattle.kdslots.specs.Members.{no-nil}

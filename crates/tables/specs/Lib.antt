@@ -10,3 +10,4 @@ pub mod Lent
 pub mod Columns
 pub mod Ids
 pub mod Radius
+pub mod Replies

@@ -333,9 +333,9 @@ fn list_by(
     let n = x.len();
     let mut k = at;
     let mut page = [0usize; 16];
-    let mut pages = kdwalk::begin();
+    let mut pages = kdpages::begin();
     loop {
-        let t = kdwalk::next_slot(q, size, n, ids, coords, &mut page, pages);
+        let t = kdpages::next_slot(q, size, n, coords, &mut page, pages);
         pages = t.pages;
         let s = t.step;
         let Step::Slot(c) = s else {
@@ -645,9 +645,9 @@ fn tally_by(
     let size = g.node_size;
     let n = x.len();
     let mut page = [0usize; 16];
-    let mut pages = kdwalk::begin();
+    let mut pages = kdpages::begin();
     loop {
-        let u = kdwalk::next_slot(q, size, n, ids, coords, &mut page, pages);
+        let u = kdpages::next_slot(q, size, n, coords, &mut page, pages);
         pages = u.pages;
         let s = u.step;
         let Step::Slot(c) = s else {

@@ -448,7 +448,7 @@ fn walk_into(
     let mut any = false;
     let mut so = was;
     let mut page = [0usize; 16];
-    let mut from = kdwalk::begin();
+    let mut from = kdpages::begin();
     loop {
         match kids::next_child(
             g,

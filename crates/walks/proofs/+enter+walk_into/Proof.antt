@@ -32,7 +32,7 @@ use Rattle.walks.proofs.walk_into.Kinds as into-kinds
 use Rattle.walks.proofs.+enter+walk_into.Lts-walk_into as into-lts
 use Rattle.asking.proofs.go_on.Reads as go-on-reads
 use Rattle.asking.proofs.ring_of.Reads as ring-of-reads
-use Rattle.kdwalk.proofs.begin.Reads as begin-reads
+use Rattle.kdpages.proofs.begin.Reads as begin-reads
 use Rattle.kids.proofs.next_child.Reads as next-child-reads
 use Rattle.walks.proofs.fate_of.Reads as fate-of-reads
 use Rattle.walks.proofs.list_one.Reads as list-one-reads
