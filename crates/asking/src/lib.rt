@@ -1,5 +1,6 @@
-// What every question to a build rests on: its answer, the lent columns and the parts of them that hold one table, where a cluster's id leads, and the ring
-// around an entry, in which its children are. A question looks at the state first (`State::is_sound`); what is asked here of a caller follows from that.
+// What every question to a build rests on: its answer, the lent columns and the parts of them that hold one table, where a cluster's id
+// leads, and the ring around an entry, in which its children are. A question looks at the state first (`State::is_sound`); what is asked
+// here of a caller follows from that.
 use kdslots::Query;
 use kdwalk::Pages;
 use kdwalk::Turned;
@@ -271,7 +272,8 @@ pub fn ring_of(
     }
 }
 
-// The next slot of a walk over a ring that is read a page at a time. Around a place nothing is gained by looking at places ahead, so it is lent none.
+// The next slot of a walk over a ring that is read a page at a time. Around a place nothing is gained by looking at places ahead, so it
+// is lent none.
 pub fn next_in(g: Ring, coords: &[f64], page: &mut [usize], p: Pages) -> Turned
     requires { ⌜ InRing g (now coords) ⌝ }
     ensures { λ r. ⌜ r .step ≡ nextStep Done (aheadIn g (old coords) (old page) p) ⌝ }
