@@ -53,18 +53,21 @@ module _ (G : Given) (a : Accepted G) (l : Lent) (r : Holds (need (G .options) (
         let b = options-are (G .options) (a .options) in
         slots-promised size (built G t) (b .size-from) (b .size-to) (r-t .some) (omega (arith, r-t .few, a .few)) (r-t .unit)
 
-    -- what is answered around it is what was answered in the build
+    -- what is asked around it, of the table v
+    abbrev Q : Table → Query
+    Q v = Within (entry v i .x) (entry v i .y) (radiusAt (G .options .radius) (G .options .extent) (t - 1))
+
+    -- what is answered is what was answered in the build
     around-is : placesAround (stateBy G) (columnsBy G l) t i ≡ answersAt G t i
     around-is =
-        let R = radiusAt (G .options .radius) (G .options .extent) (t - 1) in
-        let Q : Table → Query = λ v. Within (entry v i .x) (entry v i .y) R in
-        ap (λ (v : Table). found (Q v) size (lenOf S t) (idsAt S (C .ids) t) (coordsAt S (C .coords) t)) (table-is G a l r t (omega arith) k)
+        ap (λ (v : Table). found (Q v) size (lenOf S t) (idsAt S (C .ids) t) (coordsAt S (C .coords) t))
+        (table-is G a l r t (omega arith) k)
         ∙ ap (λ (v : List ℕ). found (Q (built G t)) size (lenOf S t) v (coordsAt S (C .coords) t)) (ids-are G a l r t (omega arith) k)
         ∙ ap₂ (λ (n : ℕ) (v : List Float). found (Q (built G t)) size n (slotsOf size (built G t) .ids) v)
         (long-is G a t (omega arith) k) (coords-are G a l r t (omega arith) k)
 
     pub around-below : AllBelow (length (built G t)) (answersAt G t i)
-    around-below = promised .below _
+    around-below = promised .below (Q (built G t))
 
     -- none is past the table
     pub clean : cleanAt (stateBy G) (columnsBy G l) t i ≡ true

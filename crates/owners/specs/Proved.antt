@@ -151,7 +151,8 @@ module _ (G : Given) (a : Accepted G) (l : Lent) (r : Holds (need (G .options) (
         let n = long z j w in
         fewer-than size (numAt S C z j) offset (length out) (length L) (length (drop offset L)) _ n c (e ∙ d) h
       where
-        fewer-than : (size num offset room all left got : ℕ) → num ≡ all → left ≡ all - offset → got ≡ min size left → min size num ≤ room → got ≤ room
+        fewer-than : (size num offset room all left got : ℕ) → num ≡ all → left ≡ all - offset → got ≡ min size left
+            → min size num ≤ room → got ≤ room
         fewer-than size num offset room all left got n c d h = omega arith
 
     few : numAt (stateBy G) (columnsBy G l) z j ≤ 1048576
@@ -169,7 +170,12 @@ module _ (G : Given) (a : Accepted G) (l : Lent) (r : Holds (need (G .options) (
         lift (one-page k size n L (let e = long z j w in omega arith) (owned z j w .each k b ∙ ap one (eq-eqb (owner G z k) j u)))
       where
         lift : ((i : ℕ) × (i < n) × OnPage k (λ m. pageOf size m L) i) → (i : ℕ) × (i < n) × OnPage k (λ m. leafPage S C z j size m) i
-        lift (i, v, p) = (i, v, record { here = ap (count k) (at (i * size)) ∙ p .here; nowhere-else = λ m q. ap (count k) (at (m * size)) ∙ p .nowhere-else m q })
+        lift (i, v, p) =
+            let on : OnPage k (λ m. leafPage S C z j size m) i = record {
+              here = ap (count k) (at (i * size)) ∙ p .here;
+              nowhere-else = λ m q. ap (count k) (at (m * size)) ∙ p .nowhere-else m q;
+            } in
+            (i, v, on)
 
     strangers : (k m : ℕ) → (m < points G → owner G z m ≡ j → ⊥) → count m (leafPage (stateBy G) (columnsBy G l) z j size k) ≡ 0
     strangers k m h = ap (count m) (at (k * size)) ∙ none-on m size k L (⊎-elim within past (below m (points G)))
@@ -184,7 +190,8 @@ module _ (G : Given) (a : Accepted G) (l : Lent) (r : Holds (need (G .options) (
     turned m =
         record {
           given = λ offset. page z j w size offset ∙ ap (told true) (sym (at offset));
-          joined = λ n h. gather-ext _ _ (range 0 n) (λ k v. at (k * size)) ∙ pages-joined size n L (let e = long z j w in omega arith) ∙ sym whole;
+          joined = λ n h. gather-ext _ _ (range 0 n) (λ k v. at (k * size))
+              ∙ pages-joined size n L (let e = long z j w in omega arith) ∙ sym whole;
           long = page-long;
           last = rest-long;
           past = past-end;

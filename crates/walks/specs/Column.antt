@@ -1,5 +1,5 @@
--- What the private functions of the walk over lamps say: what becomes of a child, and, of the lent column, that behind it stand the lamps of
--- the definition's walk, as far as they fit. Assumes nothing.
+-- What the private functions of the walk over lamps say: what becomes of a child, and, of the lent column, that behind it stand the lamps
+-- of the definition's walk, as far as they fit. Assumes nothing.
 use mathlib.Core.Bool.{Bool, true, false, cond}
 use mathlib.Core.Path.{_≡_, refl, subst}
 use mathlib.Core.List.{List}

@@ -55,6 +55,7 @@ zoomAt Target·Spoiled f = Spoiled
 zoomAt Target·NoTree f = NoTree
 zoomAt Target·NoCluster f = NoCluster
 
+-- the question: from table - 1 on, k = max_zoom + 1 - (table - 1) zooms are at most max_zoom
 unfoldable pub zoomOf : State → Columns → ℕ → Expansion
 zoomOf s c id =
     zoomAt (targetOf s (roomOf c) id) (λ t o. expand s c (s .options .«max_zoom» + 1 - (t - 1)) (Target·At t o) id (t - 1) true)

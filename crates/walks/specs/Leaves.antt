@@ -56,13 +56,15 @@ module _ (s : State) (c : Columns) (limit offset : ℕ) where
   steps into t clean [] n l = cond clean (went n l) (broke l)
   steps into t clean (e ∷ es) n l = after (visit into t e n l) (λ m r. steps into t clean es m r)
 
-  -- a walk into a cluster with no children breaks. It goes on into larger tables only, of which there are fewer than 32: f bounds how often.
+  -- a walk into a cluster with no children breaks. It goes on into larger tables only, of which there are fewer than 32: f bounds how
+  -- often
   unfoldable pub walk : ℕ → Into
   walk zero id t o n l = broke l
   walk (suc f) id t o n l =
       cond (eqb (length (kidsAt s c id t o)) 0) (broke l)
       (steps (walk f) t (cleanAt s c t o) (map (entry (tableAt s c t)) (kidsAt s c id t o)) n l)
 
+-- the lamps that a walk lists; one that broke did not go to its end
 abbrev pub listed : Trip → Asked
 listed (broke l) = told false l
 listed (went n l) = told true l
@@ -74,5 +76,6 @@ leavesAt s c id limit offset t o =
     cond (childless s c id t o) (refused NoCluster)
     (cond (eqb limit 0) (told (cleanAt s c t o) []) (listed (walk s c limit offset 32 id t o 0 [])))
 
+-- the question: the lamps of the cluster where the id leads
 unfoldable pub leavesOf : State → Columns → ℕ → ℕ → ℕ → Asked
 leavesOf s c id limit offset = atTarget (targetOf s (roomOf c) id) (λ t o. leavesAt s c id limit offset t o)
