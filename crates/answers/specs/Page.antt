@@ -34,7 +34,7 @@ module _ (limit offset : ℕ) where
   listedBy n out ls = out ++ take (limit - length out) (drop (offset - n) ls)
 
   -- as what a walk leaves
-  abbrev pub paged : ℕ → List ℕ → List ℕ → Trip (List ℕ)
+  abbrev pub paged : ℕ → List ℕ → List ℕ → Trip
   paged n out ls = went (skippedBy n ls) (listedBy n out ls)
 
   -- a walk that goes on: the limit is not reached, and nothing is listed before all that is to be skipped is skipped

@@ -1,4 +1,5 @@
--- What a question comes to: a refusal before its walk, or the items that the walk finds; the answer and the column afterwards are read from it. Definitions only.
+-- What a question comes to: a refusal before its walk, or the items that the walk finds; the answer and the column afterwards are read
+-- from it. Definitions only.
 use mathlib.Core.Bool.{Bool, true, false}
 use mathlib.Core.List.{List}
 use Prim.Native.Nat.{ℕ}

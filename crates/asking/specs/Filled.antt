@@ -1,4 +1,5 @@
--- A column that is filled one item at a time: a store at the number of items so far is one more item, whether it fits or not. Assumes nothing.
+-- A column that is filled one item at a time: a store at the number of items so far is one more item, whether it fits or not. Assumes
+-- nothing.
 use mathlib.Core.Path.{_≡_, refl, ap, sym}
 use mathlib.Core.List.{List, [], _∷_, _++_}
 use Prim.Native.Nat.{ℕ, suc}

@@ -1,5 +1,6 @@
-// What every question to a build rests on: its answer, the lent columns and the parts of them that hold one table, where a cluster's id leads, and the ring
-// around an entry, in which its children are. A question looks at the state first (`State::is_sound`); what is asked here of a caller follows from that.
+// What every question to a build rests on: its answer, the lent columns and the parts of them that hold one table, where a cluster's id
+// leads, and the ring around an entry, in which its children are. A question looks at the state first (`State::is_sound`); what is asked
+// here of a caller follows from that.
 use kdpages::Pages;
 use kdpages::Turned;
 use kdslots::Query;

@@ -26,8 +26,7 @@ use Rattle.asking.specs.Columns.{Columns, part-getD}
 use Rattle.asking.specs.Filled.{filled-none, filled-next, filled-length}
 use Rattle.asking.specs.Around.{slotsOf, aheadIn, ring-below, ring-next, ring-end, slots-few}
 use Rattle.kids.specs.declared.Kids.the-variants.{All, Spoiled}
-use Rattle.kids.specs.Kids.{kidsReply}
-use Rattle.kids.specs.Next.{tableIn, idsIn, kidsIn, cleanIn, Listed, child, none, past, nextIn}
+use Rattle.kids.specs.Next.{tableIn, idsIn, kidsIn, cleanIn, kidsReply, Listed, child, none, past, nextIn}
 use Rattle.kids.specs.Next.{next-none, next-past, next-kid, next-other, next-told}
 
 -- ---- one step of the walk

@@ -12,8 +12,8 @@ ghost use Rattle.asking.specs.Lent.{givenColumns, lentColumns};
 ghost use Rattle.asking.specs.Around.{aheadIn};
 ghost use Rattle.kids.specs.Next.{Listed, nextIn, childIn};
 
-// The next child of a cluster: where the walk stands after it, its place and its entry; or none is left; or a slot that names a place past the
-// table comes before it.
+// The next child of a cluster: where the walk stands after it, its place and its entry; or none is left; or a slot that names a place past
+// the table comes before it.
 pub enum Child {
     At {
         pages: Pages,
