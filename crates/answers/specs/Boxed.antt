@@ -20,7 +20,7 @@ use Rattle.range.specs.declared.CoordinateSystem.the-variants.{LatLng, Cartesia
 use Rattle.range.specs.declared.DataRange.{DataRange}
 use Rattle.range.specs.Range.{normalized, mercatorX, converted}
 use Rattle.kdsort.specs.Cols.{cols}
-use Rattle.kdsort.specs.Indexes.{blank}
+use Rattle.kdsort.specs.Cols.{blank}
 use Rattle.kdsort.specs.Tree.{Index}
 use Rattle.kdslots.specs.declared.Query.{Query}
 use Rattle.kdslots.specs.declared.Query.the-variants.{Range, Within}

@@ -18,7 +18,7 @@ use Rattle.range.specs.declared.DataRange.{DataRange}
 use Rattle.range.specs.declared.CoordinateSystem.{CoordinateSystem}
 use Rattle.range.specs.declared.CoordinateSystem.the-variants.{LatLng, Cartesian}
 use Rattle.kdsort.specs.Cols.{Cols}
-use Rattle.kdsort.specs.Indexes.{blank}
+use Rattle.kdsort.specs.Cols.{blank}
 use Rattle.kdsort.specs.Tree.{Index}
 use Rattle.kdslots.specs.declared.Query.the-variants.{Range}
 use Rattle.kdslots.specs.All.{All, all-append}

@@ -11,9 +11,9 @@ use lib.ListN.{length, getD, length-replicate}
 use lib.Ieee.{Float, nan}
 use lib.Ieee.Scale.{finite}
 use Rattle.floats.specs.Unit.{In01, In01-not-nan, In01-finite}
-use Rattle.kdsort.specs.Cols.{Cols, key}
+use Rattle.kdsort.specs.Cols.{Cols, blank, key}
 use Rattle.kdsort.specs.Tree.{Points, Index}
-use Rattle.kdsort.specs.Indexes.{blank, indexed-same, indexed-ok}
+use Rattle.kdsort.specs.Indexes.{indexed-same, indexed-ok}
 use Rattle.kdslots.specs.declared.Query.the-variants.{Within}
 use Rattle.kdslots.specs.Members.{In}
 use Rattle.kdbush.specs.Reply.{built, indexOf, found}

@@ -10,7 +10,8 @@ use lib.Dec.{ltb}
 use lib.ListN.{length, set, take, length-set}
 use lib.Seq.{take-suc-set, append-snoc}
 use Rattle.kdsort.specs.Shape.{shape, mid}
-use Rattle.kdslots.specs.Slots.{Search, when, scanned, slots, below}
+use Rattle.kdslots.specs.Slots.{Search, when, scanned, slots}
+use Rattle.kdslots.specs.Intervals.{below}
 use Rattle.kdpages.specs.Pages.{Stored, stored, store}
 use Rattle.kdslots.specs.Intervals.{scanned-suc, slots-leaf, slots-node}
 

@@ -8,7 +8,13 @@ use lib.Ieee.{Float}
 use lib.ListN.{length, length-append}
 use Rattle.kdsort.specs.Shape.{Shape, shape, mid, Spans, all, both, spans, shape-leaf, shape-node}
 use Rattle.kdslots.specs.declared.Query.{Query}
-use Rattle.kdslots.specs.Slots.{Search, when, scanned, slots, below, over, answers}
+use Rattle.kdslots.specs.Slots.{Search, when, scanned, slots, over, answers}
+
+-- what is answered below the median of the slots from lo up to hi
+abbrev pub below : Search → ℕ → ℕ → ℕ → ℕ → List ℕ
+below s ax most lo hi =
+    when (s .right ax (mid lo hi)) (slots s (1 - ax) (shape most (mid lo hi + 1) hi))
+    ++ when (s .left ax (mid lo hi)) (slots s (1 - ax) (shape most lo (mid lo hi)))
 
 pub scanned-suc : (s : Search) (i hi : ℕ) → i < hi → scanned s i (hi - i) ≡ when (s .test i) (i ∷ []) ++ scanned s (i + 1) (hi - (i + 1))
 unfolding scanned

@@ -9,6 +9,12 @@ ghost use Rattle.kdslots.specs.Query.{passesQ, queryOk};
 ghost use Rattle.kdslots.specs.Slots.{over, slots};
 ghost use Rattle.kdslots.specs.Bounds.{nodeSizeOk, countOk, coordsOk};
 
+// The most points that an index may have.
+pub const MOST_POINTS: usize = 1048576;
+
+// The largest node size.
+pub const MOST_NODE_SIZE: usize = 65535;
+
 // What is asked of an index: the entries of a box, or those around a place.
 pub enum Query {
     Range {
@@ -142,7 +148,7 @@ pub fn node_size_ok(node_size: usize) -> bool
     ensures { λ r. ⌜ r ≡ nodeSizeOk «node_size» ⌝ }
 {
     if 1 <= node_size {
-        return node_size <= 65535;
+        return node_size <= MOST_NODE_SIZE;
     }
     false
 }
@@ -152,7 +158,7 @@ pub fn count_ok(n: usize) -> bool
     ensures { λ r. ⌜ r ≡ countOk n ⌝ }
 {
     if 1 <= n {
-        return n <= 1048576;
+        return n <= MOST_POINTS;
     }
     false
 }

@@ -6,7 +6,8 @@ ghost use Prim.Native.Nat.{_+_, _-_, _*_, _≤_, _<_};
 ghost use lib.ListN.{length};
 ghost use Rattle.lent.specs.Lent.{old};
 ghost use Rattle.kdsort.specs.Shape.{shape};
-ghost use Rattle.kdslots.specs.Slots.{over, when, scanned, slots, below};
+ghost use Rattle.kdslots.specs.Slots.{over, when, scanned, slots};
+ghost use Rattle.kdslots.specs.Intervals.{below};
 ghost use Rattle.kdwalk.specs.Cursor.{headOf, rest, leafEnd};
 ghost use Rattle.kdwalk.specs.Reply.{stepNumber, stepCarried, firstStep, afterStep};
 

@@ -337,7 +337,7 @@ fn check(
     if n < 1 {
         return LoadReply::Count;
     }
-    if 1048576 < n {
+    if kdslots::MOST_POINTS < n {
         return LoadReply::Count;
     }
     if ys.len() != n {

@@ -93,7 +93,7 @@ impl Options {
         if self.node_size < 1 {
             return false;
         }
-        if 65535 < self.node_size {
+        if kdslots::MOST_NODE_SIZE < self.node_size {
             return false;
         }
         let system = self.coordinate_system;
