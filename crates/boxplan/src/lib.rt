@@ -57,8 +57,14 @@ fn rule(west: f64, east: f64) -> Edges
 fn box_of(c: CoordinateSystem, west: f64, least_y: f64, east: f64, greatest_y: f64) -> Query
     ensures { λ r. ⌜ r ≡ boxOf c west «least_y» east «greatest_y» ⌝ }
 {
-    let a = c.convert(Point { x: west, y: least_y });
-    let b = c.convert(Point { x: east, y: greatest_y });
+    let a = c.convert(Point {
+        x: west,
+        y: least_y,
+    });
+    let b = c.convert(Point {
+        x: east,
+        y: greatest_y,
+    });
     Query::Range {
         min_x: a.x,
         min_y: a.y,
