@@ -352,7 +352,8 @@ pub extern "C" fn supercluster_load(
     tell(loaded, starts, lens, carried)
 }
 
-// The places of the table of the zoom used in the box from (w, south) to (e, n).
+// The places of the table of the zoom used in the box from (west, least_y) to (east, greatest_y). y grows downwards on a mercator map, so
+// that least_y is the northern edge of a longitude build; on a Cartesian plan it is the least y as given.
 #[no_mangle]
 pub extern "C" fn supercluster_box(
     min_zoom: u8,
@@ -377,10 +378,10 @@ pub extern "C" fn supercluster_box(
     ids: &[u32],
     coords: &[f64],
     zoom: u8,
-    w: f64,
-    south: f64,
-    e: f64,
-    n: f64,
+    west: f64,
+    least_y: f64,
+    east: f64,
+    greatest_y: f64,
     out: &mut [u32],
     carried: &mut usize,
 ) -> u32
@@ -388,7 +389,7 @@ pub extern "C" fn supercluster_box(
         let o = given «min_zoom» «max_zoom» «min_points» radius extent «node_size» cartesian «min_x» «min_y» «max_x» «max_y»
         «offset_given» offset «scale_given» scale «longitude_strips_only» in
         let s = stateOf o count (old starts) (old lens) in
-        ⌜ told r (new carried) (new out) ≡ toldOf (boxAsked s (old ids) (old coords) zoom w south e n) (old out) ⌝ }
+        ⌜ told r (new carried) (new out) ≡ toldOf (boxAsked s (old ids) (old coords) zoom west «least_y» east «greatest_y») (old out) ⌝ }
 {
     let o = options(
         min_zoom,
@@ -409,7 +410,7 @@ pub extern "C" fn supercluster_box(
         longitude_strips_only,
     );
     let s = state(o, count, starts, lens);
-    let r = boxes::list_box(s, ids, coords, zoom, w, south, e, n, out);
+    let r = boxes::list_box(s, ids, coords, zoom, west, least_y, east, greatest_y, out);
     *carried = r.carried();
     r.number()
 }
@@ -440,10 +441,10 @@ pub extern "C" fn supercluster_box_effort(
     ids: &[u32],
     coords: &[f64],
     zoom: u8,
-    w: f64,
-    south: f64,
-    e: f64,
-    n: f64,
+    west: f64,
+    least_y: f64,
+    east: f64,
+    greatest_y: f64,
     allowance: usize,
     out: &mut [u32],
     tested: &mut usize,
@@ -455,7 +456,7 @@ pub extern "C" fn supercluster_box_effort(
         «offset_given» offset «scale_given» scale «longitude_strips_only» in
         let s = stateOf o count (old starts) (old lens) in
         ⌜ effortTold r (new carried) (new tested) (new stopped) (new out)
-        ≡ effortToldOf (effortAsked s (old ids) (old coords) zoom w south e n) allowance (old out) ⌝ }
+        ≡ effortToldOf (effortAsked s (old ids) (old coords) zoom west «least_y» east «greatest_y») allowance (old out) ⌝ }
 {
     let o = options(
         min_zoom,
@@ -476,7 +477,18 @@ pub extern "C" fn supercluster_box_effort(
         longitude_strips_only,
     );
     let s = state(o, count, starts, lens);
-    let r = efforts::effort_box(s, ids, coords, zoom, w, south, e, n, allowance, out);
+    let r = efforts::effort_box(
+        s,
+        ids,
+        coords,
+        zoom,
+        west,
+        least_y,
+        east,
+        greatest_y,
+        allowance,
+        out,
+    );
     let k = r.carried();
     *tested = k.tested;
     *stopped = k.stopped;

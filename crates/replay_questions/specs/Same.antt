@@ -26,14 +26,14 @@ use Rattle.replay_questions.specs.declared.Reply.{Reply}
 
 -- what a question that lists comes to
 unfoldable pub askedOf : Listing → State → Columns → Asked
-askedOf (Box zoom w south e n) s c = boxAsked s (c .ids) (c .coords) zoom w south e n
+askedOf (Box zoom west least east greatest) s c = boxAsked s (c .ids) (c .coords) zoom west least east greatest
 askedOf (Ring zoom x y radius) s c = ringAsked s (c .ids) (c .coords) zoom x y radius
 askedOf (Children id) s c = childrenOf s c id
 askedOf (Leaves id limit offset) s c = leavesOf s c id limit offset
 
 -- its name
 abbrev pub questionOf : Listing → Question
-questionOf (Box zoom w south e n) = Question·Box
+questionOf (Box zoom west least east greatest) = Question·Box
 questionOf (Ring zoom x y radius) = Question·Ring
 questionOf (Children id) = Question·Children
 questionOf (Leaves id limit offset) = Question·Leaves

@@ -41,7 +41,7 @@ returns c =
     let w = c .before .before .before .before in
     let y = w .before .before in
     let a = start-of y .args in
-    told-is (now (a .out)) _ _ (c .number .ensures) (c .before .carried .ensures) (w .list-box .ensures .0) (w .list-box .ensures .1) (ap (λ (s : State). boxAsked s (now (a .ids)) (now (a .coords)) (a .zoom) (a .w) (a .south) (a .e) (a .n)) (state-given y))
+    told-is (now (a .out)) _ _ (c .number .ensures) (c .before .carried .ensures) (w .list-box .ensures .0) (w .list-box .ensures .1) (ap (λ (s : State). boxAsked s (now (a .ids)) (now (a .coords)) (a .zoom) (a .west) (a .least-y) (a .east) (a .greatest-y)) (state-given y))
 
 pub supercluster-box-spec : {M : Type 1} → statement M
 supercluster-box-spec =
