@@ -1,5 +1,6 @@
--- Of a build that is accepted: the id of each of its clusters leads to its origin, where it is asked for and where a walk goes
--- on into it; it has two children or more, its members in the order of the answers; and it expands at the zoom after the one that made it. Assumes nothing.
+-- Of a build that is accepted: the id of each of its clusters leads to its origin, where it is asked for and where a walk goes on into
+-- it; it has two children or more, its members in the order of the answers; and it expands at the zoom after the one that made it.
+-- Assumes nothing.
 use mathlib.Core.Path.{_≡_, refl, ap, ap₂, sym, _∙_, subst}
 use mathlib.Core.Logic.{inl, inr}
 use mathlib.Core.Bool.{Bool, true, false}

@@ -1,5 +1,5 @@
--- Of a build that is accepted, of each of its clusters: its leaves are its lamps after the first `offset`, as many as the limit, with limit 0 none. So a larger limit
--- never changes what a smaller one listed. Assumes nothing.
+-- Of a build that is accepted, of each of its clusters: its leaves are its lamps after the first `offset`, as many as the limit, with
+-- limit 0 none. So a larger limit never changes what a smaller one listed. Assumes nothing.
 use mathlib.Core.Path.{_≡_, ap, ap₂, sym, _∙_, subst}
 use mathlib.Core.Bool.{Bool, true, false}
 use mathlib.Core.List.{List, [], _∷_, _++_, append-nil}

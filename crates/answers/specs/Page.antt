@@ -1,5 +1,5 @@
--- A page of a list of lamps: after the first `offset`, up to `limit` of them. What a walk has skipped and listed after a list of lamps, and after two one after
--- the other. Assumes nothing.
+-- A page of a list of lamps: after the first `offset`, up to `limit` of them. What a walk has skipped and listed after a list of lamps,
+-- and after two one after the other. Assumes nothing.
 use mathlib.Core.Path.{_≡_, ap, ap₂, sym, _∙_}
 use mathlib.Core.Logic.{⊎-elim}
 use mathlib.Core.List.{List, [], _∷_, _++_, append-nil, append-assoc}

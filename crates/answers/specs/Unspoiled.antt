@@ -28,7 +28,8 @@ use Rattle.walks.specs.Children.{atTarget, childrenAt, childrenOf}
 use Rattle.walks.specs.Expansion.{expand, zoomAt, zoomOf}
 use Rattle.walks.specs.Leaves.{leavesAt, leavesOf}
 use Rattle.walks.specs.declared.Expansion.{Expansion}
-use Rattle.walks.specs.declared.Expansion.the-variants.{At as Expands·At, NoTree as Expands·NoTree, NoCluster as Expands·NoCluster, Spoiled as Expands·Spoiled}
+use Rattle.walks.specs.declared.Expansion.the-variants.{At as Expands·At, NoTree as Expands·NoTree, NoCluster as Expands·NoCluster}
+use Rattle.walks.specs.declared.Expansion.the-variants.{Spoiled as Expands·Spoiled}
 use Rattle.supercluster.specs.Build.{Lent, need}
 use Rattle.supercluster.specs.Load.{Holds}
 use Rattle.builds.specs.Given.{Given, Accepted, points, minZ, maxZ}

@@ -1,5 +1,6 @@
--- A walk over the lamps of a cluster of an accepted build, whatever is said of what it skips and lists: what holds of no lamps, of lamps that are skipped, of one
--- that is listed, and of some lamps and then more, holds of the whole walk over the cluster's lamps, in their order. Assumes nothing.
+-- A walk over the lamps of a cluster of an accepted build, whatever is said of what it skips and lists: what holds of no lamps, of lamps
+-- that are skipped, of one that is listed, and of some lamps and then more, holds of the whole walk over the cluster's lamps, in their
+-- order. Assumes nothing.
 use mathlib.Core.Path.{_≡_, refl, ap, ap₂, sym, _∙_, subst}
 use mathlib.Core.Logic.{⊎-elim, inl, inr}
 use mathlib.Core.Bool.{Bool, true, false, cond}

@@ -1,6 +1,6 @@
--- Of an index that is built from its table: a Cartesian box lists exactly the entries inside, each once, and each of them lies within [0,1]; so does a box of
--- longitudes that is not split, and each half of one that is; and a ring lists exactly the entries that pass the distance test. No such question is refused for a
--- place past the table. Assumes nothing.
+-- Of an index that is built from its table: a Cartesian box lists exactly the entries inside, each once, and each of them lies within
+-- [0,1]; so does a box of longitudes that is not split, and each half of one that is; and a ring lists exactly the entries that pass the
+-- distance test. No such question is refused for a place past the table. Assumes nothing.
 use mathlib.Core.Path.{_≡_, ap, _∙_, subst}
 use mathlib.Core.Bool.{true, false}
 use mathlib.Core.List.{List, [], _∷_, _++_, append-nil, flatMap}

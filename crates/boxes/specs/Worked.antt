@@ -1,5 +1,5 @@
--- Boxes worked from the definitions: one whose first half grows to the whole row, so that an entry is listed twice; and 11 in the walk comes before 10. Assumes
--- nothing.
+-- Boxes worked from the definitions: one whose first half grows to the whole row, so that an entry is listed twice; and 11 in the walk
+-- comes before 10. Assumes nothing.
 use mathlib.Core.Path.{_≡_, refl}
 use mathlib.Core.Bool.{true, false}
 use mathlib.Core.List.{List, [], _∷_, flatMap}

@@ -1,4 +1,5 @@
--- The two halves of a box that is split: put through the rule again, neither is split again, so that two searches are all there is. A longitude comes into
+-- The two halves of a box that is split: put through the rule again, neither is split again, so that two searches are all there is. A
+-- longitude comes into
 -- -180 to 180 by the rule, and both ends of that stay where they are as edges of a half. Assumes nothing.
 use mathlib.Core.Path.{_≡_, refl, sym, ap, _∙_, subst}
 use mathlib.Core.Bool.{Bool, true, false, cond}

@@ -1,5 +1,5 @@
--- The rule worked from its definition: it is not done with a longitude at once, so that a half that is put through it again grows to the whole row; and 180 stays
--- as an eastern edge alone. Assumes nothing.
+-- The rule worked from its definition: it is not done with a longitude at once, so that a half that is put through it again grows to the
+-- whole row; and 180 stays as an eastern edge alone. Assumes nothing.
 use mathlib.Core.Path.{_≡_, refl}
 use mathlib.Core.Bool.{true, false}
 use lib.IntN.{negsuc}

@@ -1,5 +1,5 @@
--- Of every such build: each table is as long as it came, and each of its entries has the place, the id and the num with which it came. Where its places went and
--- where they are from, by table number. Assumes nothing.
+-- Of every such build: each table is as long as it came, and each of its entries has the place, the id and the num with which it came.
+-- Where its places went and where they are from, by table number. Assumes nothing.
 use mathlib.Core.Path.{_≡_, refl, sym, ap, ap₂, _∙_, subst}
 use mathlib.Core.Logic.{⊎-elim}
 use mathlib.Core.List.{map}

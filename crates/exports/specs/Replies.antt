@@ -12,7 +12,7 @@ use Rattle.kdsort.specs.Cols.{Cols}
 use Rattle.kdslots.specs.declared.Query.{Query}
 use Rattle.kdbush.specs.Reply.{buildNumber, buildCarried, built, checked, searchNumber, searchCarried, searched, columnAfter}
 use Rattle.kdwalk.specs.declared.Step.{Step}
-use Rattle.kdwalk.specs.Reply.{stepNumber, firstStep, afterStep}
+use Rattle.kdwalk.specs.Reply.{stepNumber, firstStep, afterStep, stepCarried}
 use Rattle.tables.specs.declared.Options.{Options}
 use Rattle.tables.specs.declared.State.{State}
 use Rattle.supercluster.specs.Build.{Lent, loaded}
@@ -24,7 +24,6 @@ use Rattle.walks.specs.Leaves.{leavesOf}
 use Rattle.walks.specs.Expansion.{zoomOf}
 use Rattle.tiles.specs.Asked.{tiled}
 use Rattle.tiles.specs.Tallied.{tallied}
-use Rattle.exports.specs.Numbers.{slotOf}
 use Rattle.exports.specs.Told.{Said, zoomSaid, tallySaid, Told, toldOf, EffortTold, effortToldOf, TileTold, tileOf}
 use Rattle.exports.specs.Laid.{Laid, laidOf}
 
@@ -34,7 +33,7 @@ same-told : {A : Type 0} (n k : ℕ) (a : A) (r s c d : ℕ) (u v : A) → (r �
 same-told n k a r s c d u v e f = (same-reply (e .0) (f .0), same-reply (e .1) (f .1), same-reply (e .2) (f .2))
 
 -- and of a step its number and its slot
-same-step : (x : Step) (r s i j : ℕ) → (r ≡ stepNumber x) × (i ≡ slotOf x) → (s ≡ stepNumber x) × (j ≡ slotOf x) → (r ≡ s) × (i ≡ j)
+same-step : (x : Step) (r s i j : ℕ) → (r ≡ stepNumber x) × (i ≡ stepCarried x) → (s ≡ stepNumber x) × (j ≡ stepCarried x) → (r ≡ s) × (i ≡ j)
 same-step x r s i j e f = (same-reply (e .0) (f .0), same-reply (e .1) (f .1))
 
 -- ---- the index
@@ -55,12 +54,12 @@ module _ (q : Query) (size n : ℕ) (co : List Float) where
 
   -- `kdbush_range_first`, `kdbush_within_first`
   pub first-replies : (r s i j : ℕ) → let x = firstStep q size n co in
-      (r ≡ stepNumber x) × (i ≡ slotOf x) → (s ≡ stepNumber x) × (j ≡ slotOf x) → (r ≡ s) × (i ≡ j)
+      (r ≡ stepNumber x) × (i ≡ stepCarried x) → (s ≡ stepNumber x) × (j ≡ stepCarried x) → (r ≡ s) × (i ≡ j)
   first-replies = same-step (firstStep q size n co)
 
   -- `kdbush_range_after`, `kdbush_within_after`
   pub after-replies : (slot r s i j : ℕ) → let x = afterStep q size n co slot in
-      (r ≡ stepNumber x) × (i ≡ slotOf x) → (s ≡ stepNumber x) × (j ≡ slotOf x) → (r ≡ s) × (i ≡ j)
+      (r ≡ stepNumber x) × (i ≡ stepCarried x) → (s ≡ stepNumber x) × (j ≡ stepCarried x) → (r ≡ s) × (i ≡ j)
   after-replies slot = same-step (afterStep q size n co slot)
 
 -- ---- the build, and the questions to it
@@ -72,13 +71,13 @@ load-replies o xs ys ws l starts lens r t = same-reply
 
 -- `supercluster_box`, `supercluster_box_effort`, `supercluster_ring`
 module _ (s : State) (ids : List ℕ) (co : List Float) (zoom : ℕ) (out : List ℕ) where
-  pub box-replies : (w south e n : Float) (r t : Told) → r ≡ toldOf (boxAsked s ids co zoom w south e n) out
-      → t ≡ toldOf (boxAsked s ids co zoom w south e n) out → r ≡ t
-  box-replies w south e n r t = same-reply
+  pub box-replies : (west least east greatest : Float) (r t : Told) → r ≡ toldOf (boxAsked s ids co zoom west least east greatest) out
+      → t ≡ toldOf (boxAsked s ids co zoom west least east greatest) out → r ≡ t
+  box-replies west least east greatest r t = same-reply
 
-  pub effort-replies : (w south e n : Float) (a : ℕ) (r t : EffortTold) → r ≡ effortToldOf (effortAsked s ids co zoom w south e n) a out
-      → t ≡ effortToldOf (effortAsked s ids co zoom w south e n) a out → r ≡ t
-  effort-replies w south e n a r t = same-reply
+  pub effort-replies : (west least east greatest : Float) (a : ℕ) (r t : EffortTold) → r ≡ effortToldOf (effortAsked s ids co zoom west least east greatest) a out
+      → t ≡ effortToldOf (effortAsked s ids co zoom west least east greatest) a out → r ≡ t
+  effort-replies west least east greatest a r t = same-reply
 
   pub ring-replies : (x y radius : Float) (r t : Told) → r ≡ toldOf (ringAsked s ids co zoom x y radius) out
       → t ≡ toldOf (ringAsked s ids co zoom x y radius) out → r ≡ t

@@ -1,6 +1,6 @@
--- The index of points from 0 to 1 in columns that just hold it, for those who build tables of it, by kdbush's own names: a build of it is not refused, what it
--- leaves does not depend on what the columns held, and its searches keep the promises; a slot has the coordinates of the point that it names; and around a
--- point its own place is answered. Assumes nothing.
+-- The index of points from 0 to 1 in columns that just hold it, for those who build tables of it, by kdbush's own names: a build of it is
+-- not refused, what it leaves does not depend on what the columns held, and its searches keep the promises; a slot has the coordinates of
+-- the point that it names; and around a point its own place is answered. Assumes nothing.
 use mathlib.Core.Path.{_≡_, sym, _∙_, subst}
 use mathlib.Core.List.{List}
 use Prim.Native.Nat.{ℕ, _*_, _<_, _≤_}

@@ -1,5 +1,5 @@
--- The index's two columns, and the exchange of two slots. Slot p has the id `ids p` and the coordinates `co (2 * p)` and `co (2 * p + 1)`; the axis is 0
--- for x and 1 for y. Definitions only.
+-- The index's two columns, and the exchange of two slots. Slot p has the id `ids p` and the coordinates `co (2 * p)` and `co (2 * p +
+-- 1)`; the axis is 0 for x and 1 for y. Definitions only.
 use mathlib.Core.List.{List}
 use Prim.Native.Nat.{ℕ, _+_, _*_}
 use lib.ListN.{getD, set, replicate}

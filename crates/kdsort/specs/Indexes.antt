@@ -1,5 +1,5 @@
--- The index of points: the columns as the points fill them, and what their sort is. Each slot holds one point and each point has one slot, ids and both
--- coordinates moved together, in the order of the tree; what lies past them is as it was. Assumes nothing.
+-- The index of points: the columns as the points fill them, and what their sort is. Each slot holds one point and each point has one
+-- slot, ids and both coordinates moved together, in the order of the tree; what lies past them is as it was. Assumes nothing.
 use mathlib.Core.Path.{_≡_, refl, sym, ap, _∙_, subst}
 use mathlib.Core.Logic.{⊎-elim}
 use mathlib.Core.Bool.{not}

@@ -1,4 +1,5 @@
--- The steps of a walk over the answered slots, for every input: 01's refusals in 01's order, and otherwise the answer, one slot at a time. Definitions only.
+-- The steps of a walk over the answered slots, for every input: 01's refusals in 01's order, and otherwise the answer, one slot at a
+-- time. Definitions only.
 use mathlib.Core.Bool.{cond, _&&_}
 use mathlib.Core.List.{List, [], _∷_}
 use Prim.Native.Nat.{ℕ}

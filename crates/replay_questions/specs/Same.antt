@@ -1,4 +1,5 @@
--- What the comparisons are: of the answer to a question, by the definition that the public function cites, with what is expected. Definitions only.
+-- What the comparisons are: of the answer to a question, by the definition that the public function cites, with what is expected.
+-- Definitions only.
 use Prim.Native.Nat.{ℕ}
 use mathlib.Core.Bool.{Bool, _&&_}
 use mathlib.Core.List.{List}
@@ -18,7 +19,8 @@ use Rattle.tiling.specs.declared.Tally.{Tally}
 use Rattle.tiling.specs.Tally.{tallyNumber, tallyValue}
 use Rattle.tiles.specs.Asked.{Outcome}
 use Rattle.vectors.specs.declared.Question.{Question}
-use Rattle.vectors.specs.declared.Question.the-variants.{Box as Question·Box, Ring as Question·Ring, Children as Question·Children, Leaves as Question·Leaves}
+use Rattle.vectors.specs.declared.Question.the-variants.{Box as Question·Box, Ring as Question·Ring, Children as Question·Children}
+use Rattle.vectors.specs.declared.Question.the-variants.{Leaves as Question·Leaves}
 use Rattle.vectors.specs.Same.{samePlaces, sameLongs}
 use Rattle.replay_questions.specs.declared.Listing.{Listing}
 use Rattle.replay_questions.specs.declared.Listing.the-variants.{Box, Ring, Children, Leaves}

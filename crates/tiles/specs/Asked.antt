@@ -21,7 +21,8 @@ tableFor s c z = tableAt s c (zoomUsed (s .options) z)
 
 abbrev pub visitsFor : State → Columns → ℕ → ℕ → ℕ → List Visit
 visitsFor s c z x y =
-    visited (s .options) z x y (tableFor s c z) (idsAt s (c .ids) (zoomUsed (s .options) z)) (coordsAt s (c .coords) (zoomUsed (s .options) z))
+    let u = zoomUsed (s .options) z in
+    visited (s .options) z x y (tableFor s c z) (idsAt s (c .ids) u) (coordsAt s (c .coords) u)
 
 -- a tile is refused with nothing written; or it comes to the items listed, and whether everything that was found could be listed
 pub data Asked : Type 0 where

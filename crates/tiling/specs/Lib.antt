@@ -1,4 +1,5 @@
--- Definitions that contracts cite: Tile, Floor (its first), Runs (its first), Tally, Home (its first), Counting (its first). All else is laws.
+-- Definitions that contracts cite: Tile, Floor (its first), Runs (its first), Tally, Home (its first), Counting (its first). All else is
+-- laws.
 pub mod Tile
 pub mod Framed
 pub mod Finite

@@ -1,5 +1,5 @@
--- A tile's three searches, one after the other, are what the tile finds: each walk goes over its whole answer, and what one leaves the next goes on
--- from. Assumes nothing.
+-- A tile's three searches, one after the other, are what the tile finds: each walk goes over its whole answer, and what one leaves the
+-- next goes on from. Assumes nothing.
 use mathlib.Core.Path.{_≡_, refl, sym, ap, _∙_, subst}
 use mathlib.Core.Bool.{Bool, true, false, _&&_, _||_}
 use mathlib.Core.List.{List, _++_, append-nil}

@@ -1,4 +1,5 @@
--- A tile (z, x, y), by 01's 'Tile': its three searches, what they find in a table with its index, and the item of each entry that is listed. Definitions only.
+-- A tile (z, x, y), by 01's 'Tile': its three searches, what they find in a table with its index, and the item of each entry that is
+-- listed. Definitions only.
 use mathlib.Core.Bool.{Bool, true, false, cond, _&&_}
 use mathlib.Core.List.{List, [], _∷_, _++_, map}
 use Prim.Native.Nat.{ℕ, _+_, _^_}

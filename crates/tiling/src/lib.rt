@@ -473,8 +473,8 @@ fn add_once(marks: &mut [u8], q: usize, num: u32, sum: u64) -> u64
 pub struct Home {
     pub west: f64,
     pub east: f64,
-    pub north: f64,
-    pub south: f64,
+    pub least_y: f64,
+    pub greatest_y: f64,
 }
 
 // Where the tiles from v end: past every coordinate for the last, which holds 1.0 too.
@@ -495,12 +495,12 @@ fn home_of(z: u32, x: u32, y: u32) -> Home
 {
     let z2 = floats::power(z);
     let east = end_of(z, z2, x);
-    let south = end_of(z, z2, y);
+    let greatest_y = end_of(z, z2, y);
     Home {
         west: x as f64 / z2,
         east,
-        north: y as f64 / z2,
-        south,
+        least_y: y as f64 / z2,
+        greatest_y,
     }
 }
 
@@ -514,10 +514,10 @@ fn weigh(h: Home, e: Entry) -> u32
     if !(e.x < h.east) {
         return 0;
     }
-    if !(h.north <= e.y) {
+    if !(h.least_y <= e.y) {
         return 0;
     }
-    if !(e.y < h.south) {
+    if !(e.y < h.greatest_y) {
         return 0;
     }
     e.num

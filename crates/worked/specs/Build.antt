@@ -1,5 +1,5 @@
--- 01's worked build as `load` leaves it: in columns of 12 entries or more, whatever they held, the build is accepted, and this is its state and what stands in the
--- columns of entries and of the index. The state is sound over them. Assumes nothing.
+-- 01's worked build as `load` leaves it: in columns of 12 entries or more, whatever they held, the build is accepted, and this is its
+-- state and what stands in the columns of entries and of the index. The state is sound over them. Assumes nothing.
 use mathlib.Core.Path.{_≡_, refl, ap, _∙_}
 use mathlib.Core.Bool.{Bool, true, cond}
 use mathlib.Core.List.{List, _∷_}

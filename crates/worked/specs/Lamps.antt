@@ -1,4 +1,5 @@
--- Each lamp's owner in each of the three tables of 01's worked build, and the lamps of each entry, computed from the definitions. Assumes nothing.
+-- Each lamp's owner in each of the three tables of 01's worked build, and the lamps of each entry, computed from the definitions. Assumes
+-- nothing.
 use mathlib.Core.Path.{_≡_, refl}
 use mathlib.Core.List.{[], _∷_, map}
 use lib.Ieee.{add, sub, mul, div, ofInt, ofBits, le, lt, eq}

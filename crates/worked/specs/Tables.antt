@@ -1,5 +1,5 @@
--- 01's worked build, computed from the definitions: the real index, the real search and the real distance test give the tables that 01 prints, at its node
--- size and at node size 1, where the index is split; and columns one entry too short are refused 4. Assumes nothing.
+-- 01's worked build, computed from the definitions: the real index, the real search and the real distance test give the tables that 01
+-- prints, at its node size and at node size 1, where the index is split; and columns one entry too short are refused 4. Assumes nothing.
 use mathlib.Core.Path.{_≡_, refl}
 use mathlib.Core.Bool.{false}
 use mathlib.Core.List.{List, [], _∷_}

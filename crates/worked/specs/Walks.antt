@@ -1,5 +1,5 @@
--- 01's P lines on children, leaves, expansion zoom and refusals, over the state and the columns of the worked build (Build), computed from the definitions. Assumes
--- nothing.
+-- 01's P lines on children, leaves, expansion zoom and refusals, over the state and the columns of the worked build (Build), computed
+-- from the definitions. Assumes nothing.
 use mathlib.Core.Path.{_≡_, ap}
 use mathlib.Core.Bool.{Bool, true, cond, not}
 use mathlib.Core.List.{List, [], _∷_}
@@ -27,7 +27,8 @@ use Rattle.supercluster.specs.Build.{Lent}
 use Rattle.worked.specs.Tables.{b, options}
 use Rattle.worked.specs.Build.{state, after, held, sound}
 
--- children, leaves and expansion zoom of this id are refused with 01's number n, whatever limit, offset and column are given, and the column stays as it was
+-- children, leaves and expansion zoom of this id are refused with 01's number n, whatever limit, offset and column are given, and the
+-- column stays as it was
 pub record Refused (s : State) (c : Columns) (id n : ℕ) : Type 0 where
   pub children : (out : List ℕ) → (answerNumber (answerOf (childrenOf s c id) (length out)) ≡ n) × (columnOf (childrenOf s c id) out ≡ out)
   pub leaves : (limit offset : ℕ) (out : List ℕ)

@@ -1,5 +1,5 @@
--- The own place of each entry of a table is answered around it, where its coordinates are from 0 to 1 and the radius is finite; and so is the place of each slot
--- of its index, whose coordinates are the entry's. Assumes nothing.
+-- The own place of each entry of a table is answered around it, where its coordinates are from 0 to 1 and the radius is finite; and so is
+-- the place of each slot of its index, whose coordinates are the entry's. Assumes nothing.
 use mathlib.Core.Path.{sym, _∙_, subst}
 use mathlib.Core.List.{List}
 use Prim.Native.Nat.{ℕ, _*_, _≤_, _<_}

@@ -1,5 +1,5 @@
--- The zooms of a build, by 01's 'Tables' and the Rust's `load`: the index of a table, zoom after zoom on tables as values, and how tables are packed one after
--- the other in columns and recorded in a state. Definitions only.
+-- The zooms of a build, by 01's 'Tables' and the Rust's `load`: the index of a table, zoom after zoom on tables as values, and how tables
+-- are packed one after the other in columns and recorded in a state. Definitions only.
 use mathlib.Core.List.{List, [], _∷_, _++_}
 use Prim.Native.Nat.{ℕ, zero, suc, _+_, _-_}
 use lib.ListN.{length, set, drop}
@@ -33,7 +33,8 @@ planOf o n = record { options = o; count = n }
 -- zoom z on the table t: t, marked, and the next table
 abbrev pub zoomed : Plan → ℕ → Table → Scan
 zoomed p z t =
-    cluster (p .count) (p .options .«min_points») z (nearIn (p .options .«node_size») (radiusAt (p .options .radius) (p .options .extent) z) t) t
+    let r = radiusAt (p .options .radius) (p .options .extent) z in
+    cluster (p .count) (p .options .«min_points») z (nearIn (p .options .«node_size») r t) t
 
 -- the tables from t down to that of min_zoom, k zooms being left
 unfoldable pub run : Plan → ℕ → Table → List Table

@@ -1,4 +1,5 @@
--- `asking::next_in` meets its contract: it is that of `kdpages::next_slot` over the part of the coordinates that the ring's table has. Assumes nothing.
+-- `asking::next_in` meets its contract: it is that of `kdpages::next_slot` over the part of the coordinates that the ring's table has.
+-- Assumes nothing.
 use mathlib.Core.Path.{_≡_, subst}
 use mathlib.Core.List.{List}
 use Prim.Native.Nat.{_*_}

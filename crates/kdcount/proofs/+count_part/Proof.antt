@@ -1,5 +1,5 @@
--- `kdcount::count_part` meets its contract: a leaf is counted slot by slot; a node is its median, its right part and its left, each if it is searched. The
--- measure is the interval's length. Assumes nothing.
+-- `kdcount::count_part` meets its contract: a leaf is counted slot by slot; a node is its median, its right part and its left, each if it
+-- is searched. The measure is the interval's length. Assumes nothing.
 use mathlib.Core.Path.{ap, _∙_}
 use mathlib.Core.Bool.{Bool}
 use Prim.Native.Nat.{ℕ, _+_, _-_, _<_, _≤_}

@@ -1,5 +1,6 @@
--- `kdpages::fill_in`, `fill_below` and `fill_left` meet their contracts, as one cycle of calls: the median, the right part, the left part. The measure is
--- three times the interval's length and a little, so that it falls from one function to the next too. Assumes nothing.
+-- `kdpages::fill_in`, `fill_below` and `fill_left` meet their contracts, as one cycle of calls: the median, the right part, the left
+-- part. The measure is three times the interval's length and a little, so that it falls from one function to the next too. Assumes
+-- nothing.
 use mathlib.Core.Path.{sym, _∙_}
 use native.Mathlib.Omega.{arith}
 use lib.ListN.{length-set}

@@ -1,5 +1,5 @@
--- `kdpages::fill_rest` meets its contract, by where the slot stands: left of the median, at it, or right of it. The measure is the interval's length.
--- Assumes nothing.
+-- `kdpages::fill_rest` meets its contract, by where the slot stands: left of the median, at it, or right of it. The measure is the
+-- interval's length. Assumes nothing.
 use mathlib.Core.Path.{sym, ap, _∙_}
 use mathlib.Core.List.{List}
 use native.Mathlib.Omega.{arith}

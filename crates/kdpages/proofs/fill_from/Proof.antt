@@ -1,4 +1,5 @@
--- `kdpages::fill_from` meets its contract: what is left of the interval fills what is left of the page. The measure is what is left. Assumes nothing.
+-- `kdpages::fill_from` meets its contract: what is left of the interval fills what is left of the page. The measure is what is left.
+-- Assumes nothing.
 use mathlib.Core.Path.{_≡_, refl, sym, _∙_}
 use Prim.Native.Nat.{_-_}
 use native.Mathlib.Omega.{arith}

@@ -1,4 +1,5 @@
--- `kdpages::fill_page` meets its contract, by from where the walk goes on; what is narrowed to answers what the whole answers. Assumes nothing.
+-- `kdpages::fill_page` meets its contract, by from where the walk goes on; what is narrowed to answers what the whole answers. Assumes
+-- nothing.
 use mathlib.Core.Path.{_≡_, sym, ap, _∙_}
 use mathlib.Core.Bool.{true, _&&_}
 use mathlib.Core.List.{List}

@@ -1,5 +1,5 @@
--- `kdpages::turn` meets its contract: a walk that does not go on is done; else by the cursor where the page has no slots, and otherwise by how full the page
--- is. Assumes nothing.
+-- `kdpages::turn` meets its contract: a walk that does not go on is done; else by the cursor where the page has no slots, and otherwise
+-- by how full the page is. Assumes nothing.
 use mathlib.Core.Path.{sym, ap, _∙_}
 use Prim.Native.Nat.{_≤_}
 use native.Mathlib.Omega.{arith}

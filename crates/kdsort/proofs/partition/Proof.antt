@@ -1,5 +1,5 @@
--- `kdsort::partition` meets its contract: the columns placed, then pass after pass by the definition's steps, then settled. Each scan has a slot that stops
--- it at the latest, so no index leaves the interval. Assumes nothing.
+-- `kdsort::partition` meets its contract: the columns placed, then pass after pass by the definition's steps, then settled. Each scan has
+-- a slot that stops it at the latest, so no index leaves the interval. Assumes nothing.
 mod Places
 use mathlib.Core.Path.{_≡_, refl, sym, ap, _∙_}
 use mathlib.Core.List.{List}
@@ -14,7 +14,10 @@ use Rattle.kdsort.specs.Passes.{passing-starts}
 use Rattle.kdsort.proofs.Turns.{parted-then, parted-else, cut-eq, le-more, lt-more}
 use Rattle.kdsort.proofs.partition.Statement.{statement}
 use Rattle.kdsort.proofs.partition.Tie as tie
-use Rattle.kdsort.proofs.partition.Proof.Places.{Inv-up, μ-up, Inv-down, μ-down, Inv-loop, μ-loop, columns, pivot, placed-of, j1→start, placed-is, placed-long, s→loop, s→start, swapped-long, turn, m→s, up-of, step, next-of, both, scanning, up-ahead, down-ahead, ap→start, passed-long, passes-is}
+use Rattle.kdsort.proofs.partition.Proof.Places.{Inv-up, μ-up, Inv-down, μ-down, Inv-loop, μ-loop, columns, pivot, placed-of}
+use Rattle.kdsort.proofs.partition.Proof.Places.{j1→start, placed-is, placed-long, s→loop, s→start, swapped-long, turn, m→s, up-of}
+use Rattle.kdsort.proofs.partition.Proof.Places.{step, next-of, both, scanning, up-ahead, down-ahead, ap→start, passed-long}
+use Rattle.kdsort.proofs.partition.Proof.Places.{passes-is}
 
 mul-t : tie.Need-mul-t Inv-up μ-up Inv-down μ-down Inv-loop μ-loop
 mul-t c = omega arith

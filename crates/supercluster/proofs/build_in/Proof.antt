@@ -1,5 +1,5 @@
--- `supercluster::build_in` meets its contract: the columns are filled with the finest table, its index stands in the first part of the index's columns, and
--- from there the zooms leave the definition's tables. Assumes nothing.
+-- `supercluster::build_in` meets its contract: the columns are filled with the finest table, its index stands in the first part of the
+-- index's columns, and from there the zooms leave the definition's tables. Assumes nothing.
 use mathlib.Core.Path.{_≡_, refl, ap, sym, _∙_, subst}
 use Prim.Native.Nat.{ℕ, _+_, _-_, _*_, _<_, _≤_}
 use native.Mathlib.Omega.{arith}

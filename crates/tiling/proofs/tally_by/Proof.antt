@@ -21,7 +21,8 @@ use Rattle.tables.specs.Lent.{given}
 use Rattle.tiling.specs.Tile.{Visit}
 use Rattle.tiling.specs.Turns.{walked, walked-none, walked-made}
 use Rattle.tiling.specs.Home.{weightBy}
-use Rattle.tiling.specs.Counting.{Held, heldOf, marksHeld, placesIn, places-of, counted, counted-none, counted-sure, count-end, count-stop, count-next}
+use Rattle.tiling.specs.Counting.{Held, heldOf, marksHeld, placesIn, places-of, counted, counted-none, counted-sure, count-end}
+use Rattle.tiling.specs.Counting.{count-stop, count-next}
 use Rattle.tiling.proofs.Ends.{no-more}
 use Rattle.tiling.proofs.tally_by.Statement.{statement}
 use Rattle.tiling.proofs.tally_by.Tie as tie

@@ -1,5 +1,5 @@
--- The places of `kdsort::partition` and what is known there: its invariants, the columns before, during and after the passes, and what stops each scan.
--- Assumes nothing.
+-- The places of `kdsort::partition` and what is known there: its invariants, the columns before, during and after the passes, and what
+-- stops each scan. Assumes nothing.
 use mathlib.Core.Path.{_≡_, sym, ap, _∙_}
 use mathlib.Core.Logic.{⊎-elim}
 use mathlib.Core.Bool.{false}
