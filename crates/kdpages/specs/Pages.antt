@@ -1,10 +1,12 @@
--- A walk that is read a page at a time: what is ahead of a reader, for every content of the page, and the laws that a caller's loop goes by. Assumes nothing.
+-- A walk that is read a page at a time: what is ahead of a reader, for every content of the page, and the laws that a caller's loop goes
+-- by. Assumes nothing.
 --
--- A caller's loop. `let mut page = [0usize; 64]; let mut p = begin();` and in the loop `let t = next_slot(q, size, n, coords, &mut page, p); p = t.pages;
--- let s = t.step; let Step::Slot(c) = s else { .. };`. With l = aheadOf q size n coords page p at the loop's head: the invariant is AllBelow n l × (any fold over
--- l ≡ the same fold over the walk), and the measure is length l. It starts by `ahead-begun` and `walk-below`. At a slot `next-slot` gives l ≡ c ∷ l', where l' is
--- what is ahead afterwards: c is below n and l' keeps the invariant by `below-next`, and l' is shorter. At any other step `next-end` gives l ≡ []. The page's
--- contents and its length are never asked for; where the page is a local array the invariant also has length page ≡ 64, which the call keeps, so that it can be lent.
+-- A caller's loop. `let mut page = [0usize; 64]; let mut p = begin();` and in the loop `let t = next_slot(q, size, n, coords, &mut page,
+-- p); p = t.pages; let s = t.step; let Step::Slot(c) = s else { .. };`. With l = aheadOf q size n coords page p at the loop's head: the
+-- invariant is AllBelow n l × (any fold over l ≡ the same fold over the walk), and the measure is length l. It starts by `ahead-begun`
+-- and `walk-below`. At a slot `next-slot` gives l ≡ c ∷ l', where l' is what is ahead afterwards: c is below n and l' keeps the
+-- invariant by `below-next`, and l' is shorter. At any other step `next-end` gives l ≡ []. The page's contents and its length are never
+-- asked for; where the page is a local array the invariant also has length page ≡ 64, which the call keeps, so that it can be lent.
 use mathlib.Core.Bool.{Bool, true, false, cond, _&&_}
 use mathlib.Core.Path.{_≡_, refl, sym, ap, _∙_, subst}
 use mathlib.Core.Logic.{⊎-elim}
