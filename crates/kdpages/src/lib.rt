@@ -237,6 +237,9 @@ fn fill_page(
     match from {
         Onward::Start => {
             let v = kdslots::narrow(q, coords, node_size + 1, n);
+            if v.hi - v.lo <= node_size + 1 {
+                return fill_from(q, coords, v.lo, v.hi, 0, page);
+            }
             fill_in(q, coords, node_size + 1, v.lo, v.hi, v.axis, 0, page)
         }
         Onward::After => {

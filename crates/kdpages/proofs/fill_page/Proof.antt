@@ -3,7 +3,7 @@
 use mathlib.Core.Path.{_≡_, sym, ap, _∙_}
 use mathlib.Core.Bool.{true, _&&_}
 use mathlib.Core.List.{List}
-use Prim.Native.Nat.{ℕ}
+use Prim.Native.Nat.{ℕ, _+_}
 use native.Mathlib.Omega.{arith}
 use borrow.Author.Needs.{needs}
 use borrow.Author.Tests.{not-true, not-false}
@@ -13,6 +13,8 @@ use Rattle.kdpages.specs.declared.Onward.{Onward}
 use Rattle.kdpages.specs.declared.Onward.the-variants.{Start, After, Nothing}
 use Rattle.kdslots.specs.Bounds.{Searchable, coords-is, both-true, coordsOk, first-false, second-false}
 use Rattle.kdslots.specs.Query.{queryOk}
+use Rattle.kdslots.specs.Slots.{over}
+use Rattle.kdslots.specs.Intervals.{slots-leaf}
 use Rattle.kdpages.specs.Pages.{onwardOf, stored, store}
 use Rattle.kdpages.proofs.Stores.{none-more}
 use Rattle.kdpages.proofs.Turns.{page-refused, page-start, page-after, page-past}
@@ -67,38 +69,64 @@ add-narrow c = let w = bounds (c .before .before) in omega arith
 narrow-requires : tie.Need-narrow-requires
 narrow-requires c κs = let w = bounds (c .before .before) in omega arith
 
+sub-if3 : tie.Need-sub-if3
+sub-if3 c = omega (arith, c .before .narrow .ensures .1)
+
+add-if3 : tie.Need-add-if3
+add-if3 c = let w = bounds (c .before .before .before .before) in omega arith
+
+fill-from-requires : tie.Need-fill-from-requires
+fill-from-requires c κs = let w = bounds (c .before .before .before .before .before .before) in omega (arith, c .before .before .before .narrow .ensures .1)
+
+same-length : tie.Need-same-length
+same-length c = c .before .before .fill-from .kept .1 .1 .1 .1 .1 .0
+
+-- an interval that is not split
+returns-3 : tie.Need-returns-3
+returns-3 c =
+    let v = c .before .before in
+    let h = v .before .before in
+    let w = h .before .before in
+    let t = w .before in
+    let k = t .before .before in
+    let a = start-of k .args in
+    let r = w .narrow .result in
+    page-start (a .q) (a .node-size) (a .n) (now (a .coords)) (fine k) (now (a .page)) (stored (v .fill-from .result) (v .fill-from .last .1 .1 .1 .1 .1 .0))
+    (v .fill-from .ensures ∙ ap (λ (l : List ℕ). store 0 l (now (a .page))) (sym (slots-leaf (over (a .q) (now (a .coords))) (r .axis) (a .node-size + 1) (r .lo) (r .hi) (h .if3 .taken)) ∙ w .narrow .ensures .0))
+    ∙ from-is k Start (t .enum-told .given .1)
+
 add-fill-in : tie.Need-add-fill-in
-add-fill-in c = let w = bounds (c .before .before .before) in omega arith
+add-fill-in c = let w = bounds (c .before .before .before .before .before) in omega arith
 
 fill-in-requires : tie.Need-fill-in-requires
-fill-in-requires c κs = let w = bounds (c .before .before .before .before) in omega (arith, c .before .narrow .ensures .1)
+fill-in-requires c κs = let w = bounds (c .before .before .before .before .before .before) in omega (arith, c .before .before .before .narrow .ensures .1)
 
 enum-told-2 : tie.Need-enum-told-2
 enum-told-2 c = search needs
 
-returns-3 : tie.Need-returns-3
-returns-3 c =
+returns-4 : tie.Need-returns-4
+returns-4 c =
     let f = c .before in
     let k = f .before .before in
     let a = start-of k .args in
-    page-past (a .q) (a .node-size) (a .n) (now (a .coords)) (fine k) (a .last) (c .if3 .taken) (now (a .page)) ∙ from-is k After (f .enum-told2 .given .1)
+    page-past (a .q) (a .node-size) (a .n) (now (a .coords)) (fine k) (a .last) (c .if4 .taken) (now (a .page)) ∙ from-is k After (f .enum-told2 .given .1)
 
 add-fill-rest : tie.Need-add-fill-rest
 add-fill-rest c = let w = bounds (c .before .before .before) in omega arith
 
 fill-rest-requires : tie.Need-fill-rest-requires
-fill-rest-requires c κs = let w = bounds (c .before .before .before .before) in omega (arith, c .before .if3 .left)
+fill-rest-requires c κs = let w = bounds (c .before .before .before .before) in omega (arith, c .before .if4 .left)
 
 enum-told-3 : tie.Need-enum-told-3
 enum-told-3 c = search needs
 
-same-length : tie.Need-same-length
-same-length c = c .before .before .fill-in .kept .1 .1 .1 .1 .1 .1 .1 .0
+same-length-2 : tie.Need-same-length-2
+same-length-2 c = c .before .before .fill-in .kept .1 .1 .1 .1 .1 .1 .1 .0
 
-returns-4 : tie.Need-returns-4
-returns-4 c =
+returns-5 : tie.Need-returns-5
+returns-5 c =
     let v = c .before .before in
-    let w = v .before .before in
+    let w = v .before .before .before .before in
     let t = w .before in
     let k = t .before .before in
     let a = start-of k .args in
@@ -106,21 +134,21 @@ returns-4 c =
     (v .fill-in .ensures ∙ ap (λ (l : List ℕ). store 0 l (now (a .page))) (w .narrow .ensures .0))
     ∙ from-is k Start (t .enum-told .given .1)
 
-same-length-2 : tie.Need-same-length-2
-same-length-2 c = c .before .before .fill-rest .kept .1 .1 .1 .1 .1 .1 .1 .0
+same-length-3 : tie.Need-same-length-3
+same-length-3 c = c .before .before .fill-rest .kept .1 .1 .1 .1 .1 .1 .1 .0
 
-returns-5 : tie.Need-returns-5
-returns-5 c =
+returns-6 : tie.Need-returns-6
+returns-6 c =
     let v = c .before .before in
     let e = v .before .before in
     let f = e .before in
     let k = f .before .before in
     let a = start-of k .args in
-    page-after (a .q) (a .node-size) (a .n) (now (a .coords)) (fine k) (a .last) (e .if3 .left) (now (a .page)) (stored (v .fill-rest .result) (v .fill-rest .last .1 .1 .1 .1 .1 .1 .1 .0)) (v .fill-rest .ensures)
+    page-after (a .q) (a .node-size) (a .n) (now (a .coords)) (fine k) (a .last) (e .if4 .left) (now (a .page)) (stored (v .fill-rest .result) (v .fill-rest .last .1 .1 .1 .1 .1 .1 .1 .0)) (v .fill-rest .ensures)
     ∙ from-is k After (f .enum-told2 .given .1)
 
-returns-6 : tie.Need-returns-6
-returns-6 c =
+returns-7 : tie.Need-returns-7
+returns-7 c =
     let k = c .before .before in
     none-more 0 (now (start-of k .args .page)) ∙ from-is k Nothing (c .enum-told3 .given .1)
 
@@ -135,15 +163,20 @@ fill-page-spec =
     enum-told
     add-narrow
     narrow-requires
+    sub-if3
+    add-if3
+    fill-from-requires
+    same-length
+    returns-3
     add-fill-in
     fill-in-requires
     enum-told-2
-    returns-3
+    returns-4
     add-fill-rest
     fill-rest-requires
     enum-told-3
-    same-length
-    returns-4
     same-length-2
     returns-5
-    returns-6)
+    same-length-3
+    returns-6
+    returns-7)
