@@ -2,7 +2,7 @@
 use mathlib.Core.Bool.{Bool, true, false, cond}
 use mathlib.Core.Path.{_≡_, refl, sym, ap, _∙_}
 use mathlib.Core.List.{List, [], _∷_}
-use Prim.Native.Nat.{ℕ, zero, suc, _+_, _-_, _<_, _≤_}
+use Prim.Native.Nat.{ℕ, suc, _+_, _-_, _<_, _≤_}
 use native.Mathlib.Omega.{arith}
 use lib.Dec.{ltb}
 use Rattle.tables.specs.declared.State.{State}
@@ -15,7 +15,7 @@ use Rattle.asking.specs.Ids.{onward}
 use Rattle.asking.specs.Reached.{Reached, onward-reached}
 use Rattle.kids.specs.Kids.{kidsAt, cleanAt}
 use Rattle.walks.specs.declared.Expansion.{Expansion}
-use Rattle.walks.specs.declared.Expansion.the-variants.{At, NoTree, NoCluster, Spoiled}
+use Rattle.walks.specs.declared.Expansion.the-variants.{At, NoCluster, Spoiled}
 use Rattle.walks.specs.declared.Fetched.{Fetched}
 use Rattle.walks.specs.declared.Fetched.the-variants.{Cluster, Nobody, Others, Spoiled as Fetched·Spoiled}
 use Rattle.walks.specs.Expansion.{fetched, expand}

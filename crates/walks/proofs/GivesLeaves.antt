@@ -17,7 +17,7 @@ use Rattle.asking.specs.declared.Answer.the-variants.{Listed, NoCluster, Spoile
 use Rattle.asking.specs.declared.Target.{Target}
 use Rattle.asking.specs.declared.Target.the-variants.{At}
 use Rattle.asking.specs.Answers.{fitted}
-use Rattle.asking.specs.Asked.{Asked, refused, told, answerOf, columnOf}
+use Rattle.asking.specs.Asked.{refused, told, answerOf, columnOf}
 use Rattle.asking.specs.Columns.{Columns, tableAt}
 use Rattle.asking.specs.Filled.{filled-none, filled-length}
 use Rattle.kids.specs.Kids.{kidsAt, cleanAt, childless}

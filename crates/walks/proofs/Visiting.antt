@@ -16,7 +16,6 @@ use Rattle.asking.specs.Filled.{filled-next}
 use Rattle.asking.specs.Ids.{onward}
 use Rattle.walks.specs.declared.Fate.{Fate}
 use Rattle.walks.specs.declared.Fate.the-variants.{Skipped, Entered, Listed}
-use Rattle.walks.specs.declared.Sofar.{Sofar}
 use Rattle.walks.specs.declared.Walk.{Walk}
 use Rattle.walks.specs.declared.Walk.the-variants.{Went, Broke}
 use Rattle.walks.specs.Leaves.{Trip, broke, went, Into, enter, listOne, visit, walk}
