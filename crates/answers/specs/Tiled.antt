@@ -37,6 +37,7 @@ use Rattle.zoom.specs.Keeps.{all-at}
 use Rattle.zoom.specs.Sound.{Body}
 use Rattle.asking.specs.declared.Answer.the-variants.{Tile, Spoiled}
 use Rattle.asking.specs.Answers.{answerNumber}
+use Rattle.asking.specs.Asked.{refused, told}
 use Rattle.asking.specs.Columns.{tableAt, idsAt, coordsAt}
 use Rattle.tiling.specs.declared.Item.{Item}
 use Rattle.tiling.specs.declared.Search.{Search}
@@ -47,7 +48,7 @@ use Rattle.tiling.specs.Inside.{InTile, inside-passes}
 use Rattle.tiling.specs.Lists.{Lists, tile-whole, listed-whole}
 use Rattle.tiling.specs.Tally.{tallyNumber, weightIn, distinct, total, tallyOf}
 use Rattle.tiling.specs.Tile.{Visit, isTile, edge, least, greatest, here, goesRound, wraps, east, west, visitsOf, visited, listed, whole, itemOf, itemAt, items}
-use Rattle.tiles.specs.Asked.{Asked, refused, told, asked, answerOf, someOf}
+use Rattle.tiles.specs.Asked.{Asked, asked, answerOf, someOf}
 use Rattle.tiles.specs.Ends.{asked-is}
 use Rattle.tiles.specs.Tallied.{sumOf, tallied}
 use Rattle.zooms.specs.Zooms.{slotsOf}

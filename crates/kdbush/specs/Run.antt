@@ -73,7 +73,7 @@ abbrev pub reply : ℕ → List ℕ → Found
 reply n ps = pickReply (whole n ps) (length ps)
 
 -- the first items, as many as fit, and then the old contents
-abbrev pub filled : List ℕ → List ℕ → List ℕ
+abbrev pub filled : {A : Type 0} → List A → List A → List A
 filled ps out = take (length out) ps ++ drop (length ps) out
 
 run-sets : (n at : ℕ) (ps out : List ℕ) → run n at ps out ≡ ran (pickReply (whole n ps) (at + length ps)) (sets out at (sound n ps))

@@ -18,6 +18,7 @@ use Rattle.tables.specs.Options.{zoomUsed}
 use Rattle.tables.specs.State.{lenOf}
 use Rattle.tables.specs.Sound.{stateOk, given}
 use Rattle.tables.specs.Entries.{entry, xsOf, ysOf}
+use Rattle.asking.specs.Asked.{told}
 use Rattle.asking.specs.Columns.{Columns, roomOf, idsAt, coordsAt}
 use Rattle.tiling.specs.declared.Item.{Item}
 use Rattle.tiling.specs.Tile.{isTile, here, east, west, visited, listed, whole, items, itemOf}
@@ -25,7 +26,7 @@ use Rattle.tiling.specs.Framed.{tile-is}
 use Rattle.tiling.specs.Finite.{walk-whole, here-fine, east-fine, west-fine}
 use Rattle.tiling.specs.Inside.{InTile}
 use Rattle.tiling.specs.Lists.{Lists, tile-whole, tile-lists}
-use Rattle.tiles.specs.Asked.{tableFor, visitsFor, told, asked}
+use Rattle.tiles.specs.Asked.{tableFor, visitsFor, asked}
 use Rattle.tiles.specs.Used.{coords-ok}
 use Rattle.tiles.specs.Ends.{asked-is}
 

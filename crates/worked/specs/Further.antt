@@ -34,7 +34,8 @@ use Rattle.tiling.specs.Floor.{homeOf}
 use Rattle.tiling.specs.Tile.{here, wraps, east, west, visited, listed, whole, rounded}
 use Rattle.tiling.specs.Tally.{member, distinct, total, tallyOf}
 use Rattle.tiles.specs.Tallied.{tallied}
-use Rattle.tiles.specs.Asked.{Asked, told, asked, outcome, outcomeOf, tiled}
+use Rattle.asking.specs.Asked.{told}
+use Rattle.tiles.specs.Asked.{Asked, asked, outcome, outcomeOf, tiled}
 use Rattle.worked.specs.Tables.{b, options, xs, ys, ws, zeros}
 use Rattle.answers.specs.Stored.{columnsOf}
 

@@ -16,7 +16,8 @@ use Rattle.tiling.specs.Floor.{homeOf}
 use Rattle.tiling.specs.Tile.{here, wraps, east, west, visited, listed, whole, rounded}
 use Rattle.tiling.specs.Tally.{member, distinct, total, tallyOf}
 use Rattle.tiles.specs.Tallied.{tallied}
-use Rattle.tiles.specs.Asked.{Asked, refused, told, asked, outcome, outcomeOf, tiled}
+use Rattle.asking.specs.Asked.{refused, told}
+use Rattle.tiles.specs.Asked.{Asked, asked, outcome, outcomeOf, tiled}
 use Rattle.supercluster.specs.Build.{Lent}
 use Rattle.worked.specs.Tables.{b, options}
 use Rattle.worked.specs.Build.{state, after, held, sound}

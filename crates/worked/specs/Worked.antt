@@ -15,7 +15,7 @@ use Rattle.walks.specs.declared.Expansion.the-variants.{At}
 use Rattle.walks.specs.Children.{childrenOf}
 use Rattle.walks.specs.Expansion.{zoomOf}
 use Rattle.walks.specs.Leaves.{leavesOf}
-use Rattle.tiles.specs.Asked.{asked, told as tile·told}
+use Rattle.tiles.specs.Asked.{asked}
 use Rattle.supercluster.specs.declared.LoadReply.the-variants.{Done}
 use Rattle.supercluster.specs.Build.{Lent, roomy, Outcome, loaded}
 use Rattle.listing.specs.Text.{text, headIs, xsOf, ysOf, energiesOf}
@@ -52,7 +52,7 @@ pub record Worked (s : State) (c : Columns) : Type 0 where
   pub id-7 : Refused s c 7 5
   pub id-134 : Refused s c 134 6
   -- tile (0,0,0) lists entry 0 at (176,256)
-  pub tile : asked s c 0 0 0 ≡ tile·told true (record { place = 0; x = pos 176; y = pos 256 } ∷ [])
+  pub tile : asked s c 0 0 0 ≡ told true (record { place = 0; x = pos 176; y = pos 256 } ∷ [])
   -- 0.5 rounds to 1, -0.5 to -1
   pub half-up : away half ≡ pos 1
   pub half-down : away (neg half) ≡ negsuc 0
