@@ -7,7 +7,7 @@ use lib.ListN.{length, set}
 use lib.Seq.{drop-nil}
 use Rattle.kdbush.specs.Run.{filled}
 
-pub filled-none : (out : List ℕ) → filled [] out ≡ out
+pub filled-none : {A : Type 0} (out : List A) → filled [] out ≡ out
 filled-none [] = refl
 filled-none (a ∷ out) = refl
 
