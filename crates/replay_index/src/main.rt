@@ -101,7 +101,8 @@ fn builds(
     ids: &mut [u32],
     coords: &mut [f64],
 ) -> bool
-    ensures { λ r. ⌜ r ≡ buildsTo «node_size» (old xs) (old ys) (now («want_ids» .entry)) (now («want_coords» .entry)) (old ids) (old coords) ⌝ }
+    ensures { λ r.
+        ⌜ r ≡ buildsTo «node_size» (old xs) (old ys) (old «want_ids») (old «want_coords») (old ids) (old coords) ⌝ }
 {
     if !vectors::is_done(kdbush::build(node_size, xs, ys, ids, coords)) {
         return false;
