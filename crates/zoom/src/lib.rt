@@ -442,7 +442,7 @@ fn note_all(
         ⌜ ((t : Table) → Slotted len (old ids) (old coords) t → Noted notes len around (new near) t) ⌝ }
 {
     forget(near, notes, len);
-    let mut left = 8 * len;
+    let mut left = 4 * len;
     let mut s = 0;
     while s < len {
         let n = note_at(ids, coords, node_size, r, len, s);
