@@ -104,6 +104,11 @@ fn put_or_dash(out: &mut [u8], at: usize, n: usize, unset: usize) -> usize
     put_decimal(out, at, n, 10)
 }
 
+// What `seen` and `parent` are where they are unset, as numbers to print.
+const NEVER: usize = tables::NEVER as usize;
+
+const UNSET: usize = tables::UNSET as usize;
+
 // Zoom and place.
 fn put_place(out: &mut [u8], at: usize, zoom: usize, place: usize) -> usize
     requires { ⌜ at + 22 ≤ length (now out) ⌝ }
@@ -131,7 +136,7 @@ fn put_marks(out: &mut [u8], at: usize, seen: usize, id: usize) -> usize
     requires { ⌜ at + 22 ≤ length (now out) ⌝ }
     ensures { λ r. ⌜ Put (old out) (new out) at (marksText seen id) 22 r ⌝ }
 {
-    let a = put_or_dash(out, at, seen, 255);
+    let a = put_or_dash(out, at, seen, NEVER);
     let b = put_byte(out, a, 32);
     let c = put_decimal(out, b, id, 10);
     put_byte(out, c, 32)
@@ -142,7 +147,7 @@ fn put_end(out: &mut [u8], at: usize, parent: usize, num: usize, energy: usize) 
     requires { ⌜ at + 43 ≤ length (now out) ⌝ }
     ensures { λ r. ⌜ Put (old out) (new out) at (endText parent num energy) 43 r ⌝ }
 {
-    let a = put_or_dash(out, at, parent, 4294967295);
+    let a = put_or_dash(out, at, parent, UNSET);
     let b = put_byte(out, a, 32);
     let c = put_decimal(out, b, num, 10);
     let d = put_byte(out, c, 32);
