@@ -1,7 +1,7 @@
--- Of a build that is accepted, in columns that hold it, what a box and a ring answer: a Cartesian box lists exactly the entries between its normalised corners,
--- each once; so does a box of longitudes between the edges after the rule, and each half of one that is split. A ring lists exactly the entries that pass the
--- distance test, each once. Nothing is asked but that the numbers of the question are taken (any other is 01's 9), and
--- neither is ever refused 11. Assumes nothing.
+-- Of a build that is accepted, in columns that hold it, what a box and a ring answer: a Cartesian box lists exactly the entries between
+-- its normalised corners, each once; so does a box of longitudes between the edges after the rule, and each half of one that is split. A
+-- ring lists exactly the entries that pass the distance test, each once. Nothing is asked but that the numbers of the question are taken
+-- (any other is 01's 9), and neither is ever refused 11. Assumes nothing.
 use mathlib.Core.Path.{_≡_, refl, ap, ap₂, sym, _∙_, subst}
 use mathlib.Core.Bool.{Bool, true, false, cond, _&&_}
 use mathlib.Core.List.{List, _++_}
@@ -20,7 +20,7 @@ use Rattle.range.specs.declared.CoordinateSystem.the-variants.{LatLng, Cartesia
 use Rattle.range.specs.declared.DataRange.{DataRange}
 use Rattle.range.specs.Range.{normalized, mercatorX, converted}
 use Rattle.kdsort.specs.Cols.{cols}
-use Rattle.kdsort.specs.Indexes.{blank}
+use Rattle.kdsort.specs.Cols.{blank}
 use Rattle.kdsort.specs.Tree.{Index}
 use Rattle.kdslots.specs.declared.Query.{Query}
 use Rattle.kdslots.specs.declared.Query.the-variants.{Range, Within}
@@ -40,14 +40,14 @@ use Rattle.asking.specs.Asked.{Asked, refused, told, answerOf}
 use Rattle.asking.specs.Columns.{indexRoom, roomOf, room-index, idsAt, coordsAt}
 use Rattle.boxes.specs.Inside.{Indexed, Passes, Exactly, cartesian-box, longitude-box, split-box, ring-exactly}
 use Rattle.boxes.specs.Lists.{boxAsked, ringAsked}
-use Rattle.boxplan.specs.Rule.{halfCircle, ruled, boxOk}
+use Rattle.boxplan.specs.Rule.{halfCircle, newWest, newEast, splits, boxOk}
 use Rattle.zooms.specs.Zooms.{slotsOf}
 use Rattle.zooms.specs.Running.{table-inside}
 use Rattle.supercluster.specs.Build.{Lent, need}
 use Rattle.supercluster.specs.Load.{Holds}
 use Rattle.builds.specs.Given.{Given, Accepted, points, minZ, maxZ}
 use Rattle.builds.specs.Came.{tableAt as built}
-use Rattle.zooms.specs.OwnPlace.{index-of}
+use Rattle.kdbush.specs.Indexed.{index-of}
 use Rattle.builds.specs.RightAt.{right-at}
 use Rattle.answers.specs.Stored.{stateBy, columnsBy, long-is, state-sound, ids-are, coords-are}
 
@@ -71,16 +71,16 @@ sound-more s a b e h =
 -- ---- what is said of an entry and of a list of places, over a table
 
 -- the entry lies between the edges: min <= coordinate <= max on both axes
-pub record Lies (w s e n : Float) (a : Entry) : Type 0 where
-  pub west : T (le w (a .x))
-  pub east : T (le (a .x) e)
-  pub south : T (le s (a .y))
-  pub north : T (le (a .y) n)
+pub record Lies (west least east greatest : Float) (a : Entry) : Type 0 where
+  pub from-west : T (le west (a .x))
+  pub to-east : T (le (a .x) east)
+  pub from-least : T (le least (a .y))
+  pub to-greatest : T (le (a .y) greatest)
 
 -- the list has each entry of the table that lies between the edges, once, and no other; and each of them has x and y in [0,1]
-pub record Boxes (w s e n : Float) (t : Table) (l : List ℕ) : Type 0 where
-  pub inside : (p : ℕ) → In p l → (p < length t) × Lies w s e n (entry t p)
-  pub every : (p : ℕ) → p < length t → Lies w s e n (entry t p) → In p l
+pub record Boxes (west least east greatest : Float) (t : Table) (l : List ℕ) : Type 0 where
+  pub inside : (p : ℕ) → In p l → (p < length t) × Lies west least east greatest (entry t p)
+  pub every : (p : ℕ) → p < length t → Lies west least east greatest (entry t p) → In p l
   pub single : Distinct l
   pub unit : (p : ℕ) → In p l → In01 (entry t p .x) × In01 (entry t p .y)
 
@@ -114,25 +114,36 @@ module _ (t : Table) (p : ℕ) where
   at-passes : (q : Query) → passesQ q (entry t p .x) (entry t p .y) ≡ true → Passes q (xsOf t) (ysOf t) p
   at-passes q e = ap₂ (passesQ q) x-at y-at ∙ e
 
-module _ (w s e n : Float) (a : Entry) where
-  pub lies : passesQ (Range w s e n) (a .x) (a .y) ≡ true → Lies w s e n a
+module _ (west least east greatest : Float) (a : Entry) where
+  pub lies : passesQ (Range west least east greatest) (a .x) (a .y) ≡ true → Lies west least east greatest a
   lies h =
-      let A = le w (a .x) in
-      let B = le (a .x) e in
-      let C = le s (a .y) in
-      let i = and-both (A && B && C) (le (a .y) n) h in
+      let A = le west (a .x) in
+      let B = le (a .x) east in
+      let C = le least (a .y) in
+      let i = and-both (A && B && C) (le (a .y) greatest) h in
       let j = and-both (A && B) C (i .0) in
       let k = and-both A B (j .0) in
-      record { west = yes-of (k .0); east = yes-of (k .1); south = yes-of (j .1); north = yes-of (i .1) }
+      record { from-west = yes-of (k .0); to-east = yes-of (k .1); from-least = yes-of (j .1); to-greatest = yes-of (i .1) }
 
-  lies-passes : Lies w s e n a → passesQ (Range w s e n) (a .x) (a .y) ≡ true
-  lies-passes l = rw (is-true (le w (a .x)) (l .west), is-true (le (a .x) e) (l .east), is-true (le s (a .y)) (l .south), is-true (le (a .y) n) (l .north))
+  lies-passes : Lies west least east greatest a → passesQ (Range west least east greatest) (a .x) (a .y) ≡ true
+  lies-passes l =
+      rw (
+        is-true (le west (a .x)) (l .from-west),
+        is-true (le (a .x) east) (l .to-east),
+        is-true (le least (a .y)) (l .from-least),
+        is-true (le (a .y) greatest) (l .to-greatest),
+      )
 
-pub boxes-of : (w s e n : Float) (t : Table) (m : ℕ) (l : List ℕ) → m ≡ length t → Exactly (Range w s e n) m (xsOf t) (ysOf t) l → Boxes w s e n t l
-boxes-of w s e n t m l h x =
+pub boxes-of : (west least east greatest : Float) (t : Table) (m : ℕ) (l : List ℕ) → m ≡ length t
+    → Exactly (Range west least east greatest) m (xsOf t) (ysOf t) l → Boxes west least east greatest t l
+boxes-of west least east greatest t m l h x =
+    let r = Range west least east greatest in
     record {
-      inside = λ p i. let q = x .inside p i in (omega (arith, q .0, h), lies w s e n (entry t p) (passes-at t p (Range w s e n) (q .1)));
-      every = λ p k i. x .every p (omega (arith, k, h)) (at-passes t p (Range w s e n) (lies-passes w s e n (entry t p) i));
+      inside = λ p i.
+          let q = x .inside p i in
+          (omega (arith, q .0, h), lies west least east greatest (entry t p) (passes-at t p r (q .1)));
+      every = λ p k i.
+          x .every p (omega (arith, k, h)) (at-passes t p r (lies-passes west least east greatest (entry t p) i));
       single = x .single;
       unit = λ p i. unit-at t p (x .unit p i);
     }
@@ -150,7 +161,8 @@ rings-of x y r t m l h a =
 
 -- a box and a ring, asked of the state that a build replies and the columns that it leaves
 abbrev pub boxBy : Given → Lent → ℕ → Float → Float → Float → Float → Asked
-boxBy G l zoom w s e n = boxAsked (stateBy G) (columnsBy G l .ids) (columnsBy G l .coords) zoom w s e n
+boxBy G l zoom west least east greatest =
+    boxAsked (stateBy G) (columnsBy G l .ids) (columnsBy G l .coords) zoom west least east greatest
 
 abbrev pub ringBy : Given → Lent → ℕ → Float → Float → Float → Asked
 ringBy G l zoom x y radius = ringAsked (stateBy G) (columnsBy G l .ids) (columnsBy G l .coords) zoom x y radius
@@ -220,68 +232,72 @@ module _ (G : Given) (a : Accepted G) where
       long : lenOf (stateBy G) (zoomUsed (G .options) zoom) ≡ length (usedBy G zoom)
       long = long-is G a (zoomUsed (G .options) zoom) (between zoom .0) (between zoom .1)
 
-      module _ (w s e n : Float) where
-        module _ (fine : boxOk (G .options .«coordinate_system») w s e n ≡ true) where
+      module _ (west least east greatest : Float) where
+        module _ (fine : boxOk (G .options .«coordinate_system») west least east greatest ≡ true) where
           -- Cartesian: exactly the entries between the normalised corners, each once
           pub cartesian-listed : (d : DataRange) → G .options .«coordinate_system» ≡ Cartesian d
               →
-              (p : List ℕ) × (boxBy G l zoom w s e n ≡ told true p) × Boxes (normalized d w) (normalized d s) (normalized d e)
-              (normalized d n) (usedBy G zoom) p
+              (p : List ℕ) × (boxBy G l zoom west least east greatest ≡ told true p)
+              × Boxes (normalized d west) (normalized d least) (normalized d east) (normalized d greatest) (usedBy G zoom) p
           cartesian-listed d c =
               let t = usedBy G zoom in
               let x = cartesian-box (stateBy G) (columnsBy G l .ids) (columnsBy G l .coords) zoom (xsOf t)
-              (ysOf t) index-sound indexed w s e n fine d c in
+              (ysOf t) index-sound indexed west least east greatest fine d c in
               (x .0, x .1, boxes-of _ _ _ _ t _ (x .0) long (x .2))
 
           -- longitudes: exactly the entries between the edges after the rule, each once
-          pub longitude-listed : G .options .«coordinate_system» ≡ LatLng → ruled w e .split ≡ false
+          pub longitude-listed : G .options .«coordinate_system» ≡ LatLng → splits west east ≡ false
               →
-              (p : List ℕ) × (boxBy G l zoom w s e n ≡ told true p) × Boxes (mercatorX (ruled w e .w)) s (mercatorX (ruled w e .e)) n
-              (usedBy G zoom) p
+              (p : List ℕ) × (boxBy G l zoom west least east greatest ≡ told true p)
+              × Boxes (mercatorX (newWest west east)) least (mercatorX (newEast west east)) greatest (usedBy G zoom) p
           unfolding converted
           longitude-listed c f =
               let t = usedBy G zoom in
               let x = longitude-box (stateBy G) (columnsBy G l .ids) (columnsBy G l .coords) zoom (xsOf t)
-              (ysOf t) index-sound indexed w s e n fine c f in
+              (ysOf t) index-sound indexed west least east greatest fine c f in
               (x .0, x .1, boxes-of _ _ _ _ t _ (x .0) long (x .2))
 
-          -- or, where it is split, those of (w, 180) and then those of (-180, e), each half put through the rule again; in a half each entry is listed once
-          pub split-listed : G .options .«coordinate_system» ≡ LatLng → ruled w e .split ≡ true
-              → let one = ruled (ruled w e .w) halfCircle in
-              let two = ruled (neg halfCircle) (ruled w e .e) in
-              (p : List ℕ) × (q : List ℕ) × (boxBy G l zoom w s e n ≡ told true (p ++ q))
-              × Boxes (mercatorX (one .w)) s (mercatorX (one .e)) n (usedBy G zoom) p × Boxes (mercatorX (two .w)) s (mercatorX (two .e)) n
-              (usedBy G zoom) q
+          -- or, where it is split, those of (w, 180) and then those of (-180, e), each half put through the rule again; in a half each
+          -- entry is listed once
+          pub split-listed : G .options .«coordinate_system» ≡ LatLng → splits west east ≡ true
+              → let w = newWest west east in
+              let e = newEast west east in
+              (p : List ℕ) × (q : List ℕ) × (boxBy G l zoom west least east greatest ≡ told true (p ++ q))
+              × Boxes (mercatorX (newWest w halfCircle)) least (mercatorX (newEast w halfCircle)) greatest (usedBy G zoom) p
+              × Boxes (mercatorX (newWest (neg halfCircle) e)) least (mercatorX (newEast (neg halfCircle) e)) greatest (usedBy G zoom) q
           unfolding converted
           split-listed c f =
               let t = usedBy G zoom in
               let x = split-box (stateBy G) (columnsBy G l .ids) (columnsBy G l .coords) zoom (xsOf t)
-              (ysOf t) index-sound indexed w s e n fine c f in
+              (ysOf t) index-sound indexed west least east greatest fine c f in
               (x .0, x .1, x .2, boxes-of _ _ _ _ t _ (x .0) long (x .3), boxes-of _ _ _ _ t _ (x .1) long (x .4))
 
           -- so every box that is taken is answered whole
-          pub box-told : (p : List ℕ) × (boxBy G l zoom w s e n ≡ told true p)
+          pub box-told : (p : List ℕ) × (boxBy G l zoom west least east greatest ≡ told true p)
           box-told = by (G .options .«coordinate_system») refl
             where
-              split : (b : Bool) → ruled w e .split ≡ b → G .options .«coordinate_system» ≡ LatLng →
-                  (p : List ℕ) × (boxBy G l zoom w s e n ≡ told true p)
+              split : (b : Bool) → splits west east ≡ b → G .options .«coordinate_system» ≡ LatLng →
+                  (p : List ℕ) × (boxBy G l zoom west least east greatest ≡ told true p)
               split true f c = let x = split-listed c f in (x .0 ++ x .1, x .2)
               split false f c = let x = longitude-listed c f in (x .0, x .1)
 
-              by : (c : CoordinateSystem) → G .options .«coordinate_system» ≡ c → (p : List ℕ) × (boxBy G l zoom w s e n ≡ told true p)
-              by LatLng c = split (ruled w e .split) refl c
+              by : (c : CoordinateSystem) → G .options .«coordinate_system» ≡ c
+                  → (p : List ℕ) × (boxBy G l zoom west least east greatest ≡ told true p)
+              by LatLng c = split (splits west east) refl c
               by (Cartesian d) c = let x = cartesian-listed d c in (x .0, x .1)
 
         -- any other is 9
-        pub box-refused : boxOk (G .options .«coordinate_system») w s e n ≡ false → boxBy G l zoom w s e n ≡ refused Box
+        pub box-refused : boxOk (G .options .«coordinate_system») west least east greatest ≡ false
+            → boxBy G l zoom west least east greatest ≡ refused Box
         unfolding boxAsked
         box-refused f = rw (index-sound, f)
 
         -- no box is refused 11
-        pub box-not-spoiled : (room : ℕ) → answerOf (boxBy G l zoom w s e n) room ≡ Spoiled → ⊥
-        box-not-spoiled room = by (boxOk (G .options .«coordinate_system») w s e n) refl
+        pub box-not-spoiled : (room : ℕ) → answerOf (boxBy G l zoom west least east greatest) room ≡ Spoiled → ⊥
+        box-not-spoiled room = by (boxOk (G .options .«coordinate_system») west least east greatest) refl
           where
-            by : (b : Bool) → boxOk (G .options .«coordinate_system») w s e n ≡ b → answerOf (boxBy G l zoom w s e n) room ≡ Spoiled → ⊥
+            by : (b : Bool) → boxOk (G .options .«coordinate_system») west least east greatest ≡ b
+                → answerOf (boxBy G l zoom west least east greatest) room ≡ Spoiled → ⊥
             by true f h = let x = box-told f in fits-somehow (length (x .0)) room (sym (ap (λ (q : Asked). answerOf q room) (x .1)) ∙ h)
             by false f h = let x = sym (ap (λ (q : Asked). answerOf q room) (box-refused f)) ∙ h in omega (arith, ap answerNumber x)
 

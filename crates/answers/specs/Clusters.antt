@@ -1,5 +1,6 @@
--- Of a build that is accepted: the id of each of its clusters leads to its origin, where it is asked for and where a walk goes
--- on into it; it has two children or more, its members in the order of the answers; and it expands at the zoom after the one that made it. Assumes nothing.
+-- Of a build that is accepted: the id of each of its clusters leads to its origin, where it is asked for and where a walk goes on into
+-- it; it has two children or more, its members in the order of the answers; and it expands at the zoom after the one that made it.
+-- Assumes nothing.
 use mathlib.Core.Path.{_≡_, refl, ap, ap₂, sym, _∙_, subst}
 use mathlib.Core.Logic.{inl, inr}
 use mathlib.Core.Bool.{Bool, true, false}
@@ -23,7 +24,7 @@ use Rattle.asking.specs.declared.Target.{Target}
 use Rattle.asking.specs.declared.Target.the-variants.{At}
 use Rattle.kids.specs.Kids.{kidsAt, cleanAt, childless}
 use Rattle.walks.specs.Children.{atTarget, childrenAt, childrenOf}
-use Rattle.walks.specs.Expansion.{sole, fetchedAt, afterFetch, expand, zoomAt, zoomOf}
+use Rattle.walks.specs.Expansion.{fetched, expand, zoomAt, zoomOf}
 use Rattle.walks.specs.declared.Expansion.the-variants.{At as Expands·At}
 use Rattle.supercluster.specs.Build.{Lent, need}
 use Rattle.supercluster.specs.Load.{Holds}
@@ -105,11 +106,11 @@ module _ (G : Given) (a : Accepted G) (l : Lent) (r : Holds (need (G .options) (
         )
 
     pub no-spoiled-slot : cleanAt (stateBy G) (columnsBy G l) T I ≡ true
-    no-spoiled-slot = clean G a l r T I (let w = above in omega arith) top inside
+    no-spoiled-slot = clean G a l r T I (let w = above in omega arith) top
 
     -- its children
     pub kids-are : kidsAt (stateBy G) (columnsBy G l) (entry (built G z) j .id) T I ≡ membersOf G (entry (built G z) j .id)
-    kids-are = kids-at G a l r T I (let w = above in omega arith) top inside Id
+    kids-are = kids-at G a l r T I (let w = above in omega arith) top Id
 
     made : Clustered G a (entry (built G z) j .id) (lampsOf G z j)
     made = clustered G a z h k j q b
@@ -152,20 +153,20 @@ module _ (G : Given) (a : Accepted G) (l : Lent) (r : Holds (need (G .options) (
     -- the question for the expansion zoom: that of the table of its origin, one above the zoom that made it
     pub expansion-is : zoomOf (stateBy G) (columnsBy G l) (entry (built G z) j .id) ≡ Expands·At
         (tableOf (points G) (entry (built G z) j .id))
-    unfolding zoomOf expand fetchedAt
+    unfolding zoomOf expand
     expansion-is =
         let w = above in
         let t = top in
         let n : maxZ G + 1 - (T - 1) ≡ suc (maxZ G + 1 - T) = omega arith in
         ap (λ (t : Target). zoomAt t (λ u i. expand S C (maxZ G + 1 - (u - 1)) (At u i) Id (u - 1) true)) target-is
         ∙ ap (λ (m : ℕ). expand S C m (At T I) Id (T - 1) true) n
-        ∙ rw no-spoiled-slot (ap (λ (ks : List ℕ). afterFetch (sole (tableAt S C T) ks) true (T - 1)
+        ∙ rw no-spoiled-slot (ap (λ (ks : List ℕ). fetched (tableAt S C T) ks true (T - 1)
         (λ v. expand S C (maxZ G + 1 - T) (onward S T v) v (T - 1 + 1) false)) kids-are)
         ∙ by (membersOf G Id) two-members
       where
         by : (ks : List ℕ) → 2 ≤ length ks
             →
-            afterFetch (sole (tableAt S C T) ks) true (T - 1)
+            fetched (tableAt S C T) ks true (T - 1)
             (λ v. expand S C (maxZ G + 1 - T) (onward S T v) v (T - 1 + 1) false) ≡ Expands·At T
         by [] e = absurd (omega arith)
         by (x ∷ []) e = absurd (omega arith)

@@ -22,9 +22,10 @@ use Rattle.tiling.specs.Floor.{homeOf, home-below}
 use Rattle.tiling.specs.Framed.{tile-is}
 use Rattle.tiling.specs.Home.{home-inside}
 use Rattle.tiling.specs.Lists.{Lists}
-use Rattle.tiling.specs.Tally.{tallyNumber, tallyValue, atHome, weightIn, member, distinct, distinct-once, distinct-all}
+use Rattle.tiling.specs.Tally.{tallyNumber, tallyValue, atHome, weightIn, member, distinct}
+use Rattle.tiling.specs.Distinct.{distinct-once, distinct-all}
 use Rattle.tiling.specs.Tile.{isTile, here, itemOf}
-use Rattle.tiles.specs.Asked.{told}
+use Rattle.asking.specs.Asked.{told}
 use Rattle.supercluster.specs.Build.{Lent, need}
 use Rattle.supercluster.specs.Load.{Holds}
 use Rattle.builds.specs.Given.{Given, Accepted, points}

@@ -1,5 +1,5 @@
--- Of a build that is accepted, of each of its clusters: its leaves are its lamps after the first `offset`, as many as the limit, with limit 0 none. So a larger limit
--- never changes what a smaller one listed. Assumes nothing.
+-- Of a build that is accepted, of each of its clusters: its leaves are its lamps after the first `offset`, as many as the limit, with
+-- limit 0 none. So a larger limit never changes what a smaller one listed. Assumes nothing.
 use mathlib.Core.Path.{_≡_, ap, ap₂, sym, _∙_, subst}
 use mathlib.Core.Bool.{Bool, true, false}
 use mathlib.Core.List.{List, [], _∷_, _++_, append-nil}
@@ -17,7 +17,7 @@ use Rattle.asking.specs.Asked.{told}
 use Rattle.asking.specs.Columns.{Columns}
 use Rattle.asking.specs.declared.Target.{Target}
 use Rattle.walks.specs.Children.{atTarget}
-use Rattle.walks.specs.Leaves.{Trip, went, walk, lamps, listed, leavesAt, leavesOf}
+use Rattle.walks.specs.Leaves.{Trip, went, walk, listed, leavesAt, leavesOf}
 use Rattle.supercluster.specs.Build.{Lent, need}
 use Rattle.supercluster.specs.Load.{Holds}
 use Rattle.builds.specs.Given.{Given, Accepted, points, minZ, maxZ}
@@ -40,7 +40,7 @@ same-out m n p q e = cc e
 
 -- of a walk, which has a limit of 1 or more: the page
 module _ (limit offset : ℕ) where
-  abbrev Pages : ℕ → List ℕ → List ℕ → Trip (List ℕ) → Type 0
+  abbrev Pages : ℕ → List ℕ → List ℕ → Trip → Type 0
   Pages n out ls t = t ≡ paged limit offset n out ls
 
   skips : (n : ℕ) (out ls : List ℕ) → n + length ls ≤ offset → went (n + length ls) out ≡ paged limit offset n out ls
@@ -111,8 +111,8 @@ module _ (G : Given) (a : Accepted G) (l : Lent) (r : Holds (need (G .options) (
   deep = omega arith
 
   module _ (limit offset : ℕ) where
-    abbrev walked : Trip (List ℕ)
-    walked = walk lamps (stateBy G) (columnsBy G l) limit offset 32 Id (tableOf (points G) Id) (originOf (points G) Id) 0 []
+    abbrev walked : Trip
+    walked = walk (stateBy G) (columnsBy G l) limit offset 32 Id (tableOf (points G) Id) (originOf (points G) Id) 0 []
 
     leaves-by : (limit ≡ 0 → ⊥) → leavesOf (stateBy G) (columnsBy G l) (entry (built G z) j .id) limit offset ≡ listed walked
     unfolding leavesOf leavesAt

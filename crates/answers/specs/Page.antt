@@ -1,5 +1,5 @@
--- A page of a list of lamps: after the first `offset`, up to `limit` of them. What a walk has skipped and listed after a list of lamps, and after two one after
--- the other. Assumes nothing.
+-- A page of a list of lamps: after the first `offset`, up to `limit` of them. What a walk has skipped and listed after a list of lamps,
+-- and after two one after the other. Assumes nothing.
 use mathlib.Core.Path.{_≡_, ap, ap₂, sym, _∙_}
 use mathlib.Core.Logic.{⊎-elim}
 use mathlib.Core.List.{List, [], _∷_, _++_, append-nil, append-assoc}
@@ -34,7 +34,7 @@ module _ (limit offset : ℕ) where
   listedBy n out ls = out ++ take (limit - length out) (drop (offset - n) ls)
 
   -- as what a walk leaves
-  abbrev pub paged : ℕ → List ℕ → List ℕ → Trip (List ℕ)
+  abbrev pub paged : ℕ → List ℕ → List ℕ → Trip
   paged n out ls = went (skippedBy n ls) (listedBy n out ls)
 
   -- a walk that goes on: the limit is not reached, and nothing is listed before all that is to be skipped is skipped

@@ -1,8 +1,8 @@
--- Of a build that is accepted, in columns that hold it, what a tile answers: the items of exactly the entries between the edges of its own
--- range, each once; then, where strips run, for x = 0, of exactly those of the strip in the east, each once; then, for x = z2 - 1, of exactly
--- those of the strip in the west, each once. So each entry whose place lies in the tile is listed, and each item is that of an entry in one of
--- the three; where strips do not run, as on a plan with the option on, no entry is listed twice. The tally is the sum of num over the distinct
--- places listed whose centre the tile holds. Neither is ever refused 11. Assumes nothing.
+-- Of a build that is accepted, in columns that hold it, what a tile answers: the items of exactly the entries between the edges of its
+-- own range, each once; then, where strips run, for x = 0, of exactly those of the strip in the east, each once; then, for x = z2 - 1, of
+-- exactly those of the strip in the west, each once. So each entry whose place lies in the tile is listed, and each item is that of an
+-- entry in one of the three; where strips do not run, as on a plan with the option on, no entry is listed twice. The tally is the sum of
+-- num over the distinct places listed whose centre the tile holds. Neither is ever refused 11. Assumes nothing.
 use mathlib.Core.Path.{_≡_, refl, ap, ap₂, sym, _∙_, subst}
 use mathlib.Core.Bool.{Bool, true, false, cond, _&&_}
 use mathlib.Core.List.{List, [], _∷_, _++_, map, append-nil}
@@ -18,7 +18,7 @@ use Rattle.range.specs.declared.DataRange.{DataRange}
 use Rattle.range.specs.declared.CoordinateSystem.{CoordinateSystem}
 use Rattle.range.specs.declared.CoordinateSystem.the-variants.{LatLng, Cartesian}
 use Rattle.kdsort.specs.Cols.{Cols}
-use Rattle.kdsort.specs.Indexes.{blank}
+use Rattle.kdsort.specs.Cols.{blank}
 use Rattle.kdsort.specs.Tree.{Index}
 use Rattle.kdslots.specs.declared.Query.the-variants.{Range}
 use Rattle.kdslots.specs.All.{All, all-append}
@@ -37,6 +37,7 @@ use Rattle.zoom.specs.Keeps.{all-at}
 use Rattle.zoom.specs.Sound.{Body}
 use Rattle.asking.specs.declared.Answer.the-variants.{Tile, Spoiled}
 use Rattle.asking.specs.Answers.{answerNumber}
+use Rattle.asking.specs.Asked.{refused, told}
 use Rattle.asking.specs.Columns.{tableAt, idsAt, coordsAt}
 use Rattle.tiling.specs.declared.Item.{Item}
 use Rattle.tiling.specs.declared.Search.{Search}
@@ -46,8 +47,9 @@ use Rattle.tiling.specs.Framed.{tile-is}
 use Rattle.tiling.specs.Inside.{InTile, inside-passes}
 use Rattle.tiling.specs.Lists.{Lists, tile-whole, listed-whole}
 use Rattle.tiling.specs.Tally.{tallyNumber, weightIn, distinct, total, tallyOf}
-use Rattle.tiling.specs.Tile.{Visit, isTile, edge, least, greatest, here, goesRound, wraps, east, west, visitsOf, visited, listed, whole, itemOf, itemAt, items}
-use Rattle.tiles.specs.Asked.{Asked, refused, told, asked, answerOf, someOf}
+use Rattle.tiling.specs.Tile.{Visit, isTile, edge, least, greatest, here, goesRound, wraps, east, west, visitsOf, visited, listed, whole}
+use Rattle.tiling.specs.Tile.{itemOf, itemAt, items}
+use Rattle.tiles.specs.Asked.{Asked, asked, answerOf, someOf}
 use Rattle.tiles.specs.Ends.{asked-is}
 use Rattle.tiles.specs.Tallied.{sumOf, tallied}
 use Rattle.zooms.specs.Zooms.{slotsOf}
@@ -358,7 +360,8 @@ module _ (G : Given) (a : Accepted G) (l : Lent) (r : Holds (need (G .options) (
         (moved (λ q ids co. let v = visited (G .options) z x y q ids co in sumOf (whole q v) (tallyOf (weightIn z x y) q v))
         ∙ ap₂ (λ (k : Bool) (v : List Visit). sumOf k (total (weightIn z x y) t (distinct [] (map (λ w. w .place) v)))) all-whole all-listed)
 
-    -- the tally is the sum, over the distinct places of the items that the tile lists, of the num of those entries whose centre the tile holds; 0 where there is none
+    -- the tally is the sum, over the distinct places of the items that the tile lists, of the num of those entries whose centre the tile
+    -- holds; 0 where there is none
     pub tally-told : (i : List Item) × (tileBy G l z x y ≡ told true i)
         × (tallyBy G l z x y ≡ Sum (total (weightIn z x y) (usedBy G z) (distinct [] (map (λ j. j .place) i))))
     tally-told = (

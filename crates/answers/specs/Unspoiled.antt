@@ -25,10 +25,11 @@ use Rattle.asking.specs.Columns.{Columns, roomOf}
 use Rattle.asking.specs.Ids.{isBuilt, targetOf}
 use Rattle.kids.specs.Kids.{kidsAt, cleanAt, childless}
 use Rattle.walks.specs.Children.{atTarget, childrenAt, childrenOf}
-use Rattle.walks.specs.Expansion.{fetchedAt, expand, zoomAt, zoomOf}
+use Rattle.walks.specs.Expansion.{expand, zoomAt, zoomOf}
 use Rattle.walks.specs.Leaves.{leavesAt, leavesOf}
 use Rattle.walks.specs.declared.Expansion.{Expansion}
-use Rattle.walks.specs.declared.Expansion.the-variants.{At as Expands·At, NoTree as Expands·NoTree, NoCluster as Expands·NoCluster, Spoiled as Expands·Spoiled}
+use Rattle.walks.specs.declared.Expansion.the-variants.{At as Expands·At, NoTree as Expands·NoTree, NoCluster as Expands·NoCluster}
+use Rattle.walks.specs.declared.Expansion.the-variants.{Spoiled as Expands·Spoiled}
 use Rattle.supercluster.specs.Build.{Lent, need}
 use Rattle.supercluster.specs.Load.{Holds}
 use Rattle.builds.specs.Given.{Given, Accepted, points, minZ, maxZ}
@@ -152,7 +153,7 @@ module _ (G : Given) (a : Accepted G) (l : Lent) (r : Holds (need (G .options) (
     -- it has no children, or it is a cluster of the table before
     made-or-none : (kidsAt (stateBy G) (columnsBy G l) id T I ≡ []) ⊎ Made (T - 1) id
     made-or-none =
-        by kids (kids-at G a l r T I h k inside id) (all-keep (λ (m : ℕ). m < length (built G T)) _ _ (around-below G a l r T I h k inside))
+        by kids (kids-at G a l r T I h k id) (all-keep (λ (m : ℕ). m < length (built G T)) _ _ (around-below G a l r T I h k))
         (keep-passes (λ m. eqb (entry (built G T) m .parent) id) (answersAt G T I))
       where
         by : (ks : List ℕ) → kidsAt S C id T I ≡ ks → AllBelow (length (built G T)) ks →
@@ -169,7 +170,7 @@ module _ (G : Given) (a : Accepted G) (l : Lent) (r : Holds (need (G .options) (
                 (subst (λ (v : ℕ). entry (built G v) m .parent ≡ id) t p) not-unset
 
     no-spoiled : cleanAt (stateBy G) (columnsBy G l) T I ≡ true
-    no-spoiled = clean G a l r T I h k inside
+    no-spoiled = clean G a l r T I h k
 
     none-childless : kidsAt (stateBy G) (columnsBy G l) id T I ≡ [] → childless (stateBy G) (columnsBy G l) id T I ≡ true
     none-childless e = rw (no-spoiled, e)
@@ -213,7 +214,7 @@ module _ (G : Given) (a : Accepted G) (l : Lent) (r : Holds (need (G .options) (
 
     none-grows : kidsAt (stateBy G) (columnsBy G l) id T I ≡ [] →
         Grows (expand (stateBy G) (columnsBy G l) (maxZ G + 1 - (T - 1)) (At T I) id (T - 1) true)
-    unfolding expand fetchedAt
+    unfolding expand
     none-grows e =
         let m : suc (maxZ G + 1 - T) ≡ maxZ G + 1 - (T - 1) = omega arith in
         subst (λ (v : ℕ). Grows (expand S C v (At T I) id (T - 1) true)) m (rw (no-spoiled, e) grows-none)

@@ -1,5 +1,6 @@
--- A walk over the lamps of a cluster of an accepted build, whatever is said of what it skips and lists: what holds of no lamps, of lamps that are skipped, of one
--- that is listed, and of some lamps and then more, holds of the whole walk over the cluster's lamps, in their order. Assumes nothing.
+-- A walk over the lamps of a cluster of an accepted build, whatever is said of what it skips and lists: what holds of no lamps, of lamps
+-- that are skipped, of one that is listed, and of some lamps and then more, holds of the whole walk over the cluster's lamps, in their
+-- order. Assumes nothing.
 use mathlib.Core.Path.{_≡_, refl, ap, ap₂, sym, _∙_, subst}
 use mathlib.Core.Logic.{⊎-elim, inl, inr}
 use mathlib.Core.Bool.{Bool, true, false, cond}
@@ -22,7 +23,7 @@ use Rattle.groups.specs.Sums.{below}
 use Rattle.asking.specs.Columns.{Columns, tableAt}
 use Rattle.asking.specs.declared.Target.{Target}
 use Rattle.kids.specs.Kids.{kidsAt}
-use Rattle.walks.specs.Leaves.{Trip, went, enter, visit, after, steps, walk, lamps}
+use Rattle.walks.specs.Leaves.{Trip, went, enter, visit, after, steps, walk}
 use Rattle.supercluster.specs.Build.{Lent, need}
 use Rattle.supercluster.specs.Load.{Holds}
 use Rattle.builds.specs.Given.{Given, Accepted, points, minZ, maxZ}
@@ -34,7 +35,7 @@ use Rattle.lamps.specs.Carries.{lamps-long}
 use Rattle.lamps.specs.Copies.{clustered, lamps-of-lamp}
 use Rattle.answers.specs.Stored.{stateBy, columnsBy, table-is}
 use Rattle.answers.specs.Children.{around-below}
-use Rattle.answers.specs.Clusters.{above, top, inside, onward-is, no-spoiled-slot, kids-are, two-members}
+use Rattle.answers.specs.Clusters.{above, top, onward-is, no-spoiled-slot, kids-are, two-members}
 
 -- what is kept of a list has what each of the list has, and passes the test
 pub all-keep : (P : ℕ → Type 0) (p : ℕ → Bool) (ks : List ℕ) → All P ks → All P (keep p ks)
@@ -56,9 +57,9 @@ keep-passes p (k ∷ ks) = go (p k) refl (keep-passes p ks)
     go false e v = v
 
 -- what is said of a walk that has skipped n lamps and listed out, may go on where May says, and comes to t after the lamps ls: R n out ls t
-pub record Rules (limit offset : ℕ) (May : ℕ → List ℕ → Type 0) (R : ℕ → List ℕ → List ℕ → Trip (List ℕ) → Type 0) : Type 0 where
+pub record Rules (limit offset : ℕ) (May : ℕ → List ℕ → Type 0) (R : ℕ → List ℕ → List ℕ → Trip → Type 0) : Type 0 where
   -- it does not break
-  pub whole : (n : ℕ) (out ls : List ℕ) (t : Trip (List ℕ)) → R n out ls t → (m : ℕ) × (p : List ℕ) × (t ≡ went m p)
+  pub whole : (n : ℕ) (out ls : List ℕ) (t : Trip) → R n out ls t → (m : ℕ) × (p : List ℕ) × (t ≡ went m p)
   -- no lamps, lamps that are skipped, one that is listed
   pub none : (n : ℕ) (out : List ℕ) → May n out → R n out [] (went n out)
   pub skip : (n : ℕ) (out ls : List ℕ) → May n out → 1 ≤ length ls → n + length ls ≤ offset → R n out ls (went (n + length ls) out)
@@ -68,11 +69,11 @@ pub record Rules (limit offset : ℕ) (May : ℕ → List ℕ → Type 0) (R : �
       R n out (ls ++ ms) (went m p)
   pub go : (n : ℕ) (out ls : List ℕ) (m : ℕ) (p : List ℕ) → May n out → 1 ≤ length ls → R n out ls (went m p) → (length p ≡ limit → ⊥) →
       May m p × (length p ≤ length out + length ls)
-  pub more : (n : ℕ) (out ls ms : List ℕ) (m : ℕ) (p : List ℕ) (t : Trip (List ℕ)) → May n out → 1 ≤ length ls → R n out ls (went m p) →
+  pub more : (n : ℕ) (out ls ms : List ℕ) (m : ℕ) (p : List ℕ) (t : Trip) → May n out → 1 ≤ length ls → R n out ls (went m p) →
       (length p ≡ limit → ⊥) → R m p ms t → R n out (ls ++ ms) t
 
 module _ (G : Given) (a : Accepted G) (l : Lent) (r : Holds (need (G .options) (points G)) l) (limit offset : ℕ)
-    (May : ℕ → List ℕ → Type 0) (R : ℕ → List ℕ → List ℕ → Trip (List ℕ) → Type 0) (rules : Rules limit offset May R) where
+    (May : ℕ → List ℕ → Type 0) (R : ℕ → List ℕ → List ℕ → Trip → Type 0) (rules : Rules limit offset May R) where
   abbrev S : State
   S = stateBy G
 
@@ -80,10 +81,10 @@ module _ (G : Given) (a : Accepted G) (l : Lent) (r : Holds (need (G .options) (
   C = columnsBy G l
 
   -- a walk into the cluster at j of table z, in a definition that may go g tables on
-  abbrev walkInto : ℕ → ℕ → ℕ → ℕ → List ℕ → Trip (List ℕ)
+  abbrev walkInto : ℕ → ℕ → ℕ → ℕ → List ℕ → Trip
   walkInto g z j n out =
       let id = entry (built G z) j .id in
-      walk lamps (stateBy G) (columnsBy G l) limit offset g id (tableOf (points G) id) (originOf (points G) id) n out
+      walk (stateBy G) (columnsBy G l) limit offset g id (tableOf (points G) id) (originOf (points G) id) n out
 
   abbrev Walks : ℕ → Type 0
   Walks g =
@@ -98,9 +99,9 @@ module _ (G : Given) (a : Accepted G) (l : Lent) (r : Holds (need (G .options) (
     abbrev E : Entry
     E = entry (built G z) j
 
-    abbrev visited : Trip (List ℕ)
+    abbrev visited : Trip
     visited =
-        visit lamps (stateBy G) (columnsBy G l) limit offset (walk lamps (stateBy G) (columnsBy G l) limit offset g) z
+        visit (stateBy G) (columnsBy G l) limit offset (walk (stateBy G) (columnsBy G l) limit offset g) z
         (entry (built G z) j) n out
 
     abbrev Visits : Type 0
@@ -109,8 +110,8 @@ module _ (G : Given) (a : Accepted G) (l : Lent) (r : Holds (need (G .options) (
     long : entry (built G z) j .num ≡ length (lampsOf G z j)
     long = lamps-long G a z h k j q
 
-    by-trip : (t : Trip (List ℕ)) (ls : List ℕ) → visited ≡ t → lampsOf G z j ≡ ls → R n out ls t → Visits
-    by-trip t ls e d w = subst (λ (x : Trip (List ℕ)). R n out (lampsOf G z j) x) (sym e) (subst (λ (x : List ℕ). R n out x t) (sym d) w)
+    by-trip : (t : Trip) (ls : List ℕ) → visited ≡ t → lampsOf G z j ≡ ls → R n out ls t → Visits
+    by-trip t ls e d w = subst (λ (x : Trip). R n out (lampsOf G z j) x) (sym e) (subst (λ (x : List ℕ). R n out x t) (sym d) w)
 
     lamp-visit : entry (built G z) j .id < points G → entry (built G z) j .num ≡ 1 → Visits
     unfolding visit
@@ -142,7 +143,7 @@ module _ (G : Given) (a : Accepted G) (l : Lent) (r : Holds (need (G .options) (
         entered w =
             by-trip (walkInto g z j n out) (lampsOf G z j)
             (rw (lt-ltb 1 (E .num) (omega arith), lt-leb (n + E .num) offset w)
-            (ap (λ (t : Target). enter (walk lamps S C limit offset g) t (E .id) n out) (onward-is G a l r z j h k q b z (omega arith))))
+            (ap (λ (t : Target). enter (walk S C limit offset g) t (E .id) n out) (onward-is G a l r z j h k q b z (omega arith))))
             refl (ih z j h k q b (let t = above G a l r z j h k q b in omega arith) n out ok room)
 
     visit-is : Visits
@@ -158,9 +159,9 @@ module _ (G : Given) (a : Accepted G) (l : Lent) (r : Holds (need (G .options) (
 
   -- ---- the children of a cluster one after the other
 
-  abbrev stepsOver : ℕ → ℕ → List ℕ → ℕ → List ℕ → Trip (List ℕ)
+  abbrev stepsOver : ℕ → ℕ → List ℕ → ℕ → List ℕ → Trip
   stepsOver g t ks n out =
-      steps lamps (stateBy G) (columnsBy G l) limit offset (walk lamps (stateBy G) (columnsBy G l) limit offset g) t true
+      steps (stateBy G) (columnsBy G l) limit offset (walk (stateBy G) (columnsBy G l) limit offset g) t true
       (map (entry (built G t)) ks) n out
 
   steps-are : (g t : ℕ) → Walks g → minZ G ≤ t → t ≤ maxZ G + 1 → 32 ≤ g + suc t → (ks : List ℕ) → AllBelow (length (built G t)) ks →
@@ -173,8 +174,8 @@ module _ (G : Given) (a : Accepted G) (l : Lent) (r : Holds (need (G .options) (
       let v = visit-is g t j ih h k (w .0) deep n out ok (omega arith) in
       let s = some g t j ih h k (w .0) deep n out ok (omega arith) in
       let x = rules .whole n out L X v in
-      subst (λ (y : Trip (List ℕ)). R n out (L ++ M) (after lamps S C limit offset y (λ m p. stepsOver g t ks m p))) (sym (x .2))
-      (on (x .0) (x .1) s (subst (λ (y : Trip (List ℕ)). R n out L y) (x .2) v) (eqb (length (x .1)) limit) refl (λ c e. steps-are g t ih h k deep ks (w .1) (x .0) (x .1) c e))
+      subst (λ (y : Trip). R n out (L ++ M) (after S C limit offset y (λ m p. stepsOver g t ks m p))) (sym (x .2))
+      (on (x .0) (x .1) s (subst (λ (y : Trip). R n out L y) (x .2) v) (eqb (length (x .1)) limit) refl (λ c e. steps-are g t ih h k deep ks (w .1) (x .0) (x .1) c e))
     where
       L : List ℕ
       L = lampsOf G t j
@@ -182,8 +183,8 @@ module _ (G : Given) (a : Accepted G) (l : Lent) (r : Holds (need (G .options) (
       M : List ℕ
       M = gather (λ k. lampsOf G t k) ks
 
-      X : Trip (List ℕ)
-      X = visit lamps S C limit offset (walk lamps S C limit offset g) t (entry (built G t) j) n out
+      X : Trip
+      X = visit S C limit offset (walk S C limit offset g) t (entry (built G t) j) n out
 
       on : (m : ℕ) (p : List ℕ) → 1 ≤ length L → R n out L (went m p) → (b : Bool) → eqb (length p) limit ≡ b →
           (May m p → length p + length M ≤ points G → R m p M (stepsOver g t ks m p))
@@ -201,7 +202,7 @@ module _ (G : Given) (a : Accepted G) (l : Lent) (r : Holds (need (G .options) (
   walks zero z j h k q b deep n out ok room =
       absurd (let t = top G a l r z j h k q b in let m = options-are (G .options) (a .options) .zoom-to in omega arith)
   walks (suc g) z j h k q b deep n out ok room =
-      subst (λ (x : Trip (List ℕ)). R n out (lampsOf G z j) x) (sym opened)
+      subst (λ (x : Trip). R n out (lampsOf G z j) x) (sym opened)
       (subst (λ (x : List ℕ). R n out x (stepsOver g T (membersOf G Id) n out)) (sym is)
       (steps-are g T (walks g) low up (omega arith) (membersOf G Id) within n out ok (let e = ap length is in omega arith)))
     where
@@ -226,13 +227,13 @@ module _ (G : Given) (a : Accepted G) (l : Lent) (r : Holds (need (G .options) (
       within : AllBelow (length (built G T)) (membersOf G Id)
       within =
           all-keep (λ (i : ℕ). i < length (built G T)) _ _
-          (around-below G a l r T I (let t = above G a l r z j h k q b in omega arith) up (inside G a l r z j h k q b))
+          (around-below G a l r T I (let t = above G a l r z j h k q b in omega arith) up)
 
       opened : walkInto (suc g) z j n out ≡ stepsOver g T (membersOf G Id) n out
       opened =
           rw (ne-eqb (length (kidsAt S C Id T I)) 0 (λ e. let w =
           two-members G a l r z j h k q b in let v = ap length (kids-are G a l r z j h k q b) in omega arith))
-          (ap (λ (c : Bool). steps lamps S C limit offset (walk lamps S C limit offset g) T c
+          (ap (λ (c : Bool). steps S C limit offset (walk S C limit offset g) T c
           (map (entry (tableAt S C T)) (kidsAt S C Id T I)) n out) (no-spoiled-slot G a l r z j h k q b)
-          ∙ ap₂ (λ (t : Table) (ks : List ℕ). steps lamps S C limit offset (walk lamps S C limit offset g) T true (map (entry t) ks) n out)
+          ∙ ap₂ (λ (t : Table) (ks : List ℕ). steps S C limit offset (walk S C limit offset g) T true (map (entry t) ks) n out)
           (table-is G a l r T low up) (kids-are G a l r z j h k q b))

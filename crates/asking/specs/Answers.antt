@@ -1,4 +1,5 @@
--- The answer of a question that lists: 01's number of each case, what it carries, and how long an answer a column has room for. Definitions only.
+-- The answer of a question that lists: 01's number of each case, what it carries, and how long an answer a column has room for.
+-- Definitions only.
 use mathlib.Core.Bool.{cond}
 use Prim.Native.Nat.{ℕ}
 use lib.Dec.{leb}

@@ -1,5 +1,7 @@
--- The ring around an entry of a table, in which the children of a cluster made there are: the slots that it answers, and a walk over them that is read a
--- page at a time. Where the entry's place is no finite number the search is none that kdwalk takes, and `walk` has no slots. Assumes nothing.
+-- The ring around an entry of a table, as `ring_of` and `next_in` walk over it a page at a time: its slots, and what is ahead of a walk.
+-- Where the entry's place is no finite number the search is none that kdwalk takes, and the walk has no slots. No definition of a question
+-- goes by this walk: children are what `within` answers (kids/specs/Kids), and that the walk goes over all of it is a law there
+-- (kids/specs/Within). Assumes nothing.
 use mathlib.Core.Path.{_≡_, ap, _∙_}
 use mathlib.Core.List.{List, [], _∷_}
 use Prim.Native.Nat.{ℕ, _+_, _-_, _*_, _<_, _≤_}
@@ -8,19 +10,18 @@ use lib.Ieee.{Float}
 use Rattle.kdslots.specs.declared.Query.{Query}
 use Rattle.kdslots.specs.declared.Query.the-variants.{Within}
 use Rattle.kdwalk.specs.declared.Step.the-variants.{Slot, Done}
-use Rattle.kdwalk.specs.declared.Pages.{Pages}
-use Rattle.kdwalk.specs.declared.Turned.{Turned}
+use Rattle.kdpages.specs.declared.Pages.{Pages}
+use Rattle.kdpages.specs.declared.Turned.{Turned}
 use Rattle.kdslots.specs.All.{AllBelow}
 use Rattle.kdwalk.specs.Reply.{walk, nextStep}
 use Rattle.kdwalk.specs.Walk.{walk-length}
-use Rattle.kdwalk.specs.Pages.{begun, aheadOf, tailOf, ahead-begun, walk-below, next-slot, below-next, next-end}
+use Rattle.kdpages.specs.Pages.{begun, aheadOf, tailOf, ahead-begun, walk-below, next-slot, below-next, next-end}
 use Rattle.tables.specs.declared.State.{State}
 use Rattle.tables.specs.State.{startOf, lenOf}
 use Rattle.tables.specs.Entries.{Table, entry}
 use Rattle.tables.specs.Radius.{radiusAt}
 use Rattle.tables.specs.Columns.{part}
 use Rattle.asking.specs.declared.Ring.{Ring}
-use Rattle.asking.specs.Columns.{Columns, tableAt}
 
 -- the ring around the entry o of the table t of zoom z: its radius is that of zoom z - 1
 abbrev pub ringOf : State → Table → ℕ → ℕ → Ring
@@ -43,10 +44,6 @@ coordsOf g coords = part (2 * g .start) (2 * g .len) coords
 -- the slots that a ring answers, in the order of the search
 unfoldable pub slotsOf : Ring → List Float → List ℕ
 slotsOf g coords = walk (queryOf g) (g .«node_size») (g .len) (coordsOf g coords)
-
--- the slots around the entry o of zoom z's table
-abbrev pub slotsAround : State → Columns → ℕ → ℕ → List ℕ
-slotsAround s c z o = slotsOf (ringOf s (tableAt s c z) z o) (c .coords)
 
 -- ---- a walk over them
 
@@ -73,8 +70,10 @@ module _ (g : Ring) (coords : List Float) where
   -- a step of the walk
   module _ (page : List ℕ) (p : Pages) (t : Turned) (f : t .step ≡ nextStep Done (aheadIn g coords page p)) where
     -- at a slot: what was ahead is the slot, which lies in the table, and then what is ahead now
-    pub ring-next : (page' : List ℕ) → aheadIn g coords page' (t .pages) ≡ tailOf (aheadIn g coords page p) → (c : ℕ) → t .step ≡ Slot c → AllBelow (g .len) (aheadIn g coords page p)
-        → (aheadIn g coords page p ≡ c ∷ aheadIn g coords page' (t .pages)) × (c < g .len) × AllBelow (g .len) (aheadIn g coords page' (t .pages))
+    pub ring-next : (page' : List ℕ) → aheadIn g coords page' (t .pages) ≡ tailOf (aheadIn g coords page p) → (c : ℕ) → t .step ≡ Slot c
+        → AllBelow (g .len) (aheadIn g coords page p)
+        → (aheadIn g coords page p ≡ c ∷ aheadIn g coords page' (t .pages)) × (c < g .len)
+        × AllBelow (g .len) (aheadIn g coords page' (t .pages))
     ring-next page' e c d b =
         let h = next-slot (aheadIn g coords page p) (aheadIn g coords page' (t .pages)) (t .step) c d f e in
         let w = below-next (g .len) (aheadIn g coords page p) c (aheadIn g coords page' (t .pages)) h b in

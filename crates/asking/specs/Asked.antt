@@ -1,4 +1,5 @@
--- What a question comes to: a refusal before its walk, or the items that the walk finds; the answer and the column afterwards are read from it. Definitions only.
+-- What a question comes to: a refusal before its walk, or the items that the walk finds; the answer and the column afterwards are read
+-- from it. The items are places or lamps, and of a tile more than that. Definitions only.
 use mathlib.Core.Bool.{Bool, true, false}
 use mathlib.Core.List.{List}
 use Prim.Native.Nat.{ℕ}
@@ -9,9 +10,13 @@ use Rattle.asking.specs.declared.Answer.the-variants.{Spoiled}
 use Rattle.asking.specs.Answers.{fitted}
 
 -- refused, with nothing written; or the items found, and whether the walk went to its end
-pub data Asked : Type 0 where
-  refused : Answer → Asked
-  told : Bool → List ℕ → Asked
+pub data AskedFor (A : Type 0) : Type 0 where
+  refused : Answer → AskedFor A
+  told : Bool → List A → AskedFor A
+
+-- a question that lists places, or lamps
+abbrev pub Asked : Type 0
+Asked = AskedFor ℕ
 
 -- the answer, for a column of so many: a walk that did not go to its end is 01's 11
 abbrev pub answerOf : Asked → ℕ → Answer

@@ -1,5 +1,5 @@
--- The nine lent columns of a question, and the parts of them that hold the table of one zoom. Of a table that stands in them the parts are as long as the
--- table, and what is lent of the columns from its start to its end is the table. Assumes nothing.
+-- The nine lent columns of a question, and the parts of them that hold the table of one zoom. Of a table that stands in them the parts are
+-- as long as the table, and what is lent of the columns from its start to its end is the table. Assumes nothing.
 use mathlib.Core.Path.{_≡_, refl, ap, sym, _∙_, subst}
 use mathlib.Core.List.{List}
 use Prim.Native.Nat.{ℕ, _+_, _-_, _*_, _/_, _<_, _≤_, min}
@@ -68,7 +68,15 @@ held c n h =
     let si = high _ _ n a in
     let pn = low _ _ n (high _ _ n h) in
     let wi = high _ _ n (high _ _ n h) in
-    record { hx = low _ _ n xy; hy = high _ _ n xy; hs = low _ _ n si; hi = high _ _ n si; hp = low _ _ n pn; hn = high _ _ n pn; hw = low _ _ n wi }
+    record {
+      hx = low _ _ n xy;
+      hy = high _ _ n xy;
+      hs = low _ _ n si;
+      hi = high _ _ n si;
+      hp = low _ _ n pn;
+      hn = high _ _ n pn;
+      hw = low _ _ n wi;
+    }
 
 pub held-fewer : {c : Cols} (m n : ℕ) → m ≤ n → Held n c → Held m c
 held-fewer m n l h =

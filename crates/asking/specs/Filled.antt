@@ -1,4 +1,5 @@
--- A column that is filled one item at a time: a store at the number of items so far is one more item, whether it fits or not. Assumes nothing.
+-- A column that is filled one item at a time: a store at the number of items so far is one more item, whether it fits or not. Assumes
+-- nothing.
 use mathlib.Core.Path.{_≡_, refl, ap, sym}
 use mathlib.Core.List.{List, [], _∷_, _++_}
 use Prim.Native.Nat.{ℕ, suc}
@@ -6,7 +7,7 @@ use lib.ListN.{length, set}
 use lib.Seq.{drop-nil}
 use Rattle.kdbush.specs.Run.{filled}
 
-pub filled-none : (out : List ℕ) → filled [] out ≡ out
+pub filled-none : {A : Type 0} (out : List A) → filled [] out ≡ out
 filled-none [] = refl
 filled-none (a ∷ out) = refl
 

@@ -13,8 +13,8 @@ use Rattle.asking.specs.declared.Target.the-variants.{At, Spoiled, NoTre
 abbrev pub isBuilt : State → ℕ → Bool
 isBuilt s t = leb (s .options .«min_zoom») t && leb t (s .options .«max_zoom» + 1)
 
--- the cluster that is asked for, with 01's refusals in 01's order: the state (11), id < N (6), its table is not built (5), it is the table of min_zoom (6), the
--- origin is past the table (6)
+-- the cluster that is asked for, with 01's refusals in 01's order: the state (11), id < N (6), its table is not built (5), it is the table
+-- of min_zoom (6), the origin is past the table (6)
 unfoldable pub targetOf : State → ℕ → ℕ → Target
 targetOf s cap id =
     cond (not (stateOk s cap)) Spoiled
@@ -24,7 +24,8 @@ targetOf s cap id =
     (cond (leb (lenOf s (tableOf (s .count) id)) (originOf (s .count) id)) NoCluster
     (At (tableOf (s .count) id) (originOf (s .count) id))))))
 
--- the child cluster that a walk in table t goes on into: 11 where its id is below N, its table is not larger than t or is not built, or its origin is past the table
+-- the child cluster that a walk in table t goes on into: 11 where its id is below N, its table is not larger than t or is not built, or its
+-- origin is past the table
 unfoldable pub onward : State → ℕ → ℕ → Target
 onward s t id =
     cond (ltb id (s .count)) Spoiled

@@ -1,4 +1,5 @@
--- The nine lent columns of a question in a contract, each named once. A question reads them alone, so that they are the same as it returns. Definitions only.
+-- The nine lent columns of a question in a contract, each named once. A question reads them alone, so that they are the same as it
+-- returns. Definitions only.
 use Prim.Native.Nat.{ℕ}
 use lib.Ieee.{Float}
 use denote.Ref.{now}

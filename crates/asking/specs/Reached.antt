@@ -1,5 +1,5 @@
--- A place that a walk may stand at: an entry of a table above that of min_zoom, of a sound state. Both ways to a cluster lead there, and a walk that goes on
--- stands in a larger table. Assumes nothing.
+-- A place that a walk may stand at: an entry of a table above that of min_zoom, of a sound state. Both ways to a cluster lead there, and a
+-- walk that goes on stands in a larger table. Assumes nothing.
 use mathlib.Core.Bool.{Bool, true, false, cond, not}
 use mathlib.Core.Path.{_≡_, refl, subst, _∙_}
 use Prim.Native.Nat.{ℕ, _+_, _<_, _≤_}

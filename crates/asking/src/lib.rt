@@ -1,8 +1,9 @@
-// What every question to a build rests on: its answer, the lent columns and the parts of them that hold one table, where a cluster's id leads, and the ring
-// around an entry, in which its children are. A question looks at the state first (`State::is_sound`); what is asked here of a caller follows from that.
+// What every question to a build rests on: its answer, the lent columns and the parts of them that hold one table, where a cluster's id
+// leads, and the ring around an entry, in which its children are. A question looks at the state first (`State::is_sound`); what is asked
+// here of a caller follows from that.
+use kdpages::Pages;
+use kdpages::Turned;
 use kdslots::Query;
-use kdwalk::Pages;
-use kdwalk::Turned;
 use tables::Entry;
 use tables::State;
 ghost use mathlib.Core.Path.{_≡_};
@@ -10,7 +11,7 @@ ghost use Prim.Native.Nat.{_+_, _*_, _<_, _≤_, min};
 ghost use lib.ListN.{length, set};
 ghost use Rattle.kdwalk.specs.declared.Step.the-variants.{Done};
 ghost use Rattle.kdwalk.specs.Reply.{nextStep};
-ghost use Rattle.kdwalk.specs.Pages.{tailOf};
+ghost use Rattle.kdpages.specs.Pages.{tailOf};
 ghost use Rattle.tables.specs.Entries.{entry};
 ghost use Rattle.lent.specs.Lent.{old, new};
 ghost use Rattle.tables.specs.Rows.{rows};
@@ -196,7 +197,7 @@ pub fn find_target(s: State, cap: usize, id: u32) -> Target
     if table == o.min_zoom as usize {
         return Target::NoCluster;
     }
-    if s.len_of(table) <= origin {
+    if tables::len_of(s, table) <= origin {
         return Target::NoCluster;
     }
     Target::At { table, origin }
@@ -217,7 +218,7 @@ pub fn go_on(s: State, table: usize, id: u32) -> Target
     if !is_built(s, next) {
         return Target::Spoiled;
     }
-    if s.len_of(next) <= origin {
+    if tables::len_of(s, next) <= origin {
         return Target::Spoiled;
     }
     Target::At {
@@ -257,8 +258,8 @@ pub fn ring_of(
         ⌜ r ≡ ringOf s (part (startOf s table) (lenOf s table) (rows (c .entry))) table origin ⌝ }
 {
     let o = s.options;
-    let start = s.start_of(table);
-    let len = s.len_of(table);
+    let start = tables::start_of(s, table);
+    let len = tables::len_of(s, table);
     let e = entry_in(start, len, x, y, seen, id, parent, num, energy, origin);
     let radius = tables::radius_at(o.radius, o.extent, (table - 1) as u8);
     Ring {
@@ -271,7 +272,7 @@ pub fn ring_of(
     }
 }
 
-// The next slot of a walk over a ring that is read a page at a time. Around a place nothing is gained by looking at places ahead, so it is lent none.
+// The next slot of a walk over a ring that is read a page at a time.
 pub fn next_in(g: Ring, coords: &[f64], page: &mut [usize], p: Pages) -> Turned
     requires { ⌜ InRing g (now coords) ⌝ }
     ensures { λ r. ⌜ r .step ≡ nextStep Done (aheadIn g (old coords) (old page) p) ⌝ }
@@ -284,6 +285,5 @@ pub fn next_in(g: Ring, coords: &[f64], page: &mut [usize], p: Pages) -> Turned
         qy: g.y,
         radius: g.radius,
     };
-    let none = [0u32; 0];
-    kdwalk::next_slot(q, g.node_size, g.len, &none, &coords[from..to], page, p)
+    kdpages::next_slot(q, g.node_size, g.len, &coords[from..to], page, p)
 }

@@ -1,13 +1,12 @@
 -- Each way out of the listing of a plan is its definition's case. Assumes nothing.
 use mathlib.Core.Path.{_≡_, ap, _∙_}
-use mathlib.Core.Bool.{true, false}
-use mathlib.Core.List.{List, []}
+use mathlib.Core.Bool.{true, false, cond}
+use mathlib.Core.List.{List, [], _∷_, _++_, append-nil, flatMap}
 use Prim.Native.Nat.{ℕ, _+_, _≤_, min}
 use native.Mathlib.Omega.{arith}
 use lib.ListN.{length}
 use lib.Ieee.{Float}
 use lib.Dec.{leb}
-use Rattle.kdslots.specs.Slots.{when}
 use Rattle.kdbush.specs.Run.{sound, whole, filled}
 use Rattle.kdslots.specs.Bounds.{coordsOk, and-both, coords-is}
 use Rattle.kdbush.specs.Reply.{found, indexOk}
@@ -18,6 +17,7 @@ use Rattle.asking.specs.Answers.{fitted}
 use Rattle.asking.specs.Asked.{answerOf, columnOf}
 use Rattle.asking.specs.Filled.{filled-length}
 use Rattle.boxplan.specs.declared.Plan.{Plan}
+use Rattle.boxplan.specs.Queries.{queriesOf}
 use Rattle.boxes.specs.declared.Part.the-variants.{All, Past}
 use Rattle.boxes.specs.Lists.{walked, planned}
 use Rattle.boxes.specs.Joined.{partOf, part-all, part-past, found-length, first-past, only-first, second-past, both-whole}
@@ -31,13 +31,20 @@ module _ (p : Plan) (size n : ℕ) (ids : List ℕ) (co : List Float) (out : Lis
 
   -- the answer and the column of the whole walk
   abbrev Leaves : Answer → List ℕ → Type 0
-  Leaves a o = (a ≡ answerOf (walked n (planned p size n ids co)) (length out)) × (o ≡ columnOf (walked n (planned p size n ids co)) out)
+  Leaves a o =
+      let w = walked n (planned (queriesOf p) size n ids co) in
+      (a ≡ answerOf w (length out)) × (o ≡ columnOf w out)
+
+  -- what is found after the first search
+  abbrev rest : List ℕ
+  rest = planned (cond (p .two) (p .second ∷ []) []) size n ids co
 
   -- what the first search leaves in the column
   module _ (o : List ℕ) (left : o ≡ filled (sound n one) out) where
     pub plan-past : Past ≡ partOf (whole n one) (length one) → Leaves Spoiled o
+    unfolding flatMap
     plan-past e =
-        let w = first-past n one (when (p .two) two) out (part-past (whole n one) (length one) e) in
+        let w = first-past n one rest out (part-past (whole n one) (length one) e) in
         (w .0, left ∙ w .1)
 
     same-room : length o ≡ length out
@@ -45,6 +52,7 @@ module _ (p : Plan) (size n : ℕ) (ids : List ℕ) (co : List Float) (out : Lis
 
     module _ (k : ℕ) (e : All k ≡ partOf (whole n one) (length one)) where
       pub plan-only : p .two ≡ false → (a : Answer) → a ≡ fitted k (length o) → Leaves a o
+      unfolding flatMap
       plan-only f a g =
           let v = part-all (whole n one) (length one) k e in
           let w = only-first n one [] out (v .0) in
@@ -59,17 +67,20 @@ module _ (p : Plan) (size n : ℕ) (ids : List ℕ) (co : List Float) (out : Lis
         put = rw (h, left)
 
         pub plan-second-past : Past ≡ partOf (whole n two) (length two) → Leaves Spoiled (back s o x)
+        unfolding flatMap
         plan-second-past d =
             let w = second-past n one two out (part-all (whole n one) (length one) k e .0) s begins (part-past (whole n two) (length two) d) in
-            rw f (w .0, put ∙ w .1)
+            rw (f, append-nil two) (w .0, put ∙ w .1)
 
-        pub plan-both : (j : ℕ) → All j ≡ partOf (whole n two) (length two) → (a : Answer) (m : ℕ) → m ≡ length (back s o x) → a ≡ fitted (k + j) m → Leaves a (back s o x)
+        pub plan-both : (j : ℕ) → All j ≡ partOf (whole n two) (length two) → (a : Answer) (m : ℕ) → m ≡ length (back s o x)
+            → a ≡ fitted (k + j) m → Leaves a (back s o x)
+        unfolding flatMap
         plan-both j d a m q r =
             let v = part-all (whole n one) (length one) k e in
             let u = part-all (whole n two) (length two) j d in
             let w = both-whole n one two out (v .0) s begins (u .0) in
             let l : length (back s o x) ≡ length out = ap length (put ∙ w .1) ∙ filled-length _ out in
-            rw f (r ∙ rw (q, l, v .1, u .1) (w .0), put ∙ w .1)
+            rw (f, append-nil two) (r ∙ rw (q, l, v .1, u .1) (w .0), put ∙ w .1)
 
 -- two counts fit into one
 pub counts-fit : (p : Plan) (size n : ℕ) (ids : List ℕ) (co : List Float) → indexOk size n ids co ≡ true → (k j : ℕ)

@@ -9,28 +9,28 @@ use Rattle.tables.specs.Options.{zoomUsed}
 use Rattle.tables.specs.State.{startOf, lenOf}
 use Rattle.tables.specs.Columns.{part}
 use Rattle.tables.specs.Sound.{stateOk}
+use Rattle.kdslots.specs.declared.Query.{Query}
 use Rattle.asking.specs.declared.Answer.the-variants.{Box, Spoiled}
 use Rattle.asking.specs.Asked.{refused}
 use Rattle.asking.specs.Columns.{indexRoom, idsAt, coordsAt}
-use Rattle.boxplan.specs.declared.Plan.{Plan}
 use Rattle.boxes.specs.Lists.{walked, planned, listedAt, asked}
 
 module _ (s : State) (ids : List ℕ) (co : List Float) (zoom : ℕ) where
   abbrev used : ℕ
   used = zoomUsed (s .options) zoom
 
-  pub listed-used : (z start n : ℕ) (p : Plan) → z ≡ used → start ≡ startOf s z → n ≡ lenOf s z
-      → walked n (planned p (s .options .«node_size») n (part start n ids) (part (2 * start) (2 * n) co)) ≡ listedAt s ids co used p
-  listed-used z start n p f g h = rw (g, h, f)
+  pub listed-used : (z start n : ℕ) (qs : List Query) → z ≡ used → start ≡ startOf s z → n ≡ lenOf s z
+      → walked n (planned qs (s .options .«node_size») n (part start n ids) (part (2 * start) (2 * n) co)) ≡ listedAt s ids co used qs
+  listed-used z start n qs f g h = rw (g, h, f)
 
   -- ---- the ways out
 
-  module _ (ok : Bool) (p : Plan) where
-    pub asked-spoiled : stateOk s (indexRoom ids co) ≡ false → refused Spoiled ≡ asked s ids co zoom ok p
+  module _ (ok : Bool) (qs : List Query) where
+    pub asked-spoiled : stateOk s (indexRoom ids co) ≡ false → refused Spoiled ≡ asked s ids co zoom ok qs
     asked-spoiled e = rw e
 
-    pub asked-box : stateOk s (indexRoom ids co) ≡ true → ok ≡ false → refused Box ≡ asked s ids co zoom ok p
+    pub asked-box : stateOk s (indexRoom ids co) ≡ true → ok ≡ false → refused Box ≡ asked s ids co zoom ok qs
     asked-box e f = rw (e, f)
 
-    pub asked-listed : stateOk s (indexRoom ids co) ≡ true → ok ≡ true → listedAt s ids co used p ≡ asked s ids co zoom ok p
+    pub asked-listed : stateOk s (indexRoom ids co) ≡ true → ok ≡ true → listedAt s ids co used qs ≡ asked s ids co zoom ok qs
     asked-listed e f = rw (e, f)

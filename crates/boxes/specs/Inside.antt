@@ -1,12 +1,12 @@
--- Of an index that is built from its table: a Cartesian box lists exactly the entries inside, each once, and each of them lies within [0,1]; so does a box of
--- longitudes that is not split, and each half of one that is; and a ring lists exactly the entries that pass the distance test. No such question is refused for a
--- place past the table. Assumes nothing.
+-- Of an index that is built from its table: a Cartesian box lists exactly the entries inside, each once, and each of them lies within
+-- [0,1]; so does a box of longitudes that is not split, and each half of one that is; and a ring lists exactly the entries that pass the
+-- distance test. No such question is refused for a place past the table. Assumes nothing.
 use mathlib.Core.Path.{_≡_, ap, _∙_, subst}
 use mathlib.Core.Bool.{true, false}
-use mathlib.Core.List.{List, _++_, append-nil}
+use mathlib.Core.List.{List, [], _∷_, _++_, append-nil, flatMap}
 use Prim.Native.Nat.{ℕ, _<_}
 use lib.ListN.{length, getD}
-use lib.Ieee.{Float, nan}
+use lib.Ieee.{Float, nan, neg}
 use Rattle.floats.specs.Unit.{In01}
 use Rattle.range.specs.declared.DataRange.{DataRange}
 use Rattle.range.specs.declared.CoordinateSystem.the-variants.{LatLng, Cartesian}
@@ -28,7 +28,7 @@ use Rattle.tables.specs.State.{lenOf}
 use Rattle.tables.specs.Sound.{stateOk}
 use Rattle.asking.specs.Asked.{told}
 use Rattle.asking.specs.Columns.{indexRoom, idsAt, coordsAt}
-use Rattle.boxplan.specs.Rule.{ruled, edged, once, halves, planOf, boxOk}
+use Rattle.boxplan.specs.Rule.{halfCircle, newWest, newEast, splits, ruledBox, planOf, boxOk}
 use Rattle.boxes.specs.Lists.{walked, listedAt, ringAsked, boxAsked}
 
 -- ---- what is said
@@ -71,11 +71,16 @@ module _ (s : State) (ids : List ℕ) (co : List Float) (z : ℕ) (xs ys : List 
   below q = subst (λ (n : ℕ). AllBelow n (foundIn n q)) (J .long) (answered-below _ xs ys (J .lent) _ (J .index) q)
 
   -- one search is told whole
-  pub one-told : (q : Query) → listedAt s ids co z (once q) ≡ told true (foundIn (lenOf s z) q)
+  pub one-told : (q : Query) → listedAt s ids co z (q ∷ []) ≡ told true (foundIn (lenOf s z) q)
+  unfolding flatMap
   one-told q = ap (walked (lenOf s z)) (append-nil (foundIn (lenOf s z) q)) ∙ walked-all (lenOf s z) (foundIn (lenOf s z) q) (below q)
 
-  two-told : (a b : Query) → listedAt s ids co z (record { first = a; second = b; two = true }) ≡ told true (foundIn (lenOf s z) a ++ foundIn (lenOf s z) b)
-  two-told a b = walked-all (lenOf s z) (foundIn (lenOf s z) a ++ foundIn (lenOf s z) b) (all-append (λ (k : ℕ). k < lenOf s z) (foundIn (lenOf s z) a) (foundIn (lenOf s z) b) (below a) (below b))
+  two-told : (a b : Query) → listedAt s ids co z (a ∷ b ∷ []) ≡ told true (foundIn (lenOf s z) a ++ foundIn (lenOf s z) b)
+  unfolding flatMap
+  two-told a b =
+      let m = lenOf s z in
+      ap (λ (l : List ℕ). walked m (foundIn m a ++ l)) (append-nil (foundIn m b))
+      ∙ walked-all m (foundIn m a ++ foundIn m b) (all-append (λ (k : ℕ). k < m) (foundIn m a) (foundIn m b) (below a) (below b))
 
   found-exactly : (q : Query) → Exactly q (lenOf s z) xs ys (foundIn (lenOf s z) q)
   found-exactly q =
@@ -95,36 +100,45 @@ module _ (st : State) (ids : List ℕ) (co : List Float) (zoom : ℕ) (xs ys : L
   abbrev z : ℕ
   z = zoomUsed (st .options) zoom
 
-  module _ (w s e n : Float) (fine : boxOk (st .options .«coordinate_system») w s e n ≡ true) where
-    box-is : boxAsked st ids co zoom w s e n ≡ listedAt st ids co z (planOf (st .options .«coordinate_system») w s e n)
+  module _ (west least east greatest : Float) (fine : boxOk (st .options .«coordinate_system») west least east greatest ≡ true) where
+    box-is : boxAsked st ids co zoom west least east greatest
+        ≡ listedAt st ids co z (planOf (st .options .«coordinate_system») west least east greatest)
     unfolding boxAsked
     box-is = rw (good, fine)
 
     -- Cartesian: exactly the entries between the normalised corners
     pub cartesian-box : (d : DataRange) → st .options .«coordinate_system» ≡ Cartesian d
-        → (l : List ℕ) × (boxAsked st ids co zoom w s e n ≡ told true l) × Exactly (Range (normalized d w) (normalized d s) (normalized d e) (normalized d n)) (lenOf st z) xs ys l
+        → (l : List ℕ) × (boxAsked st ids co zoom west least east greatest ≡ told true l)
+        × Exactly (Range (normalized d west) (normalized d least) (normalized d east) (normalized d greatest)) (lenOf st z) xs ys l
     unfolding planOf converted
     cartesian-box d c =
-        let q = Range (normalized d w) (normalized d s) (normalized d e) (normalized d n) in
+        let q = Range (normalized d west) (normalized d least) (normalized d east) (normalized d greatest) in
         (foundIn st ids co z xs ys J (lenOf st z) q, box-is ∙ rw c (one-told st ids co z xs ys J q), found-exactly st ids co z xs ys J _)
 
     -- longitudes: exactly the entries between the edges after the rule
-    pub longitude-box : st .options .«coordinate_system» ≡ LatLng → ruled w e .split ≡ false
-        → (l : List ℕ) × (boxAsked st ids co zoom w s e n ≡ told true l) × Exactly (edged (ruled w e) s n) (lenOf st z) xs ys l
+    pub longitude-box : st .options .«coordinate_system» ≡ LatLng → splits west east ≡ false
+        → (l : List ℕ) × (boxAsked st ids co zoom west least east greatest ≡ told true l)
+        × Exactly (ruledBox west least east greatest) (lenOf st z) xs ys l
     unfolding planOf
     longitude-box c f =
-        (foundIn st ids co z xs ys J (lenOf st z) (edged (ruled w e) s n), box-is ∙ rw (c, f) (one-told st ids co z xs ys J (edged (ruled w e) s n)), found-exactly st ids co z xs ys J _)
+        let q = ruledBox west least east greatest in (
+          foundIn st ids co z xs ys J (lenOf st z) q,
+          box-is ∙ rw (c, f) (one-told st ids co z xs ys J q),
+          found-exactly st ids co z xs ys J _,
+        )
 
     -- or, where it is split, those of the one half and then those of the other
-    pub split-box : st .options .«coordinate_system» ≡ LatLng → ruled w e .split ≡ true
-        → (a : List ℕ) × (b : List ℕ) × (boxAsked st ids co zoom w s e n ≡ told true (a ++ b))
-        × Exactly (halves (ruled w e) s n .first) (lenOf st z) xs ys a × Exactly (halves (ruled w e) s n .second) (lenOf st z) xs ys b
+    pub split-box : st .options .«coordinate_system» ≡ LatLng → splits west east ≡ true
+        → (a : List ℕ) × (b : List ℕ) × (boxAsked st ids co zoom west least east greatest ≡ told true (a ++ b))
+        × Exactly (ruledBox (newWest west east) least halfCircle greatest) (lenOf st z) xs ys a
+        × Exactly (ruledBox (neg halfCircle) least (newEast west east) greatest) (lenOf st z) xs ys b
     unfolding planOf
     split-box c f =
-        let h = halves (ruled w e) s n in (
-          foundIn st ids co z xs ys J (lenOf st z) (h .first),
-          foundIn st ids co z xs ys J (lenOf st z) (h .second),
-          box-is ∙ rw (c, f) (two-told st ids co z xs ys J (h .first) (h .second)),
+        let q = ruledBox (newWest west east) least halfCircle greatest in
+        let r = ruledBox (neg halfCircle) least (newEast west east) greatest in (
+          foundIn st ids co z xs ys J (lenOf st z) q,
+          foundIn st ids co z xs ys J (lenOf st z) r,
+          box-is ∙ rw (c, f) (two-told st ids co z xs ys J q r),
           found-exactly st ids co z xs ys J _,
           found-exactly st ids co z xs ys J _,
         )

@@ -1,5 +1,5 @@
--- Two searches one after the other are a walk over their joined places: how it ends, how many it counts, and what the column holds when the second search is
--- lent what the first has left of it. Assumes nothing.
+-- Two searches one after the other are a walk over their joined places: how it ends, how many it counts, and what the column holds when
+-- the second search is lent what the first has left of it. Assumes nothing.
 use mathlib.Core.Path.{_≡_, refl, sym, ap, _∙_}
 use mathlib.Core.Bool.{Bool, true, false, true≢false}
 use mathlib.Core.List.{List, [], _∷_, _++_, append-nil}

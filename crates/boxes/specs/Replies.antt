@@ -1,4 +1,5 @@
--- Any two replies that meet the contract of a public function of this crate are equal, and so are any two columns that they leave. Assumes nothing.
+-- Any two replies that meet the contract of a public function of this crate are equal, and so are any two columns that they leave.
+-- Assumes nothing.
 use mathlib.Core.Path.{_≡_}
 use mathlib.Core.List.{List}
 use Prim.Native.Nat.{ℕ}
@@ -23,9 +24,10 @@ module _ (s : State) (ids : List ℕ) (co : List Float) (zoom : ℕ) (out : List
   pub ring-columns : (x y radius : Float) (u v : List ℕ) → u ≡ columnOf (ringAsked s ids co zoom x y radius) out → v ≡ columnOf (ringAsked s ids co zoom x y radius) out → u ≡ v
   ring-columns x y radius u v = same-reply
 
-  pub box-replies : (w south e n : Float) (a b : Answer) → a ≡ answerOf (boxAsked s ids co zoom w south e n) (length out)
-      → b ≡ answerOf (boxAsked s ids co zoom w south e n) (length out) → a ≡ b
-  box-replies w south e n a b = same-reply
+  pub box-replies : (west least east greatest : Float) (a b : Answer) → a ≡ answerOf (boxAsked s ids co zoom west least east greatest) (length out)
+      → b ≡ answerOf (boxAsked s ids co zoom west least east greatest) (length out) → a ≡ b
+  box-replies west least east greatest a b = same-reply
 
-  pub box-columns : (w south e n : Float) (u v : List ℕ) → u ≡ columnOf (boxAsked s ids co zoom w south e n) out → v ≡ columnOf (boxAsked s ids co zoom w south e n) out → u ≡ v
-  box-columns w south e n u v = same-reply
+  pub box-columns : (west least east greatest : Float) (u v : List ℕ) → u ≡ columnOf (boxAsked s ids co zoom west least east greatest) out
+      → v ≡ columnOf (boxAsked s ids co zoom west least east greatest) out → u ≡ v
+  box-columns west least east greatest u v = same-reply

@@ -1,8 +1,8 @@
--- Boxes worked from the definitions: one whose first half grows to the whole row, so that an entry is listed twice; and 11 in the walk comes before 10. Assumes
--- nothing.
+-- Boxes worked from the definitions: one whose first half grows to the whole row, so that an entry is listed twice; and 11 in the walk
+-- comes before 10. Assumes nothing.
 use mathlib.Core.Path.{_≡_, refl}
 use mathlib.Core.Bool.{true, false}
-use mathlib.Core.List.{List, [], _∷_}
+use mathlib.Core.List.{List, [], _∷_, flatMap}
 use Prim.Native.Nat.{ℕ}
 use lib.ListN.{set, replicate}
 use lib.Ieee.{Float, le, lt, eq, neg, round, sum, add, sub, div, rem, ofInt}
@@ -19,7 +19,7 @@ use Rattle.tables.specs.Options.{optionsOk}
 use Rattle.tables.specs.Sound.{packed, stateOk}
 use Rattle.asking.specs.declared.Answer.the-variants.{NoRoom, Box, Spoiled}
 use Rattle.asking.specs.Asked.{refused, told, answerOf, columnOf}
-use Rattle.boxplan.specs.Rule.{halfCircle, wrapped, ruled, planOf}
+use Rattle.boxplan.specs.Rule.{halfCircle, wrapped, newWest, newEast, planOf}
 use Rattle.boxplan.specs.Worked.{west, east}
 use Rattle.boxes.specs.Lists.{boxAsked}
 
@@ -45,7 +45,7 @@ coords =
 
 -- all five, and then the first two again; the zoom is lowered to 1
 pub worked-box : boxAsked state ids coords 9 west zero east one ≡ told true (0 ∷ 1 ∷ 2 ∷ 3 ∷ 4 ∷ 0 ∷ 1 ∷ [])
-unfolding boxAsked planOf ruled wrapped converted mercatorX ofInt neg add sub div sum rem round le lt eq stateOk packed optionsOk systemInBounds places slots scanned shape split sound whole
+unfolding boxAsked flatMap planOf newWest newEast wrapped converted mercatorX ofInt neg add sub div sum rem round le lt eq stateOk packed optionsOk systemInBounds places slots scanned shape split sound whole
 worked-box = refl
 
 -- a column of six is told that there are seven, and has the first six
@@ -60,7 +60,7 @@ abbrev spoilt : List ℕ
 spoilt = 0 ∷ 1 ∷ 2 ∷ 5 ∷ 4 ∷ 0 ∷ []
 
 pub worked-spoilt : boxAsked state spoilt coords 9 west zero east one ≡ told false (0 ∷ 1 ∷ 2 ∷ [])
-unfolding boxAsked planOf ruled wrapped converted mercatorX ofInt neg add sub div sum rem round le lt eq stateOk packed optionsOk systemInBounds places slots scanned shape split sound whole
+unfolding boxAsked flatMap planOf newWest newEast wrapped converted mercatorX ofInt neg add sub div sum rem round le lt eq stateOk packed optionsOk systemInBounds places slots scanned shape split sound whole
 worked-spoilt = refl
 
 pub worked-spoilt-room : answerOf (boxAsked state spoilt coords 9 west zero east one) 2 ≡ Spoiled

@@ -1,4 +1,5 @@
-// Box and ring: the places of a table that a search finds. Nothing is asked of the caller: what 01 does not take is refused with its number.
+// Box and ring: the places of a table that a search finds. Nothing is asked of the caller: what 01 does not take is refused with its
+// number.
 use asking::Answer;
 use boxplan::Plan;
 use kdbush::SearchReply;
@@ -18,6 +19,7 @@ ghost use Rattle.tables.specs.Columns.{part};
 ghost use Rattle.tables.specs.Sound.{stateOk};
 ghost use Rattle.asking.specs.Columns.{indexRoom};
 ghost use Rattle.asking.specs.Asked.{answerOf, columnOf};
+ghost use Rattle.boxplan.specs.Queries.{queriesOf};
 ghost use Rattle.boxes.specs.Lists.{walked, planned, listedAt, ringAsked, boxAsked};
 ghost use Rattle.boxes.specs.Joined.{partOf};
 
@@ -73,7 +75,7 @@ fn list_plan(
 ) -> Answer
     requires { ⌜ indexOk «node_size» n (now ids) (now coords) ≡ true ⌝ }
     ensures { λ r.
-        let a = walked n (planned p «node_size» n (old ids) (old coords)) in
+        let a = walked n (planned (queriesOf p) «node_size» n (old ids) (old coords)) in
         ⌜ (r ≡ answerOf a (length (old out))) × (new out ≡ columnOf a (old out)) ⌝ }
 {
     let q = p.first;
@@ -104,7 +106,7 @@ fn list_at(
     requires { ⌜ (start + n ≤ length (now ids)) × (2 * (start + n) ≤ length (now coords)) ⌝ }
     requires { ⌜ indexOk «node_size» n (part start n (now ids)) (part (2 * start) (2 * n) (now coords)) ≡ true ⌝ }
     ensures { λ r.
-        let a = walked n (planned p «node_size» n (part start n (old ids)) (part (2 * start) (2 * n) (old coords))) in
+        let a = walked n (planned (queriesOf p) «node_size» n (part start n (old ids)) (part (2 * start) (2 * n) (old coords))) in
         ⌜ (r ≡ answerOf a (length (old out))) × (new out ≡ columnOf a (old out)) ⌝ }
 {
     let end = start + n;
@@ -117,12 +119,20 @@ fn list_at(
 fn list_used(p: Plan, s: State, ids: &[u32], coords: &[f64], zoom: u8, out: &mut [u32]) -> Answer
     requires { ⌜ stateOk s (indexRoom (now ids) (now coords)) ≡ true ⌝ }
     ensures { λ r.
-        let a = listedAt s (old ids) (old coords) (zoomUsed (s .options) zoom) p in
+        let a = listedAt s (old ids) (old coords) (zoomUsed (s .options) zoom) (queriesOf p) in
         ⌜ (r ≡ answerOf a (length (old out))) × (new out ≡ columnOf a (old out)) ⌝ }
 {
     let o = s.options;
     let z = o.zoom_used(zoom) as usize;
-    list_at(p, o.node_size, s.start_of(z), s.len_of(z), ids, coords, out)
+    list_at(
+        p,
+        o.node_size,
+        tables::start_of(s, z),
+        tables::len_of(s, z),
+        ids,
+        coords,
+        out,
+    )
 }
 
 // The zoom whose table a question at this zoom goes to.
@@ -166,20 +176,21 @@ pub fn list_ring(
     list_used(p, s, ids, coords, zoom, out)
 }
 
-// The places of the table of the zoom used in the box from (w, south) to (e, n).
+// The places of the table of the zoom used in the box from (west, least_y) to (east, greatest_y). y grows downwards on a mercator map, so
+// that least_y is the northern edge of a longitude build; on a Cartesian plan it is the least y as given.
 pub fn list_box(
     s: State,
     ids: &[u32],
     coords: &[f64],
     zoom: u8,
-    w: f64,
-    south: f64,
-    e: f64,
-    n: f64,
+    west: f64,
+    least_y: f64,
+    east: f64,
+    greatest_y: f64,
     out: &mut [u32],
 ) -> Answer
     ensures { λ r.
-        let a = boxAsked s (old ids) (old coords) zoom w south e n in
+        let a = boxAsked s (old ids) (old coords) zoom west «least_y» east «greatest_y» in
         ⌜ (r ≡ answerOf a (length (old out))) × (new out ≡ columnOf a (old out)) ⌝ }
 {
     if !s.is_sound(asking::index_room(ids, coords)) {
@@ -187,9 +198,9 @@ pub fn list_box(
     }
     let o = s.options;
     let c = o.coordinate_system;
-    if !boxplan::box_ok(c, w, south, e, n) {
+    if !boxplan::box_ok(c, west, least_y, east, greatest_y) {
         return Answer::Box;
     }
-    let p = boxplan::plan_box(c, w, south, e, n);
+    let p = boxplan::plan_box(c, west, least_y, east, greatest_y);
     list_used(p, s, ids, coords, zoom, out)
 }

@@ -1,7 +1,9 @@
--- The two halves of a box that is split: put through the rule again, neither is split again, so that two searches are all there is. A longitude comes into
+-- The two halves of a box that is split: put through the rule again, neither is split again, so that two searches are all there is. A
+-- longitude comes into
 -- -180 to 180 by the rule, and both ends of that stay where they are as edges of a half. Assumes nothing.
 use mathlib.Core.Path.{_≡_, refl, sym, ap, _∙_, subst}
 use mathlib.Core.Bool.{Bool, true, false, cond}
+use mathlib.Core.List.{[], _∷_, _++_}
 use Prim.Native.Nat.{ℕ, _*_, _%_, _^_, _<_}
 use native.Mathlib.Omega.{arith}
 use native.Mathlib.Nat.{mod-lt, mul-pos, mul-one, zero-lt-suc, zero-mod, zero-mul}
@@ -17,9 +19,7 @@ use Rattle.floats.specs.Rounding.{neg-le, neg-round, round-zero, zero-le-round,
 use Rattle.floats.specs.Signs.{nonneg-mins}
 use Rattle.floats.specs.Monotone.{neg-finite, add-mono, sub-mono}
 use Rattle.range.specs.declared.CoordinateSystem.the-variants.{LatLng}
-use Rattle.range.specs.Range.{fullCircle}
-use Rattle.boxplan.specs.declared.Edges.{Edges}
-use Rattle.boxplan.specs.Rule.{halfCircle, wrapped, wrappedEast, ruled, once, halves, planOf}
+use Rattle.boxplan.specs.Rule.{halfCircle, wrapped, wrappedEast, wholeRow, newWest, newEast, splits, ruledBox, planOf}
 
 -- ---- 180 and 360, as they stand in a float
 
@@ -159,31 +159,45 @@ west-stays : wrapped (neg halfCircle) ≡ neg d180
 unfolding wrapped ofInt neg add sub sum rem round
 west-stays = refl
 
-cond-split : (b : Bool) (r t : Edges) → r .split ≡ false → t .split ≡ false → cond b r t .split ≡ false
-cond-split true r t e f = e
-cond-split false r t e f = f
+-- a whole row is not split
+whole-once : lt halfCircle (neg halfCircle) ≡ false
+whole-once = ap (λ (x : Float). lt x (neg x)) is180 ∙ (unfold lt neg in refl)
+
+by-row : (b : Bool) (west east : Float) → lt east west ≡ false → lt (cond b halfCircle east) (cond b (neg halfCircle) west) ≡ false
+by-row true west east e = whole-once
+by-row false west east e = e
 
 -- the box (w, 180) is not split
-pub east-once : (w : Float) → ruled w halfCircle .split ≡ false
-unfolding ruled
-east-once w = cond-split (le fullCircle (sub binary64 halfCircle w)) _ (record { w = wrapped w; e = wrappedEast halfCircle; split = lt (wrappedEast halfCircle) (wrapped w) }) refl
-    (ap (λ (x : Float). lt x (wrapped w)) east-stays ∙ ap (lt d180) (wrapped-is w) ∙ above (add binary64 w d180))
+pub east-once : (west : Float) → splits west halfCircle ≡ false
+unfolding newWest newEast
+east-once west =
+    by-row (wholeRow west halfCircle) (wrapped west) (wrappedEast halfCircle)
+    (ap (λ (x : Float). lt x (wrapped west)) east-stays ∙ ap (lt d180) (wrapped-is west) ∙ above (add binary64 west d180))
 
 -- nor is the box (-180, e)
-pub west-once : (e : Float) → ruled (neg halfCircle) e .split ≡ false
-unfolding ruled
-west-once e = cond-split (le fullCircle (sub binary64 e (neg halfCircle))) _ (record { w = wrapped (neg halfCircle); e = wrappedEast e; split = lt (wrappedEast e) (wrapped (neg halfCircle)) }) refl
-    (ap (λ (x : Float). lt (wrappedEast e) x) west-stays ∙ go (eq e halfCircle))
+pub west-once : (east : Float) → splits (neg halfCircle) east ≡ false
+unfolding newWest newEast
+west-once east =
+    by-row (wholeRow (neg halfCircle) east) (wrapped (neg halfCircle)) (wrappedEast east)
+    (ap (λ (x : Float). lt (wrappedEast east) x) west-stays ∙ go (eq east halfCircle))
   where
-    go : (b : Bool) → lt (cond b halfCircle (wrapped e)) (neg d180) ≡ false
+    go : (b : Bool) → lt (cond b halfCircle (wrapped east)) (neg d180) ≡ false
     go true = ap (λ (x : Float). lt x (neg d180)) is180 ∙ (unfold lt neg in refl)
-    go false = ap (λ (x : Float). lt x (neg d180)) (wrapped-is e) ∙ beneath (add binary64 e d180)
+    go false = ap (λ (x : Float). lt x (neg d180)) (wrapped-is east) ∙ beneath (add binary64 east d180)
 
 -- so each half is searched as the box (w, 180), and the box (-180, e), are when they are asked for
-pub first-half : (r : Edges) (s n : Float) → planOf LatLng (r .w) s halfCircle n ≡ once (halves r s n .first)
+first-half : (west least greatest : Float) → planOf LatLng west least halfCircle greatest ≡ ruledBox west least halfCircle greatest ∷ []
 unfolding planOf
-first-half r s n = rw (east-once (r .w))
+first-half west least greatest = rw (east-once west)
 
-pub second-half : (r : Edges) (s n : Float) → planOf LatLng (neg halfCircle) s (r .e) n ≡ once (halves r s n .second)
+second-half : (east least greatest : Float)
+    → planOf LatLng (neg halfCircle) least east greatest ≡ ruledBox (neg halfCircle) least east greatest ∷ []
 unfolding planOf
-second-half r s n = rw (west-once (r .e))
+second-half east least greatest = rw (west-once east)
+
+-- and a box that splits is searched as these two are, one after the other
+pub split-plan : (west least east greatest : Float) → splits west east ≡ true
+    → planOf LatLng west least east greatest
+    ≡ planOf LatLng (newWest west east) least halfCircle greatest ++ planOf LatLng (neg halfCircle) least (newEast west east) greatest
+split-plan west least east greatest e =
+    rw (first-half (newWest west east) least greatest, second-half (newEast west east) least greatest) (unfold planOf in rw e)

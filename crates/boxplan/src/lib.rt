@@ -1,16 +1,17 @@
-// A box of 01 as it is searched: the rule for its longitudes, the one or two searches that it comes to, and whether it is one that 01 takes. Every question
-// about a box rests on it.
+// A box of 01 as it is searched: the rule for its longitudes, the one or two searches that it comes to, and whether it is one that 01
+// takes. Every question about a box rests on it. Of its four numbers, y grows downwards on a mercator map, so that least_y is the northern
+// edge of a longitude build; on a Cartesian plan it is the least y as given.
 use kdslots::Query;
 use range::CoordinateSystem;
 use range::Point;
 ghost use mathlib.Core.Path.{_≡_};
-ghost use Rattle.boxplan.specs.Rule.{wrapped, wrappedEast, ruled, boxOf, planOf, boxOk};
+ghost use Rattle.boxplan.specs.Rule.{wrapped, wrappedEast, newWest, newEast, boxOf, planOf, boxOk};
+ghost use Rattle.boxplan.specs.Queries.{queriesOf};
 
-// The edges of a box of longitudes after the rule. split: the new w exceeds the new e.
+// The edges of a box of longitudes after the rule.
 struct Edges {
-    w: f64,
-    e: f64,
-    split: bool,
+    west: f64,
+    east: f64,
 }
 
 // What is searched: the first, and then the second if there are two.
@@ -38,31 +39,32 @@ fn wrap_east(v: f64) -> f64
 }
 
 // The rule for the edges of a box of longitudes.
-fn rule(w: f64, e: f64) -> Edges
-    ensures { λ r. ⌜ r ≡ ruled w e ⌝ }
+fn rule(west: f64, east: f64) -> Edges
+    ensures { λ r. ⌜ (r .west ≡ newWest west east) × (r .east ≡ newEast west east) ⌝ }
 {
-    if e - w >= 360.0 {
+    if east - west >= 360.0 {
         return Edges {
-            w: -180.0,
-            e: 180.0,
-            split: false,
+            west: -180.0,
+            east: 180.0,
         };
     }
-    let a = wrap(w);
-    let b = wrap_east(e);
-    Edges {
-        w: a,
-        e: b,
-        split: a > b,
-    }
+    let w = wrap(west);
+    let e = wrap_east(east);
+    Edges { west: w, east: e }
 }
 
 // The box of two corners, converted.
-fn box_of(c: CoordinateSystem, w: f64, s: f64, e: f64, n: f64) -> Query
-    ensures { λ r. ⌜ r ≡ boxOf c w s e n ⌝ }
+fn box_of(c: CoordinateSystem, west: f64, least_y: f64, east: f64, greatest_y: f64) -> Query
+    ensures { λ r. ⌜ r ≡ boxOf c west «least_y» east «greatest_y» ⌝ }
 {
-    let a = c.convert(Point { x: w, y: s });
-    let b = c.convert(Point { x: e, y: n });
+    let a = c.convert(Point {
+        x: west,
+        y: least_y,
+    });
+    let b = c.convert(Point {
+        x: east,
+        y: greatest_y,
+    });
     Query::Range {
         min_x: a.x,
         min_y: a.y,
@@ -72,12 +74,12 @@ fn box_of(c: CoordinateSystem, w: f64, s: f64, e: f64, n: f64) -> Query
 }
 
 // What is searched for a box.
-pub fn plan_box(c: CoordinateSystem, w: f64, s: f64, e: f64, n: f64) -> Plan
-    ensures { λ r. ⌜ r ≡ planOf c w s e n ⌝ }
+pub fn plan_box(c: CoordinateSystem, west: f64, least_y: f64, east: f64, greatest_y: f64) -> Plan
+    ensures { λ r. ⌜ queriesOf r ≡ planOf c west «least_y» east «greatest_y» ⌝ }
 {
     match c {
         CoordinateSystem::Cartesian { range } => {
-            let q = box_of(c, w, s, e, n);
+            let q = box_of(c, west, least_y, east, greatest_y);
             Plan {
                 first: q,
                 second: q,
@@ -85,19 +87,19 @@ pub fn plan_box(c: CoordinateSystem, w: f64, s: f64, e: f64, n: f64) -> Plan
             }
         }
         CoordinateSystem::LatLng => {
-            let r = rule(w, e);
-            if r.split {
-                let a = rule(r.w, 180.0);
-                let b = rule(-180.0, r.e);
-                let f = box_of(c, a.w, s, a.e, n);
-                let g = box_of(c, b.w, s, b.e, n);
+            let r = rule(west, east);
+            if r.west > r.east {
+                let a = rule(r.west, 180.0);
+                let b = rule(-180.0, r.east);
+                let f = box_of(c, a.west, least_y, a.east, greatest_y);
+                let g = box_of(c, b.west, least_y, b.east, greatest_y);
                 return Plan {
                     first: f,
                     second: g,
                     two: true,
                 };
             }
-            let q = box_of(c, r.w, s, r.e, n);
+            let q = box_of(c, r.west, least_y, r.east, greatest_y);
             Plan {
                 first: q,
                 second: q,
@@ -108,20 +110,20 @@ pub fn plan_box(c: CoordinateSystem, w: f64, s: f64, e: f64, n: f64) -> Plan
 }
 
 // Whether a box is one that 01 takes.
-pub fn box_ok(c: CoordinateSystem, w: f64, s: f64, e: f64, n: f64) -> bool
-    ensures { λ r. ⌜ r ≡ boxOk c w s e n ⌝ }
+pub fn box_ok(c: CoordinateSystem, west: f64, least_y: f64, east: f64, greatest_y: f64) -> bool
+    ensures { λ r. ⌜ r ≡ boxOk c west «least_y» east «greatest_y» ⌝ }
 {
-    if !floats::both_finite(w, s) {
+    if !floats::both_finite(west, least_y) {
         return false;
     }
-    if !floats::both_finite(e, n) {
+    if !floats::both_finite(east, greatest_y) {
         return false;
     }
     match c {
         CoordinateSystem::Cartesian { range } => true,
         CoordinateSystem::LatLng => {
-            if floats::in_unit(s) {
-                return floats::in_unit(n);
+            if floats::in_unit(least_y) {
+                return floats::in_unit(greatest_y);
             }
             false
         }

@@ -1,5 +1,5 @@
--- Of every such build: a cluster of any table stands in the table in which it was made, with the same place, id and num. So an id determines the entry: two entries
--- of the build's tables with the same id differ in seen and parent at most. Assumes nothing.
+-- Of every such build: a cluster of any table stands in the table in which it was made, with the same place, id and num. So an id
+-- determines the entry: two entries of the build's tables with the same id differ in seen and parent at most. Assumes nothing.
 use mathlib.Core.Path.{_≡_, sym, ap, _∙_, subst}
 use mathlib.Core.Logic.{inl, inr}
 use Prim.Native.Nat.{ℕ, suc, _+_, _-_, _≤_, _<_}

@@ -1,5 +1,6 @@
--- The tables of a build by their numbers, from max_zoom + 1, the finest, down to min_zoom: table z as it came, before a zoom marked it, and as the build has it.
--- Each comes of the one before by one zoom, and the build's is what that zoom left of it; the last is as it came. Assumes nothing.
+-- The tables of a build by their numbers, from max_zoom + 1, the finest, down to min_zoom: table z as it came, before a zoom marked it,
+-- and as the build has it. Each comes of the one before by one zoom, and the build's is what that zoom left of it; the last is as it
+-- came. Assumes nothing.
 use mathlib.Core.Path.{_≡_, refl, sym, ap, ap₂, _∙_, subst}
 use mathlib.Core.List.{[]}
 use Prim.Native.Nat.{ℕ, zero, suc, _+_, _-_, _<_, _≤_}

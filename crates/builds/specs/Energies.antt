@@ -14,7 +14,8 @@ use Rattle.tables.specs.Radius.{radiusAt}
 use Rattle.zoom.specs.Bare.{bare, bares, bareS, cluster-bare}
 use Rattle.zoom.specs.Near.{nearOf}
 use Rattle.zoom.specs.Zoom.{Scan, cluster}
-use Rattle.zooms.specs.Zooms.{Plan, planOf, indexOf, slotsOf, nearIn, zoomed, run, zoomsOf}
+use Rattle.kdbush.specs.Reply.{indexOf}
+use Rattle.zooms.specs.Zooms.{Plan, planOf, slotsOf, nearIn, zoomed, run, zoomsOf}
 use Rattle.supercluster.specs.Build.{convertedAll, lamp, finest, tablesOf}
 
 -- what has no energy is as it was

@@ -1,5 +1,5 @@
--- What a build is given, as one record: every law on a build takes that, and that the build is accepted. And the points as the finest table has them.
--- Assumes nothing.
+-- What a build is given, as one record: every law on a build takes that, and that the build is accepted. And the points as the finest
+-- table has them. Assumes nothing.
 use mathlib.Core.Path.{_≡_}
 use mathlib.Core.List.{List}
 use Prim.Native.Nat.{ℕ, _<_}

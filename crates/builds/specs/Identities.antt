@@ -1,5 +1,6 @@
--- Of every such build: each entry of each table is a lamp, with the id, the place and the num of its point; or a cluster of two lamps or more, whose id is that of
--- a place in a finer table, an entry of the build which is under it. No two entries of a table have the same id. Assumes nothing.
+-- Of every such build: each entry of each table is a lamp, with the id, the place and the num of its point; or a cluster of two lamps or
+-- more, whose id is that of a place in a finer table, an entry of the build which is under it. No two entries of a table have the same
+-- id. Assumes nothing.
 use mathlib.Core.Path.{_≡_, refl, sym, ap, _∙_, subst}
 use mathlib.Core.Logic.{_⊎_, inl, inr}
 use Prim.Native.Nat.{ℕ, suc, _+_, _-_, _≤_, _<_}

@@ -1,5 +1,6 @@
--- Of every such build: a cluster's id says in which table it was made. In that table, and in no other, it is new; no two places of the build's tables have the same
--- cluster new. As a table came, its new entries are marked by none, and the others by the zoom that made it. Assumes nothing.
+-- Of every such build: a cluster's id says in which table it was made. In that table, and in no other, it is new; no two places of the
+-- build's tables have the same cluster new. As a table came, its new entries are marked by none, and the others by the zoom that made it.
+-- Assumes nothing.
 use mathlib.Core.Path.{_≡_, sym, ap, _∙_, subst}
 use mathlib.Core.Logic.{_⊎_, inl, inr}
 use Prim.Native.Nat.{ℕ, suc, _≤_, _<_}

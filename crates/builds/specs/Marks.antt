@@ -1,5 +1,5 @@
--- Of every such build: in each table but the last, each entry is marked with the zoom that clustered it, one below the table's number. In the last table an entry
--- that was carried there is marked with min_zoom, and one that was made there is marked by none. Assumes nothing.
+-- Of every such build: in each table but the last, each entry is marked with the zoom that clustered it, one below the table's number. In
+-- the last table an entry that was carried there is marked with min_zoom, and one that was made there is marked by none. Assumes nothing.
 use mathlib.Core.Path.{_≡_, sym, ap, _∙_, subst}
 use mathlib.Core.Logic.{_⊎_, inl, inr, ⊎-elim}
 use Prim.Native.Nat.{ℕ, suc, _≤_, _<_}

@@ -1,5 +1,6 @@
--- Of every such build: in each table but the last, an entry has no parent, and then the next table has it too; or its parent is a cluster that the zoom made at a
--- place of the same table, and then the next table has an entry with this id. In the last table no entry has a parent. Assumes nothing.
+-- Of every such build: in each table but the last, an entry has no parent, and then the next table has it too; or its parent is a cluster
+-- that the zoom made at a place of the same table, and then the next table has an entry with this id. In the last table no entry has a
+-- parent. Assumes nothing.
 use mathlib.Core.Path.{_≡_, sym, ap, _∙_}
 use mathlib.Core.Logic.{_⊎_, inl, inr}
 use Prim.Native.Nat.{ℕ, suc, _≤_, _<_}

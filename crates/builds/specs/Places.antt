@@ -1,5 +1,6 @@
--- Where the places of a table go in one zoom, and where those of the next table are from. A place is copied to one place of the next table, or joined with others
--- into a cluster there; a place of the next table is the copy of one place, or the cluster made at one. No place goes to two. Assumes nothing.
+-- Where the places of a table go in one zoom, and where those of the next table are from. A place is copied to one place of the next
+-- table, or joined with others into a cluster there; a place of the next table is the copy of one place, or the cluster made at one. No
+-- place goes to two. Assumes nothing.
 use mathlib.Core.Path.{_≡_, refl, sym, ap, _∙_, subst}
 use mathlib.Core.Logic.{_⊎_, inl, inr, ⊎-elim}
 use mathlib.Core.List.{List, [], _∷_, map}

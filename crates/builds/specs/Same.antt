@@ -1,5 +1,5 @@
--- Of every such build: each table is as long as it came, and each of its entries has the place, the id and the num with which it came. Where its places went and
--- where they are from, by table number. Assumes nothing.
+-- Of every such build: each table is as long as it came, and each of its entries has the place, the id and the num with which it came.
+-- Where its places went and where they are from, by table number. Assumes nothing.
 use mathlib.Core.Path.{_≡_, refl, sym, ap, ap₂, _∙_, subst}
 use mathlib.Core.Logic.{⊎-elim}
 use mathlib.Core.List.{map}
@@ -16,7 +16,8 @@ use Rattle.tables.specs.Entries.{Table, entry, none, marked, xsOf, ysOf}
 use Rattle.zoom.specs.Lamps.{Carried}
 use Rattle.zoom.specs.Near.{nearOf}
 use Rattle.groups.specs.Groups.{took}
-use Rattle.zooms.specs.Zooms.{indexOf, slotsOf, nearIn}
+use Rattle.kdbush.specs.Reply.{indexOf}
+use Rattle.zooms.specs.Zooms.{slotsOf, nearIn}
 use Rattle.builds.specs.Given.{Given, Accepted, points, minZ, maxZ}
 use Rattle.builds.specs.Came.{came, tableAt, table-last}
 use Rattle.builds.specs.GroupsOfBuild.{groupsBy, nearBy, groups-of-build}

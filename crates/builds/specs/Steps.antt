@@ -1,5 +1,5 @@
--- One zoom of a build. What holds of a table as it comes to a zoom: its entries lie from 0 to 1, are unseen by the zoom, have no parent, and
--- count the lamps once each. Then the zoom is one zoom of the groups, and the same holds of the table that it makes. Assumes nothing.
+-- One zoom of a build. What holds of a table as it comes to a zoom: its entries lie from 0 to 1, are unseen by the zoom, have no parent,
+-- and count the lamps once each. Then the zoom is one zoom of the groups, and the same holds of the table that it makes. Assumes nothing.
 use mathlib.Core.Path.{_≡_, sym, ap, _∙_, subst}
 use mathlib.Core.List.{List, [], _∷_, map}
 use mathlib.Core.Bool.{true}
@@ -47,8 +47,8 @@ pub record Coming (p : Plan) (z : ℕ) (t : Table) : Type 0 where
   pub few : length t ≤ p .count
   pub lone : All Lone t
 
--- what the zoom z is on the table t: the own place of each entry is answered around it, no place is answered twice, each place is in one group, each group is a
--- copy or a cluster by 01, and the next table is the groups' entries
+-- what the zoom z is on the table t: the own place of each entry is answered around it, no place is answered twice, each place is in one
+-- group, each group is a copy or a cluster by 01, and the next table is the groups' entries
 pub record Grouped (p : Plan) (z : ℕ) (t : Table) : Type 0 where
   pub own : (i : ℕ) → i < length t → In i (nearAt p z t (entry t i .x) (entry t i .y))
   pub once : (x y : Float) → Distinct (nearAt p z t x y)

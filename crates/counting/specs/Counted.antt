@@ -10,6 +10,18 @@ use Rattle.kdwalk.specs.Reply.{ending, walk}
 use Rattle.counting.specs.declared.Counted.{Counted}
 use Rattle.counting.specs.declared.Counted.the-variants.{Answers, Box as Counted·Box, Spoiled as Counted·Spoiled}
 
+-- 01's number of the reply
+abbrev pub countedNumber : Counted → ℕ
+countedNumber (Answers k) = 0
+countedNumber Counted·Box = 9
+countedNumber Counted·Spoiled = 11
+
+-- what the reply carries, 0 where it carries nothing
+abbrev pub countedCarried : Counted → ℕ
+countedCarried (Answers k) = k
+countedCarried Counted·Box = 0
+countedCarried Counted·Spoiled = 0
+
 -- by how the walk ends; it does not end with a slot
 abbrev pub endedWith : Step → ℕ → Counted
 endedWith (Slot c) k = Answers k

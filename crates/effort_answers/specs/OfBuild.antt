@@ -19,18 +19,18 @@ use Rattle.efforts.specs.StatedEffort.{testsOf}
 use Rattle.builds.specs.Given.{Given}
 
 -- of one box, in a coordinate system
-pub record Answered (c : CoordinateSystem) (w s e n : Float) (x : Sought) : Type 0 where
-  pub taken : boxOk c w s e n ≡ true → (a room : ℕ) → replyOf x a room ≡ fitted (effortOf a (testsOf x)) room
-  pub refused-box : boxOk c w s e n ≡ false → x ≡ refused Box
+pub record Answered (c : CoordinateSystem) (west least east greatest : Float) (x : Sought) : Type 0 where
+  pub taken : boxOk c west least east greatest ≡ true → (a room : ℕ) → replyOf x a room ≡ fitted (effortOf a (testsOf x)) room
+  pub refused-box : boxOk c west least east greatest ≡ false → x ≡ refused Box
   pub never-spoiled : (a room : ℕ) → replyOf x a room ≡ Spoiled → ⊥
 
 -- the box at a zoom, asked of a state and its columns: the reply of `effort_box` is `replyOf` of this
 abbrev pub effortAt : State → Columns → ℕ → Float → Float → Float → Float → Sought
-effortAt st c zoom w s e n = effortAsked st (c .ids) (c .coords) zoom w s e n
+effortAt st c zoom west least east greatest = effortAsked st (c .ids) (c .coords) zoom west least east greatest
 
 -- of the state that `load` replies and the columns that it leaves, where it refuses nothing; at every zoom, built or not, for every box
 abbrev pub EffortOfBuild : Type 0
 EffortOfBuild =
-    (G : Given) (l : Lent) → loadedBy G l .reply .reply ≡ Done → (zoom : ℕ) (w s e n : Float)
-    → Answered (G .options .«coordinate_system») w s e n
-    (effortAt (loadedBy G l .reply .state) (columnsOf (loadedBy G l .columns)) zoom w s e n)
+    (G : Given) (l : Lent) → loadedBy G l .reply .reply ≡ Done → (zoom : ℕ) (west least east greatest : Float)
+    → Answered (G .options .«coordinate_system») west least east greatest
+    (effortAt (loadedBy G l .reply .state) (columnsOf (loadedBy G l .columns)) zoom west least east greatest)

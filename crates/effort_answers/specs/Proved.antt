@@ -61,46 +61,52 @@ not-spoiled e room = go (leb (e .items) room)
 
 -- ---- of a question whose state is sound, and whose box is answered whole
 
-module _ (st : State) (ids : List ℕ) (co : List Float) (zoom : ℕ) (w s e n : Float) (good : stateOk st (indexRoom ids co) ≡ true) where
-  refused-box : boxOk (st .options .«coordinate_system») w s e n ≡ false → effortAsked st ids co zoom w s e n ≡ refused Box
+module _ (st : State) (ids : List ℕ) (co : List Float) (zoom : ℕ) (west least east greatest : Float)
+    (good : stateOk st (indexRoom ids co) ≡ true) where
+  refused-box : boxOk (st .options .«coordinate_system») west least east greatest ≡ false
+      → effortAsked st ids co zoom west least east greatest ≡ refused Box
   unfolding effortAsked
   refused-box f = rw (good, f)
 
-  taken : boxOk (st .options .«coordinate_system») w s e n ≡ true → (l : List ℕ) → boxAsked st ids co zoom w s e n ≡ told true l
-      → (a room : ℕ) → replyOf (effortAsked st ids co zoom w s e n) a room
-      ≡ fitted (effortOf a (testsOf (effortAsked st ids co zoom w s e n))) room
+  taken : boxOk (st .options .«coordinate_system») west least east greatest ≡ true → (l : List ℕ)
+      → boxAsked st ids co zoom west least east greatest ≡ told true l
+      → (a room : ℕ) → replyOf (effortAsked st ids co zoom west least east greatest) a room
+      ≡ fitted (effortOf a (testsOf (effortAsked st ids co zoom west least east greatest))) room
   unfolding effortAsked boxAsked
   taken f l g a room =
-      let p = planOf (st .options .«coordinate_system») w s e n in
-      let h = unlimited-box st ids co zoom p ∙ (rw (good, f) at g) in
-      rw (good, f) (told-whole (lenOf st (zoomUsed (st .options) zoom)) (testsAt st ids co zoom p) l h a room)
+      let qs = planOf (st .options .«coordinate_system») west least east greatest in
+      let h = unlimited-box st ids co zoom qs ∙ (rw (good, f) at g) in
+      rw (good, f) (told-whole (lenOf st (zoomUsed (st .options) zoom)) (testsAt st ids co zoom qs) l h a room)
 
-  answered : (boxOk (st .options .«coordinate_system») w s e n ≡ true → (l : List ℕ) × (boxAsked st ids co zoom w s e n ≡ told true l))
-      → Answered (st .options .«coordinate_system») w s e n (effortAsked st ids co zoom w s e n)
+  answered : (boxOk (st .options .«coordinate_system») west least east greatest ≡ true
+      → (l : List ℕ) × (boxAsked st ids co zoom west least east greatest ≡ told true l))
+      → Answered (st .options .«coordinate_system») west least east greatest (effortAsked st ids co zoom west least east greatest)
   answered t =
       record {
         taken = λ f a room. let x = t f in taken f (x .0) (x .1) a room;
         refused-box = refused-box;
-        never-spoiled = λ a room. by a room (boxOk (st .options .«coordinate_system») w s e n) refl;
+        never-spoiled = λ a room. by a room (boxOk (st .options .«coordinate_system») west least east greatest) refl;
       }
     where
-      by : (a room : ℕ) (b : Bool) → boxOk (st .options .«coordinate_system») w s e n ≡ b
-          → replyOf (effortAsked st ids co zoom w s e n) a room ≡ Spoiled → ⊥
+      by : (a room : ℕ) (b : Bool) → boxOk (st .options .«coordinate_system») west least east greatest ≡ b
+          → replyOf (effortAsked st ids co zoom west least east greatest) a room ≡ Spoiled → ⊥
       by a room true f h =
           let x = t f in
-          not-spoiled (effortOf a (testsOf (effortAsked st ids co zoom w s e n))) room (sym (taken f (x .0) (x .1) a room) ∙ h)
+          not-spoiled (effortOf a (testsOf (effortAsked st ids co zoom west least east greatest))) room
+          (sym (taken f (x .0) (x .1) a room) ∙ h)
       by a room false f h = let z = sym (ap (λ (q : Sought). replyOf q a room) (refused-box f)) ∙ h in omega (arith, ap effortNumber z)
 
 -- ---- of every build that `load` accepts
 
 module _ (G : Given) (acc : Accepted G) (l : Lent) (h : Holds (need (G .options) (points G)) l) (zoom : ℕ)
-    (w s e n : Float) where
-  build-answered : Answered (G .options .«coordinate_system») w s e n (effortAt (stateBy G) (columnsBy G l) zoom w s e n)
+    (west least east greatest : Float) where
+  build-answered : Answered (G .options .«coordinate_system») west least east greatest
+      (effortAt (stateBy G) (columnsBy G l) zoom west least east greatest)
   build-answered =
-      answered (stateBy G) (columnsBy G l .ids) (columnsBy G l .coords) zoom w s e n (index-sound G acc l h)
-      (box-told G acc l h zoom w s e n)
+      answered (stateBy G) (columnsBy G l .ids) (columnsBy G l .coords) zoom west least east greatest (index-sound G acc l h)
+      (box-told G acc l h zoom west least east greatest)
 
 pub effort-of-build : EffortOfBuild
-effort-of-build G l d zoom w s e n =
-    of-load (λ st c. Answered (G .options .«coordinate_system») w s e n (effortAt st c zoom w s e n)) G l
-    (λ a h. build-answered G a l h zoom w s e n) d
+effort-of-build G l d zoom west least east greatest =
+    of-load (λ st c. Answered (G .options .«coordinate_system») west least east greatest (effortAt st c zoom west least east greatest)) G l
+    (λ a h. build-answered G a l h zoom west least east greatest) d

@@ -4,38 +4,38 @@ use mathlib.Core.Bool.{true, false}
 use mathlib.Core.List.{List}
 use Prim.Native.Nat.{ℕ, _*_}
 use lib.Ieee.{Float}
+use Rattle.kdslots.specs.declared.Query.{Query}
 use Rattle.tables.specs.declared.State.{State}
 use Rattle.tables.specs.Options.{zoomUsed}
 use Rattle.tables.specs.State.{startOf, lenOf}
 use Rattle.tables.specs.Columns.{part}
 use Rattle.tables.specs.Sound.{stateOk}
 use Rattle.asking.specs.Columns.{indexRoom}
-use Rattle.boxplan.specs.declared.Plan.{Plan}
 use Rattle.boxplan.specs.Rule.{planOf, boxOk}
 use Rattle.spending.specs.declared.EffortReply.the-variants.{Box, Spoiled}
 use Rattle.spending.specs.Trials.{trials}
 use Rattle.efforts.specs.Effort.{refused, sought, soughtAt, effortAsked}
 
 module _ (s : State) (ids : List ℕ) (co : List Float) (zoom : ℕ) where
-  pub sought-used : (z start n : ℕ) (p : Plan) → z ≡ zoomUsed (s .options) zoom → start ≡ startOf s z → n ≡ lenOf s z
-      → sought n (trials p (s .options .«node_size») n (part start n ids) (part (2 * start) (2 * n) co))
-      ≡ soughtAt s ids co (zoomUsed (s .options) zoom) p
-  sought-used z start n p f g h = rw (g, h, f)
+  pub sought-used : (z start n : ℕ) (qs : List Query) → z ≡ zoomUsed (s .options) zoom → start ≡ startOf s z → n ≡ lenOf s z
+      → sought n (trials qs (s .options .«node_size») n (part start n ids) (part (2 * start) (2 * n) co))
+      ≡ soughtAt s ids co (zoomUsed (s .options) zoom) qs
+  sought-used z start n qs f g h = rw (g, h, f)
 
   -- ---- the ways out
 
-  module _ (w south e n : Float) where
-    pub asked-spoiled : stateOk s (indexRoom ids co) ≡ false → refused Spoiled ≡ effortAsked s ids co zoom w south e n
+  module _ (west least east greatest : Float) where
+    pub asked-spoiled : stateOk s (indexRoom ids co) ≡ false → refused Spoiled ≡ effortAsked s ids co zoom west least east greatest
     unfolding effortAsked
     asked-spoiled f = rw f
 
     module _ (f : stateOk s (indexRoom ids co) ≡ true) where
-      pub asked-box : boxOk (s .options .«coordinate_system») w south e n ≡ false → refused Box ≡ effortAsked s ids co zoom w south e n
+      pub asked-box : boxOk (s .options .«coordinate_system») west least east greatest ≡ false → refused Box ≡ effortAsked s ids co zoom west least east greatest
       unfolding effortAsked
       asked-box g = rw (f, g)
 
-      pub asked-sought : boxOk (s .options .«coordinate_system») w south e n ≡ true → (p : Plan)
-          → p ≡ planOf (s .options .«coordinate_system») w south e n
-          → soughtAt s ids co (zoomUsed (s .options) zoom) p ≡ effortAsked s ids co zoom w south e n
+      pub asked-sought : boxOk (s .options .«coordinate_system») west least east greatest ≡ true → (qs : List Query)
+          → qs ≡ planOf (s .options .«coordinate_system») west least east greatest
+          → soughtAt s ids co (zoomUsed (s .options) zoom) qs ≡ effortAsked s ids co zoom west least east greatest
       unfolding effortAsked
-      asked-sought g p h = rw (f, g, h)
+      asked-sought g qs h = rw (f, g, h)

@@ -4,12 +4,12 @@ use mathlib.Core.Bool.{cond, not}
 use mathlib.Core.List.{List}
 use Prim.Native.Nat.{ℕ}
 use lib.Ieee.{Float}
+use Rattle.kdslots.specs.declared.Query.{Query}
 use Rattle.tables.specs.declared.State.{State}
 use Rattle.tables.specs.Options.{zoomUsed}
 use Rattle.tables.specs.State.{lenOf}
 use Rattle.tables.specs.Sound.{stateOk}
 use Rattle.asking.specs.Columns.{indexRoom, idsAt, coordsAt}
-use Rattle.boxplan.specs.declared.Plan.{Plan}
 use Rattle.boxplan.specs.Rule.{planOf, boxOk}
 use Rattle.spending.specs.declared.EffortReply.{EffortReply}
 use Rattle.spending.specs.declared.EffortReply.the-variants.{Box, Spoiled}
@@ -31,13 +31,14 @@ abbrev pub columnOf : Sought → ℕ → List ℕ → List ℕ
 columnOf (refused r) a out = out
 columnOf (sought n ms) a out = column n ms a out
 
--- the tests of a plan in the table of zoom z
-abbrev pub soughtAt : State → List ℕ → List Float → ℕ → Plan → Sought
-soughtAt s ids co z p = sought (lenOf s z) (trials p (s .options .«node_size») (lenOf s z) (idsAt s ids z) (coordsAt s co z))
+-- the tests of queries in the table of zoom z
+abbrev pub soughtAt : State → List ℕ → List Float → ℕ → List Query → Sought
+soughtAt s ids co z qs = sought (lenOf s z) (trials qs (s .options .«node_size») (lenOf s z) (idsAt s ids z) (coordsAt s co z))
 
--- the box (w, s, e, n) at a zoom: refusals as for a box, the state (11), then the numbers (9)
+-- the box (west, least y, east, greatest y) at a zoom: refusals as for a box, the state (11), then the numbers (9)
 unfoldable pub effortAsked : State → List ℕ → List Float → ℕ → Float → Float → Float → Float → Sought
-effortAsked st ids co zoom w s e n =
-    cond (not (stateOk st (indexRoom ids co))) (refused Spoiled)
-    (cond (not (boxOk (st .options .«coordinate_system») w s e n)) (refused Box)
-    (soughtAt st ids co (zoomUsed (st .options) zoom) (planOf (st .options .«coordinate_system») w s e n)))
+effortAsked s ids co zoom west least east greatest =
+    let c = s .options .«coordinate_system» in
+    cond (not (stateOk s (indexRoom ids co))) (refused Spoiled)
+    (cond (not (boxOk c west least east greatest)) (refused Box)
+    (soughtAt s ids co (zoomUsed (s .options) zoom) (planOf c west least east greatest)))

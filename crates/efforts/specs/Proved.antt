@@ -10,6 +10,8 @@ use borrow.Author.Tests.{le-ltb, ltb-true, ltb-false}
 use lib.Dec.{leb, ltb}
 use lib.ListN.{length}
 use lib.Ieee.{Float}
+use Rattle.range.specs.declared.CoordinateSystem.{CoordinateSystem}
+use Rattle.kdslots.specs.declared.Query.{Query}
 use Rattle.kdbush.specs.Run.{sound, whole, filled}
 use Rattle.tables.specs.declared.State.{State}
 use Rattle.tables.specs.Options.{zoomUsed}
@@ -21,8 +23,8 @@ use Rattle.asking.specs.declared.Answer.the-variants.{Box as Answer·Box, Spoil
 use Rattle.asking.specs.Answers.{fitted as plainly}
 use Rattle.asking.specs.Asked.{Asked, refused as Asked·refused, told, answerOf}
 use Rattle.asking.specs.Columns.{indexRoom, idsAt, coordsAt}
-use Rattle.boxplan.specs.declared.Plan.{Plan}
 use Rattle.boxplan.specs.Rule.{planOf, boxOk}
+use Rattle.boxplan.specs.Queries.{plan-short}
 use Rattle.boxes.specs.Lists.{walked, listedAt, boxAsked}
 use Rattle.boxes.specs.Joined.{whole-sound}
 use Rattle.spending.specs.declared.Effort.{Effort}
@@ -115,37 +117,40 @@ module _ (st : State) (ids : List ℕ) (co : List Float) (zoom : ℕ) where
   abbrev used : ℕ
   used = zoomUsed (st .options) zoom
 
-  abbrev pub testsAt : Plan → List Mark
-  testsAt p = trials p (st .options .«node_size») (lenOf st used) (idsAt st ids used) (coordsAt st co used)
+  abbrev pub testsAt : List Query → List Mark
+  testsAt qs = trials qs (st .options .«node_size») (lenOf st used) (idsAt st ids used) (coordsAt st co used)
 
-  -- the tests of a plan find what the box without an effort walks over
-  pub unlimited-box : (p : Plan) → walked (lenOf st used) (hits (testsAt p)) ≡ listedAt st ids co used p
-  unlimited-box p =
-      ap (walked (lenOf st used)) (trials-found (st .options .«node_size») (lenOf st used) (idsAt st ids used) (coordsAt st co used) p)
+  -- the tests of queries find what the box without an effort walks over
+  pub unlimited-box : (qs : List Query) → walked (lenOf st used) (hits (testsAt qs)) ≡ listedAt st ids co used qs
+  unlimited-box qs =
+      ap (walked (lenOf st used)) (trials-found (st .options .«node_size») (lenOf st used) (idsAt st ids used) (coordsAt st co used) qs)
 
-  stated-plan : stateOk st (indexRoom ids co) ≡ true → (p : Plan)
-      → Stated (soughtAt st ids co used p) (listedAt st ids co used p) (st .count)
-  stated-plan g p =
-      let m : length (testsAt p) ≤ 2 * st .count =
+  stated-plan : stateOk st (indexRoom ids co) ≡ true → (qs : List Query) → length qs ≤ 2
+      → Stated (soughtAt st ids co used qs) (listedAt st ids co used qs) (st .count)
+  stated-plan g qs h =
+      let m : length (testsAt qs) ≤ 2 * st .count =
       omega (
         arith,
-        trials-most (st .options .«node_size») (lenOf st used) (idsAt st ids used) (coordsAt st co used) p,
+        trials-most (st .options .«node_size») (lenOf st used) (idsAt st ids used) (coordsAt st co used) 2 qs h,
         used-stands st (indexRoom ids co) g zoom .0 .most,
       ) in
-      subst (λ (x : Asked). Stated (soughtAt st ids co used p) x (st .count)) (unlimited-box p)
-      (stated-sought (lenOf st used) (testsAt p) (st .count) m)
+      subst (λ (x : Asked). Stated (soughtAt st ids co used qs) x (st .count)) (unlimited-box qs)
+      (stated-sought (lenOf st used) (testsAt qs) (st .count) m)
 
 pub stated-effort : StatedEffort
 unfolding effortAsked boxAsked
-stated-effort st ids co zoom w s e n = go (stateOk st (indexRoom ids co)) refl (boxOk (st .options .«coordinate_system») w s e n)
+stated-effort st ids co zoom west least east greatest = go (stateOk st (indexRoom ids co)) refl (boxOk c west least east greatest)
   where
-    p : Plan
-    p = planOf (st .options .«coordinate_system») w s e n
+    c : CoordinateSystem
+    c = st .options .«coordinate_system»
+
+    qs : List Query
+    qs = planOf c west least east greatest
 
     go : (a : Bool) → stateOk st (indexRoom ids co) ≡ a → (b : Bool)
-        → Stated (cond (not a) (refused Spoiled) (cond (not b) (refused Box) (soughtAt st ids co (used st ids co zoom) p)))
+        → Stated (cond (not a) (refused Spoiled) (cond (not b) (refused Box) (soughtAt st ids co (used st ids co zoom) qs)))
         (cond (not a) (Asked·refused Answer·Spoiled)
-        (cond (not b) (Asked·refused Answer·Box) (listedAt st ids co (used st ids co zoom) p))) (st .count)
+        (cond (not b) (Asked·refused Answer·Box) (listedAt st ids co (used st ids co zoom) qs))) (st .count)
     go false g b = stated-refused Spoiled Answer·Spoiled (st .count) refl (λ c. nothing-carried 11 (omega arith) (λ h. omega arith) c)
     go true g false = stated-refused Box Answer·Box (st .count) refl (λ c. nothing-carried 9 (omega arith) (λ h. omega arith) c)
-    go true g true = stated-plan st ids co zoom g p
+    go true g true = stated-plan st ids co zoom g qs (plan-short c west least east greatest)

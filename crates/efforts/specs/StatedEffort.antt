@@ -63,5 +63,5 @@ pub record Stated (x : Sought) (box : Asked) (count : ℕ) : Type 0 where
 -- of every state and all columns, at every zoom, for every box
 abbrev pub StatedEffort : Type 0
 StatedEffort =
-    (st : State) (ids : List ℕ) (co : List Float) (zoom : ℕ) (w s e n : Float)
-    → Stated (effortAsked st ids co zoom w s e n) (boxAsked st ids co zoom w s e n) (st .count)
+    (st : State) (ids : List ℕ) (co : List Float) (zoom : ℕ) (west least east greatest : Float)
+    → Stated (effortAsked st ids co zoom west least east greatest) (boxAsked st ids co zoom west least east greatest) (st .count)

@@ -3,7 +3,7 @@
 -- is come to. Assumes nothing.
 use mathlib.Core.Path.{_≡_, refl}
 use mathlib.Core.Bool.{true, false}
-use mathlib.Core.List.{List, [], _∷_}
+use mathlib.Core.List.{List, [], _∷_, flatMap}
 use Prim.Native.Nat.{ℕ}
 use lib.ListN.{set, replicate}
 use lib.Ieee.{Float, le, lt, eq, neg, round, sum, add, sub, div, rem, ofInt}
@@ -16,7 +16,7 @@ use Rattle.kdbush.specs.Run.{sound, whole}
 use Rattle.tables.specs.declared.State.{State}
 use Rattle.tables.specs.Options.{optionsOk}
 use Rattle.tables.specs.Sound.{packed, stateOk}
-use Rattle.boxplan.specs.Rule.{halfCircle, wrapped, ruled, planOf}
+use Rattle.boxplan.specs.Rule.{halfCircle, wrapped, newWest, newEast, planOf}
 use Rattle.boxplan.specs.Worked.{west, east}
 use Rattle.spending.specs.declared.EffortReply.the-variants.{Found, Box, NoRoom, Spoiled}
 use Rattle.spending.specs.Trials.{Mark, mark, marks, hits}
@@ -48,7 +48,7 @@ asked is = effortAsked state is coords 9 west zero east one
 -- the first half tests the median, the right part, and the left; the second its median, which does not pass, and the left part alone
 pub worked-tests : asked ids
     ≡ sought 5 (mark true 2 ∷ mark true 3 ∷ mark true 4 ∷ mark true 0 ∷ mark true 1 ∷ mark false 2 ∷ mark true 0 ∷ mark true 1 ∷ [])
-unfolding effortAsked planOf ruled wrapped converted mercatorX ofInt neg add sub div sum rem round le lt eq stateOk packed optionsOk systemInBounds slots scanned shape split marks
+unfolding effortAsked flatMap planOf newWest newEast wrapped converted mercatorX ofInt neg add sub div sum rem round le lt eq stateOk packed optionsOk systemInBounds slots scanned shape split marks
 worked-tests = refl
 
 -- six tests reach into the second half, and find nothing there
@@ -84,7 +84,7 @@ spoilt = 0 ∷ 5 ∷ 2 ∷ 3 ∷ 4 ∷ 0 ∷ []
 
 pub worked-spoilt : asked spoilt
     ≡ sought 5 (mark true 2 ∷ mark true 3 ∷ mark true 4 ∷ mark true 0 ∷ mark true 5 ∷ mark false 2 ∷ mark true 0 ∷ mark true 5 ∷ [])
-unfolding effortAsked planOf ruled wrapped converted mercatorX ofInt neg add sub div sum rem round le lt eq stateOk packed optionsOk systemInBounds slots scanned shape split marks
+unfolding effortAsked flatMap planOf newWest newEast wrapped converted mercatorX ofInt neg add sub div sum rem round le lt eq stateOk packed optionsOk systemInBounds slots scanned shape split marks
 worked-spoilt = refl
 
 pub worked-before : replyOf (asked spoilt) 4 9 ≡ Found (record { items = 4; tested = 4; stopped = true })

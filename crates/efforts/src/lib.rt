@@ -14,6 +14,7 @@ ghost use Rattle.tables.specs.Options.{zoomUsed};
 ghost use Rattle.tables.specs.Columns.{part};
 ghost use Rattle.tables.specs.Sound.{stateOk};
 ghost use Rattle.asking.specs.Columns.{indexRoom};
+ghost use Rattle.boxplan.specs.Queries.{queriesOf};
 ghost use Rattle.spending.specs.Trials.{trials};
 ghost use Rattle.spending.specs.Reply.{answer, column};
 ghost use Rattle.efforts.specs.Effort.{replyOf, columnOf, soughtAt, effortAsked};
@@ -32,7 +33,7 @@ fn effort_at(
     requires { ⌜ (start + n ≤ length (now ids)) × (2 * (start + n) ≤ length (now coords)) ⌝ }
     requires { ⌜ indexOk «node_size» n (part start n (now ids)) (part (2 * start) (2 * n) (now coords)) ≡ true ⌝ }
     ensures { λ r.
-        let t = trials p «node_size» n (part start n (old ids)) (part (2 * start) (2 * n) (old coords)) in
+        let t = trials (queriesOf p) «node_size» n (part start n (old ids)) (part (2 * start) (2 * n) (old coords)) in
         ⌜ (r ≡ answer n t allowance (length (old out))) × (new out ≡ column n t allowance (old out)) ⌝ }
 {
     let end = start + n;
@@ -61,7 +62,7 @@ fn effort_used(
 ) -> EffortReply
     requires { ⌜ stateOk s (indexRoom (now ids) (now coords)) ≡ true ⌝ }
     ensures { λ r.
-        let a = soughtAt s (old ids) (old coords) (zoomUsed (s .options) zoom) p in
+        let a = soughtAt s (old ids) (old coords) (zoomUsed (s .options) zoom) (queriesOf p) in
         ⌜ (r ≡ replyOf a allowance (length (old out))) × (new out ≡ columnOf a allowance (old out)) ⌝ }
 {
     let o = s.options;
@@ -69,8 +70,8 @@ fn effort_used(
     effort_at(
         p,
         o.node_size,
-        s.start_of(z),
-        s.len_of(z),
+        tables::start_of(s, z),
+        tables::len_of(s, z),
         ids,
         coords,
         allowance,
@@ -78,22 +79,23 @@ fn effort_used(
     )
 }
 
-// The places of the table of the zoom used in the box from (w, south) to (e, n), within so many tests, which run over both halves of a
-// box across the date line.
+// The places of the table of the zoom used in the box from (west, least_y) to (east, greatest_y), within so many tests, which run over
+// both halves of a box across the date line. y grows downwards on a mercator map, so that least_y is the northern edge of a longitude
+// build; on a Cartesian plan it is the least y as given.
 pub fn effort_box(
     s: State,
     ids: &[u32],
     coords: &[f64],
     zoom: u8,
-    w: f64,
-    south: f64,
-    e: f64,
-    n: f64,
+    west: f64,
+    least_y: f64,
+    east: f64,
+    greatest_y: f64,
     allowance: usize,
     out: &mut [u32],
 ) -> EffortReply
     ensures { λ r.
-        let a = effortAsked s (old ids) (old coords) zoom w south e n in
+        let a = effortAsked s (old ids) (old coords) zoom west «least_y» east «greatest_y» in
         ⌜ (r ≡ replyOf a allowance (length (old out))) × (new out ≡ columnOf a allowance (old out)) ⌝ }
 {
     if !s.is_sound(asking::index_room(ids, coords)) {
@@ -101,9 +103,9 @@ pub fn effort_box(
     }
     let o = s.options;
     let c = o.coordinate_system;
-    if !boxplan::box_ok(c, w, south, e, n) {
+    if !boxplan::box_ok(c, west, least_y, east, greatest_y) {
         return EffortReply::Box;
     }
-    let p = boxplan::plan_box(c, w, south, e, n);
+    let p = boxplan::plan_box(c, west, least_y, east, greatest_y);
     effort_used(p, s, ids, coords, zoom, allowance, out)
 }

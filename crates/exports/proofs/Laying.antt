@@ -1,14 +1,27 @@
 -- The reply of a build as a C caller sees it, put together from what `load` and `tell` promise. Assumes nothing.
-use mathlib.Core.Path.{_≡_, ap, _∙_}
+use mathlib.Core.Path.{_≡_, refl, ap, _∙_}
 use mathlib.Core.List.{List}
-use Prim.Native.Nat.{ℕ}
+use Prim.Native.Nat.{ℕ, zero, suc, _<_, _≤_}
+use native.Mathlib.Omega.{arith}
 use Rattle.supercluster.specs.declared.Loaded.{Loaded}
 use Rattle.supercluster.specs.Build.{Lent, Outcome, outcome}
-use Rattle.exports.specs.Laid.{Replied, replied, repliedOf, laid, laidOf}
+use Rattle.exports.specs.Laid.{Replied, replied, unlessRefused, repliedOf, laid, laidOf}
 
-pub replied-is : {n m k l : ℕ} {a b c d : List ℕ} → n ≡ m → k ≡ l → a ≡ b → c ≡ d → replied n k a c ≡ replied m l b d
-replied-is {m = m} {k = k} {l = l} {a = a} {b = b} {c = c} e f g h =
-    ap (λ (i : ℕ). replied i k a c) e ∙ ap (λ (i : ℕ). replied m i a c) f ∙ ap (λ (t : List ℕ). replied m l t c) g ∙ ap (λ (t : List ℕ). replied m l b t) h
+replied-is : {n m k l : ℕ} {a b c d : List ℕ} → n ≡ m → k ≡ l → a ≡ b → c ≡ d → replied n k a c ≡ replied m l b d
+replied-is e f g h = λ i. replied (e i) (f i) (g i) (h i)
 
-pub laid-is : (starts lens : List ℕ) {r : Replied} {l : Loaded} {c : Lent} {q : Outcome} → r ≡ repliedOf l starts lens → outcome l c ≡ q → laid r c ≡ laidOf q starts lens
+-- a refusal, a number above 0, leaves the two arrays
+pub replied-refused : (n m : ℕ) {k l : ℕ} (a c b d : List ℕ) → n ≡ m → 0 < n → k ≡ l
+    → replied n k a c ≡ replied m l (unlessRefused m b a) (unlessRefused m d c)
+replied-refused n zero a c b d e h f = let z : ⊥ = omega arith in absurd z
+replied-refused n (suc m) a c b d e h f = replied-is e f refl refl
+
+-- 0 writes them
+pub replied-done : (n m : ℕ) {k l : ℕ} {a b c d : List ℕ} (x y : List ℕ) → n ≡ m → n ≤ 0 → k ≡ l → a ≡ b → c ≡ d
+    → replied n k a c ≡ replied m l (unlessRefused m b x) (unlessRefused m d y)
+replied-done n zero x y e h f p q = replied-is e f p q
+replied-done n (suc m) x y e h f p q = let z : ⊥ = omega arith in absurd z
+
+pub laid-is : (starts lens : List ℕ) {r : Replied} {l : Loaded} {c : Lent} {q : Outcome} → r ≡ repliedOf l starts lens
+    → outcome l c ≡ q → laid r c ≡ laidOf q starts lens
 laid-is starts lens {c = c} e f = ap (λ (t : Replied). laid t c) e ∙ ap (λ (o : Outcome). laidOf o starts lens) f

@@ -17,6 +17,13 @@ given low high least radius extent size cartesian a b c d offsetGiven offset sca
       «node_size» = size;
       «coordinate_system» =
           systemOf cartesian
-          (record { «min_x» = a; «min_y» = b; «max_x» = c; «max_y» = d; offset = settingOf offsetGiven offset; scale = settingOf scaleGiven scale });
+          (record {
+            «min_x» = a;
+            «min_y» = b;
+            «max_x» = c;
+            «max_y» = d;
+            offset = settingOf offsetGiven offset;
+            scale = settingOf scaleGiven scale;
+          });
       «longitude_strips_only» = stripsOnly;
     }

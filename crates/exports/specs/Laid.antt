@@ -1,7 +1,7 @@
--- A build as a C caller sees it: 01's number, what is carried, where the tables start and how long they are, and the lent columns afterwards. Definitions only.
+-- A build as a C caller sees it: 01's number, what is carried, where the tables start and how long they are, and the lent columns
+-- afterwards. Definitions only.
 use mathlib.Core.List.{List}
-use Prim.Native.Nat.{ℕ}
-use Rattle.kdbush.specs.Run.{filled}
+use Prim.Native.Nat.{ℕ, zero, suc}
 use Rattle.supercluster.specs.declared.Loaded.{Loaded}
 use Rattle.supercluster.specs.Build.{Lent, Outcome, loadNumber, loadCarried}
 
@@ -15,9 +15,16 @@ pub record Replied : Type 0 where
 abbrev pub replied : ℕ → ℕ → List ℕ → List ℕ → Replied
 replied n k starts lens = record { number = n; carried = k; starts = starts; lens = lens }
 
--- what it comes to, with columns of these old contents for starts and lengths
+-- what a reply with this number leaves of an array: 0 writes it, a refusal does not
+abbrev pub unlessRefused : ℕ → List ℕ → List ℕ → List ℕ
+unlessRefused zero written old = written
+unlessRefused (suc n) written old = old
+
+-- what it comes to, with arrays of these old contents for starts and lengths
 abbrev pub repliedOf : Loaded → List ℕ → List ℕ → Replied
-repliedOf l starts lens = replied (loadNumber (l .reply)) (loadCarried (l .reply)) (filled (l .state .starts) starts) (filled (l .state .lens) lens)
+repliedOf l starts lens =
+    let n = loadNumber (l .reply) in
+    replied n (loadCarried (l .reply)) (unlessRefused n (l .state .starts) starts) (unlessRefused n (l .state .lens) lens)
 
 -- the reply with the columns
 pub record Laid : Type 0 where

@@ -1,8 +1,8 @@
-// The public functions by C names, for Rust and C: numbers and slices only. A slice is passed as a pointer and a length, a `&mut usize` or a `&[u32; 32]` as a pointer.
-// Each answers 01's number of the reply, 0 where there is no refusal, and leaves what the reply carries in `carried`, 0 where it carries nothing.
-use kdbush::SearchReply;
+// The public functions by C names, for Rust and C: numbers, slices, and arrays of 32. A slice is passed as a pointer and a length,
+// a `&mut usize` or a `&[u32; 32]` as a pointer.
+// Each answers 01's number of the reply, 0 where there is no refusal, and leaves what the reply carries in `carried`, 0 where it
+// carries nothing. Proved: each tells what the public function promises, and writes nothing else. Assumed: nothing.
 use kdslots::Query;
-use kdwalk::Step;
 use range::DataRange;
 use supercluster::Loaded;
 use tables::Options;
@@ -10,12 +10,10 @@ use tables::State;
 ghost use mathlib.Core.Path.{_≡_};
 ghost use lib.ListN.{length};
 ghost use Rattle.kdbush.specs.Reply.{buildNumber, buildCarried, built, checked, searchNumber, searchCarried, searched, columnAfter};
-ghost use Rattle.kdwalk.specs.Reply.{stepNumber, firstStep, afterStep};
-ghost use Rattle.exports.specs.Numbers.{slotOf};
+ghost use Rattle.kdwalk.specs.Reply.{stepNumber, stepCarried, firstStep, afterStep};
 ghost use Rattle.exports.specs.Given.{given};
 ghost use Rattle.exports.specs.Told.{said, zoomSaid, tallySaid, told, toldOf, effortTold, effortToldOf, tileTold, tileOf};
 ghost use Rattle.exports.specs.Laid.{replied, repliedOf, laid, laidOf};
-ghost use Rattle.kdbush.specs.Run.{filled};
 ghost use Rattle.supercluster.specs.Build.{loaded};
 ghost use Rattle.supercluster.specs.Lent.{lentAll};
 ghost use Rattle.kdsort.specs.Cols.{cols};
@@ -29,54 +27,6 @@ ghost use Rattle.walks.specs.Leaves.{leavesOf};
 ghost use Rattle.walks.specs.Expansion.{zoomOf};
 ghost use Rattle.tiles.specs.Asked.{tiled};
 ghost use Rattle.tiles.specs.Tallied.{tallied};
-
-// The number of a search's reply.
-fn search_number(r: SearchReply) -> u32
-    ensures { λ n. ⌜ n ≡ searchNumber r ⌝ }
-{
-    match r {
-        SearchReply::Found(_) => 0,
-        SearchReply::Box => 9,
-        SearchReply::NoRoom(_) => 10,
-        SearchReply::Spoiled => 11,
-    }
-}
-
-// What a search's reply carries.
-fn search_carried(r: SearchReply) -> usize
-    ensures { λ n. ⌜ n ≡ searchCarried r ⌝ }
-{
-    match r {
-        SearchReply::Found(k) => k,
-        SearchReply::Box => 0,
-        SearchReply::NoRoom(k) => k,
-        SearchReply::Spoiled => 0,
-    }
-}
-
-// The number of a step.
-fn step_number(s: Step) -> u32
-    ensures { λ n. ⌜ n ≡ stepNumber s ⌝ }
-{
-    match s {
-        Step::Slot(_) => 0,
-        Step::Done => 0,
-        Step::Box => 9,
-        Step::Spoiled => 11,
-    }
-}
-
-// The slot of a step; the largest usize where there is none.
-fn step_slot(s: Step) -> usize
-    ensures { λ n. ⌜ n ≡ slotOf s ⌝ }
-{
-    match s {
-        Step::Slot(i) => i,
-        Step::Done => 0xffff_ffff_ffff_ffff,
-        Step::Box => 0xffff_ffff_ffff_ffff,
-        Step::Spoiled => 0xffff_ffff_ffff_ffff,
-    }
-}
 
 #[no_mangle]
 pub extern "C" fn kdbush_build(
@@ -120,8 +70,8 @@ pub extern "C" fn kdbush_range(
         ⌜ new out ≡ columnAfter q «node_size» n (old ids) (old coords) (old out) ⌝ }
 {
     let r = kdbush::range(node_size, n, ids, coords, min_x, min_y, max_x, max_y, out);
-    *carried = search_carried(r);
-    search_number(r)
+    *carried = r.carried();
+    r.number()
 }
 
 #[no_mangle]
@@ -143,8 +93,8 @@ pub extern "C" fn kdbush_within(
     ensures { λ _. ⌜ new out ≡ columnAfter (Query.Within qx qy radius) «node_size» n (old ids) (old coords) (old out) ⌝ }
 {
     let r = kdbush::within(node_size, n, ids, coords, qx, qy, radius, out);
-    *carried = search_carried(r);
-    search_number(r)
+    *carried = r.carried();
+    r.number()
 }
 
 #[no_mangle]
@@ -163,7 +113,7 @@ pub extern "C" fn kdbush_range_first(
         ⌜ r ≡ stepNumber (firstStep q «node_size» n (old coords)) ⌝ }
     ensures { λ _.
         let q = Query.Range «min_x» «min_y» «max_x» «max_y» in
-        ⌜ new slot ≡ slotOf (firstStep q «node_size» n (old coords)) ⌝ }
+        ⌜ new slot ≡ stepCarried (firstStep q «node_size» n (old coords)) ⌝ }
 {
     let q = Query::Range {
         min_x,
@@ -172,8 +122,8 @@ pub extern "C" fn kdbush_range_first(
         max_y,
     };
     let s = kdwalk::first(q, node_size, n, coords);
-    *slot = step_slot(s);
-    step_number(s)
+    *slot = s.carried();
+    s.number()
 }
 
 #[no_mangle]
@@ -193,7 +143,7 @@ pub extern "C" fn kdbush_range_after(
         ⌜ r ≡ stepNumber (afterStep q «node_size» n (old coords) slot) ⌝ }
     ensures { λ _.
         let q = Query.Range «min_x» «min_y» «max_x» «max_y» in
-        ⌜ new next ≡ slotOf (afterStep q «node_size» n (old coords) slot) ⌝ }
+        ⌜ new next ≡ stepCarried (afterStep q «node_size» n (old coords) slot) ⌝ }
 {
     let q = Query::Range {
         min_x,
@@ -202,8 +152,8 @@ pub extern "C" fn kdbush_range_after(
         max_y,
     };
     let s = kdwalk::after(q, node_size, n, coords, slot);
-    *next = step_slot(s);
-    step_number(s)
+    *next = s.carried();
+    s.number()
 }
 
 #[no_mangle]
@@ -217,11 +167,11 @@ pub extern "C" fn kdbush_within_first(
     slot: &mut usize,
 ) -> u32
     ensures { λ r. ⌜ r ≡ stepNumber (firstStep (Query.Within qx qy radius) «node_size» n (old coords)) ⌝ }
-    ensures { λ _. ⌜ new slot ≡ slotOf (firstStep (Query.Within qx qy radius) «node_size» n (old coords)) ⌝ }
+    ensures { λ _. ⌜ new slot ≡ stepCarried (firstStep (Query.Within qx qy radius) «node_size» n (old coords)) ⌝ }
 {
     let s = kdwalk::first(Query::Within { qx, qy, radius }, node_size, n, coords);
-    *slot = step_slot(s);
-    step_number(s)
+    *slot = s.carried();
+    s.number()
 }
 
 #[no_mangle]
@@ -236,11 +186,11 @@ pub extern "C" fn kdbush_within_after(
     next: &mut usize,
 ) -> u32
     ensures { λ r. ⌜ r ≡ stepNumber (afterStep (Query.Within qx qy radius) «node_size» n (old coords) slot) ⌝ }
-    ensures { λ _. ⌜ new next ≡ slotOf (afterStep (Query.Within qx qy radius) «node_size» n (old coords) slot) ⌝ }
+    ensures { λ _. ⌜ new next ≡ stepCarried (afterStep (Query.Within qx qy radius) «node_size» n (old coords) slot) ⌝ }
 {
     let s = kdwalk::after(Query::Within { qx, qy, radius }, node_size, n, coords, slot);
-    *next = step_slot(s);
-    step_number(s)
+    *next = s.carried();
+    s.number()
 }
 
 // The options.
@@ -262,7 +212,9 @@ fn options(
     scale: f64,
     longitude_strips_only: bool,
 ) -> Options
-    ensures { λ r. ⌜ r ≡ given «min_zoom» «max_zoom» «min_points» radius extent «node_size» cartesian «min_x» «min_y» «max_x» «max_y» «offset_given» offset «scale_given» scale «longitude_strips_only» ⌝ }
+    ensures { λ r.
+        ⌜ r ≡ given «min_zoom» «max_zoom» «min_points» radius extent «node_size» cartesian «min_x» «min_y» «max_x» «max_y»
+        «offset_given» offset «scale_given» scale «longitude_strips_only» ⌝ }
 {
     let range = DataRange {
         min_x,
@@ -297,32 +249,28 @@ fn state(options: Options, count: u32, starts: &[u32; 32], lens: &[u32; 32]) -> 
     }
 }
 
-// Writes the 32 numbers of a state, as many as fit.
-fn store(values: [u32; 32], out: &mut [u32])
-    ensures { λ _. ⌜ new out ≡ filled values (old out) ⌝ }
+// Writes where the tables of a state start, and how long they are.
+fn store(state: State, starts: &mut [u32; 32], lens: &mut [u32; 32])
+    ensures { λ _. ⌜ (new starts ≡ state .starts) × (new lens ≡ state .lens) ⌝ }
 {
-    let mut i = 0;
-    while i < out.len() {
-        if 32 <= i {
-            return;
-        }
-        out[i] = values[i];
-        i += 1;
-    }
+    let first = state.starts;
+    *starts = first;
+    let long = state.lens;
+    *lens = long;
 }
 
-// The reply of a build, as numbers: 01's number is the answer, the rest goes behind pointers.
-fn tell(loaded: Loaded, starts: &mut [u32], lens: &mut [u32], carried: &mut usize) -> u32
+// The reply of a build, as numbers: 01's number is the answer, the rest goes behind pointers. A refusal leaves the two arrays as they were.
+fn tell(loaded: Loaded, starts: &mut [u32; 32], lens: &mut [u32; 32], carried: &mut usize) -> u32
     ensures { λ r. ⌜ replied r (new carried) (new starts) (new lens) ≡ repliedOf loaded (old starts) (old lens) ⌝ }
 {
-    let state = loaded.state;
-    let first = state.starts;
-    store(first, starts);
-    let long = state.lens;
-    store(long, lens);
     let r = loaded.reply;
     *carried = r.carried();
-    r.number()
+    let number = r.number();
+    if 0 < number {
+        return number;
+    }
+    store(loaded.state, starts, lens);
+    number
 }
 
 #[no_mangle]
@@ -356,8 +304,8 @@ pub extern "C" fn supercluster_load(
     ids: &mut [u32],
     coords: &mut [f64],
     near: &mut [u32],
-    starts: &mut [u32],
-    lens: &mut [u32],
+    starts: &mut [u32; 32],
+    lens: &mut [u32; 32],
     carried: &mut usize,
 ) -> u32
     ensures { λ r.
@@ -404,7 +352,8 @@ pub extern "C" fn supercluster_load(
     tell(loaded, starts, lens, carried)
 }
 
-// The places of the table of the zoom used in the box from (w, south) to (e, n).
+// The places of the table of the zoom used in the box from (west, least_y) to (east, greatest_y). y grows downwards on a mercator map, so
+// that least_y is the northern edge of a longitude build; on a Cartesian plan it is the least y as given.
 #[no_mangle]
 pub extern "C" fn supercluster_box(
     min_zoom: u8,
@@ -429,10 +378,10 @@ pub extern "C" fn supercluster_box(
     ids: &[u32],
     coords: &[f64],
     zoom: u8,
-    w: f64,
-    south: f64,
-    e: f64,
-    n: f64,
+    west: f64,
+    least_y: f64,
+    east: f64,
+    greatest_y: f64,
     out: &mut [u32],
     carried: &mut usize,
 ) -> u32
@@ -440,7 +389,7 @@ pub extern "C" fn supercluster_box(
         let o = given «min_zoom» «max_zoom» «min_points» radius extent «node_size» cartesian «min_x» «min_y» «max_x» «max_y»
         «offset_given» offset «scale_given» scale «longitude_strips_only» in
         let s = stateOf o count (old starts) (old lens) in
-        ⌜ told r (new carried) (new out) ≡ toldOf (boxAsked s (old ids) (old coords) zoom w south e n) (old out) ⌝ }
+        ⌜ told r (new carried) (new out) ≡ toldOf (boxAsked s (old ids) (old coords) zoom west «least_y» east «greatest_y») (old out) ⌝ }
 {
     let o = options(
         min_zoom,
@@ -461,13 +410,13 @@ pub extern "C" fn supercluster_box(
         longitude_strips_only,
     );
     let s = state(o, count, starts, lens);
-    let r = boxes::list_box(s, ids, coords, zoom, w, south, e, n, out);
+    let r = boxes::list_box(s, ids, coords, zoom, west, least_y, east, greatest_y, out);
     *carried = r.carried();
     r.number()
 }
 
-// The same within so many tests, which run over both halves of a box across the date line; beside what was found, how many slots were tested, and whether it
-// stopped with a test still due.
+// The same within so many tests, which run over both halves of a box across the date line; beside what was found, how many slots were
+// tested, and whether it stopped with a test still due.
 #[no_mangle]
 pub extern "C" fn supercluster_box_effort(
     min_zoom: u8,
@@ -492,10 +441,10 @@ pub extern "C" fn supercluster_box_effort(
     ids: &[u32],
     coords: &[f64],
     zoom: u8,
-    w: f64,
-    south: f64,
-    e: f64,
-    n: f64,
+    west: f64,
+    least_y: f64,
+    east: f64,
+    greatest_y: f64,
     allowance: usize,
     out: &mut [u32],
     tested: &mut usize,
@@ -507,7 +456,7 @@ pub extern "C" fn supercluster_box_effort(
         «offset_given» offset «scale_given» scale «longitude_strips_only» in
         let s = stateOf o count (old starts) (old lens) in
         ⌜ effortTold r (new carried) (new tested) (new stopped) (new out)
-        ≡ effortToldOf (effortAsked s (old ids) (old coords) zoom w south e n) allowance (old out) ⌝ }
+        ≡ effortToldOf (effortAsked s (old ids) (old coords) zoom west «least_y» east «greatest_y») allowance (old out) ⌝ }
 {
     let o = options(
         min_zoom,
@@ -528,7 +477,18 @@ pub extern "C" fn supercluster_box_effort(
         longitude_strips_only,
     );
     let s = state(o, count, starts, lens);
-    let r = efforts::effort_box(s, ids, coords, zoom, w, south, e, n, allowance, out);
+    let r = efforts::effort_box(
+        s,
+        ids,
+        coords,
+        zoom,
+        west,
+        least_y,
+        east,
+        greatest_y,
+        allowance,
+        out,
+    );
     let k = r.carried();
     *tested = k.tested;
     *stopped = k.stopped;

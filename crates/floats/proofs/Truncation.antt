@@ -1,8 +1,10 @@
--- How `round_away` finds the nearest whole number: x less its truncation is exact, and the rule turns on whether that rest is a half or more.
--- Assumes nothing.
+-- How `round_away` finds the nearest whole number: x less its truncation is exact, and the rule turns on whether that rest is a half or
+-- more. Assumes nothing.
 use mathlib.Core.Path.{_≡_, refl, sym, ap, _∙_, subst}
 use Prim.Native.Nat.{ℕ, zero, suc, _+_, _-_, _*_, _/_, _%_, _^_, _≤_, _<_, min}
-use native.Mathlib.Nat.{le-trans, le-of-eq, lt-of-le-of-lt, lt-of-not-le, not-le-of-lt, add-mul, mul-comm, mul-assoc, mul-left-comm, mul-right-comm, mul-pos, mul-one, one-mul, zero-mul, zero-lt-suc, div-add-mod', mod-lt, mod-le, mod-one, zero-mod, div-eq-of-lt}
+use native.Mathlib.Nat.{le-trans, le-of-eq, lt-of-le-of-lt, lt-of-not-le, not-le-of-lt, add-mul, mul-comm, mul-assoc, mul-left-comm}
+use native.Mathlib.Nat.{mul-right-comm, mul-pos, mul-one, one-mul, zero-mul, zero-lt-suc, div-add-mod', mod-lt, mod-le, mod-one, zero-mod}
+use native.Mathlib.Nat.{div-eq-of-lt}
 use native.Mathlib.Omega.{arith}
 use mathlib.Core.Bool.{Bool, true, false, not, cond, true≢false}
 use lib.Arith.{digits-div}

@@ -1,5 +1,5 @@
--- By monotone rounding every centre stays within [0,1]: the running sum of values of 0 to 1, each times its count, is from 0 to the counts' total,
--- and the sum over the total is from 0 to 1. First one step of a loop, then a whole list. Assumes nothing.
+-- By monotone rounding every centre stays within [0,1]: the running sum of values of 0 to 1, each times its count, is from 0 to the
+-- counts' total, and the sum over the total is from 0 to 1. First one step of a loop, then a whole list. Assumes nothing.
 use mathlib.Core.Path.{_∙_, subst}
 use mathlib.Core.List.{List, [], _∷_}
 use Prim.Native.Nat.{ℕ, _+_, _^_, _≤_}

@@ -1,9 +1,11 @@
--- A value that a format holds is the rounding of any fraction that it equals: there is one such value, and `round` finds it. So one times x is x,
--- x over one is x, and two values that compare equal are the same or both zeros. Assumes nothing.
+-- A value that a format holds is the rounding of any fraction that it equals: there is one such value, and `round` finds it. So one times
+-- x is x, x over one is x, and two values that compare equal are the same or both zeros. Assumes nothing.
 use mathlib.Core.Path.{_≡_, refl, sym, ap, ap₂, _∙_, subst}
 use mathlib.Core.Logic.{_⊎_, inl, inr}
 use Prim.Native.Nat.{ℕ, zero, suc, pred, _+_, _-_, _*_, _%_, _^_, _≤_, _<_, zero-le}
-use native.Mathlib.Nat.{lt-of-not-le, le-of-suc-le-suc, not-le-of-lt, lt-irrefl, mul-comm, mul-assoc, mul-right-comm, mul-lt-mul-of-pos-right, lt-of-mul-lt-mul-right, eq-of-mul-eq-mul-right, mul-pos, mul-one, one-mul, zero-mul, zero-lt-suc, pow-suc, eq-zero-or-pos}
+use native.Mathlib.Nat.{lt-of-not-le, le-of-suc-le-suc, not-le-of-lt, lt-irrefl, mul-comm, mul-assoc, mul-right-comm}
+use native.Mathlib.Nat.{mul-lt-mul-of-pos-right, lt-of-mul-lt-mul-right, eq-of-mul-eq-mul-right, mul-pos, mul-one, one-mul, zero-mul}
+use native.Mathlib.Nat.{zero-lt-suc, pow-suc, eq-zero-or-pos}
 use native.Mathlib.Omega.{arith}
 use mathlib.Core.Bool.{Bool, true, false, not, _&&_, cond}
 use lib.IntN.{ℤ, pos, negsuc}

@@ -1,5 +1,5 @@
--- Where an infinity stands or comes out, as a search's rounded edge can: a sum and a difference of finite values are no NaN, sums and differences
--- keep the order where neither is a NaN, and squares and sums of what is not negative are not negative. Assumes nothing.
+-- Where an infinity stands or comes out, as a search's rounded edge can: a sum and a difference of finite values are no NaN, sums and
+-- differences keep the order where neither is a NaN, and squares and sums of what is not negative are not negative. Assumes nothing.
 use mathlib.Core.Path.{_≡_, refl, sym, subst}
 use mathlib.Core.Logic.{inl, inr}
 use Prim.Native.Nat.{ℕ, suc, _+_, _*_, _^_}

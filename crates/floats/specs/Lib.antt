@@ -1,4 +1,5 @@
--- Definitions that contracts cite: Numbers, Unit, Powers, Away, Distance (its first). All else is laws, in the order in which they rest on each other.
+-- Definitions that contracts cite: Numbers, Unit, Powers, Away, Distance (its first). All else is laws, in the order in which they rest
+-- on each other.
 pub mod Numbers
 pub mod Fraction
 pub mod Order

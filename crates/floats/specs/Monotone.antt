@@ -1,5 +1,6 @@
--- Rounded operations keep the order of finite values: the sum, the difference, the product with a value that is not negative and the quotient by a
--- positive value. The quotient shrinks as the divisor grows. A result may be an infinity: nothing here asks that it fits. Assumes nothing.
+-- Rounded operations keep the order of finite values: the sum, the difference, the product with a value that is not negative and the
+-- quotient by a positive value. The quotient shrinks as the divisor grows. A result may be an infinity: nothing here asks that it fits.
+-- Assumes nothing.
 use mathlib.Core.Path.{_≡_, sym, ap, _∙_, subst}
 use Prim.Native.Nat.{ℕ, _+_, _*_, _≤_}
 use native.Mathlib.Nat.{mul-le-mul-right, mul-pos, zero-mul, mul-zero, zero-add, add-zero}

@@ -1,10 +1,12 @@
--- 'x is not above y', lt y x ≡ false, as a selection tests it: NaN is above nothing. Off NaN it is <=, and it goes through a third value. Assumes nothing.
+-- 'x is not above y', lt y x ≡ false, as a selection tests it: NaN is above nothing. Off NaN it is <=, and it goes through a third value.
+-- Assumes nothing.
 use mathlib.Core.Path.{_≡_, refl}
 use mathlib.Core.Bool.{Bool, true, false, not}
 use lib.Dec.{T}
 use lib.Ieee.{Float, isNan, le, lt, eq}
 use Rattle.floats.specs.Fraction.{yes-of, no-of, is-true}
-use Rattle.floats.specs.Order.{le-left-number, le-right-number, le-le-trans, lt→le, eq→le, eq→ge, lt-not-le, lt-irreflexive, lt-asymmetric, not-lt→le, eq-reflexive}
+use Rattle.floats.specs.Order.{le-left-number, le-right-number, le-le-trans, lt→le, eq→le, eq→ge, lt-not-le, lt-irreflexive}
+use Rattle.floats.specs.Order.{lt-asymmetric, not-lt→le, eq-reflexive}
 
 -- a test that cannot hold fails
 is-false : (b : Bool) → (T b → ⊥) → b ≡ false

@@ -1,5 +1,5 @@
--- What each operation of finite values rounds: a sum, a product and a quotient as (P - N) / c of Rounding, from the fractions of the operands.
--- Assumes nothing.
+-- What each operation of finite values rounds: a sum, a product and a quotient as (P - N) / c of Rounding, from the fractions of the
+-- operands. Assumes nothing.
 use mathlib.Core.Path.{_≡_, refl, sym, ap, subst}
 use mathlib.Core.Logic.{inl, inr}
 use Prim.Native.Nat.{ℕ, _+_, _-_, _*_, _≤_, _<_}

@@ -10,7 +10,8 @@ use lib.Dec.{T, not-T, T-not}
 use lib.Ieee.{Float, nan, inf, fin, isNan, down, le, lt, eq, ne}
 use lib.Ieee.Fits.{down-pos}
 use lib.Ieee.Scale.{finite}
-use Rattle.floats.specs.Fraction.{or-l, or-r, or-split, decide, is-true, plus, mins, le→cross, cross→le, lt→cross, cross→lt, eq→cross, cross-trans}
+use Rattle.floats.specs.Fraction.{or-l, or-r, or-split, decide, is-true, plus, mins, le→cross, cross→le, lt→cross, cross→lt}
+use Rattle.floats.specs.Fraction.{eq→cross, cross-trans}
 
 -- ---- NaN is on neither side: a comparison with it is false
 pub nan-left : (y : Float) → (le nan y ≡ false) × (lt nan y ≡ false) × (eq nan y ≡ false)

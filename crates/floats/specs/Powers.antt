@@ -1,4 +1,5 @@
--- The powers 2 ^ 0 to 2 ^ 31 by their bits: (n + 1023) * 2 ^ 52 are the bits of 2 ^ n, and of no NaN, by one test that antt computes. Assumes nothing.
+-- The powers 2 ^ 0 to 2 ^ 31 by their bits: (n + 1023) * 2 ^ 52 are the bits of 2 ^ n, and of no NaN, by one test that antt computes.
+-- Assumes nothing.
 use mathlib.Core.Path.{_≡_}
 use mathlib.Core.Bool.{Bool, not}
 use Prim.Native.Nat.{ℕ, _+_, _*_, _^_, _<_}

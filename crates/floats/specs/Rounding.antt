@@ -1,5 +1,5 @@
--- Rounding with a sign: `Rounds f x P N c` says that x is (P - N) / c, rounded to the format f; a zero may have either sign. It keeps the order.
--- A sum, a difference, a product and a quotient of finite values are such (Monotone). Assumes nothing.
+-- Rounding with a sign: `Rounds f x P N c` says that x is (P - N) / c, rounded to the format f; a zero may have either sign. It keeps the
+-- order. A sum, a difference, a product and a quotient of finite values are such (Monotone). Assumes nothing.
 use mathlib.Core.Path.{_≡_, refl, sym, ap, _∙_, subst}
 use mathlib.Core.Logic.{_⊎_, inl, inr}
 use Prim.Native.Nat.{ℕ, zero, suc, _+_, _-_, _*_, _^_, _≤_, _<_}

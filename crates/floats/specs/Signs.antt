@@ -1,5 +1,5 @@
--- Signs: the product's sides change places, and a sign goes through it; what is not negative has no part below zero, and its sums, products and
--- quotients are not negative. Assumes nothing.
+-- Signs: the product's sides change places, and a sign goes through it; what is not negative has no part below zero, and its sums,
+-- products and quotients are not negative. Assumes nothing.
 use mathlib.Core.Path.{_≡_, refl, sym, ap, ap₂, _∙_}
 use mathlib.Core.Logic.{inl}
 use Prim.Native.Nat.{ℕ, _+_, _*_, _≤_, _<_, zero-le}

@@ -1,5 +1,6 @@
--- Where the rounded square of a rounded difference on one axis exceeds a bound, so does the rounded squared distance of what lies as far or further on that
--- axis, whatever the other axis is, for any query, infinities and NaN too. By this a search around a place skips a part. Assumes nothing.
+-- Where the rounded square of a rounded difference on one axis exceeds a bound, so does the rounded squared distance of what lies as far
+-- or further on that axis, whatever the other axis is, for any query, infinities and NaN too. By this a search around a place skips a
+-- part. Assumes nothing.
 use mathlib.Core.Path.{_≡_, refl, sym, ap, _∙_, subst}
 use mathlib.Core.Bool.{Bool, true, false, not}
 use Prim.Native.Nat.{ℕ, _-_, _*_}
@@ -11,7 +12,8 @@ use lib.Ieee.{Float, Format, nan, inf, fin, binary64, isNan, le, lt, neg, sum, r
 use lib.Ieee.Fits.{mul-fits}
 use lib.Ieee.Scale.{finite}
 use Rattle.floats.specs.Numbers.{zero}
-use Rattle.floats.specs.Order.{le-le-trans, lt→le, lt-not-le, lt-le-trans, le-lt-trans, le-plus-inf, le-left-number, le-right-number, finite-not-nan, plus-inf-le}
+use Rattle.floats.specs.Order.{le-le-trans, lt→le, lt-not-le, lt-le-trans, le-lt-trans, le-plus-inf, le-left-number}
+use Rattle.floats.specs.Order.{le-right-number, finite-not-nan, plus-inf-le}
 use Rattle.floats.specs.Rounding.{neg-le}
 use Rattle.floats.specs.Monotone.{mul-mono-both}
 use Rattle.floats.specs.Exact.{sub-self}

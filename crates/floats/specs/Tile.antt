@@ -1,5 +1,5 @@
--- A tile's coordinate before it is rounded, extent * (cx * 2 ^ z - x) for a centre within [0,1] and a place x from -1 to 2 ^ 31, is within 2 ^ 48 either
--- way: what `round_away` asks. Assumes nothing.
+-- A tile's coordinate before it is rounded, extent * (cx * 2 ^ z - x) for a centre within [0,1] and a place x from -1 to 2 ^ 31, is
+-- within 2 ^ 48 either way: what `round_away` asks. Assumes nothing.
 use mathlib.Core.Path.{_≡_, refl, _∙_, subst}
 use mathlib.Core.Bool.{false}
 use Prim.Native.Nat.{ℕ, _^_, _≤_}

@@ -1,5 +1,5 @@
--- Whole numbers up to 2 ^ prec as floats: exact, and so are their sums and products up to there; n / n is 1, and 1 * n is n. `float n` is the
--- whole number n at binary64. Assumes nothing.
+-- Whole numbers up to 2 ^ prec as floats: exact, and so are their sums and products up to there; n / n is 1, and 1 * n is n. `float n` is
+-- the whole number n at binary64. Assumes nothing.
 use mathlib.Core.Path.{_≡_, refl, sym, ap, _∙_, subst}
 use Prim.Native.Nat.{ℕ, _+_, _*_, _^_, _≤_, _<_, zero-le}
 use native.Mathlib.Nat.{le-trans, le-of-eq, mul-le-mul-right, mul-le-mul-left, mul-pos, mul-one, one-mul, zero-lt-suc}

@@ -1,4 +1,5 @@
-// Tests and functions on f64 whose meaning is said in the words of lib.Ieee, and below specs/ the laws of f64 that the other crates rest on.
+// Tests and functions on f64 whose meaning is said in the words of lib.Ieee, and below specs/ the laws of f64 that the other crates rest
+// on.
 ghost use mathlib.Core.Path.{_≡_};
 ghost use mathlib.Core.Bool.{_&&_};
 ghost use Prim.Native.Nat.{_<_, _^_};

@@ -1,8 +1,9 @@
--- How often a place is in a list, in kdslots' words: once at most where no place is twice in it, once at least where the place is in it; and back. Two lists
--- with the same counts are each other in another order. Assumes nothing.
+-- How often a place is in a list, in kdslots' words: once at most where no place is twice in it, once at least where the place is in it;
+-- and back. Two lists with the same counts are each other in another order. Assumes nothing.
 use mathlib.Core.Path.{_≡_, refl, sym, ap, _∙_, subst}
 use mathlib.Core.Logic.{inr, ⊎-elim}
-use mathlib.Core.List.{List, [], _∷_, _++_, map, List·Permᴰ, List·Permᴰ·nil, List·Permᴰ·cons, List·Permᴰ·swap, List·Permᴰ·trans, Permᴰ·symm, Permᴰ·middle}
+use mathlib.Core.List.{List, [], _∷_, _++_, map, List·Permᴰ, List·Permᴰ·nil, List·Permᴰ·cons, List·Permᴰ·swap, List·Permᴰ·trans}
+use mathlib.Core.List.{Permᴰ·symm, Permᴰ·middle}
 use Prim.Native.Nat.{ℕ, _≤_, _<_}
 use native.Mathlib.Omega.{arith}
 use lib.Dec.{eqb}

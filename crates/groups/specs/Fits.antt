@@ -1,5 +1,5 @@
--- Of a table whose entries are all unseen by the zoom and whose parents are all unset, a zoom is one zoom: each place is in one group, once; each group is a
--- copy of one entry, or the cluster of its members by 01. Assumes nothing.
+-- Of a table whose entries are all unseen by the zoom and whose parents are all unset, a zoom is one zoom: each place is in one group,
+-- once; each group is a copy of one entry, or the cluster of its members by 01. Assumes nothing.
 use mathlib.Core.Path.{_≡_, refl, sym, ap, _∙_, subst}
 use mathlib.Core.Logic.{inr, ⊎-elim}
 use mathlib.Core.List.{List, _∷_}
@@ -20,11 +20,14 @@ use Rattle.tables.specs.Entries.{Table, entry, none, unset, unseen, marked}
 use Rattle.tables.specs.Ids.{clusterId, id-small}
 use Rattle.zoom.specs.Lamps.{Carried}
 use Rattle.zoom.specs.Zoom.{Scan, cluster}
-use Rattle.groups.specs.Sums.{pick, not-both, one, eqb-same, below, sum, count, count-head, sum-ext, keep-ext, keep-in, range, range-in, range-out}
-use Rattle.groups.specs.Groups.{Group, copied, unseenAt, turn, weighed, without, meanOf, others, members, total, joins, centreAt, groupsAt, after, around, groupsOf}
+use Rattle.groups.specs.Sums.{pick, not-both, one, eqb-same, below, sum, count, count-head, sum-ext, keep-ext, keep-in, range}
+use Rattle.groups.specs.Sums.{range-in, range-out}
+use Rattle.groups.specs.Groups.{Group, copied, unseenAt, turn, weighed, without, meanOf, others, members, total, joins, centreAt}
+use Rattle.groups.specs.Groups.{groupsAt, after, around, groupsOf}
 use Rattle.groups.specs.Counts.{all-counted}
 use Rattle.groups.specs.Sweeps.{inside, seen-alike}
-use Rattle.groups.specs.Run.{Run, stop, pass, acts, run, Answers, members-here, members-unseen, others-are, after-in, after-out, after-done, after-seen, members-split, length-after, run-length, frame}
+use Rattle.groups.specs.Run.{Run, stop, pass, acts, run, Answers, members-here, members-unseen, others-are, after-in, after-out}
+use Rattle.groups.specs.Run.{after-done, after-seen, members-split, length-after, run-length, frame}
 use Rattle.groups.specs.Walks.{weighed-ext}
 use Rattle.groups.specs.Literal.{answers, centre-carries, cluster-groups}
 use Rattle.groups.specs.Once.{groups-once, groups-none}

@@ -1,5 +1,6 @@
--- The next table of a zoom as groups: each of its entries, with the places of the table that it stands for. n is the number of points, least is min_points, z
--- the zoom; `near i` are the places answered around the place i. That these groups are what the zoom makes is shown in Literal. Definitions only.
+-- The next table of a zoom as groups: each of its entries, with the places of the table that it stands for. n is the number of points,
+-- least is min_points, z the zoom; `near i` are the places answered around the place i. That these groups are what the zoom makes is
+-- shown in Literal. Definitions only.
 use mathlib.Core.List.{List, [], _∷_, _++_, map}
 use mathlib.Core.Bool.{Bool, true, false, not}
 use Prim.Native.Nat.{ℕ, _+_}
@@ -16,7 +17,8 @@ use Rattle.groups.specs.Sums.{sum, range}
 
 -- ---- groups
 
--- an entry of the next table: the copy of the entry at one place, or the cluster made at a place, with its members in the order of the answers
+-- an entry of the next table: the copy of the entry at one place, or the cluster made at a place, with its members in the order of the
+-- answers
 pub data Group : Type 0 where
   copied : ℕ → Entry → Group
   joined : ℕ → List ℕ → Entry → Group

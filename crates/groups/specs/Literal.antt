@@ -1,5 +1,5 @@
--- The groups are what a zoom makes: its table afterwards and its next table, step by step as `cluster` has them, are the groups' table and the groups' entries,
--- where no place is answered twice and the own place of each entry is answered around it. Assumes nothing.
+-- The groups are what a zoom makes: its table afterwards and its next table, step by step as `cluster` has them, are the groups' table
+-- and the groups' entries, where no place is answered twice and the own place of each entry is answered around it. Assumes nothing.
 use mathlib.Core.Path.{_≡_, refl, sym, ap, ap₂, _∙_, subst}
 use mathlib.Core.Logic.{⊎-elim}
 use mathlib.Core.List.{List, [], _∷_, _++_, map, append-assoc, append-nil}
@@ -18,10 +18,12 @@ use Rattle.tables.specs.Entries.{Table, entry, none, marked, under}
 use Rattle.tables.specs.Ids.{clusterId}
 use Rattle.zoom.specs.Steps.{totalOf, visit-made, visit-left, scan-seen, scan-visit}
 use Rattle.zoom.specs.Lamps.{Carried, energy-carried}
-use Rattle.zoom.specs.Zoom.{numOf, energyOf, moreOf, Absorbed, absorbed, absorb, started, centre, Scan, made, enough, visit, scanOne, scanFrom, cluster}
+use Rattle.zoom.specs.Zoom.{numOf, energyOf, moreOf, Absorbed, absorbed, absorb, started, centre, Scan, made, enough, visit, scanOne}
+use Rattle.zoom.specs.Zoom.{scanFrom, cluster}
 use Rattle.groups.specs.Sums.{hit, sum-ext, range}
 use Rattle.groups.specs.Counts.{distinct-count, in-count, count-distinct}
-use Rattle.groups.specs.Groups.{Group, copied, entryOf, unseenAt, markedAt, took, turn, change, sweep, others, sumAt, total, joins, weighed, centreAt, groupsAt, after, turning, groupsFrom, around, groupsOf}
+use Rattle.groups.specs.Groups.{Group, copied, entryOf, unseenAt, markedAt, took, turn, change, sweep, others, sumAt, total, joins}
+use Rattle.groups.specs.Groups.{weighed, centreAt, groupsAt, after, turning, groupsFrom, around, groupsOf}
 use Rattle.groups.specs.Sweeps.{inside, seen-alike, turn-seen, length-sweep, sweep-seen, sweep-local, sweep-field}
 use Rattle.groups.specs.Run.{Answers, length-after}
 use Rattle.groups.specs.Walks.{map-ext, more-is, absorb-table, weighed-ext, absorb-sums, copiesOf, copy-is}

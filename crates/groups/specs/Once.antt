@@ -1,5 +1,5 @@
--- Each place of a table that is unseen by the zoom is in exactly one of its groups, once, and no other number is. So where all of them are unseen, the places
--- of the groups are those of the table in another order. Assumes nothing.
+-- Each place of a table that is unseen by the zoom is in exactly one of its groups, once, and no other number is. So where all of them
+-- are unseen, the places of the groups are those of the table in another order. Assumes nothing.
 use mathlib.Core.Path.{_≡_, refl, ap, _∙_}
 use mathlib.Core.Logic.{⊎-elim}
 use mathlib.Core.List.{List, List·Permᴰ}

@@ -1,5 +1,5 @@
--- The groups as a run over the places, one case for a place that is passed by and one for a place that acts: what is seen stays as it is, each place that
--- had its turn is seen, and each place that was unseen comes to be in the groups exactly once. Assumes nothing.
+-- The groups as a run over the places, one case for a place that is passed by and one for a place that acts: what is seen stays as it is,
+-- each place that had its turn is seen, and each place that was unseen comes to be in the groups exactly once. Assumes nothing.
 use mathlib.Core.Path.{_≡_, refl, sym, ap, ap₂, _∙_, subst}
 use mathlib.Core.Logic.{inl, inr, ⊎-elim}
 use mathlib.Core.List.{List, [], _∷_, _++_, map}
@@ -16,7 +16,8 @@ use Rattle.tables.specs.declared.Entry.{Entry}
 use Rattle.tables.specs.Entries.{Table, entry, none, marked}
 use Rattle.tables.specs.Ids.{clusterId}
 use Rattle.groups.specs.Sums.{pick, one, gate, eqb-same, Hit, hit, below, sum, count, sum-append, count-keep, sum-split}
-use Rattle.groups.specs.Groups.{Group, copied, from, froms, unseenAt, markedAt, turn, without, others, members, joins, groupsAt, after, turning, groupsFrom}
+use Rattle.groups.specs.Groups.{Group, copied, from, froms, unseenAt, markedAt, turn, without, others, members, joins, groupsAt}
+use Rattle.groups.specs.Groups.{after, turning, groupsFrom}
 use Rattle.groups.specs.Sweeps.{inside, seen-alike, turn-seen, length-sweep, sweep-seen, sweep-out, sweep-in}
 
 -- ---- the places of groups

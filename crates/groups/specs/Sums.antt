@@ -1,4 +1,5 @@
--- Sums over a list of places and over those of it that pass a test, how often a place is in it, and the places from one on. Assumes nothing.
+-- Sums over a list of places and over those of it that pass a test, how often a place is in it, and the places from one on. Assumes
+-- nothing.
 use mathlib.Core.Path.{_≡_, refl, sym, ap, ap₂, _∙_}
 use mathlib.Core.Logic.{_⊎_, inl, inr, ⊎-elim}
 use mathlib.Core.List.{List, [], _∷_, _++_}

@@ -1,5 +1,5 @@
--- What a sweep makes of each place: one that is unseen and in the list is changed once, and every other stays; seen and the length are as expected, and a
--- field that the change keeps is kept. Assumes nothing.
+-- What a sweep makes of each place: one that is unseen and in the list is changed once, and every other stays; seen and the length are as
+-- expected, and a field that the change keeps is kept. Assumes nothing.
 use mathlib.Core.Path.{_≡_, refl, sym, ap, _∙_, subst}
 use mathlib.Core.Logic.{inl, inr, ⊎-elim}
 use mathlib.Core.List.{List, [], _∷_}

@@ -1,4 +1,5 @@
--- Each walk of the zoom over the answers, by the list of those that are unseen: the total, what is absorbed, what is copied. Assumes nothing.
+-- Each walk of the zoom over the answers, by the list of those that are unseen: the total, what is absorbed, what is copied. Assumes
+-- nothing.
 use mathlib.Core.Path.{_≡_, refl, sym, ap, ap₂, _∙_}
 use mathlib.Core.List.{List, [], _∷_, _++_, map, append-nil}
 use mathlib.Core.Bool.{Bool, true, false, cond}

@@ -24,7 +24,8 @@ use Rattle.kdbush.specs.declared.Outside.the-variants.{At, Nothing}
 use Rattle.kdslots.specs.Query.{queryOk}
 use Rattle.kdslots.specs.Bounds.{nodeSizeOk, countOk, yes, no}
 use Rattle.kdbush.specs.Run.{ran, run, pickReply, sound, whole, filled}
-use Rattle.kdbush.specs.Reply.{firstOutside, pointed, checked, builtBy, built, found, told, indexOk, listed, listedColumn, searched, columnAfter}
+use Rattle.kdbush.specs.Reply.{firstOutside, pointed, checked, builtBy, built, found, told, indexOk, listed, listedColumn, searched}
+use Rattle.kdbush.specs.Reply.{columnAfter}
 use Rattle.kdbush.proofs.Runs.{ends}
 
 -- ---- the searches

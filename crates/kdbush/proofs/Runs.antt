@@ -12,7 +12,8 @@ use borrow.Author.Tests.{le-ltb, lt-ltb}
 use Rattle.kdbush.specs.declared.Found.{Found}
 use Rattle.kdbush.specs.declared.Found.the-variants.{All, Spoiled}
 use Rattle.kdsort.specs.Shape.{shape, mid, spans}
-use Rattle.kdslots.specs.Slots.{Search, when, scanned, slots, below}
+use Rattle.kdslots.specs.Slots.{Search, when, scanned, slots}
+use Rattle.kdslots.specs.Intervals.{below}
 use Rattle.kdslots.specs.Intervals.{scanned-suc, slots-leaf, slots-node, when-length, slots-length}
 use Rattle.kdbush.specs.Run.{Ran, ran, run, run-append, places, places-length, reply, sound, filled, run-filled}
 

@@ -1,5 +1,5 @@
--- A build that is not refused leaves an index of its points: each slot holds one point and each point has one slot, in the order of the tree, and what lies
--- past them is as it was. Every coordinate in it is from 0 to 1. Assumes nothing.
+-- A build that is not refused leaves an index of its points: each slot holds one point and each point has one slot, in the order of the
+-- tree, and what lies past them is as it was. Every coordinate in it is from 0 to 1. Assumes nothing.
 use mathlib.Core.Path.{_≡_, refl, sym, subst}
 use mathlib.Core.Bool.{Bool, true, false, _&&_}
 use mathlib.Core.List.{List, [], _∷_}

@@ -1,6 +1,6 @@
--- Of an index built from its points, what every search answers, in places, `range` and `within` alike: exactly the points that pass its test, each once, in one
--- order of all places that no query changes (`answered-kept`). The own place of a query that is a point of the index is among them, and no search of such an index
--- is refused as spoiled. Assumes nothing.
+-- Of an index built from its points, what every search answers, in places, `range` and `within` alike: exactly the points that pass its
+-- test, each once, in one order of all places that no query changes (`answered-kept`). The own place of a query that is a point of the
+-- index is among them, and no search of such an index is refused as spoiled. Assumes nothing.
 use mathlib.Core.Path.{_≡_, refl, sym, ap, _∙_, subst}
 use mathlib.Core.Bool.{Bool, true, false, _&&_}
 use mathlib.Core.List.{List, [], _∷_, _++_}

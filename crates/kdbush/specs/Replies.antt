@@ -1,4 +1,5 @@
--- Any two replies that meet the contract of a public function of this crate are equal, and so are any two columns that they leave. Assumes nothing.
+-- Any two replies that meet the contract of a public function of this crate are equal, and so are any two columns that they leave.
+-- Assumes nothing.
 use mathlib.Core.Path.{_≡_}
 use mathlib.Core.List.{List}
 use Prim.Native.Nat.{ℕ}
@@ -8,7 +9,8 @@ use Rattle.kdsort.specs.Cols.{Cols}
 use Rattle.kdslots.specs.declared.Query.{Query}
 use Rattle.kdbush.specs.declared.BuildReply.{BuildReply}
 use Rattle.kdbush.specs.declared.SearchReply.{SearchReply}
-use Rattle.kdbush.specs.Reply.{buildNumber, buildCarried, checked, built, listed, listedColumn, searched, columnAfter}
+use Rattle.kdbush.specs.Reply.{buildNumber, buildCarried, searchNumber, searchCarried}
+use Rattle.kdbush.specs.Reply.{checked, built, listed, listedColumn, searched, columnAfter}
 
 pub build-replies : (size : ℕ) (xs ys : List Float) (s : Cols) (r t : BuildReply) → r ≡ checked size xs ys s → t ≡ checked size xs ys s → r ≡ t
 build-replies size xs ys s r t = same-reply
@@ -23,7 +25,14 @@ number-replies b r t = same-reply
 pub carried-replies : (b : BuildReply) (r t : ℕ) → r ≡ buildCarried b → t ≡ buildCarried b → r ≡ t
 carried-replies b r t = same-reply
 
--- `search`
+-- the methods of a search's reply
+pub found-number-replies : (s : SearchReply) (r t : ℕ) → r ≡ searchNumber s → t ≡ searchNumber s → r ≡ t
+found-number-replies s r t = same-reply
+
+pub found-carried-replies : (s : SearchReply) (r t : ℕ) → r ≡ searchCarried s → t ≡ searchCarried s → r ≡ t
+found-carried-replies s r t = same-reply
+
+-- `search`, which is below the surface
 pub list-replies : (q : Query) (size n : ℕ) (ids : List ℕ) (co : List Float) (room : ℕ) (r t : SearchReply) → r ≡ listed q size n ids co room → t ≡ listed q size n ids co room → r ≡ t
 list-replies q size n ids co room r t = same-reply
 

@@ -1,5 +1,5 @@
--- The replies of the public functions and what they leave in the lent columns, for every input: 01's refusals in 01's order, and otherwise the answer.
--- Definitions only.
+-- The replies of the public functions and what they leave in the lent columns, for every input: 01's refusals in 01's order, and
+-- otherwise the answer. Definitions only.
 use mathlib.Core.Bool.{Bool, true, false, cond, _&&_}
 use mathlib.Core.List.{List, [], _∷_}
 use Prim.Native.Nat.{ℕ, suc, _*_}
@@ -7,7 +7,7 @@ use lib.Dec.{leb, eqb}
 use lib.ListN.{length}
 use lib.Ieee.{Float}
 use Rattle.floats.specs.Unit.{in01}
-use Rattle.kdsort.specs.Cols.{Cols}
+use Rattle.kdsort.specs.Cols.{Cols, blank}
 use Rattle.kdsort.specs.Sort.{indexed}
 use Rattle.kdslots.specs.declared.Query.{Query}
 use Rattle.kdbush.specs.declared.BuildReply.{BuildReply}
@@ -70,7 +70,9 @@ abbrev pub pairOk : List Float → List Float → Bool
 pairOk xs ys = countOk (length xs) && eqb (length ys) (length xs)
 
 unfoldable pub checked : ℕ → List Float → List Float → Cols → BuildReply
-checked size xs ys s = inOrder (nodeSizeOk size) (pairOk xs ys) (firstOutside xs ys 0) (leb (length xs) (length (s .ids)) && leb (2 * length xs) (length (s .co)))
+checked size xs ys s =
+    inOrder (nodeSizeOk size) (pairOk xs ys) (firstOutside xs ys 0)
+    (leb (length xs) (length (s .ids)) && leb (2 * length xs) (length (s .co)))
 
 -- the columns after a reply: the index, or as they were
 abbrev pub builtBy : BuildReply → ℕ → List Float → List Float → Cols → Cols
@@ -82,6 +84,10 @@ builtBy Tables size xs ys s = s
 
 abbrev pub built : ℕ → List Float → List Float → Cols → Cols
 built size xs ys s = builtBy (checked size xs ys s) size xs ys s
+
+-- the index of points, in columns that just hold it
+unfoldable pub indexOf : ℕ → List Float → List Float → Cols
+indexOf size xs ys = indexed size xs ys (blank (length xs))
 
 -- ---- the searches, over any lent columns
 
@@ -102,7 +108,8 @@ unfoldable pub listed : Query → ℕ → ℕ → List ℕ → List Float → �
 listed q size n ids co room =
     cond (indexOk size n ids co) (told (whole n (found q size n ids co)) (length (found q size n ids co)) room) Spoiled
 
--- the column: the places before the first that is past the table, as many as fit, and then the old contents; as it was, where the index is refused
+-- the column: the places before the first that is past the table, as many as fit, and then the old contents; as it was, where the index
+-- is refused
 unfoldable pub listedColumn : Query → ℕ → ℕ → List ℕ → List Float → List ℕ → List ℕ
 listedColumn q size n ids co out = cond (indexOk size n ids co) (filled (sound n (found q size n ids co)) out) out
 

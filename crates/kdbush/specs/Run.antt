@@ -16,7 +16,8 @@ use Rattle.kdbush.specs.declared.Found.the-variants.{All, Spoiled}
 pub data Ran : Type 0 where
   ran : Found → List ℕ → Ran
 
--- the places p one after the other, `at` found before, an index of n: each goes to its position, if that is within the column. The first that is n or more ends it.
+-- the places p one after the other, `at` found before, an index of n: each goes to its position, if that is within the column. The first
+-- that is n or more ends it.
 unfoldable pub run : ℕ → ℕ → List ℕ → List ℕ → Ran
 run n at [] out = ran (All at) out
 run n at (p ∷ ps) out =
@@ -73,7 +74,7 @@ abbrev pub reply : ℕ → List ℕ → Found
 reply n ps = pickReply (whole n ps) (length ps)
 
 -- the first items, as many as fit, and then the old contents
-abbrev pub filled : List ℕ → List ℕ → List ℕ
+abbrev pub filled : {A : Type 0} → List A → List A → List A
 filled ps out = take (length out) ps ++ drop (length ps) out
 
 run-sets : (n at : ℕ) (ps out : List ℕ) → run n at ps out ≡ ran (pickReply (whole n ps) (at + length ps)) (sets out at (sound n ps))

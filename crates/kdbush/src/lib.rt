@@ -10,7 +10,8 @@ ghost use Rattle.kdsort.specs.Cols.{cols};
 ghost use Rattle.kdsort.specs.Shape.{shape};
 ghost use Rattle.kdslots.specs.Slots.{over, when, scanned, slots};
 ghost use Rattle.kdbush.specs.Run.{ran, run, places};
-ghost use Rattle.kdbush.specs.Reply.{buildNumber, buildCarried, firstOutside, checked, built, listed, listedColumn, searched, columnAfter};
+ghost use Rattle.kdbush.specs.Reply.{buildNumber, buildCarried, searchNumber, searchCarried};
+ghost use Rattle.kdbush.specs.Reply.{firstOutside, checked, built, listed, listedColumn, searched, columnAfter};
 
 // The reply of a build, in 01's words: done, or a refusal. `Point` carries the first point outside [0,1].
 pub enum BuildReply {
@@ -55,6 +56,32 @@ pub enum SearchReply {
     Box,
     NoRoom(usize),
     Spoiled,
+}
+
+impl SearchReply {
+    // 01's number of the reply: 0 where nothing is refused.
+    pub fn number(self) -> u32
+        ensures { λ r. ⌜ r ≡ searchNumber self ⌝ }
+    {
+        match self {
+            SearchReply::Found(_) => 0,
+            SearchReply::Box => 9,
+            SearchReply::NoRoom(_) => 10,
+            SearchReply::Spoiled => 11,
+        }
+    }
+
+    // What the reply carries: 0 where it carries nothing.
+    pub fn carried(self) -> usize
+        ensures { λ r. ⌜ r ≡ searchCarried self ⌝ }
+    {
+        match self {
+            SearchReply::Found(k) => k,
+            SearchReply::Box => 0,
+            SearchReply::NoRoom(k) => k,
+            SearchReply::Spoiled => 0,
+        }
+    }
 }
 
 // The first point outside [0,1], if there is one.
@@ -128,7 +155,8 @@ fn scan(
     Found::All(k)
 }
 
-// Answers the slots from lo up to hi: the median if it passes, then the right part, then the left; an interval of at most `most` slots one by one.
+// Answers the slots from lo up to hi: the median if it passes, then the right part, then the left; an interval of at most `most` slots
+// one by one.
 fn part(
     q: Query,
     ids: &[u32],
@@ -183,7 +211,8 @@ fn first_outside(xs: &[f64], ys: &[f64]) -> Outside
     Outside::Nothing
 }
 
-// Builds the index of the points (xs[i], ys[i]) in the first slots of the lent columns; what lies past them keeps its contents. A refusal writes nothing.
+// Builds the index of the points (xs[i], ys[i]) in the first slots of the lent columns; what lies past them keeps its contents. A refusal
+// writes nothing.
 pub fn build(
     node_size: usize,
     xs: &[f64],
@@ -217,7 +246,9 @@ pub fn build(
     BuildReply::Done
 }
 
-// Writes the places that a query answers over any lent index of n slots: first items, then old contents. No number of the query is refused.
+// Writes the places that a query answers over any lent index of n slots: first items, then old contents. No number of the query is
+// refused, so it never gives 9. Not part of the public surface, but for `boxes`: a box that is given in finite numbers may be normalised
+// to infinite ones, and is searched all the same.
 pub fn search(
     q: Query,
     node_size: usize,

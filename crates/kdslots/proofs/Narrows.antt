@@ -1,4 +1,5 @@
--- What a search of an interval answers where only one side is searched: what that side answers, since no median passes there. Assumes nothing.
+-- What a search of an interval answers where only one side is searched: what that side answers, since no median passes there. Assumes
+-- nothing.
 use mathlib.Core.Path.{_≡_, refl, sym, ap, _∙_, subst}
 use mathlib.Core.Bool.{Bool, true, false, _&&_, true≢false}
 use mathlib.Core.List.{List, [], _∷_, _++_}

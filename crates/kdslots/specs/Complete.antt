@@ -1,5 +1,5 @@
--- Over an index in the order of the tree every search answers just the slots that pass, each box and each ring: it is a filter of one order of all slots, which
--- no query changes. Assumes nothing.
+-- Over an index in the order of the tree every search answers just the slots that pass, each box and each ring: it is a filter of one
+-- order of all slots, which no query changes. Assumes nothing.
 use mathlib.Core.Bool.{Bool, true, false, true≢false}
 use mathlib.Core.Path.{_≡_, refl, sym, ap, ap₂, _∙_, subst}
 use mathlib.Core.List.{List, [], _∷_, _++_}

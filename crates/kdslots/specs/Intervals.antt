@@ -1,5 +1,4 @@
--- What an interval answers, by its first slot or its median, and how many slots that are; and when two intervals answer alike (`Alike`), by which narrowing is
--- stated. Assumes nothing.
+-- What an interval answers, by its first slot or its median, and how many slots that are. Assumes nothing.
 use mathlib.Core.Path.{_≡_}
 use mathlib.Core.Bool.{Bool, true, false}
 use mathlib.Core.List.{List, [], _∷_, _++_}
@@ -9,11 +8,13 @@ use lib.Ieee.{Float}
 use lib.ListN.{length, length-append}
 use Rattle.kdsort.specs.Shape.{Shape, shape, mid, Spans, all, both, spans, shape-leaf, shape-node}
 use Rattle.kdslots.specs.declared.Query.{Query}
-use Rattle.kdslots.specs.Slots.{Search, when, scanned, slots, below, over, answers}
+use Rattle.kdslots.specs.Slots.{Search, when, scanned, slots, over, answers}
 
--- two intervals, the axis of each before it, that answer the same, whatever is the size up to `stop` at which an interval is not split
-abbrev pub Alike : Search → ℕ → ℕ → ℕ → ℕ → ℕ → ℕ → ℕ → Type 0
-Alike s stop ax lo hi ax' lo' hi' = (most : ℕ) → most ≤ stop → slots s ax (shape most lo hi) ≡ slots s ax' (shape most lo' hi')
+-- what is answered below the median of the slots from lo up to hi
+abbrev pub below : Search → ℕ → ℕ → ℕ → ℕ → List ℕ
+below s ax most lo hi =
+    when (s .right ax (mid lo hi)) (slots s (1 - ax) (shape most (mid lo hi + 1) hi))
+    ++ when (s .left ax (mid lo hi)) (slots s (1 - ax) (shape most lo (mid lo hi)))
 
 pub scanned-suc : (s : Search) (i hi : ℕ) → i < hi → scanned s i (hi - i) ≡ when (s .test i) (i ∷ []) ++ scanned s (i + 1) (hi - (i + 1))
 unfolding scanned

@@ -1,4 +1,5 @@
--- Definitions that contracts cite: Query, Slots, Bounds (its first); in the crates above also All (its first two). All else is laws and theorems about them.
+-- Definitions that contracts cite: Query, Slots, Bounds (its first); in the crates above also All (its first two). All else is laws and
+-- theorems about them.
 pub mod Query
 pub mod Slots
 pub mod Bounds

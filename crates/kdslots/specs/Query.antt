@@ -1,5 +1,5 @@
--- The tests of a search on the two coordinates of a slot, and of the coordinate at which an interval is split, one rounding an operation, and 01's bounds of a
--- query. Definitions only.
+-- The tests of a search on the two coordinates of a slot, and of the coordinate at which an interval is split, one rounding an operation,
+-- and 01's bounds of a query. Definitions only.
 use mathlib.Core.Bool.{Bool, _&&_, not, cond}
 use Prim.Native.Nat.{ℕ}
 use lib.Dec.{eqb}
@@ -23,8 +23,8 @@ onAxis ax x y = cond (eqb ax 0) x y
 abbrev pub tooFar : Float → Float → Float → Bool
 tooFar v p r = lt (mul binary64 r r) (mul binary64 (sub binary64 v p) (sub binary64 v p))
 
--- whether the part left of an interval's median is gone into, for the median's coordinate v on the axis: in a box by the box's own edge; around a place it is
--- skipped only where the place lies above v, too far
+-- whether the part left of an interval's median is gone into, for the median's coordinate v on the axis: in a box by the box's own edge;
+-- around a place it is skipped only where the place lies above v, too far
 abbrev pub goesLeft : Query → ℕ → Float → Bool
 goesLeft (Range a b c d) ax v = le (onAxis ax a b) v
 goesLeft (Within qx qy r) ax v = not (lt v (onAxis ax qx qy) && tooFar v (onAxis ax qx qy) r)

@@ -1,5 +1,5 @@
--- No search skips a part that has a slot which passes, where the part is in order around its median; and where a part is skipped the median itself does not
--- pass. For every query, whatever its numbers are. Assumes nothing.
+-- No search skips a part that has a slot which passes, where the part is in order around its median; and where a part is skipped the
+-- median itself does not pass. For every query, whatever its numbers are. Assumes nothing.
 use mathlib.Core.Path.{_≡_, refl}
 use mathlib.Core.Bool.{Bool, true, false, _&&_, not}
 use mathlib.Core.List.{List}
@@ -20,15 +20,15 @@ use Rattle.floats.specs.Skip.{left-x-fails, left-y-fails, right-x-fails, right-
 pub record InBox (a b c d x y : Float) : Type 0 where
   pub west : T (le a x)
   pub east : T (le x c)
-  pub south : T (le b y)
-  pub north : T (le y d)
+  pub low : T (le b y)
+  pub high : T (le y d)
 
 pub in-box : (a b c d x y : Float) → passesQ (Range a b c d) x y ≡ true → InBox a b c d x y
 in-box a b c d x y e =
     let w = and-both (le a x && le x c && le b y) (le y d) e in
     let v = and-both (le a x && le x c) (le b y) (w .0) in
     let u = and-both (le a x) (le x c) (v .0) in
-    record { west = yes-of (u .0); east = yes-of (u .1); south = yes-of (v .1); north = yes-of (w .1) }
+    record { west = yes-of (u .0); east = yes-of (u .1); low = yes-of (v .1); high = yes-of (w .1) }
 
 -- of the two coordinates of a slot, the one on the axis
 pub on-axis : (cs : List Float) (i ax : ℕ) → ax < 2 → onAxis ax (key 0 cs i) (key 1 cs i) ≡ key ax cs i
@@ -45,7 +45,7 @@ module _ (x y v : Float) where
   -- a point left of the split coordinate, or on it
   pub reaches-left : (q : Query) (ax : ℕ) → ax < 2 → T (le (onAxis ax x y) v) → passesQ q x y ≡ true → goesLeft q ax v ≡ true
   reaches-left (Range a b c d) zero h l e = is-true _ (le-le-trans a x v (in-box a b c d x y e .west) l)
-  reaches-left (Range a b c d) (suc zero) h l e = is-true _ (le-le-trans b y v (in-box a b c d x y e .south) l)
+  reaches-left (Range a b c d) (suc zero) h l e = is-true _ (le-le-trans b y v (in-box a b c d x y e .low) l)
   reaches-left (Range a b c d) (suc (suc k)) h l e = absurd (omega arith)
   reaches-left (Within qx qy r) zero h l e = goes (lt v qx) (tooFar v qx r) (λ k j. left-x-fails x y v qx qy (mul binary64 r r) l k j (yes-of e))
   reaches-left (Within qx qy r) (suc zero) h l e = goes (lt v qy) (tooFar v qy r) (λ k j. left-y-fails x y v qx qy (mul binary64 r r) l k j (yes-of e))
@@ -54,7 +54,7 @@ module _ (x y v : Float) where
   -- a point right of it, or on it
   pub reaches-right : (q : Query) (ax : ℕ) → ax < 2 → T (le v (onAxis ax x y)) → passesQ q x y ≡ true → goesRight q ax v ≡ true
   reaches-right (Range a b c d) zero h l e = is-true _ (le-le-trans v x c l (in-box a b c d x y e .east))
-  reaches-right (Range a b c d) (suc zero) h l e = is-true _ (le-le-trans v y d l (in-box a b c d x y e .north))
+  reaches-right (Range a b c d) (suc zero) h l e = is-true _ (le-le-trans v y d l (in-box a b c d x y e .high))
   reaches-right (Range a b c d) (suc (suc k)) h l e = absurd (omega arith)
   reaches-right (Within qx qy r) zero h l e = goes (lt qx v) (tooFar v qx r) (λ k j. right-x-fails x y v qx qy (mul binary64 r r) l k j (yes-of e))
   reaches-right (Within qx qy r) (suc zero) h l e = goes (lt qy v) (tooFar v qy r) (λ k j. right-y-fails x y v qx qy (mul binary64 r r) l k j (yes-of e))
@@ -64,7 +64,7 @@ module _ (x y v : Float) where
 
 passes-number : (x y : Float) (q : Query) (ax : ℕ) → ax < 2 → passesQ q x y ≡ true → T (not (isNan (onAxis ax x y)))
 passes-number x y (Range a b c d) zero h e = le-right-number a x (in-box a b c d x y e .west)
-passes-number x y (Range a b c d) (suc zero) h e = le-right-number b y (in-box a b c d x y e .south)
+passes-number x y (Range a b c d) (suc zero) h e = le-right-number b y (in-box a b c d x y e .low)
 passes-number x y (Range a b c d) (suc (suc k)) h e = absurd (omega arith)
 passes-number x y (Within qx qy r) zero h e = x-number x y qx qy (mul binary64 r r) (yes-of e)
 passes-number x y (Within qx qy r) (suc zero) h e = y-number x y qx qy (mul binary64 r r) (yes-of e)

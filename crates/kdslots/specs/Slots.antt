@@ -1,15 +1,16 @@
--- The slots that a search answers, in the order in which it answers them: of an interval that is split the median if it passes, then the right part, then
--- the left; an unsplit interval slot by slot. Definitions only.
+-- The slots that a search answers, in the order in which it answers them: of an interval that is split the median if it passes, then the
+-- right part, then the left; an unsplit interval slot by slot. Definitions only.
 use mathlib.Core.Bool.{Bool, true, false}
 use mathlib.Core.List.{List, [], _∷_, _++_}
 use Prim.Native.Nat.{ℕ, zero, suc, _+_, _-_}
 use lib.Ieee.{Float}
 use Rattle.kdsort.specs.Cols.{key}
-use Rattle.kdsort.specs.Shape.{Shape, leaf, node, shape, mid}
+use Rattle.kdsort.specs.Shape.{Shape, leaf, node, shape}
 use Rattle.kdslots.specs.declared.Query.{Query}
 use Rattle.kdslots.specs.Query.{passesQ, goesLeft, goesRight}
 
--- a search: whether a slot passes, and whether the part right of a median and the part left of it are gone into, on the axis on which it is split
+-- a search: whether a slot passes, and whether the part right of a median and the part left of it are gone into, on the axis on which it
+-- is split
 pub record Search : Type 0 where
   pub test : ℕ → Bool
   pub right : ℕ → ℕ → Bool
@@ -29,11 +30,8 @@ scanned s i (suc k) = when (s .test i) (i ∷ []) ++ scanned s (i + 1) k
 unfoldable pub slots : Search → ℕ → Shape → List ℕ
 unfolding scanned
 slots s ax (leaf lo hi) = scanned s lo (hi - lo)
-slots s ax (node m r l) = when (s .test m) (m ∷ []) ++ (when (s .right ax m) (slots s (1 - ax) r) ++ when (s .left ax m) (slots s (1 - ax) l))
-
--- what is answered below the median of the slots from lo up to hi
-abbrev pub below : Search → ℕ → ℕ → ℕ → ℕ → List ℕ
-below s ax most lo hi = when (s .right ax (mid lo hi)) (slots s (1 - ax) (shape most (mid lo hi + 1) hi)) ++ when (s .left ax (mid lo hi)) (slots s (1 - ax) (shape most lo (mid lo hi)))
+slots s ax (node m r l) =
+    when (s .test m) (m ∷ []) ++ (when (s .right ax m) (slots s (1 - ax) r) ++ when (s .left ax m) (slots s (1 - ax) l))
 
 -- a query over the coordinates of an index: a part is skipped by the median's coordinate on the axis
 abbrev pub over : Query → List Float → Search

@@ -12,7 +12,9 @@ use Rattle.kdsort.specs.Shape.{Shape, leaf, node, shape, Spans, all, both, span
 use Rattle.kdslots.specs.declared.Query.{Query}
 use Rattle.kdslots.specs.Query.{passesQ}
 use Rattle.kdslots.specs.Slots.{Search, when, scanned, slots, over, answers}
-use Rattle.kdslots.specs.Members.{In, Distinct, Between, split, no-nil, when-all, sole, widen, between-append, between-when, between-one, between-in, apart-left, apart-right, notin-append, distinct-right, distinct-when, distinct-one}
+use Rattle.kdslots.specs.Members.{In, Distinct, Between, split, no-nil, when-all, sole, widen, between-append, between-when}
+use Rattle.kdslots.specs.Members.{between-one, between-in, apart-left, apart-right, notin-append, distinct-right, distinct-when}
+use Rattle.kdslots.specs.Members.{distinct-one}
 
 -- ---- each answer passes the test, over any index
 

@@ -1,5 +1,5 @@
-// What is asked of an index, and what is tested at a slot of it: the tests of a search, the interval that a search begins with, and 01's bounds of an index
-// and of a query. Below `kdbush` and `kdwalk`, which search by them: a function may ask something of its caller.
+// What is asked of an index, and what is tested at a slot of it: the tests of a search, the interval that a search begins with, and 01's
+// bounds of an index and of a query. Below `kdbush` and `kdwalk`, which search by them: a function may ask something of its caller.
 ghost use mathlib.Core.Path.{_≡_};
 ghost use Prim.Native.Nat.{_+_, _*_, _≤_, _<_};
 ghost use lib.ListN.{length};
@@ -7,8 +7,13 @@ ghost use Rattle.lent.specs.Lent.{old};
 ghost use Rattle.kdsort.specs.Shape.{shape};
 ghost use Rattle.kdslots.specs.Query.{passesQ, queryOk};
 ghost use Rattle.kdslots.specs.Slots.{over, slots};
-ghost use Rattle.kdslots.specs.Intervals.{Alike};
 ghost use Rattle.kdslots.specs.Bounds.{nodeSizeOk, countOk, coordsOk};
+
+// The most points that an index may have.
+pub const MOST_POINTS: usize = 1048576;
+
+// The largest node size.
+pub const MOST_NODE_SIZE: usize = 65535;
 
 // What is asked of an index: the entries of a box, or those around a place.
 pub enum Query {
@@ -109,16 +114,17 @@ pub fn right_at(q: Query, coords: &[f64], axis: usize, m: usize) -> bool
     }
 }
 
-// An interval that answers what v answers: while it has more than `stop` slots and only one side is searched, the rest is left out. No median is answered there.
-fn narrow_to(q: Query, coords: &[f64], stop: usize, v: Interval) -> Interval
-    requires { ⌜ (2 * v .hi ≤ length (now coords)) × (v .lo ≤ v .hi) × (v .axis < 2) ⌝ }
-    ensures { λ r. ⌜ Alike (over q (old coords)) stop (r .axis) (r .lo) (r .hi) (v .axis) (v .lo) (v .hi) ⌝ }
-    ensures { λ r. ⌜ (r .lo ≤ r .hi) × (r .hi ≤ v .hi) × (r .axis < 2) ⌝ }
+// An interval that has all that is answered of the slots below n: while it has more than `most` slots and only one side of its median is
+// searched, the rest is left out. No median is answered there.
+pub fn narrow(q: Query, coords: &[f64], most: usize, n: usize) -> Interval
+    requires { ⌜ 2 * n ≤ length (now coords) ⌝ }
+    ensures { λ r. let s = over q (old coords) in ⌜ slots s (r .axis) (shape most (r .lo) (r .hi)) ≡ slots s 0 (shape most 0 n) ⌝ }
+    ensures { λ r. ⌜ (r .lo ≤ r .hi) × (r .hi ≤ n) × (r .axis < 2) ⌝ }
 {
-    let mut lo = v.lo;
-    let mut hi = v.hi;
-    let mut axis = v.axis;
-    while stop < hi - lo {
+    let mut lo = 0;
+    let mut hi = n;
+    let mut axis = 0;
+    while most < hi - lo {
         let m = lo + (hi - lo - 1) / 2;
         if right_at(q, coords, axis, m) {
             if left_at(q, coords, axis, m) {
@@ -137,202 +143,12 @@ fn narrow_to(q: Query, coords: &[f64], stop: usize, v: Interval) -> Interval
     Interval { lo, hi, axis }
 }
 
-// The coordinates between which the slots of an interval lie, where the index is in order.
-struct Bounds {
-    x0: f64,
-    x1: f64,
-    y0: f64,
-    y1: f64,
-}
-
-// The bounds of what lies right of v on the axis, or left of it.
-fn cut(b: Bounds, axis: usize, right: bool, v: f64) -> Bounds {
-    let mut c = b;
-    if axis == 0 {
-        if right {
-            c.x0 = v;
-        } else {
-            c.x1 = v;
-        }
-    } else {
-        if right {
-            c.y0 = v;
-        } else {
-            c.y1 = v;
-        }
-    }
-    c
-}
-
-// Halfway between the bounds on an axis.
-fn halfway(b: Bounds, axis: usize) -> f64 {
-    if axis == 0 {
-        return (b.x0 + b.x1) * 0.5;
-    }
-    (b.y0 + b.y1) * 0.5
-}
-
-// The middle of what is asked for, on an axis.
-fn middle(q: Query, axis: usize) -> f64 {
-    match q {
-        Query::Range {
-            min_x,
-            min_y,
-            max_x,
-            max_y,
-        } => {
-            if axis == 0 {
-                (min_x + max_x) * 0.5
-            } else {
-                (min_y + max_y) * 0.5
-            }
-        }
-        Query::Within { qx, qy, radius } => { if axis == 0 { qx } else { qy } }
-    }
-}
-
-// The bounds of the interval v, by the medians on the way to it.
-fn bounds_of(coords: &[f64], n: usize, v: Interval) -> Bounds
-    requires { ⌜ (2 * n ≤ length (now coords)) × (v .lo ≤ v .hi) ⌝ }
-{
-    let mut b = Bounds {
-        x0: 0.0,
-        x1: 1.0,
-        y0: 0.0,
-        y1: 1.0,
-    };
-    let mut lo = 0;
-    let mut hi = n;
-    let mut axis = 0;
-    let width = v.hi - v.lo;
-    while width < hi - lo {
-        let m = lo + (hi - lo - 1) / 2;
-        let right = m < v.lo;
-        b = cut(b, axis, right, coords[2 * m + axis]);
-        axis = 1 - axis;
-        if right {
-            lo = m + 1;
-        } else {
-            hi = m;
-        }
-    }
-    b
-}
-
-// Whether one of the slots from lo up to hi has no number for x, by every fourth of them: one in each line of memory.
-fn has_odd(coords: &[f64], lo: usize, hi: usize) -> bool
-    requires { ⌜ 2 * hi ≤ length (now coords) ⌝ }
-{
-    let mut odd = false;
-    let mut i = lo;
-    while i < hi {
-        odd = odd | floats::is_nan(coords[2 * i]);
-        i += 4;
-    }
-    odd
-}
-
-// Whether one of the slots from lo up to hi names the place after all places, by every sixteenth of them: one in each line of memory.
-fn has_none(ids: &[u32], lo: usize, hi: usize) -> bool {
-    let mut none = false;
-    let mut i = lo;
-    while i < hi {
-        if ids.len() <= i {
-            return none;
-        }
-        none = none | (ids[i] == 4294967295);
-        i += 16;
-    }
-    none
-}
-
-// Looks at the medians that a search is likely to come to below the interval v, and for a box at the slots where it is likely to end and at their places, and
-// says whether one of them is odd: a slot with no number for x, or a place after all places. The way there is guessed, as if slots lay evenly between the
-// bounds of an interval, so that no median has to be read before the next one is known. Around a place it ends at the medians: to look at the slots too
-// gained nothing that was measured.
-fn look_ahead(
-    q: Query,
-    ids: &[u32],
-    coords: &[f64],
-    most: usize,
-    v: Interval,
-    bounds: Bounds,
-) -> bool
-    requires { ⌜ (2 * v .hi ≤ length (now coords)) × (v .lo ≤ v .hi) × (v .axis < 2) ⌝ }
-{
-    let mut b = bounds;
-    let mut lo = v.lo;
-    let mut hi = v.hi;
-    let mut axis = v.axis;
-    let mut odd = false;
-    while most < hi - lo {
-        let m = lo + (hi - lo - 1) / 2;
-        odd = odd | floats::is_nan(coords[2 * m]);
-        let x = halfway(b, axis);
-        let right = x <= middle(q, axis);
-        b = cut(b, axis, right, x);
-        axis = 1 - axis;
-        if right {
-            lo = m + 1;
-        } else {
-            hi = m;
-        }
-    }
-    match q {
-        Query::Range { .. } => odd | has_odd(coords, lo, hi) | has_none(ids, lo, hi),
-        Query::Within { .. } => odd,
-    }
-}
-
-// An interval that has all that is answered of the slots below n.
-pub fn narrow(q: Query, coords: &[f64], most: usize, n: usize) -> Interval
-    requires { ⌜ 2 * n ≤ length (now coords) ⌝ }
-    ensures { λ r. ⌜ slots (over q (old coords)) (r .axis) (shape most (r .lo) (r .hi)) ≡ slots (over q (old coords)) 0 (shape most 0 n) ⌝ }
-    ensures { λ r. ⌜ (r .lo ≤ r .hi) × (r .hi ≤ n) × (r .axis < 2) ⌝ }
-{
-    let all = Interval {
-        lo: 0,
-        hi: n,
-        axis: 0,
-    };
-    narrow_to(q, coords, most, all)
-}
-
-// The same, for a walk, which most often ends with few slots. The memory of a large index is seldom in the caches, and each median is known only when the one
-// before it was read. So the last of them are looked at before they are needed, and are fetched together. What `look_ahead` says decides only how far is
-// narrowed, which changes no answer; and no slot of a built index has no number.
-pub fn narrow_ahead(q: Query, ids: &[u32], coords: &[f64], most: usize, n: usize) -> Interval
-    requires { ⌜ 2 * n ≤ length (now coords) ⌝ }
-    ensures { λ r. ⌜ slots (over q (old coords)) (r .axis) (shape most (r .lo) (r .hi)) ≡ slots (over q (old coords)) 0 (shape most 0 n) ⌝ }
-    ensures { λ r. ⌜ (r .lo ≤ r .hi) × (r .hi ≤ n) × (r .axis < 2) ⌝ }
-{
-    if n <= 131072 {
-        return narrow(q, coords, most, n);
-    }
-    if 2048 < most {
-        return narrow(q, coords, most, n);
-    }
-    let all = Interval {
-        lo: 0,
-        hi: n,
-        axis: 0,
-    };
-    let v = narrow_to(q, coords, 2048, all);
-    if 2048 < v.hi - v.lo {
-        return v;
-    }
-    if look_ahead(q, ids, coords, most, v, bounds_of(coords, n, v)) {
-        return v;
-    }
-    narrow_to(q, coords, most, v)
-}
-
 // Whether an index may have this node size.
 pub fn node_size_ok(node_size: usize) -> bool
     ensures { λ r. ⌜ r ≡ nodeSizeOk «node_size» ⌝ }
 {
     if 1 <= node_size {
-        return node_size <= 65535;
+        return node_size <= MOST_NODE_SIZE;
     }
     false
 }
@@ -342,7 +158,7 @@ pub fn count_ok(n: usize) -> bool
     ensures { λ r. ⌜ r ≡ countOk n ⌝ }
 {
     if 1 <= n {
-        return n <= 1048576;
+        return n <= MOST_POINTS;
     }
     false
 }

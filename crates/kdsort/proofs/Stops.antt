@@ -1,4 +1,5 @@
--- The stops of a scan as a list that is written one entry a turn: an entry is written over where its slot does not stop the scan. Assumes nothing.
+-- The stops of a scan as a list that is written one entry a turn: an entry is written over where its slot does not stop the scan. Assumes
+-- nothing.
 use mathlib.Core.Path.{_≡_, refl}
 use mathlib.Core.Bool.{Bool, true, false, not}
 use mathlib.Core.List.{List}

@@ -1,5 +1,5 @@
--- The definition's steps, said as a loop's turns: a turn of the selection is one step of the definition's, with fuel enough for what is left; and what holds at
--- the head of each loop. Assumes nothing.
+-- The definition's steps, said as a loop's turns: a turn of the selection is one step of the definition's, with fuel enough for what is
+-- left; and what holds at the head of each loop. Assumes nothing.
 use mathlib.Core.Path.{_≡_, refl, sym, ap, _∙_}
 use mathlib.Core.Bool.{Bool, true, false, cond}
 use mathlib.Core.List.{List}

@@ -1,5 +1,5 @@
--- A batch of exchanges: where a scan stops, one stop after another, and that the stops of a scan up and those of a scan down, exchanged in pairs, are the
--- exchanges that the next passes make. Assumes nothing.
+-- A batch of exchanges: where a scan stops, one stop after another, and that the stops of a scan up and those of a scan down, exchanged
+-- in pairs, are the exchanges that the next passes make. Assumes nothing.
 use mathlib.Core.Path.{_≡_, refl, sym, ap, _∙_, subst}
 use mathlib.Core.Logic.{⊎-elim}
 use mathlib.Core.Bool.{true, false}

@@ -1,8 +1,8 @@
--- The index's two columns, and the exchange of two slots. Slot p has the id `ids p` and the coordinates `co (2 * p)` and `co (2 * p + 1)`; the axis is 0
--- for x and 1 for y. Definitions only.
+-- The index's two columns, and the exchange of two slots. Slot p has the id `ids p` and the coordinates `co (2 * p)` and `co (2 * p +
+-- 1)`; the axis is 0 for x and 1 for y. Definitions only.
 use mathlib.Core.List.{List}
 use Prim.Native.Nat.{ℕ, _+_, _*_}
-use lib.ListN.{getD, set}
+use lib.ListN.{getD, set, replicate}
 use lib.Ieee.{Float, nan}
 
 -- the two lent columns
@@ -12,6 +12,10 @@ pub record Cols : Type 0 where
 
 abbrev pub cols : List ℕ → List Float → Cols
 cols l c = record { ids = l; co = c }
+
+-- columns that hold n slots and nothing yet
+abbrev pub blank : ℕ → Cols
+blank n = cols (replicate n 0) (replicate (2 * n) nan)
 
 -- the coordinate of the slot p on the axis a
 abbrev pub key : ℕ → List Float → ℕ → Float

@@ -1,5 +1,5 @@
--- A partition: its scans stop within the interval, its passes leave what is not above the pivot left and what is not below it right, the slots are permuted,
--- and the fuel of its steps is never used up. Assumes nothing.
+-- A partition: its scans stop within the interval, its passes leave what is not above the pivot left and what is not below it right, the
+-- slots are permuted, and the fuel of its steps is never used up. Assumes nothing.
 use mathlib.Core.Path.{_≡_, refl, sym, ap, _∙_}
 use mathlib.Core.Logic.{_⊎_, ⊎-elim, inl, inr}
 use mathlib.Core.Bool.{Bool, true, false, cond, not, true≢false}

@@ -1,5 +1,5 @@
--- The index of points: the columns as the points fill them, and what their sort is. Each slot holds one point and each point has one slot, ids and both
--- coordinates moved together, in the order of the tree; what lies past them is as it was. Assumes nothing.
+-- The index of points: the columns as the points fill them, and what their sort is. Each slot holds one point and each point has one
+-- slot, ids and both coordinates moved together, in the order of the tree; what lies past them is as it was. Assumes nothing.
 use mathlib.Core.Path.{_≡_, refl, sym, ap, _∙_, subst}
 use mathlib.Core.Logic.{⊎-elim}
 use mathlib.Core.Bool.{not}
@@ -9,7 +9,7 @@ use native.Mathlib.Nat.{eq-or-lt-of-le, add-zero}
 use native.Mathlib.Numerals.{add-one}
 use native.Mathlib.Omega.{arith}
 use lib.Dec.{T}
-use lib.ListN.{length, getD, set, length-set, replicate}
+use lib.ListN.{length, getD, set, length-set}
 use lib.Seq.{getD-set-same, getD-set-other, ext-getD}
 use lib.Ieee.{Float, nan, isNan}
 use Rattle.kdsort.specs.Cols.{Cols, cols, key}
@@ -147,10 +147,6 @@ module _ (xs ys : List Float) (s : Cols) where
           co-long = P .co-long ∙ co-long (length xs);
           tree = built .tree;
         }
-
--- columns that hold n slots and nothing yet
-abbrev pub blank : ℕ → Cols
-blank n = cols (replicate n 0) (replicate (2 * n) nan)
 
 -- what the columns held before is gone where they have just room
 module _ (xs ys : List Float) (s t : Cols) (a : length (s .ids) ≡ length xs) (b : length (t .ids) ≡ length xs)

@@ -1,5 +1,5 @@
--- The passes of a partition, said as the turns of a loop: what is left of them comes to the same end from turn to turn, be it said of two slots that are
--- exchanged next or of two slots from which the scans go on. Assumes nothing.
+-- The passes of a partition, said as the turns of a loop: what is left of them comes to the same end from turn to turn, be it said of two
+-- slots that are exchanged next or of two slots from which the scans go on. Assumes nothing.
 use mathlib.Core.Path.{_≡_, refl, sym, ap, _∙_, subst}
 use mathlib.Core.Logic.{⊎-elim}
 use mathlib.Core.Bool.{true, false}
@@ -44,8 +44,8 @@ passing-ends P a t s i j h l = go (h .0) (rw (le-ltb i j l) at (h .2)) where
 
 -- ---- at two slots from which the scans go on
 
--- wherever the scan up from i and the scan down from j stop, the passes from there on come to P; what stands before i stops a scan down, and what stands
--- after j a scan up
+-- wherever the scan up from i and the scan down from j stop, the passes from there on come to P; what stands before i stops a scan down,
+-- and what stands after j a scan up
 pub record Scanning (P : Cut) (a : ℕ) (t : Float) (s : Cols) (i j : ℕ) : Type 0 where
   pub goes : (i' j' : ℕ) → i' ≤ j + 1 → Up a t (s .co) i i' → lt (key a (s .co) i') t ≡ false → Down a t (s .co) j j' → lt t (key a (s .co) j') ≡ false → Passing P a t s i' j'
   pub i-stop : lt t (key a (s .co) (i - 1)) ≡ false

@@ -1,4 +1,5 @@
--- What the steps of the build ask of their caller: the slots lie within the columns, and there is a coordinate of each axis for a slot. Definitions only.
+-- What the steps of the build ask of their caller: the slots lie within the columns, and there is a coordinate of each axis for a slot.
+-- Definitions only.
 use Prim.Native.Nat.{ℕ, _+_, _*_, _<_, _≤_}
 use lib.ListN.{length}
 use Rattle.kdsort.specs.Cols.{Cols}

@@ -1,6 +1,6 @@
--- The selection as the Rust's `select` makes it, without the block for more than 600 slots: the two scans, the passes of a partition, and the partition
--- again on the side of k. A step that repeats has a fuel and the test that says whether it goes on: the fuel is never used up (Cuts, Selects).
--- Definitions only.
+-- The selection as the Rust's `select` makes it, without the block for more than 600 slots: the two scans, the passes of a partition, and
+-- the partition again on the side of k. A step that repeats has a fuel and the test that says whether it goes on: the fuel is never used
+-- up (Cuts, Selects). Definitions only.
 use mathlib.Core.Bool.{Bool, true, false, cond}
 use mathlib.Core.List.{List}
 use Prim.Native.Nat.{ℕ, zero, suc, _+_, _-_}

@@ -7,7 +7,8 @@ use Rattle.kdsort.specs.Cols.{Cols, cols}
 use Rattle.kdsort.specs.Shape.{Shape, leaf, node, shape}
 use Rattle.kdsort.specs.Select.{selected}
 
--- the slots from lo up to hi sorted on the axis a: the median is selected, then the part left of it is sorted on the other axis, then the part right of it
+-- the slots from lo up to hi sorted on the axis a: the median is selected, then the part left of it is sorted on the other axis, then the
+-- part right of it
 unfoldable pub sorted : ℕ → ℕ → ℕ → Shape → Cols → Cols
 unfolding selected
 sorted a lo hi (leaf x y) s = s

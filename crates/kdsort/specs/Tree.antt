@@ -1,5 +1,5 @@
--- What is said of a built index: its slots are those that it was built from, each with its id and its two coordinates, and they are in the order of the
--- tree. Definitions only.
+-- What is said of a built index: its slots are those that it was built from, each with its id and its two coordinates, and they are in
+-- the order of the tree. Definitions only.
 use mathlib.Core.Path.{_≡_}
 use mathlib.Core.Bool.{not}
 use mathlib.Core.List.{List}
@@ -42,8 +42,8 @@ Kd c a lo hi (node m r l) = Around a m lo hi c × Kd c (1 - a) lo m l × Kd c (1
 unfoldable pub Points : List Float → List Float → Type 0
 Points xs ys = (p : ℕ) → p < length xs → T (not (isNan (getD xs p nan))) × T (not (isNan (getD ys p nan)))
 
--- what a built index of the points (x, y) is: each slot holds one point, by its id, each point has one slot, the slots are in the tree's order, and what
--- lies past them is as it was
+-- what a built index of the points (x, y) is: each slot holds one point, by its id, each point has one slot, the slots are in the tree's
+-- order, and what lies past them is as it was
 pub record Index (n : ℕ) (xs ys : List Float) (s S : Cols) : Type 0 where
   pub id-in : (p : ℕ) → p < length xs → getD (S .ids) p 0 < length xs
   pub x-of : (p : ℕ) → p < length xs → key 0 (S .co) p ≡ getD xs (getD (S .ids) p 0) nan

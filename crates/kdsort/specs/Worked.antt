@@ -1,4 +1,5 @@
--- The definition computes: the index of seven points at node size 1, in columns that are longer than it needs. The arrangement is the Rust's. Assumes nothing.
+-- The definition computes: the index of seven points at node size 1, in columns that are longer than it needs. The arrangement is the
+-- Rust's. Assumes nothing.
 use mathlib.Core.Path.{_≡_, refl}
 use mathlib.Core.Bool.{false}
 use mathlib.Core.List.{List, [], _∷_}

@@ -38,8 +38,8 @@ struct Ends {
     down: usize,
 }
 
-// Writes down where a scan up from `from` stops, stop after stop within `len` slots, and at last the slot that comes after these; answers the number of stops.
-// There is no branch on a coordinate, so that none is guessed wrong.
+// Writes down where a scan up from `from` stops, stop after stop within `len` slots, and at last the slot that comes after these; answers
+// the number of stops. There is no branch on a coordinate, so that none is guessed wrong.
 fn stops_up(
     coords: &[f64],
     found: &mut [usize],
@@ -89,7 +89,8 @@ fn stops_down(
 
 // Exchanges the slots of two lists, the first with the first, the second with the second, and so on.
 fn exchange(ids: &mut [u32], coords: &mut [f64], ups: &[usize], downs: &[usize], count: usize)
-    requires { ⌜ (count ≤ length (now ups)) × (count ≤ length (now downs)) × Slots (entry (now ups)) (entry (now downs)) count (length (now ids)) (length (now coords)) ⌝ }
+    requires { ⌜ (count ≤ length (now ups)) × (count ≤ length (now downs))
+        × Slots (entry (now ups)) (entry (now downs)) count (length (now ids)) (length (now coords)) ⌝ }
     ensures { λ _. ⌜ cols (new ids) (new coords) ≡ exchanged (cols (old ids) (old coords)) (entry (old ups)) (entry (old downs)) count ⌝ }
 {
     let mut k = 0;
@@ -109,8 +110,8 @@ fn lesser(m: usize, n: usize) -> usize
     n
 }
 
-// Makes the exchanges of the next passes in one batch, where i and j are far apart: the stops among some slots from i up, and among as many from j down, are
-// written down first and then exchanged in pairs. Answers where the scans go on.
+// Makes the exchanges of the next passes in one batch, where i and j are far apart: the stops among some slots from i up, and among as many
+// from j down, are written down first and then exchanged in pairs. Answers where the scans go on.
 fn batch(ids: &mut [u32], coords: &mut [f64], i: usize, j: usize, axis: usize, t: f64) -> Ends
     requires { ⌜ (i ≤ j + 1) × (j < length (now ids)) × (2 * j + 1 < length (now coords)) × (axis < 2) ⌝ }
     ensures { λ r. ⌜ Nearer axis t (cols (old ids) (old coords)) (cols (new ids) (new coords)) i j (r .up) (r .down) ⌝ }
@@ -151,7 +152,7 @@ fn partition(
     }
     let mut i = left;
     let mut j = right;
-    'pass: while i < j {
+    while i < j {
         swap_item(ids, coords, i, j);
         i += 1;
         j -= 1;
@@ -179,7 +180,8 @@ fn partition(
     j + 1
 }
 
-// Brings to slot k the coordinate that belongs there among the slots from first to last: what stands left of k is not above it, what stands right not below.
+// Brings to slot k the coordinate that belongs there among the slots from first to last: what stands left of k is not above it, what stands
+// right not below.
 fn select(ids: &mut [u32], coords: &mut [f64], k: usize, first: usize, last: usize, axis: usize)
     requires { ⌜ Room (cols (now ids) (now coords)) first last axis ⌝ }
     requires { ⌜ (first ≤ k) × (k ≤ last) × (1 ≤ k) ⌝ }
@@ -198,7 +200,8 @@ fn select(ids: &mut [u32], coords: &mut [f64], k: usize, first: usize, last: usi
     }
 }
 
-// Sorts the slots from lo up to hi into the order of the tree: an interval of more than `most` slots is split at its middle, and each side on the other axis.
+// Sorts the slots from lo up to hi into the order of the tree: an interval of more than `most` slots is split at its middle, and each
+// side on the other axis.
 fn sort(ids: &mut [u32], coords: &mut [f64], most: usize, lo: usize, hi: usize, axis: usize)
     requires { ⌜ (lo ≤ hi) × (hi ≤ length (now ids)) × (2 * hi ≤ length (now coords)) × (axis < 2) × (2 ≤ most) ⌝ }
     ensures { λ _. ⌜ cols (new ids) (new coords) ≡ sorted axis lo hi (shape most lo hi) (cols (old ids) (old coords)) ⌝ }
@@ -215,7 +218,8 @@ fn sort(ids: &mut [u32], coords: &mut [f64], most: usize, lo: usize, hi: usize, 
 // Builds the index of the points (xs[i], ys[i]) in the first slots of the lent columns.
 pub fn build_index(node_size: usize, xs: &[f64], ys: &[f64], ids: &mut [u32], coords: &mut [f64])
     requires { ⌜ (1 ≤ length (now xs)) × (length (now xs) ≤ 1048576) × (length (now ys) ≡ length (now xs)) ⌝ }
-    requires { ⌜ (length (now xs) ≤ length (now ids)) × (2 * length (now xs) ≤ length (now coords)) × (1 ≤ «node_size») × («node_size» ≤ 65535) ⌝ }
+    requires { ⌜ (length (now xs) ≤ length (now ids)) × (2 * length (now xs) ≤ length (now coords))
+        × (1 ≤ «node_size») × («node_size» ≤ 65535) ⌝ }
     ensures { λ _. ⌜ cols (new ids) (new coords) ≡ indexed «node_size» (old xs) (old ys) (cols (old ids) (old coords)) ⌝ }
 {
     let n = xs.len();

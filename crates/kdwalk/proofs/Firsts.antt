@@ -8,7 +8,8 @@ use borrow.Author.Tests.{lt-ltb, le-ltb, eq-eqb, ne-eqb}
 use Rattle.kdsort.specs.Shape.{shape, mid, shape-leaf, shape-node}
 use Rattle.kdwalk.specs.declared.Next.{Next}
 use Rattle.kdwalk.specs.declared.Next.the-variants.{Slot, Done}
-use Rattle.kdslots.specs.Slots.{Search, when, scanned, slots, below}
+use Rattle.kdslots.specs.Slots.{Search, when, scanned, slots}
+use Rattle.kdslots.specs.Intervals.{below}
 use Rattle.kdwalk.specs.Cursor.{headOf, head-append, rest}
 use Rattle.kdslots.specs.Intervals.{scanned-suc, slots-leaf, slots-node}
 

@@ -1,5 +1,5 @@
--- The leaf that a slot stands in: where it ends, by where the slot stands, and that what the rest of it answers is what is answered after the slot.
--- Assumes nothing.
+-- The leaf that a slot stands in: where it ends, by where the slot stands, and that what the rest of it answers is what is answered after
+-- the slot. Assumes nothing.
 use mathlib.Core.Path.{_≡_, refl, sym, _∙_}
 use mathlib.Core.Bool.{Bool, true, false}
 use Prim.Native.Nat.{ℕ, _+_, _-_, _≤_, _<_}

@@ -1,6 +1,4 @@
--- Laws that only this crate's own proofs use.
+-- Laws that only this crate's own proofs use, and Firsts that of kdpages too.
 pub mod Firsts
 pub mod Leaves
 pub mod Steps
-pub mod Stores
-pub mod Turns

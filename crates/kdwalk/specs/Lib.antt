@@ -1,6 +1,5 @@
--- Definitions that contracts cite: Cursor, Reply, Pages (its first). All else is laws and theorems about them.
+-- Definitions that contracts cite: Cursor, Reply. All else is laws and theorems about them.
 pub mod Cursor
 pub mod Reply
 pub mod Walk
-pub mod Pages
 pub mod Replies

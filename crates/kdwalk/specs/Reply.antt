@@ -1,4 +1,5 @@
--- The steps of a walk over the answered slots, for every input: 01's refusals in 01's order, and otherwise the answer, one slot at a time. Definitions only.
+-- The steps of a walk over the answered slots, for every input: 01's refusals in 01's order, and otherwise the answer, one slot at a
+-- time. Definitions only.
 use mathlib.Core.Bool.{cond, _&&_}
 use mathlib.Core.List.{List, [], _∷_}
 use Prim.Native.Nat.{ℕ}
@@ -19,6 +20,13 @@ stepNumber (Slot i) = 0
 stepNumber Done = 0
 stepNumber Box = 9
 stepNumber Spoiled = 11
+
+-- the slot that a step carries, or the largest usize where it carries none
+abbrev pub stepCarried : Step → ℕ
+stepCarried (Slot i) = i
+stepCarried Done = 18446744073709551615
+stepCarried Box = 18446744073709551615
+stepCarried Spoiled = 18446744073709551615
 
 -- the first of the list, or how it ends
 abbrev pub nextStep : Step → List ℕ → Step

@@ -1,5 +1,5 @@
--- A walk over the answers by the cursor: where an answer has a slot, `rest` is what follows it; and what a caller's loop goes by, which is what is ahead
--- of the cursor. Assumes nothing.
+-- A walk over the answers by the cursor: where an answer has a slot, `rest` is what follows it; and what a caller's loop goes by, which
+-- is what is ahead of the cursor. Assumes nothing.
 use mathlib.Core.Bool.{Bool, true, false, cond, _&&_}
 use lib.Dec.{ltb}
 use mathlib.Core.Path.{_≡_, refl, sym, ap, _∙_}

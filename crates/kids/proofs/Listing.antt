@@ -11,12 +11,12 @@ use lib.Seq.{append-snoc}
 use denote.Enum.Declared.{tagOf}
 use types.Run.{OneOf}
 use Rattle.kdwalk.proofs.Step.{the-type}
-use Rattle.kdwalk.specs.declared.Pages.{Pages}
+use Rattle.kdpages.specs.declared.Pages.{Pages}
 use Rattle.kdwalk.specs.declared.Step.{Step}
 use Rattle.kdwalk.specs.declared.Step.the-variants.{Slot, Done, Box, Spoiled as Step·Spoiled}
-use Rattle.kdwalk.specs.declared.Turned.{Turned}
+use Rattle.kdpages.specs.declared.Turned.{Turned}
 use Rattle.kdwalk.specs.Reply.{nextStep}
-use Rattle.kdwalk.specs.Pages.{tailOf}
+use Rattle.kdpages.specs.Pages.{tailOf}
 use Rattle.kdslots.specs.All.{AllBelow}
 use Rattle.kdbush.specs.Run.{filled}
 use Rattle.tables.specs.declared.Entry.{Entry}
@@ -26,8 +26,7 @@ use Rattle.asking.specs.Columns.{Columns, part-getD}
 use Rattle.asking.specs.Filled.{filled-none, filled-next, filled-length}
 use Rattle.asking.specs.Around.{slotsOf, aheadIn, ring-below, ring-next, ring-end, slots-few}
 use Rattle.kids.specs.declared.Kids.the-variants.{All, Spoiled}
-use Rattle.kids.specs.Kids.{kidsReply}
-use Rattle.kids.specs.Next.{tableIn, idsIn, kidsIn, cleanIn, Listed, child, none, past, nextIn}
+use Rattle.kids.specs.Next.{tableIn, idsIn, kidsIn, cleanIn, kidsReply, Listed, child, none, past, nextIn}
 use Rattle.kids.specs.Next.{next-none, next-past, next-kid, next-other, next-told}
 
 -- ---- one step of the walk

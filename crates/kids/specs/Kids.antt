@@ -1,40 +1,44 @@
--- The children of a cluster: of the entries in the ring around its origin, those whose parent it is. Definitions only.
-use mathlib.Core.Bool.{Bool, true, false, _&&_}
-use mathlib.Core.List.{List, [], _∷_}
-use Prim.Native.Nat.{ℕ}
+-- The children of a cluster: `within` at the origin in its table, with the radius of the zoom below, keeping the entries whose parent is
+-- the id. Definitions only.
+use mathlib.Core.Bool.{Bool, _&&_}
+use mathlib.Core.List.{List}
+use Prim.Native.Nat.{ℕ, _-_}
 use lib.Dec.{eqb}
 use lib.ListN.{length}
-use Rattle.kdbush.specs.Run.{places, sound, whole}
+use Rattle.kdslots.specs.declared.Query.{Query}
+use Rattle.kdslots.specs.declared.Query.the-variants.{Within}
+use Rattle.kdslots.specs.Keep.{keep}
+use Rattle.kdbush.specs.Run.{sound, whole}
+use Rattle.kdbush.specs.Reply.{found}
 use Rattle.tables.specs.declared.State.{State}
 use Rattle.tables.specs.State.{lenOf}
 use Rattle.tables.specs.Entries.{Table, entry}
-use Rattle.asking.specs.Columns.{Columns, tableAt, idsAt}
-use Rattle.asking.specs.Around.{slotsAround}
-use Rattle.kids.specs.declared.Kids.{Kids}
-use Rattle.kids.specs.declared.Kids.the-variants.{All, Spoiled}
+use Rattle.tables.specs.Radius.{radiusAt}
+use Rattle.asking.specs.Columns.{Columns, tableAt, idsAt, coordsAt}
+
+-- `within` at the entry o of zoom z's table: r is that of zoom z - 1, with 2^(z - 1)
+abbrev pub queryAround : State → Columns → ℕ → ℕ → Query
+queryAround s c z o =
+    let e = entry (tableAt s c z) o in
+    Within (e .x) (e .y) (radiusAt (s .options .radius) (s .options .extent) (z - 1))
+
+-- the places that it answers in that table
+abbrev pub placesAround : State → Columns → ℕ → ℕ → List ℕ
+placesAround s c z o =
+    found (queryAround s c z o) (s .options .«node_size») (lenOf s z) (idsAt s (c .ids) z) (coordsAt s (c .coords) z)
 
 -- of places of a table, those whose parent is the cluster id
-unfoldable pub kidsOf : Table → ℕ → List ℕ → List ℕ
-kidsOf t id [] = []
-kidsOf t id (p ∷ ps) = elim (eqb (entry t p .parent) id) [ true ↦ p ∷ kidsOf t id ps | false ↦ kidsOf t id ps ]
+abbrev pub kidsOf : Table → ℕ → List ℕ → List ℕ
+kidsOf t id ps = keep (λ p. eqb (entry t p .parent) id) ps
 
--- the places that the slots around the entry o of zoom z's table name
-abbrev pub placesAround : State → Columns → ℕ → ℕ → List ℕ
-placesAround s c z o = places (idsAt s (c .ids) z) (slotsAround s c z o)
-
--- the children of the cluster id, which was made at the entry o of zoom z's table: among the places before the first that is past the table
+-- the children of the cluster id, whose origin is the entry o of zoom z's table: among the places before the first that is past the table
 unfoldable pub kidsAt : State → Columns → ℕ → ℕ → ℕ → List ℕ
 kidsAt s c id z o = kidsOf (tableAt s c z) id (sound (lenOf s z) (placesAround s c z o))
 
--- whether no slot around it names a place past the table
+-- whether no answered slot names a place past the table
 unfoldable pub cleanAt : State → Columns → ℕ → ℕ → Bool
 cleanAt s c z o = whole (lenOf s z) (placesAround s c z o)
 
 -- whether the search went to its end and found no children
 abbrev pub childless : State → Columns → ℕ → ℕ → ℕ → Bool
 childless s c id z o = cleanAt s c z o && eqb (length (kidsAt s c id z o)) 0
-
--- what a search for children comes to: how many there are, or that a slot names a place past the table
-abbrev pub kidsReply : Bool → ℕ → Kids
-kidsReply true k = All k
-kidsReply false k = Spoiled

@@ -1,4 +1,5 @@
--- Definitions that contracts cite: Kids, Next (its second part). All else is laws.
+-- Kids has the definitions of 01's children. Next has what the contracts of this crate say of a ring, and the laws that join the two. All
+-- else is laws.
 pub mod Kids
-pub mod Next
 pub mod Within
+pub mod Next

@@ -1,7 +1,7 @@
--- The children of a cluster one at a time: what is ahead of a walk is searched for the next child, and after it lie the children that
--- follow. Assumes nothing.
+-- What `list_kids` and `next_child` say of a ring: its children all at once, and one at a time, where what is ahead of a walk is searched
+-- for the next child and after it lie the children that follow. Around an entry these are the children of the definition. Assumes nothing.
 use mathlib.Core.Bool.{Bool, true, false}
-use mathlib.Core.Path.{_≡_, refl, sym, ap, subst, _∙_}
+use mathlib.Core.Path.{_≡_, refl, sym, ap, ap₂, subst, _∙_}
 use mathlib.Core.List.{List, [], _∷_}
 use Prim.Native.Nat.{ℕ, _+_, _*_, _<_, _≤_}
 use native.Mathlib.Nat.{le-trans}
@@ -10,12 +10,13 @@ use borrow.Author.Tests.{lt-ltb, le-ltb, eq-eqb, ne-eqb, ltb-true}
 use lib.Dec.{ltb, eqb}
 use lib.ListN.{length, getD}
 use lib.Ieee.{Float}
-use Rattle.kdwalk.specs.declared.Pages.{Pages}
+use Rattle.kdpages.specs.declared.Pages.{Pages}
 use Rattle.kdslots.specs.All.{All, AllBelow}
 use Rattle.kdbush.specs.Run.{places, sound, whole, filled}
 use Rattle.kdslots.specs.Members.{no-nil}
 use Rattle.tables.specs.declared.Entry.{Entry}
 use Rattle.tables.specs.declared.State.{State}
+use Rattle.tables.specs.State.{lenOf}
 use Rattle.tables.specs.Entries.{Table, entry}
 use Rattle.tables.specs.Rows.{rows}
 use Rattle.tables.specs.Columns.{part}
@@ -27,7 +28,8 @@ use Rattle.kids.specs.declared.Child.{Child}
 use Rattle.kids.specs.declared.Child.the-variants.{At, Done as Child·Done, Spoiled as Child·Spoiled}
 use Rattle.kids.specs.declared.Kids.{Kids}
 use Rattle.kids.specs.declared.Kids.the-variants.{All as Kids·All, Spoiled as Kids·Spoiled}
-use Rattle.kids.specs.Kids.{kidsOf, kidsAt, cleanAt, kidsReply}
+use Rattle.kids.specs.Kids.{kidsOf, kidsAt, cleanAt}
+use Rattle.kids.specs.Within.{around-places}
 
 -- ---- the columns that a walk is lent
 
@@ -57,39 +59,52 @@ kidsIn g c id is = kidsOf (tableIn g c) id (sound (g .len) (places (idsIn g c) i
 abbrev pub cleanIn : Ring → Columns → List ℕ → Bool
 cleanIn g c is = whole (g .len) (places (idsIn g c) is)
 
+-- what a search for children comes to: how many there are, or that a slot names a place past the table
+abbrev pub kidsReply : Bool → ℕ → Kids
+kidsReply true k = Kids·All k
+kidsReply false k = Kids·Spoiled
+
 -- all children of the ring are listed: the reply is r, and where out was stands out'
 abbrev pub Listed : Ring → Columns → ℕ → List ℕ → Kids → List ℕ → Type 0
 Listed g c id out r out' =
     let l = slotsOf g (c .coords) in
     (r ≡ kidsReply (cleanIn g c l) (length (kidsIn g c id l))) × (out' ≡ filled (kidsIn g c id l) out)
 
--- those of the ring around an entry are the children around it
-module _ (s : State) (c : Columns) (z o : ℕ) (g : Ring) (e : g ≡ ringOf s (tableAt s c z) z o) where
+-- those of the ring around an entry are the children around it: the ring goes over what `within` answers
+module _ (s : State) (c : Columns) (cap z o : ℕ) (r : Reached s cap z o) (h : cap ≤ roomOf c) (g : Ring)
+    (e : g ≡ ringOf s (tableAt s c z) z o) where
   pub kids-around : (id : ℕ) → kidsIn g c id (slotsOf g (c .coords)) ≡ kidsAt s c id z o
   unfolding kidsAt
-  kids-around id = ap (λ (h : Ring). kidsIn h c id (slotsOf h (c .coords))) e
+  kids-around id =
+      ap (λ (v : Ring). kidsIn v c id (slotsOf v (c .coords))) e
+      ∙ ap (λ (ps : List ℕ). kidsOf (tableAt s c z) id (sound (lenOf s z) ps)) (around-places s c cap z o r h)
 
   pub clean-around : cleanIn g c (slotsOf g (c .coords)) ≡ cleanAt s c z o
   unfolding cleanAt
-  clean-around = ap (λ (h : Ring). cleanIn h c (slotsOf h (c .coords))) e
+  clean-around =
+      ap (λ (v : Ring). cleanIn v c (slotsOf v (c .coords))) e
+      ∙ ap (λ (ps : List ℕ). whole (lenOf s z) ps) (around-places s c cap z o r h)
 
   -- and what is listed of the ring is listed of them
   pub listed-around : (id : ℕ) (out : List ℕ) (r : Kids) (out' : List ℕ) → Listed g c id out r out'
       → (r ≡ kidsReply (cleanAt s c z o) (length (kidsAt s c id z o))) × (out' ≡ filled (kidsAt s c id z o) out)
-  unfolding kidsAt cleanAt
-  listed-around id out r out' = subst (λ (h : Ring). Listed h c id out r out') e
+  listed-around id out r out' w = (
+    w .0 ∙ ap₂ (λ (b : Bool) (ks : List ℕ). kidsReply b (length ks)) clean-around (kids-around id),
+    w .1 ∙ ap (λ (ks : List ℕ). filled ks out) (kids-around id),
+  )
 
 -- a child is a place of the table
 pub kids-below : (t : Table) (id n : ℕ) (ps : List ℕ) (p : ℕ) (l : List ℕ) → kidsOf t id (sound n ps) ≡ p ∷ l → p < n
-unfolding kidsOf sound
+unfolding sound
 kids-below t id n [] p l e = absurd (no-nil [] p l e)
 kids-below t id n (q ∷ ps) p l e = go (ltb q n) refl (eqb (entry t q .parent) id) refl (kids-below t id n ps p l) e
   where
-    go : (a : Bool) → ltb q n ≡ a → (b : Bool) → eqb (entry t q .parent) id ≡ b → (kidsOf t id (sound n ps) ≡ p ∷ l → p < n) → kidsOf t id (sound n (q ∷ ps)) ≡ p ∷ l → p < n
-    go false u b v h e = let z : [] ≡ p ∷ l = rw (u, sound, kidsOf) at e in absurd (no-nil [] p l z)
-    go true u false v h e = h (rw (u, sound, v, kidsOf) at e)
+    go : (a : Bool) → ltb q n ≡ a → (b : Bool) → eqb (entry t q .parent) id ≡ b → (kidsOf t id (sound n ps) ≡ p ∷ l → p < n)
+        → kidsOf t id (sound n (q ∷ ps)) ≡ p ∷ l → p < n
+    go false u b v h e = let z : [] ≡ p ∷ l = rw (u, sound) at e in absurd (no-nil [] p l z)
+    go true u false v h e = h (rw (u, sound, v) at e)
     go true u true v h e =
-        let z : q ∷ kidsOf t id (sound n ps) ≡ p ∷ l = rw (u, sound, v, kidsOf) at e in
+        let z : q ∷ kidsOf t id (sound n ps) ≡ p ∷ l = rw (u, sound, v) at e in
         let y : q ≡ p = cc in
         omega (arith, ltb-true q n u)
 
@@ -114,7 +129,11 @@ unfoldable pub nextOf : Table → List ℕ → ℕ → ℕ → List ℕ → Next
 nextOf t ids n id [] = none
 nextOf t ids n id (i ∷ is) =
     elim (ltb (getD ids i 0) n) [
-      | true ↦ elim (eqb (entry t (getD ids i 0) .parent) id) [ true ↦ child (getD ids i 0) (entry t (getD ids i 0)) is | false ↦ nextOf t ids n id is ]
+      | true ↦
+          elim (eqb (entry t (getD ids i 0) .parent) id) [
+            | true ↦ child (getD ids i 0) (entry t (getD ids i 0)) is
+            | false ↦ nextOf t ids n id is
+          ]
       | false ↦ past
     ]
 
@@ -160,10 +179,10 @@ module _ (t : Table) (ids : List ℕ) (n id : ℕ) where
 
       pub next-other : (y .parent ≡ id → ⊥)
           → (nextOf t ids n id (i ∷ is) ≡ nextOf t ids n id is) × (K (i ∷ is) ≡ K is) × (C (i ∷ is) ≡ C is)
-      unfolding nextOf kidsOf sound whole places
+      unfolding nextOf sound whole places
       next-other k =
           let b = ne-eqb (entry t (getD ids i 0) .parent) id (λ m. k (ap (λ (z : Entry). z .parent) there ∙ m)) in
-          (rw (low, b, nextOf), rw (low, sound, b, kidsOf), rw (low, whole))
+          (rw (low, b, nextOf), rw (low, sound, b), rw (low, whole))
 
   -- the child p, whose entry is e, comes first among slots, and the children after it are those of the slots l
   pub record Follows (is : List ℕ) (p : ℕ) (e : Entry) (l : List ℕ) : Type 0 where
@@ -187,24 +206,25 @@ module _ (t : Table) (ids : List ℕ) (n id : ℕ) where
   lift i is k c past w = (k ∙ w .0, c ∙ w .1)
 
   pub told : (is : List ℕ) → Told (nextOf t ids n id is) is
-  unfolding nextOf kidsOf sound whole places All
+  unfolding nextOf sound whole places All
   told [] = (refl, refl)
   told (i ∷ is) = go (ltb (getD ids i 0) n) refl (eqb (entry t (getD ids i 0) .parent) id) refl (told is)
     where
-      go : (a : Bool) → ltb (getD ids i 0) n ≡ a → (b : Bool) → eqb (entry t (getD ids i 0) .parent) id ≡ b → Told (nextOf t ids n id is) is → Told (nextOf t ids n id (i ∷ is)) (i ∷ is)
+      go : (a : Bool) → ltb (getD ids i 0) n ≡ a → (b : Bool) → eqb (entry t (getD ids i 0) .parent) id ≡ b → Told (nextOf t ids n id is) is
+          → Told (nextOf t ids n id (i ∷ is)) (i ∷ is)
       go false e b f w =
           let r : past ≡ nextOf t ids n id (i ∷ is) = rw (e, nextOf) in
-          let k : K (i ∷ is) ≡ [] = rw (e, sound, kidsOf) in
+          let k : K (i ∷ is) ≡ [] = rw (e, sound) in
           let c : C (i ∷ is) ≡ false = rw (e, whole) in
           subst (λ (x : Next). Told x (i ∷ is)) r (k, c)
       go true e true f w =
           let r : child (getD ids i 0) (entry t (getD ids i 0)) is ≡ nextOf t ids n id (i ∷ is) = rw (e, f, nextOf) in
-          let k : K (i ∷ is) ≡ getD ids i 0 ∷ K is = rw (e, sound, f, kidsOf) in
+          let k : K (i ∷ is) ≡ getD ids i 0 ∷ K is = rw (e, sound, f) in
           let c : C (i ∷ is) ≡ C is = rw (e, whole) in
           subst (λ (x : Next). Told x (i ∷ is)) r (record { less = omega arith; below = λ b. b .1; kids = k; clean = c; found = refl })
       go true e false f w =
           let r : nextOf t ids n id is ≡ nextOf t ids n id (i ∷ is) = rw (e, f, nextOf) in
-          let k : K (i ∷ is) ≡ K is = rw (e, sound, f, kidsOf) in
+          let k : K (i ∷ is) ≡ K is = rw (e, sound, f) in
           let c : C (i ∷ is) ≡ C is = rw (e, whole) in
           subst (λ (x : Next). Told x (i ∷ is)) r (lift i is k c (nextOf t ids n id is) w)
 

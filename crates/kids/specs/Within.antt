@@ -1,10 +1,11 @@
--- The ring around an entry is `within`'s whole answer, at any place, as 01 has it: where the place is no finite number no entry passes the distance test, so
--- that `within` answers nothing, and the cursor, which refuses such a search, goes over the same slots. Of any columns and any place reached. Assumes nothing.
+-- The walk over the ring around an entry goes over `within`'s whole answer, at any place: where the place is no finite number no entry
+-- passes the distance test, so that `within` answers nothing, and the cursor, which refuses such a search, goes over the same slots. Of any
+-- columns and any place reached. Assumes nothing.
 use mathlib.Core.Bool.{Bool, true, false, _&&_}
 use mathlib.Core.Path.{_≡_, refl, sym, ap, subst}
 use mathlib.Core.List.{List, [], _∷_}
 use Prim.Native.Nat.{ℕ, _-_, _*_, _^_, _≤_}
-use native.Mathlib.Nat.{le-of-eq}
+use native.Mathlib.Nat.{le-of-eq, le-trans}
 use native.Mathlib.Omega.{arith}
 use borrow.Author.Tests.{le-leb}
 use lib.Dec.{T}
@@ -27,16 +28,15 @@ use Rattle.kdslots.specs.Sound.{answers-sound}
 use Rattle.kdslots.specs.Bounds.{both-true, coordsOk}
 use Rattle.kdbush.specs.Run.{places}
 use Rattle.kdwalk.specs.Reply.{walk}
-use Rattle.kdbush.specs.Reply.{found}
 use Rattle.tables.specs.declared.State.{State}
 use Rattle.tables.specs.State.{lenOf}
-use Rattle.tables.specs.Sound.{given}
+use Rattle.tables.specs.Sound.{Stands, given}
 use Rattle.tables.specs.Entries.{entry}
 use Rattle.tables.specs.Radius.{radiusAt, radius-fine}
 use Rattle.asking.specs.Columns.{Columns, roomOf, tableAt, idsAt, coordsAt, coords-length, stands-index}
 use Rattle.asking.specs.Reached.{Reached, reached-stands, near}
-use Rattle.asking.specs.Around.{ringOf, queryOf, slotsOf, slotsAround}
-use Rattle.kids.specs.Kids.{placesAround}
+use Rattle.asking.specs.Around.{ringOf, slotsOf}
+use Rattle.kids.specs.Kids.{queryAround, placesAround}
 
 -- ---- a sum of squares that is not above a finite number has finite parts
 
@@ -95,7 +95,9 @@ pub middle-finite : (ax ay bx by v : Float) → T (finite v) → T (le (sqDist a
 middle-finite ax ay bx by v p h =
     let dx = sub binary64 ax bx in
     let dy = sub binary64 ay by in
-    (taken-finite binary64 ax bx (left-finite binary64 dx (mul binary64 dy dy) v p h), taken-finite binary64 ay by (right-finite binary64 (mul binary64 dx dx) dy v p h))
+    let x = left-finite binary64 dx (mul binary64 dy dy) v p h in
+    let y = right-finite binary64 (mul binary64 dx dx) dy v p h in
+    (taken-finite binary64 ax bx x, taken-finite binary64 ay by y)
 
 -- ---- the cursor goes over all that `within` answers
 
@@ -103,8 +105,8 @@ none : (l : List ℕ) → ((i : ℕ) → In i l → ⊥) → l ≡ []
 none [] h = refl
 none (k ∷ ks) h = absurd (h k ([], ks, refl))
 
-pub walk-within : (x y r : Float) (size n : ℕ) (co : List Float) → coordsOk size n (length co) ≡ true → T (finite r) → T (le zero r) → T (finite (mul binary64 r r))
-    → walk (Within x y r) size n co ≡ answers (Within x y r) co size n
+pub walk-within : (x y r : Float) (size n : ℕ) (co : List Float) → coordsOk size n (length co) ≡ true → T (finite r) → T (le zero r)
+    → T (finite (mul binary64 r r)) → walk (Within x y r) size n co ≡ answers (Within x y r) co size n
 walk-within x y r size n co ok fr nr sq = go (finite x && finite y) refl
   where
     q : Query
@@ -125,45 +127,56 @@ walk-within x y r size n co ok fr nr sq = go (finite x && finite y) refl
 
 -- ---- the radius of a zoom, and its square
 
-radius-most : (radius extent : Float) (z : ℕ) → z ≤ 31 → T (le zero radius) → T (le radius pow16) → T (le one extent) → T (le extent pow16) → T (le (radiusAt radius extent z) pow16)
+radius-most : (radius extent : Float) (z : ℕ) → z ≤ 31 → T (le zero radius) → T (le radius pow16) → T (le one extent)
+    → T (le extent pow16) → T (le (radiusAt radius extent z) pow16)
 unfolding radiusAt fits le
 radius-most radius extent z Z a b lo hi =
     let d : Float = mul binary64 extent (float (2 ^ z)) in
     let f : T (finite radius) = between-finite zero radius pow16 tt tt a b in
-    let up : T (le (div binary64 radius d) (div binary64 pow16 d)) = div-mono binary64 radius pow16 d f tt (scale-positive extent z Z lo hi .0) b in
+    let up : T (le (div binary64 radius d) (div binary64 pow16 d)) =
+    div-mono binary64 radius pow16 d f tt (scale-positive extent z Z lo hi .0) b in
     le-le-trans (div binary64 radius d) (div binary64 pow16 d) pow16 up (radius-bounds pow16 extent z Z tt tt tt lo hi .1)
 
 square-fine : (r : Float) → T (finite r) → T (le zero r) → T (le r pow16) → T (finite (mul binary64 r r))
 square-fine r f a b =
-    let top : T (le (mul binary64 r r) (mul binary64 pow16 pow16)) = mul-mono-both binary64 r pow16 r pow16 f tt f tt (unfold le in tt) a b b in
+    let top : T (le (mul binary64 r r) (mul binary64 pow16 pow16)) =
+    mul-mono-both binary64 r pow16 r pow16 f tt f tt (unfold le in tt) a b b in
     between-finite zero (mul binary64 r r) (mul binary64 pow16 pow16) tt (unfold mul round in tt) (square-nonneg binary64 r f) top
 
 -- ---- around an entry
 
--- the search for children around the entry o of zoom z's table: `within` at its place, by the radius of zoom z - 1
-abbrev pub queryAround : State → Columns → ℕ → ℕ → Query
-queryAround s c z o = queryOf (ringOf s (tableAt s c z) z o)
+-- the slots of the ring around the entry o of zoom z's table
+abbrev pub slotsAround : State → Columns → ℕ → ℕ → List ℕ
+slotsAround s c z o = slotsOf (ringOf s (tableAt s c z) z o) (c .coords)
 
-module _ (s : State) (c : Columns) (z o : ℕ) (r : Reached s (roomOf c) z o) where
+-- in columns that have room for the state's tables
+module _ (s : State) (c : Columns) (cap z o : ℕ) (r : Reached s cap z o) (h : cap ≤ roomOf c) where
+  stands : Stands s (roomOf c) z
+  stands = let k = reached-stands r in record { ends = le-trans (k .ends) h; some = k .some; most = k .most }
+
   coords-fine : coordsOk (s .options .«node_size») (lenOf s z) (length (coordsAt s (c .coords) z)) ≡ true
   coords-fine =
       let n = near r in
-      let l : length (coordsAt s (c .coords) z) ≡ 2 * lenOf s z = coords-length s (c .ids) (c .coords) z (stands-index s c z (reached-stands r)) in
-      both-true (both-true (both-true (le-leb _ _ (n .size-from)) (le-leb _ _ (n .size-to))) (both-true (le-leb _ _ (n .least)) (le-leb _ _ (n .most)))) (le-leb _ _ (le-of-eq (sym l)))
+      let l : length (coordsAt s (c .coords) z) ≡ 2 * lenOf s z = coords-length s (c .ids) (c .coords) z (stands-index s c z stands) in
+      let a = both-true (le-leb _ _ (n .size-from)) (le-leb _ _ (n .size-to)) in
+      let b = both-true (le-leb _ _ (n .least)) (le-leb _ _ (n .most)) in
+      both-true (both-true a b) (le-leb _ _ (le-of-eq (sym l)))
 
   -- the slots around it are all that `within` answers there
-  pub around-within : slotsAround s c z o ≡ answers (queryAround s c z o) (coordsAt s (c .coords) z) (s .options .«node_size») (lenOf s z)
+  pub around-within : slotsAround s c z o
+      ≡ answers (queryAround s c z o) (coordsAt s (c .coords) z) (s .options .«node_size») (lenOf s z)
   unfolding slotsOf
   around-within =
-      let n = near r in
-      let b = given s (roomOf c) (r .good) .bounds in
-      let R : Float = radiusAt (s .options .radius) (s .options .extent) (z - 1) in
-      let Z : z - 1 ≤ 31 = omega (arith, n .table) in
-      let f = radius-fine (s .options .radius) (s .options .extent) (z - 1) Z (b .radius-from) (b .radius-to) (b .extent-from) (b .extent-to) in
-      let m = radius-most (s .options .radius) (s .options .extent) (z - 1) Z (b .radius-from) (b .radius-to) (b .extent-from) (b .extent-to) in
-      walk-within (entry (tableAt s c z) o .x) (entry (tableAt s c z) o .y) R (s .options .«node_size») (lenOf s z) (coordsAt s (c .coords) z) coords-fine (f .0) (f .1)
+      let p = s .options in
+      let b = given s cap (r .good) .bounds in
+      let e = entry (tableAt s c z) o in
+      let R : Float = radiusAt (p .radius) (p .extent) (z - 1) in
+      let Z : z - 1 ≤ 31 = omega (arith, near r .table) in
+      let f = radius-fine (p .radius) (p .extent) (z - 1) Z (b .radius-from) (b .radius-to) (b .extent-from) (b .extent-to) in
+      let m = radius-most (p .radius) (p .extent) (z - 1) Z (b .radius-from) (b .radius-to) (b .extent-from) (b .extent-to) in
+      walk-within (e .x) (e .y) R (p .«node_size») (lenOf s z) (coordsAt s (c .coords) z) coords-fine (f .0) (f .1)
       (square-fine R (f .0) (f .1) m)
 
-  -- and the places that they name are kdbush's answer to the same search
-  pub places-within : placesAround s c z o ≡ found (queryAround s c z o) (s .options .«node_size») (lenOf s z) (idsAt s (c .ids) z) (coordsAt s (c .coords) z)
-  places-within = ap (places (idsAt s (c .ids) z)) around-within
+  -- so the places that they name are those of the definition
+  pub around-places : places (idsAt s (c .ids) z) (slotsAround s c z o) ≡ placesAround s c z o
+  around-places = ap (places (idsAt s (c .ids) z)) around-within

@@ -1,6 +1,6 @@
 // The children of a cluster, one at a time and into a column: what the questions that walk from cluster to cluster rest on.
 use asking::Ring;
-use kdwalk::Pages;
+use kdpages::Pages;
 use kdwalk::Step;
 use tables::Entry;
 ghost use mathlib.Core.Path.{_≡_};
@@ -12,8 +12,8 @@ ghost use Rattle.asking.specs.Lent.{givenColumns, lentColumns};
 ghost use Rattle.asking.specs.Around.{aheadIn};
 ghost use Rattle.kids.specs.Next.{Listed, nextIn, childIn};
 
-// The next child of a cluster: where the walk stands after it, its place and its entry; or none is left; or a slot that names a place past the
-// table comes before it.
+// The next child of a cluster: where the walk stands after it, its place and its entry; or none is left; or a slot that names a place past
+// the table comes before it.
 pub enum Child {
     At {
         pages: Pages,
@@ -114,7 +114,7 @@ pub fn list_kids(
     let n = g.len;
     let mut k = 0;
     let mut page = [0usize; 16];
-    let mut from = kdwalk::begin();
+    let mut from = kdpages::begin();
     loop {
         let t = asking::next_in(g, coords, &mut page, from);
         from = t.pages;

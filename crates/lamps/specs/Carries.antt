@@ -23,7 +23,8 @@ use Rattle.builds.specs.Places.{groupAt}
 use Rattle.builds.specs.Same.{same-carried, table-same}
 use Rattle.lamps.specs.Owner.{owner, lampsOf}
 use Rattle.lamps.specs.Gather.{sum-gather, sum-ones, sum-bound, range-length, range-below}
-use Rattle.lamps.specs.Owners.{lamps-first, lamps-next, first-long, first-same, place-came, group-same, group-fits, group-member, lamps-owned, lamps-permute}
+use Rattle.lamps.specs.Owners.{lamps-first, lamps-next, first-long, first-same, place-came, group-same, group-fits, group-member}
+use Rattle.lamps.specs.Owners.{lamps-owned, lamps-permute}
 
 module _ (G : Given) (a : Accepted G) where
   -- f is a number that entries carry, and c l what it is of the lamp l

@@ -1,5 +1,5 @@
--- Of every such build: a lamp's owner in table z is the entry whose id is the parent of its owner in table z + 1, or that owner's own id where its parent is unset;
--- and no other entry of table z has that id. So owners are read off the columns. Assumes nothing.
+-- Of every such build: a lamp's owner in table z is the entry whose id is the parent of its owner in table z + 1, or that owner's own id
+-- where its parent is unset; and no other entry of table z has that id. So owners are read off the columns. Assumes nothing.
 use mathlib.Core.Path.{_≡_, sym, ap, _∙_}
 use mathlib.Core.Logic.{_↔_}
 use mathlib.Core.Bool.{Bool, cond}

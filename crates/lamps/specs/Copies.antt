@@ -1,5 +1,6 @@
--- Of every such build: the lamps of a lamp are itself. Entries of any two tables with the same id have the same lamps, in the same order. The lamps of a cluster are
--- those of its members, in the order in which they are answered around its origin, in the table that its id names. Assumes nothing.
+-- Of every such build: the lamps of a lamp are itself. Entries of any two tables with the same id have the same lamps, in the same order.
+-- The lamps of a cluster are those of its members, in the order in which they are answered around its origin, in the table that its id
+-- names. Assumes nothing.
 use mathlib.Core.Path.{_≡_, refl, sym, ap, ap₂, _∙_, subst}
 use mathlib.Core.Logic.{inl, inr, ⊎-elim}
 use mathlib.Core.List.{List, [], _∷_}
@@ -51,8 +52,8 @@ module _ (G : Given) (a : Accepted G) where
       ∙ ap (λ (v : ℕ). nearIn (G .options .«node_size») (radiusAt (G .options .radius) (G .options .extent) v) T (entry T i .x)
       (entry T i .y)) (sym e)
 
-  -- where the entry at j of table z is from: the copy of one of table z + 1 with the same id and lamps, or a cluster with the members' lamps, of
-  -- which its origin is one, with fewer lamps
+  -- where the entry at j of table z is from: the copy of one of table z + 1 with the same id and lamps, or a cluster with the members'
+  -- lamps, of which its origin is one, with fewer lamps
   pub data From (z j : ℕ) : Type 0 where
     again : (k : ℕ) → k < length (tableAt G (suc z)) → entry (tableAt G z) j .id ≡ entry (tableAt G (suc z)) k .id →
         lampsOf G z j ≡ lampsOf G (suc z) k → From z j

@@ -1,5 +1,5 @@
--- Each lamp's owner in each table of a build, as a place of the table, and the lamps of the entry at a place. Both go by table number, from max_zoom + 1, the
--- finest, down to min_zoom. Definitions only.
+-- Each lamp's owner in each table of a build, as a place of the table, and the lamps of the entry at a place. Both go by table number,
+-- from max_zoom + 1, the finest, down to min_zoom. Definitions only.
 use mathlib.Core.Bool.{cond}
 use mathlib.Core.List.{List, [], _∷_, _++_}
 use Prim.Native.Nat.{ℕ, zero, suc, _+_, _-_}

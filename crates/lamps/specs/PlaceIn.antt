@@ -1,5 +1,5 @@
--- The group that has a place: where the place is in the groups once, it is in the group at `placeIn` once, and in no other. Each member of a group that fits is a
--- place of the table. Assumes nothing.
+-- The group that has a place: where the place is in the groups once, it is in the group at `placeIn` once, and in no other. Each member
+-- of a group that fits is a place of the table. Assumes nothing.
 use mathlib.Core.Path.{_≡_, refl, sym, ap, _∙_}
 use mathlib.Core.Logic.{⊎-elim}
 use mathlib.Core.Bool.{Bool, true, false, cond}

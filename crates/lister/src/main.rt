@@ -1,13 +1,11 @@
-// The table lister: reads 01's text from standard input, and writes its answer to standard output, the lines of every table of the build or a refusal.
+// The table lister: reads 01's text from standard input, and writes its answer to standard output, the lines of every table of the
+// build or a refusal.
 // Proved: it never fails. What is written is what `report::report` promises of what was read. Assumed: what io says of reading and writing.
 use libc::STDIN_FILENO;
 use libc::STDOUT_FILENO;
 
 fn main() {
     let mut text = [0u8; 65537];
-    let mut px = [0.0f64; 1152];
-    let mut py = [0.0f64; 1152];
-    let mut pe = [0u64; 1152];
     let mut x = [0.0f64; 1152];
     let mut y = [0.0f64; 1152];
     let mut seen = [0u8; 1152];
@@ -22,9 +20,6 @@ fn main() {
     let n = io::read_full(STDIN_FILENO, &mut text);
     let k = report::report(
         &text[..n],
-        &mut px,
-        &mut py,
-        &mut pe,
         &mut x,
         &mut y,
         &mut seen,

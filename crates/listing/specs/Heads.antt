@@ -7,7 +7,8 @@ use lib.ListN.{length, drop}
 use Rattle.listing.specs.declared.Head.{Head}
 use Rattle.listing.specs.declared.Parsed.{Parsed}
 use Rattle.listing.specs.declared.Parsed.the-variants.{Read, Refused}
-use Rattle.listing.specs.Text.{line, minZoomKey, maxZoomKey, minPointsKey, radiusKey, extentKey, nodeSizeKey, countKey, headText, headFor, headEnd}
+use Rattle.listing.specs.Text.{line, minZoomKey, maxZoomKey, minPointsKey, radiusKey, extentKey, nodeSizeKey, countKey, headText}
+use Rattle.listing.specs.Text.{headFor, headEnd}
 use Rattle.listing.specs.Form.{headOf}
 use Rattle.listing.specs.Lines.{Left, past, goes-on, got}
 

@@ -5,7 +5,8 @@ use Prim.Native.Nat.{ℕ, _+_, _≤_}
 use native.Mathlib.Omega.{arith}
 use lib.ListN.{length, drop, length-append}
 use Rattle.listing.specs.Reading.{line-read, line-length, after}
-use Rattle.listing.specs.Text.{line, minZoomKey, maxZoomKey, minPointsKey, radiusKey, extentKey, nodeSizeKey, countKey, xKey, yKey, whKey}
+use Rattle.listing.specs.Text.{line, minZoomKey, maxZoomKey, minPointsKey, radiusKey, extentKey, nodeSizeKey, countKey, xKey, yKey}
+use Rattle.listing.specs.Text.{whKey}
 use Rattle.listing.specs.Text.{Place, Input, pointsText, text, Small, Valid}
 
 -- two lines of one key that begin one text: their numbers are equal, and what follows them

@@ -1,4 +1,5 @@
--- A line is read if and only if it stands there: number-ends and line-ends say what was read, number-read and line-read that it is read. Assumes nothing.
+-- A line is read if and only if it stands there: number-ends and line-ends say what was read, number-read and line-read that it is read.
+-- Assumes nothing.
 use mathlib.Core.Bool.{Bool, true, false, cond}
 use mathlib.Core.List.{List, [], _∷_, _++_, append-assoc}
 use mathlib.Core.Path.{_≡_, refl, ap, sym, _∙_}

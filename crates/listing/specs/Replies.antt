@@ -1,4 +1,5 @@
--- Any two replies that meet the contract of a public function of this crate are equal, and so are any two columns that they leave. Assumes nothing.
+-- Any two replies that meet the contract of a public function of this crate are equal, and so are any two columns that they leave.
+-- Assumes nothing.
 use mathlib.Core.Path.{_≡_}
 use mathlib.Core.List.{List}
 use Prim.Native.Nat.{ℕ}

@@ -78,7 +78,8 @@ pointsText (p ∷ ps) = pointText p (pointsText ps)
 abbrev pub headText : ℕ → ℕ → ℕ → ℕ → ℕ → ℕ → ℕ → List ℕ → List ℕ
 headText a b m r e n k t =
     line minZoomKey a ++
-    (line maxZoomKey b ++ (line minPointsKey m ++ (line radiusKey r ++ (line extentKey e ++ (line nodeSizeKey n ++ (line countKey k ++ t))))))
+    (line maxZoomKey b ++
+    (line minPointsKey m ++ (line radiusKey r ++ (line extentKey e ++ (line nodeSizeKey n ++ (line countKey k ++ t))))))
 
 abbrev pub text : Input → List ℕ
 text i =
@@ -106,13 +107,22 @@ pub record Valid (i : Input) : Type 0 where
 -- these numbers, and the place past them
 abbrev pub headFor : ℕ → ℕ → ℕ → ℕ → ℕ → ℕ → ℕ → ℕ → Head
 headFor a b m r e n k p =
-    record { «min_zoom» = a; «max_zoom» = b; «min_points» = m; radius = r; extent = e; «node_size» = n; count = k; next = record { at = p } }
+    record {
+      «min_zoom» = a;
+      «max_zoom» = b;
+      «min_points» = m;
+      radius = r;
+      extent = e;
+      «node_size» = n;
+      count = k;
+      next = record { at = p };
+    }
 
 -- where the first seven lines end
 abbrev pub headEnd : ℕ → ℕ → ℕ → ℕ → ℕ → ℕ → ℕ → ℕ
 headEnd a b m r e n k =
-    0 + length (line minZoomKey a) + length (line maxZoomKey b) + length (line minPointsKey m) + length (line radiusKey r) + length (line extentKey e)
-    + length (line nodeSizeKey n) + length (line countKey k)
+    0 + length (line minZoomKey a) + length (line maxZoomKey b) + length (line minPointsKey m) + length (line radiusKey r)
+    + length (line extentKey e) + length (line nodeSizeKey n) + length (line countKey k)
 
 -- the head of an input
 abbrev pub headIs : Input → Head

@@ -1,5 +1,5 @@
--- A text is read as these values if and only if it is their writing: `accepts` and `only`. So what `parsedOf` answers meets the contract of `parse`
--- (`parsing`), which allows just one reply to a text, and one content of the columns (`parsing-one`). Assumes nothing.
+-- A text is read as these values if and only if it is their writing: `accepts` and `only`. So what `parsedOf` answers meets the contract
+-- of `parse` (`parsing`), which allows just one reply to a text, and one content of the columns (`parsing-one`). Assumes nothing.
 use mathlib.Core.Bool.{Bool, true, false, cond}
 use mathlib.Core.List.{List, map}
 use mathlib.Core.Path.{_≡_, refl, ap, sym, subst, _∙_}

@@ -1,5 +1,5 @@
-// The text that the table lister reads: 01's lines of options and points, and 02's line of a point's energy.
-// Proved: a text is accepted with these values if and only if it is the writing of these values, and every other text is refused and leaves the columns as they
+// The text that the table lister reads: 01's lines of options and points, and 02's line of a point's energy. Proved: a text is accepted
+// with these values if and only if it is the writing of these values, and every other text is refused and leaves the columns as they
 // were. Nothing is asked of the caller. Assumed: nothing.
 use range::CoordinateSystem;
 use range::DataRange;

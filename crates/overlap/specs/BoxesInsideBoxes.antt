@@ -26,15 +26,20 @@ use Rattle.builds.specs.Given.{Given}
 
 -- a box as it is asked for, in the caller's coordinates: least x, least y, greatest x, greatest y
 pub record Box : Type 0 where
-  pub w : Float
-  pub s : Float
-  pub e : Float
-  pub n : Float
+  pub west : Float
+  pub least : Float
+  pub east : Float
+  pub greatest : Float
 
 -- the common part: the larger of their least numbers, and the smaller of their greatest; of 0 and -0 that of the first box
 abbrev pub common : Box → Box → Box
 common a b =
-    record { w = largerOf (a .w) (b .w); s = largerOf (a .s) (b .s); e = smallerOf (a .e) (b .e); n = smallerOf (a .n) (b .n) }
+    record {
+      west = largerOf (a .west) (b .west);
+      least = largerOf (a .least) (b .least);
+      east = smallerOf (a .east) (b .east);
+      greatest = smallerOf (a .greatest) (b .greatest);
+    }
 
 -- ---- the conditions
 
@@ -44,14 +49,14 @@ Fair d v = T (finite v) × T (finite (normalized d v))
 
 -- a box that is spoken of: all its four numbers are such. Nothing else is asked of a box: its least numbers may exceed its greatest
 pub record Taken (d : DataRange) (a : Box) : Type 0 where
-  pub w : Fair d (a .w)
-  pub s : Fair d (a .s)
-  pub e : Fair d (a .e)
-  pub n : Fair d (a .n)
+  pub west : Fair d (a .west)
+  pub least : Fair d (a .least)
+  pub east : Fair d (a .east)
+  pub greatest : Fair d (a .greatest)
 
 -- a box that is still empty after normalising: its greatest x is then below its least x, or its greatest y below its least y
 abbrev pub Empty : DataRange → Box → Type 0
-Empty d a = T (lt (normalized d (a .e)) (normalized d (a .w))) ⊎ T (lt (normalized d (a .n)) (normalized d (a .s)))
+Empty d a = T (lt (normalized d (a .east)) (normalized d (a .west))) ⊎ T (lt (normalized d (a .greatest)) (normalized d (a .least)))
 
 -- ---- what is said of the answers
 
@@ -91,7 +96,7 @@ pub record Overlaps (d : DataRange) (ask : Box → Asked) : Type 0 where
 
 -- the box at a zoom, asked of a state and its columns: the answer of `list_box` is `answerOf` of this, and its output column `columnOf`
 abbrev pub boxAt : State → Columns → ℕ → Box → Asked
-boxAt s c zoom a = boxAsked s (c .ids) (c .coords) zoom (a .w) (a .s) (a .e) (a .n)
+boxAt s c zoom a = boxAsked s (c .ids) (c .coords) zoom (a .west) (a .least) (a .east) (a .greatest)
 
 -- of the state that `load` replies and the columns that it leaves, where it refuses nothing and the coordinates are Cartesian; at every
 -- zoom, built or not

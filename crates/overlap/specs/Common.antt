@@ -26,7 +26,7 @@ use Rattle.overlap.specs.BoxesInsideBoxes.{Box, common, Fair, Taken, Emp
 
 -- the search of a box: its corners, normalised
 abbrev pub boxed : DataRange → Box → Query
-boxed d a = Range (normalized d (a .w)) (normalized d (a .s)) (normalized d (a .e)) (normalized d (a .n))
+boxed d a = Range (normalized d (a .west)) (normalized d (a .least)) (normalized d (a .east)) (normalized d (a .greatest))
 
 -- ---- tests
 
@@ -123,10 +123,10 @@ module _ (g : Float → Float) (a b : Float) (na : T (not (isNan a))) (nb : T (n
 pub common-taken : (d : DataRange) (a b : Box) → Taken d a → Taken d b → Taken d (common a b)
 common-taken d a b p q =
     record {
-      w = larger (a .w) (b .w) (p .w) (q .w);
-      s = larger (a .s) (b .s) (p .s) (q .s);
-      e = smaller (a .e) (b .e) (p .e) (q .e);
-      n = smaller (a .n) (b .n) (p .n) (q .n);
+      west = larger (a .west) (b .west) (p .west) (q .west);
+      least = larger (a .least) (b .least) (p .least) (q .least);
+      east = smaller (a .east) (b .east) (p .east) (q .east);
+      greatest = smaller (a .greatest) (b .greatest) (p .greatest) (q .greatest);
     }
   where
     either : (t : Bool) (u v : Float) → Fair d u → Fair d v → Fair d (cond t u v)
@@ -156,16 +156,16 @@ module _ (d : DataRange) (r : Rising d) (a b : Box) (p : Taken d a) (q : Taken d
   -- a point passes the common part just where it passes both
   pub common-passes : (x y : Float) → passesQ (boxed d (common a b)) x y ≡ (passesQ (boxed d a) x y && passesQ (boxed d b) x y)
   common-passes x y =
-      let A = le (g (a .w)) x in
-      let B = le (g (b .w)) x in
-      let C = le x (g (a .e)) in
-      let D = le x (g (b .e)) in
-      let E = le (g (a .s)) y in
-      let F = le (g (b .s)) y in
-      let G = le y (g (a .n)) in
-      let H = le y (g (b .n)) in
-      four (larger-is (a .w) (b .w) (p .w) (q .w) x) (smaller-is (a .e) (b .e) (p .e) (q .e) x)
-      (larger-is (a .s) (b .s) (p .s) (q .s) y) (smaller-is (a .n) (b .n) (p .n) (q .n) y)
+      let A = le (g (a .west)) x in
+      let B = le (g (b .west)) x in
+      let C = le x (g (a .east)) in
+      let D = le x (g (b .east)) in
+      let E = le (g (a .least)) y in
+      let F = le (g (b .least)) y in
+      let G = le y (g (a .greatest)) in
+      let H = le y (g (b .greatest)) in
+      four (larger-is (a .west) (b .west) (p .west) (q .west) x) (smaller-is (a .east) (b .east) (p .east) (q .east) x)
+      (larger-is (a .least) (b .least) (p .least) (q .least) y) (smaller-is (a .greatest) (b .greatest) (p .greatest) (q .greatest) y)
       ∙ ap (λ (z : Bool). z && (G && H)) (ap (λ (z : Bool). z && (E && F)) (and-turn A B C D) ∙ and-turn (A && C) (B && D) E F)
       ∙ and-turn (A && C && E) (B && D && F) G H
     where

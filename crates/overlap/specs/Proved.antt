@@ -2,7 +2,7 @@
 -- build left, the same order for every box; the rest is Cut's, for any order. Assumes nothing.
 use mathlib.Core.Path.{_≡_, ap, sym, _∙_}
 use mathlib.Core.Bool.{true}
-use mathlib.Core.List.{List}
+use mathlib.Core.List.{List, [], _∷_}
 use Prim.Native.Nat.{ℕ}
 use lib.ListN.{length}
 use lib.Ieee.{Float}
@@ -21,7 +21,7 @@ use Rattle.tables.specs.Options.{zoomUsed}
 use Rattle.tables.specs.Sound.{stateOk}
 use Rattle.asking.specs.Asked.{told}
 use Rattle.asking.specs.Columns.{indexRoom, idsAt, coordsAt}
-use Rattle.boxplan.specs.Rule.{once, planOf, boxOk}
+use Rattle.boxplan.specs.Rule.{planOf, boxOk}
 use Rattle.boxes.specs.Lists.{listedAt, boxAsked}
 use Rattle.boxes.specs.Inside.{Indexed, one-told}
 use Rattle.supercluster.specs.Build.{Lent, need}
@@ -48,25 +48,28 @@ module _ (st : State) (ids : List ℕ) (co : List Float) (zoom : ℕ) (xs ys : L
   abbrev foundIn : ℕ → Query → List ℕ
   foundIn n q = found q (st .options .«node_size») n (idsAt st ids z) (coordsAt st co z)
 
-  all-told : (q : Query) → listedAt st ids co z (once q) ≡ told true (foundIn (length xs) q)
+  all-told : (q : Query) → listedAt st ids co z (q ∷ []) ≡ told true (foundIn (length xs) q)
   all-told q = one-told st ids co z xs ys J q ∙ ap (λ (n : ℕ). told true (foundIn n q)) (sym (J .long))
 
-  fine : (a : Box) → Taken d a → boxOk (st .options .«coordinate_system») (a .w) (a .s) (a .e) (a .n) ≡ true
+  fine : (a : Box) → Taken d a → boxOk (st .options .«coordinate_system») (a .west) (a .least) (a .east) (a .greatest) ≡ true
   fine a p =
-      let w = is-true (finite (a .w)) (p .w .0) in
-      let s = is-true (finite (a .s)) (p .s .0) in
-      let e = is-true (finite (a .e)) (p .e .0) in
-      let n = is-true (finite (a .n)) (p .n .0) in
-      rw (c, w, s, e, n)
+      rw (
+        c,
+        is-true (finite (a .west)) (p .west .0),
+        is-true (finite (a .least)) (p .least .0),
+        is-true (finite (a .east)) (p .east .0),
+        is-true (finite (a .greatest)) (p .greatest .0),
+      )
 
   -- a box is answered whole, with those places of the order that lie in it
-  box-told : (a : Box) → Taken d a → boxAsked st ids co zoom (a .w) (a .s) (a .e) (a .n) ≡ told true (listOf d r xs ys order a)
+  box-told : (a : Box) → Taken d a
+      → boxAsked st ids co zoom (a .west) (a .least) (a .east) (a .greatest) ≡ told true (listOf d r xs ys order a)
   unfolding boxAsked planOf converted
   box-told a p =
       rw (good, fine a p, c) (all-told (boxed d a) ∙ ap (told true) (answered-kept _ xs ys (J .lent) _ (J .index) (boxed d a)))
 
-  table-overlaps : Overlaps d (λ a. boxAsked st ids co zoom (a .w) (a .s) (a .e) (a .n))
-  table-overlaps = overlaps d r xs ys order (λ a. boxAsked st ids co zoom (a .w) (a .s) (a .e) (a .n)) box-told
+  table-overlaps : Overlaps d (λ a. boxAsked st ids co zoom (a .west) (a .least) (a .east) (a .greatest))
+  table-overlaps = overlaps d r xs ys order (λ a. boxAsked st ids co zoom (a .west) (a .least) (a .east) (a .greatest)) box-told
 
 -- ---- of a build that is accepted, in columns that hold it
 

@@ -1,6 +1,6 @@
--- 02, #112, leaf pages that join up: the page k of a size is what `leaves` answers with the size as limit and k * size as offset. What is so of the pages of one size, of one
--- cluster, is the record LeafPages, over a state and its columns. It is a field of Owners, so that `owners::load` ensures it of every build that it accepts, of every
--- cluster and every size of 1 or more. Definitions only.
+-- 02, #112, leaf pages that join up: the page k of a size is what `leaves` answers with the size as limit and k * size as offset. What is
+-- so of the pages of one size, of one cluster, is the record LeafPages, over a state and its columns. It is a field of Owners, so that
+-- `owners::load` ensures it of every build that it accepts, of every cluster and every size of 1 or more. Definitions only.
 use mathlib.Core.Path.{_≡_}
 use mathlib.Core.Bool.{true}
 use mathlib.Core.List.{List, [], _++_}
@@ -50,17 +50,20 @@ pub record OnPage (x : ℕ) (pages : ℕ → List ℕ) (k : ℕ) : Type 0 where
 pub record LeafPages (s : State) (c : Columns) (own : ℕ → ℕ) (z j size : ℕ) : Type 0 where
   -- no page is refused, nor breaks, whatever its offset
   pub given : (offset : ℕ) → asked s c z j size offset ≡ told true (lampsAt s c z j size offset)
-  -- the pages at offsets 0, size, twice the size and so on, as many as reach the count, put together are the whole leaf list: `gather` puts those of 0 to n - 1 together
+  -- the pages at offsets 0, size, twice the size and so on, as many as reach the count, put together are the whole leaf list: `gather` puts
+  -- those of 0 to n - 1 together
   pub joined : (n : ℕ) → numAt s c z j ≤ n * size → gather (λ k. page s c z j size k) (range 0 n) ≡ allLeaves s c z j
   -- a page has the size, or what is left of the count
   pub long : (k : ℕ) → length (page s c z j size k) ≡ min size (numAt s c z j - k * size)
-  -- so with k whole pages and a rest, less than a page, the page after them is the rest: short where the size does not divide the count, and otherwise empty
+  -- so with k whole pages and a rest, less than a page, the page after them is the rest: short where the size does not divide the count,
+  -- and otherwise empty
   pub last : (k rest : ℕ) → numAt s c z j ≡ k * size + rest → rest < size → length (page s c z j size k) ≡ rest
   -- at or past the count a page is empty: at every offset, so up to the largest u32
   pub past : (offset : ℕ) → numAt s c z j ≤ offset → asked s c z j size offset ≡ told true []
   -- the offset of a page that is not empty is a u32
   pub fits : (k : ℕ) → k * size < numAt s c z j → k * size ≤ 4294967295
-  -- in a column that is long enough for a page, as long as the size or as the count, the page is answered whole, and stands at the front before what the column held
+  -- in a column that is long enough for a page, as long as the size or as the count, the page is answered whole, and stands at the front
+  -- before what the column held
   pub stands : (offset : ℕ) (out : List ℕ) → min size (numAt s c z j) ≤ length out
       → (answerOf (asked s c z j size offset) (length out) ≡ Listed (length (lampsAt s c z j size offset)))
       × (columnOf (asked s c z j size offset) out ≡ lampsAt s c z j size offset ++ drop (length (lampsAt s c z j size offset)) out)

@@ -5,18 +5,18 @@
 use mathlib.Core.Path.{_≡_}
 use mathlib.Core.Logic.{_↔_}
 use mathlib.Core.Bool.{true}
-use mathlib.Core.List.{List}
+use mathlib.Core.List.{List, _++_}
 use Prim.Native.Nat.{ℕ, suc, _+_, _^_, _<_, _≤_}
 use lib.Dec.{eqb}
-use lib.ListN.{length, getD, take}
+use lib.ListN.{length, getD, take, drop}
 use Rattle.tables.specs.declared.State.{State}
 use Rattle.tables.specs.Entries.{entry}
 use Rattle.groups.specs.Sums.{gate, one, sum, count, range}
-use Rattle.asking.specs.Asked.{told}
+use Rattle.asking.specs.declared.Answer.the-variants.{Listed}
+use Rattle.asking.specs.Asked.{told, answerOf, columnOf}
 use Rattle.asking.specs.Columns.{Columns, tableAt}
-use Rattle.walks.specs.Leaves.{leavesOf}
 use Rattle.lamps.specs.Owner.{up}
-use Rattle.owners.specs.LeafPages.{LeafPages}
+use Rattle.owners.specs.LeafPages.{numAt, asked, LeafPages}
 
 -- the tables that the state names
 pub record Between (s : State) (z : ℕ) : Type 0 where
@@ -36,17 +36,33 @@ pub record Owned (n : ℕ) (own : ℕ → ℕ) (j : ℕ) (ls : List ℕ) : Type 
   -- nothing else is in it
   pub only : (l : ℕ) → n ≤ l → count l ls ≡ 0
 
+-- the leaves of the cluster at j of table z with offset 0 and this limit: all lamps that it owns, `own l` the place that owns the lamp l
+pub record Leaves (s : State) (c : Columns) (own : ℕ → ℕ) (z j limit : ℕ) : Type 0 where
+  pub lamps : List ℕ
+  -- they are what `leaves` answers
+  pub given : asked s c z j limit 0 ≡ told true lamps
+  -- as many as the cluster's num
+  pub long : length lamps ≡ numAt s c z j
+  -- each once
+  pub owned : Owned (s .count) own j lamps
+  -- given room: in a column at least as long as the count they stand at the front, before what it held, and their number is answered
+  pub room : (out : List ℕ) → numAt s c z j ≤ length out
+      → (answerOf (asked s c z j limit 0) (length out) ≡ Listed (numAt s c z j))
+      × (columnOf (asked s c z j limit 0) out ≡ lamps ++ drop (numAt s c z j) out)
+
 -- own z l is the place in table z of the one owner of the lamp l; ws are the energies that the build was given, by lamp
 pub record Owners (s : State) (c : Columns) (ws : List ℕ) (own : ℕ → ℕ → ℕ) : Type 0 where
   -- in the finest table a lamp owns itself
   pub first : (l : ℕ) → own (s .options .«max_zoom» + 1) l ≡ l
   -- the owner is an entry of the table
   pub there : (z l : ℕ) → Between s z → l < s .count → own z l < length (tableAt s c z)
-  -- and exactly one entry is the owner: that with the id of the cluster which absorbed the owner before, or, where none did, with that owner's own id
+  -- and exactly one entry is the owner: that with the id of the cluster which absorbed the owner before, or, where none did, with that
+  -- owner's own id
   pub climbs : (z l q : ℕ) → s .options .«min_zoom» ≤ z → z ≤ s .options .«max_zoom» → l < s .count → q < length (tableAt s c z)
       → (entry (tableAt s c z) q .id ≡ up (entry (tableAt s c (suc z)) (own (suc z) l))) ↔ (q ≡ own z l)
   -- an entry's num is the number of lamps that it owns
-  pub counts : (z j : ℕ) → Between s z → j < length (tableAt s c z) → entry (tableAt s c z) j .num ≡ sum (λ l. one (eqb (own z l) j)) (range 0 (s .count))
+  pub counts : (z j : ℕ) → Between s z → j < length (tableAt s c z)
+      → entry (tableAt s c z) j .num ≡ sum (λ l. one (eqb (own z l) j)) (range 0 (s .count))
   -- the entries of a table own all lamps together
   pub together : (z : ℕ) → Between s z → sum (λ j. entry (tableAt s c z) j .num) (range 0 (length (tableAt s c z))) ≡ s .count
   -- an entry's energy is the sum of the given energies over the lamps that it owns
@@ -59,11 +75,11 @@ pub record Owners (s : State) (c : Columns) (ws : List ℕ) (own : ℕ → ℕ �
   pub light : sum (λ l. getD ws l 0) (range 0 (s .count)) ≤ 2 ^ 60
   -- lamps that share an owner share one at every smaller zoom
   pub shares : (z w l m : ℕ) → Between s z → w ≤ z → own z l ≡ own z m → own w l ≡ own w m
-  -- a cluster's leaves with offset 0 and a limit of at least its num are the lamps that it owns, each once
-  pub leaves : (z j limit : ℕ) → IsCluster s c z j → entry (tableAt s c z) j .num ≤ limit
-      → (ls : List ℕ) × (leavesOf s c (entry (tableAt s c z) j .id) limit 0 ≡ told true ls) × (length ls ≡ entry (tableAt s c z) j .num) × Owned (s .count) (own z) j ls
+  -- a cluster's leaves with offset 0 and a limit of at least its num are the lamps that it owns, each once, and given room they stand in
+  -- the column
+  pub leaves : (z j limit : ℕ) → IsCluster s c z j → numAt s c z j ≤ limit → Leaves s c (own z) z j limit
   -- a larger limit never changes what a smaller one listed at the same offset; limit 0 lists the shortest list
   pub prefix : (z j m n offset : ℕ) → IsCluster s c z j → m ≤ n
-      → (ls : List ℕ) × (leavesOf s c (entry (tableAt s c z) j .id) n offset ≡ told true ls) × (leavesOf s c (entry (tableAt s c z) j .id) m offset ≡ told true (take m ls))
+      → (ls : List ℕ) × (asked s c z j n offset ≡ told true ls) × (asked s c z j m offset ≡ told true (take m ls))
   -- pages of a size of 1 or more join up, and each lamp is on exactly one (02, #112)
   pub pages : (z j size : ℕ) → IsCluster s c z j → 1 ≤ size → LeafPages s c (own z) z j size

@@ -1,5 +1,5 @@
--- Any list turned page by page, the page k of a size beginning at k * size: how long a page is, that pages put together are the list, and that what is in the list once is
--- on exactly one page. Laws only; what is said of leaves stands in LeafPages. Assumes nothing.
+-- Any list turned page by page, the page k of a size beginning at k * size: how long a page is, that pages put together are the list, and
+-- that what is in the list once is on exactly one page. Laws only; what is said of leaves stands in LeafPages. Assumes nothing.
 use mathlib.Core.Path.{_≡_, refl, sym, ap, _∙_, subst}
 use mathlib.Core.Logic.{_⊎_, inl, inr, ⊎-elim}
 use mathlib.Core.List.{List, [], _∷_, _++_}

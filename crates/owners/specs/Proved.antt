@@ -31,7 +31,7 @@ use Rattle.answers.specs.Stored.{columnsOf, stateBy, columnsBy, loadedBy, table
 use Rattle.answers.specs.Leaves.{leaves-page, ones-few}
 use Rattle.owners.specs.LeafPages.{items, numAt, asked, lampsAt, allLeaves, page as leafPage, OnPage, LeafPages}
 use Rattle.owners.specs.Paging.{pageOf, page-length, pages-joined, none-on, one-page}
-use Rattle.owners.specs.Owners.{Between, IsCluster, Owned, Owners}
+use Rattle.owners.specs.Owners.{Between, IsCluster, Owned, Leaves, Owners}
 
 -- given room: an answer that goes to its end is the number of its items, and they stand at the front of the column, before what it held
 pub given-room : (q : Asked) (ls out : List ℕ) → q ≡ told true ls → length ls ≤ length out
@@ -90,17 +90,25 @@ module _ (G : Given) (a : Accepted G) (l : Lent) (r : Holds (need (G .options) (
         only = λ k h. owns-none G a z (w .between .low) (w .between .high) k h j (place z j w);
       }
 
-  all-leaves : (z j limit : ℕ) → IsCluster (stateBy G) (columnsBy G l) z j → entry (tableAt (stateBy G) (columnsBy G l) z) j .num ≤ limit
-      → (ls : List ℕ) × (leavesOf (stateBy G) (columnsBy G l) (entry (tableAt (stateBy G) (columnsBy G l) z) j .id) limit 0 ≡ told true ls)
-      × (length ls ≡ entry (tableAt (stateBy G) (columnsBy G l) z) j .num) × Owned (points G) (λ k. owner G z k) j ls
+  all-leaves : (z j limit : ℕ) → IsCluster (stateBy G) (columnsBy G l) z j → numAt (stateBy G) (columnsBy G l) z j ≤ limit
+      → Leaves (stateBy G) (columnsBy G l) (λ k. owner G z k) z j limit
   all-leaves z j limit w h =
       let e = long z j w in
       let L = lampsOf G z j in
-      (L, page z j w limit 0 ∙ ap (told true) (take-all limit L (omega arith)), sym e, owned z j w)
+      let p : asked S C z j limit 0 ≡ told true L = page z j w limit 0 ∙ ap (told true) (take-all limit L (omega arith)) in
+      record { lamps = L; given = p; long = sym e; owned = owned z j w; room = λ out n. fits e p out n }
+    where
+      fits : numAt S C z j ≡ length (lampsOf G z j) → asked S C z j limit 0 ≡ told true (lampsOf G z j) → (out : List ℕ)
+          → numAt S C z j ≤ length out
+          → (answerOf (asked S C z j limit 0) (length out) ≡ Listed (numAt S C z j))
+          × (columnOf (asked S C z j limit 0) out ≡ lampsOf G z j ++ drop (numAt S C z j) out)
+      fits e p out n =
+          let g = given-room _ (lampsOf G z j) out p (omega arith) in
+          (g .0 ∙ ap Listed (sym e), g .1 ∙ ap (λ (m : ℕ). lampsOf G z j ++ drop m out) (sym e))
 
   fewer : (z j m n offset : ℕ) → IsCluster (stateBy G) (columnsBy G l) z j → m ≤ n
-      → (ls : List ℕ) × (leavesOf (stateBy G) (columnsBy G l) (entry (tableAt (stateBy G) (columnsBy G l) z) j .id) n offset ≡ told true ls)
-      × (leavesOf (stateBy G) (columnsBy G l) (entry (tableAt (stateBy G) (columnsBy G l) z) j .id) m offset ≡ told true (take m ls))
+      → (ls : List ℕ) × (asked (stateBy G) (columnsBy G l) z j n offset ≡ told true ls)
+      × (asked (stateBy G) (columnsBy G l) z j m offset ≡ told true (take m ls))
   fewer z j m n offset w k =
       let L = drop offset (lampsOf G z j) in
       (take n L, page z j w n offset, page z j w m offset ∙ ap (told true) (sym (take-take m n L k)))
@@ -143,7 +151,8 @@ module _ (G : Given) (a : Accepted G) (l : Lent) (r : Holds (need (G .options) (
         let n = long z j w in
         fewer-than size (numAt S C z j) offset (length out) (length L) (length (drop offset L)) _ n c (e ∙ d) h
       where
-        fewer-than : (size num offset room all left got : ℕ) → num ≡ all → left ≡ all - offset → got ≡ min size left → min size num ≤ room → got ≤ room
+        fewer-than : (size num offset room all left got : ℕ) → num ≡ all → left ≡ all - offset → got ≡ min size left
+            → min size num ≤ room → got ≤ room
         fewer-than size num offset room all left got n c d h = omega arith
 
     few : numAt (stateBy G) (columnsBy G l) z j ≤ 1048576
@@ -161,7 +170,12 @@ module _ (G : Given) (a : Accepted G) (l : Lent) (r : Holds (need (G .options) (
         lift (one-page k size n L (let e = long z j w in omega arith) (owned z j w .each k b ∙ ap one (eq-eqb (owner G z k) j u)))
       where
         lift : ((i : ℕ) × (i < n) × OnPage k (λ m. pageOf size m L) i) → (i : ℕ) × (i < n) × OnPage k (λ m. leafPage S C z j size m) i
-        lift (i, v, p) = (i, v, record { here = ap (count k) (at (i * size)) ∙ p .here; nowhere-else = λ m q. ap (count k) (at (m * size)) ∙ p .nowhere-else m q })
+        lift (i, v, p) =
+            let on : OnPage k (λ m. leafPage S C z j size m) i = record {
+              here = ap (count k) (at (i * size)) ∙ p .here;
+              nowhere-else = λ m q. ap (count k) (at (m * size)) ∙ p .nowhere-else m q;
+            } in
+            (i, v, on)
 
     strangers : (k m : ℕ) → (m < points G → owner G z m ≡ j → ⊥) → count m (leafPage (stateBy G) (columnsBy G l) z j size k) ≡ 0
     strangers k m h = ap (count m) (at (k * size)) ∙ none-on m size k L (⊎-elim within past (below m (points G)))
@@ -176,7 +190,8 @@ module _ (G : Given) (a : Accepted G) (l : Lent) (r : Holds (need (G .options) (
     turned m =
         record {
           given = λ offset. page z j w size offset ∙ ap (told true) (sym (at offset));
-          joined = λ n h. gather-ext _ _ (range 0 n) (λ k v. at (k * size)) ∙ pages-joined size n L (let e = long z j w in omega arith) ∙ sym whole;
+          joined = λ n h. gather-ext _ _ (range 0 n) (λ k v. at (k * size))
+              ∙ pages-joined size n L (let e = long z j w in omega arith) ∙ sym whole;
           long = page-long;
           last = rest-long;
           past = past-end;

@@ -2,13 +2,12 @@
 use supercluster::Loaded;
 use tables::Options;
 ghost use mathlib.Core.Path.{_≡_};
+ghost use Prim.Native.Nat.{ℕ};
 ghost use Rattle.supercluster.specs.declared.LoadReply.the-variants.{Done};
 ghost use Rattle.lent.specs.Lent.{old};
 ghost use Rattle.supercluster.specs.Build.{outcome, loaded};
 ghost use Rattle.supercluster.specs.Lent.{lentAll};
-ghost use Rattle.builds.specs.Given.{given};
 ghost use Rattle.answers.specs.Stored.{columnsOf};
-ghost use Rattle.lamps.specs.Owner.{owner};
 ghost use Rattle.owners.specs.Owners.{Owners};
 
 // `supercluster::load`, which has one owner for every lamp in what it replies and leaves, where it refuses nothing.
@@ -33,8 +32,7 @@ pub fn load(
         ⌜ outcome r (l .exit) ≡ loaded o (old xs) (old ys) (old energies) (l .entry) ⌝ }
     ensures { λ r.
         let l = lentAll x y seen id parent num energy ids coords near in
-        ⌜ ((r .reply ≡ Done) → Owners (r .state) (columnsOf (l .exit)) (old energies)
-        (owner (given o (old xs) (old ys) (old energies)))) ⌝ }
+        ⌜ ((r .reply ≡ Done) → (own : ℕ → ℕ → ℕ) × Owners (r .state) (columnsOf (l .exit)) (old energies) own) ⌝ }
 {
     supercluster::load(
         o,

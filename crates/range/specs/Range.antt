@@ -1,5 +1,6 @@
--- The range module, by 01: normalize is (v - offset) / scale, denormalize is v * scale + offset. Each of offset and scale is either given or derived:
--- offset the smaller minimum, scale the larger maximum less the offset. One rounding an operation, on all floats. Definitions only.
+-- The range module, by 01: normalize is (v - offset) / scale, denormalize is v * scale + offset. Each of offset and scale is either given
+-- or derived: offset the smaller minimum, scale the larger maximum less the offset. One rounding an operation, on all floats. Definitions
+-- only.
 use mathlib.Core.Bool.{Bool, true, cond, _&&_}
 use lib.Ieee.{Float, binary64, isNan, lt, add, sub, mul, div}
 use lib.Ieee.Scale.{finite}

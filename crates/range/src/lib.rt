@@ -2,7 +2,8 @@
 // The names are the Rust's range.rs, with its Option fields and its CoordinateSystem as enums that carry the floats.
 ghost use mathlib.Core.Path.{_≡_};
 ghost use mathlib.Core.Bool.{_&&_};
-ghost use Rattle.range.specs.Range.{smallerOf, largerOf, offsetOf, scaleOf, normalized, denormalized, inBounds, converted, systemInBounds};
+ghost use Rattle.range.specs.Range.{smallerOf, largerOf, offsetOf, scaleOf, normalized, denormalized, inBounds, converted};
+ghost use Rattle.range.specs.Range.{systemInBounds};
 
 // An offset or a scale: given by the caller, or derived from the range.
 pub enum Setting {

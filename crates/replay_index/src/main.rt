@@ -1,11 +1,11 @@
-// Replays test vectors on the crates `kdbush` and `kdwalk`, and says whether their answers are those that the vectors expect.
-// A vector is a line of standard input: words of 16 lowercase hexadecimal digits, a space after each, and a line end after the last.
-//     node_size n, n times `x y`, n times `id x y`, k, k times `kind a b c d m` and m places
-// The n points are built; expected is the id and the point of each slot. The k queries follow: 0 asks for the box of the least x, the least y,
-// the greatest x and the greatest y, 1 for the circle of x, y and radius, and d is not looked at; expected are the places in their order.
-// Each query is asked once as a list and once by the cursor. n and m go to 1024, k to 64; a case beyond is not of the form.
-// Proved: nothing here reads or writes outside its columns, each comparison is the equation of its definition in specs/, and the tally is right.
-// Assumed: what standard input gives is not modelled, so that the loops that read are only proved to be safe.
+// Replays test vectors on the crates `kdbush` and `kdwalk`, and says whether their answers are those that the vectors expect. A vector is
+// a line of standard input: words of 16 lowercase hexadecimal digits, a space after each, and a line end after the last. node_size n, n
+// times `x y`, n times `id x y`, k, k times `kind a b c d m` and m places The n points are built; expected is the id and the point of
+// each slot. The k queries follow: 0 asks for the box of the least x, the least y, the greatest x and the greatest y, 1 for the circle of
+// x, y and radius, and d is not looked at; expected are the places in their order. Each query is asked once as a list and once by the
+// cursor. n and m go to 1024, k to 64; a case beyond is not of the form. Proved: nothing here reads or writes outside its columns, each
+// comparison is the equation of its definition in specs/, and the tally is right. Assumed: what standard input gives is not modelled, so
+// that the loops that read are only proved to be safe.
 use kdbush::SearchReply;
 use kdslots::Query;
 use kdwalk::Step;
@@ -101,7 +101,8 @@ fn builds(
     ids: &mut [u32],
     coords: &mut [f64],
 ) -> bool
-    ensures { λ r. ⌜ r ≡ buildsTo «node_size» (old xs) (old ys) (now («want_ids» .entry)) (now («want_coords» .entry)) (old ids) (old coords) ⌝ }
+    ensures { λ r.
+        ⌜ r ≡ buildsTo «node_size» (old xs) (old ys) (old «want_ids») (old «want_coords») (old ids) (old coords) ⌝ }
 {
     if !vectors::is_done(kdbush::build(node_size, xs, ys, ids, coords)) {
         return false;

@@ -1,6 +1,8 @@
 // Replays stored texts on the crate `report`, and says whether what is printed for each is what the Rust's tables come to.
-// A case is a line of two words, how long the text is and how long what is printed for it; then both, byte for byte, with nothing between them.
-// Proved: a case agrees if and only if its second part is what 01 has the lister print for its first. Assumed: what io says of reading and writing.
+// A case is a line of two words, how long the text is and how long what is printed for it; then both, byte for byte, with nothing
+// between them.
+// Proved: a case agrees if and only if its second part is what 01 has the lister print for its first. Assumed: what io says of reading
+// and writing.
 use libc::STDIN_FILENO;
 use vectors::Count;
 use vectors::Ending;
@@ -18,9 +20,6 @@ ghost use Rattle.vectors.specs.Tallies.{endingIs};
 fn prints(text: &[u8], want: &[u8]) -> bool
     ensures { λ r. ⌜ printsIs (old text) (old want) r ⌝ }
 {
-    let mut px = [0.0f64; 1152];
-    let mut py = [0.0f64; 1152];
-    let mut pe = [0u64; 1152];
     let mut x = [0.0f64; 1152];
     let mut y = [0.0f64; 1152];
     let mut seen = [0u8; 1152];
@@ -34,9 +33,6 @@ fn prints(text: &[u8], want: &[u8]) -> bool
     let mut out = [0u8; 156672];
     let k = report::report(
         text,
-        &mut px,
-        &mut py,
-        &mut pe,
         &mut x,
         &mut y,
         &mut seen,

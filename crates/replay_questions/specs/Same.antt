@@ -1,4 +1,5 @@
--- What the comparisons are: of the answer to a question, by the definition that the public function cites, with what is expected. Definitions only.
+-- What the comparisons are: of the answer to a question, by the definition that the public function cites, with what is expected.
+-- Definitions only.
 use Prim.Native.Nat.{ℕ}
 use mathlib.Core.Bool.{Bool, _&&_}
 use mathlib.Core.List.{List}
@@ -18,7 +19,8 @@ use Rattle.tiling.specs.declared.Tally.{Tally}
 use Rattle.tiling.specs.Tally.{tallyNumber, tallyValue}
 use Rattle.tiles.specs.Asked.{Outcome}
 use Rattle.vectors.specs.declared.Question.{Question}
-use Rattle.vectors.specs.declared.Question.the-variants.{Box as Question·Box, Ring as Question·Ring, Children as Question·Children, Leaves as Question·Leaves}
+use Rattle.vectors.specs.declared.Question.the-variants.{Box as Question·Box, Ring as Question·Ring, Children as Question·Children}
+use Rattle.vectors.specs.declared.Question.the-variants.{Leaves as Question·Leaves}
 use Rattle.vectors.specs.Same.{samePlaces, sameLongs}
 use Rattle.replay_questions.specs.declared.Listing.{Listing}
 use Rattle.replay_questions.specs.declared.Listing.the-variants.{Box, Ring, Children, Leaves}
@@ -26,14 +28,14 @@ use Rattle.replay_questions.specs.declared.Reply.{Reply}
 
 -- what a question that lists comes to
 unfoldable pub askedOf : Listing → State → Columns → Asked
-askedOf (Box zoom w south e n) s c = boxAsked s (c .ids) (c .coords) zoom w south e n
+askedOf (Box zoom west least east greatest) s c = boxAsked s (c .ids) (c .coords) zoom west least east greatest
 askedOf (Ring zoom x y radius) s c = ringAsked s (c .ids) (c .coords) zoom x y radius
 askedOf (Children id) s c = childrenOf s c id
 askedOf (Leaves id limit offset) s c = leavesOf s c id limit offset
 
 -- its name
 abbrev pub questionOf : Listing → Question
-questionOf (Box zoom w south e n) = Question·Box
+questionOf (Box zoom west least east greatest) = Question·Box
 questionOf (Ring zoom x y radius) = Question·Ring
 questionOf (Children id) = Question·Children
 questionOf (Leaves id limit offset) = Question·Leaves

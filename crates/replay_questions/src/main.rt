@@ -4,13 +4,13 @@
 // The columns are x, y, seen, id, parent, num, energy, ids and coords, each with its length before it: 64 at the most, of coords 128.
 // They are asked as they stand, so that states that no build made are among them.
 // A question is its kind, its numbers, the reply's number, and what the reply carries; k is 64 at the most.
-//     0 zoom w south e n | 1 zoom x y radius | 2 id | 3 id limit offset, and then: room number carried m, m places
+//     0 zoom west least_y east greatest_y | 1 zoom x y radius | 2 id | 3 id limit offset, and then: room number carried m, m places
 //     4 id | 6 z x y, and then: number carried
 //     5 z x y, and then: room_places room_x room_y number carried m, m places, m times x, m times y
-// The output columns are as long as their rooms, 64 at the most, and filled with old contents: expected is that the m items stand at the front, and behind
-// them the old contents.
-// Proved: nothing here reads or writes outside its columns, the verdict on a question is the equation of specs/ (`listsTo`, `zoomsTo`, `tilesTo`, `sumsTo`):
-// it agrees if and only if what is stored is what the definition says (specs/Decides). The tally is right.
+// The output columns are as long as their rooms, 64 at the most, and filled with old contents: expected is that the m items stand at the
+// front, and behind them the old contents.
+// Proved: nothing here reads or writes outside its columns, the verdict on a question is the equation of specs/ (`listsTo`, `zoomsTo`,
+// `tilesTo`, `sumsTo`): it agrees if and only if what is stored is what the definition says (specs/Decides). The tally is right.
 // Assumed: what standard input gives is not modelled, so that the functions that read are only proved to be safe.
 use asking::Answer;
 use stored::Chosen;
@@ -43,10 +43,10 @@ ghost use Rattle.replay_questions.specs.Same.{askedOf, questionOf, sameR
 enum Listing {
     Box {
         zoom: u8,
-        w: f64,
-        south: f64,
-        e: f64,
-        n: f64,
+        west: f64,
+        least_y: f64,
+        east: f64,
+        greatest_y: f64,
     },
     Ring {
         zoom: u8,
@@ -140,11 +140,11 @@ fn ask(
     match q {
         Listing::Box {
             zoom,
-            w,
-            south,
-            e,
-            n,
-        } => { boxes::list_box(s, ids, coords, zoom, w, south, e, n, out) }
+            west,
+            least_y,
+            east,
+            greatest_y,
+        } => { boxes::list_box(s, ids, coords, zoom, west, least_y, east, greatest_y, out) }
         Listing::Ring {
             zoom,
             x: cx,
@@ -357,24 +357,24 @@ fn read_box() -> Asked {
     let Byte::Is(zoom) = vectors::next_byte(false) else {
         return Asked::Bad;
     };
-    let Pattern::Bits(w) = vectors::next_bits(false) else {
+    let Pattern::Bits(west) = vectors::next_bits(false) else {
         return Asked::Bad;
     };
-    let Pattern::Bits(south) = vectors::next_bits(false) else {
+    let Pattern::Bits(least_y) = vectors::next_bits(false) else {
         return Asked::Bad;
     };
-    let Pattern::Bits(e) = vectors::next_bits(false) else {
+    let Pattern::Bits(east) = vectors::next_bits(false) else {
         return Asked::Bad;
     };
-    let Pattern::Bits(n) = vectors::next_bits(false) else {
+    let Pattern::Bits(greatest_y) = vectors::next_bits(false) else {
         return Asked::Bad;
     };
     Asked::Listing(Listing::Box {
         zoom,
-        w: vectors::float_of(w),
-        south: vectors::float_of(south),
-        e: vectors::float_of(e),
-        n: vectors::float_of(n),
+        west: vectors::float_of(west),
+        least_y: vectors::float_of(least_y),
+        east: vectors::float_of(east),
+        greatest_y: vectors::float_of(greatest_y),
     })
 }
 
@@ -457,10 +457,10 @@ fn question_of(q: Listing) -> Question
     match q {
         Listing::Box {
             zoom,
-            w,
-            south,
-            e,
-            n,
+            west,
+            least_y,
+            east,
+            greatest_y,
         } => Question::Box,
         Listing::Ring { zoom, x, y, radius } => Question::Ring,
         Listing::Children(id) => Question::Children,

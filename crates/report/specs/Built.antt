@@ -1,5 +1,5 @@
--- What an accepted build leaves, in columns of the lister's lengths, is what there is to print: its tables, each within the columns, with room for each line.
--- Assumes nothing.
+-- What an accepted build leaves, in columns of the lister's lengths, is what there is to print: its tables, each within the columns, with
+-- room for each line. Assumes nothing.
 use mathlib.Core.List.{List, map}
 use mathlib.Core.Path.{_≡_, refl, ap, sym, _∙_, subst}
 use Prim.Native.Nat.{ℕ, _+_, _-_, _≤_}

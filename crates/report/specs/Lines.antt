@@ -1,4 +1,5 @@
--- The lines that the lister prints, as text: that of an entry, those of a table, those of every table, and that of a refusal. Definitions only.
+-- The lines that the lister prints, as text: that of an entry, those of a table, those of every table, and that of a refusal. Definitions
+-- only.
 use mathlib.Core.Bool.{cond}
 use mathlib.Core.List.{List, [], _∷_, _++_}
 use Prim.Native.Nat.{ℕ, suc, _-_}

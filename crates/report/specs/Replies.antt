@@ -1,5 +1,5 @@
--- Any two replies that meet the contract of `report` are equal, and so is all that they leave in what was lent; and the answer counts bytes of the buffer.
--- Assumes nothing.
+-- Any two replies that meet the contract of `report` are equal, and so is all that they leave in what was lent; and the answer counts
+-- bytes of the buffer. Assumes nothing.
 use mathlib.Core.List.{List}
 use mathlib.Core.Path.{_≡_, ap, sym, _∙_}
 use Prim.Native.Nat.{ℕ, _≤_}

@@ -1,5 +1,5 @@
--- What the table lister prints for a text, by 01's 'The table lister' and 02's energies: the refusal 12, where the text is not of its form; or the refusal of
--- the build; or every line of every table, the finest table first. Definitions only.
+-- What the table lister prints for a text, by 01's 'The table lister' and 02's energies: the refusal 12, where the text is not of its
+-- form; or the refusal of the build; or every line of every table, the finest table first. Definitions only.
 use mathlib.Core.List.{List}
 use mathlib.Core.Path.{_≡_}
 use Prim.Native.Nat.{ℕ, _+_, _*_}
@@ -14,7 +14,7 @@ use Rattle.supercluster.specs.declared.LoadReply.the-variants.{Done, Options as
 use Rattle.supercluster.specs.Build.{Lent, lent, loadNumber, loadCarried, checked, tablesOf, Outcome, loaded}
 use Rattle.listing.specs.declared.Parsed.the-variants.{Refused}
 use Rattle.listing.specs.Values.{optionsOf}
-use Rattle.listing.specs.Text.{Input, text, Valid, headIs, PointCols, pointsOf, putPoints, parsedNumber}
+use Rattle.listing.specs.Text.{Input, text, Valid, headIs, PointCols, pointsOf, parsedNumber}
 use Rattle.report.specs.Lines.{lineRoom, tablesText, refusalText}
 
 -- the lister's columns: 1,152 entries, and 2,304 index coordinates
@@ -59,23 +59,20 @@ linesOf i = buildText (optionsOf (headIs i)) (pointsOf i)
 abbrev pub refusedLine : List ℕ
 refusedLine = refusalText (parsedNumber Refused) 0
 
--- what the lister is lent: columns for the points, those of the build, and room for the answer
+-- what the lister is lent: the columns of the build, and room for the answer
 pub record Lending : Type 0 where
-  pub points : PointCols
   pub columns : Lent
   pub out : List ℕ
 
-abbrev pub lending : PointCols → Lent → List ℕ → Lending
-lending p l out = record { points = p; columns = l; out = out }
+abbrev pub lending : Lent → List ℕ → Lending
+lending l out = record { columns = l; out = out }
 
--- and leaves for an input: its points, what the build leaves, and what is printed; past these the old contents
+-- and leaves for an input: what the build leaves, and what is printed; past these the old contents
 unfoldable pub left : Input → Lending → Lending
-left i d =
-    lending (putPoints (d .points) 0 (i .points)) (loadedBy (optionsOf (headIs i)) (pointsOf i) (d .columns) .columns)
-    (over (linesOf i) (d .out))
+left i d = lending (loadedBy (optionsOf (headIs i)) (pointsOf i) (d .columns) .columns) (over (linesOf i) (d .out))
 
 -- the answer to the text s is how many bytes are printed: for the input that s is the writing of, or the refusal 12 where there is none
 pub data Reports (s : List ℕ) (d : Lending) (answer : ℕ) (d′ : Lending) : Type 0 where
   read : (i : Input) → Valid i → s ≡ text i → answer ≡ length (linesOf i) → d′ ≡ left i d → Reports s d answer d′
   refused : ((i : Input) → Valid i → s ≡ text i → ⊥) → answer ≡ length refusedLine
-      → d′ ≡ lending (d .points) (d .columns) (over refusedLine (d .out)) → Reports s d answer d′
+      → d′ ≡ lending (d .columns) (over refusedLine (d .out)) → Reports s d answer d′

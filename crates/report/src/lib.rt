@@ -104,6 +104,11 @@ fn put_or_dash(out: &mut [u8], at: usize, n: usize, unset: usize) -> usize
     put_decimal(out, at, n, 10)
 }
 
+// What `seen` and `parent` are where they are unset, as numbers to print.
+const NEVER: usize = tables::NEVER as usize;
+
+const UNSET: usize = tables::UNSET as usize;
+
 // Zoom and place.
 fn put_place(out: &mut [u8], at: usize, zoom: usize, place: usize) -> usize
     requires { ⌜ at + 22 ≤ length (now out) ⌝ }
@@ -131,7 +136,7 @@ fn put_marks(out: &mut [u8], at: usize, seen: usize, id: usize) -> usize
     requires { ⌜ at + 22 ≤ length (now out) ⌝ }
     ensures { λ r. ⌜ Put (old out) (new out) at (marksText seen id) 22 r ⌝ }
 {
-    let a = put_or_dash(out, at, seen, 255);
+    let a = put_or_dash(out, at, seen, NEVER);
     let b = put_byte(out, a, 32);
     let c = put_decimal(out, b, id, 10);
     put_byte(out, c, 32)
@@ -142,7 +147,7 @@ fn put_end(out: &mut [u8], at: usize, parent: usize, num: usize, energy: usize) 
     requires { ⌜ at + 43 ≤ length (now out) ⌝ }
     ensures { λ r. ⌜ Put (old out) (new out) at (endText parent num energy) 43 r ⌝ }
 {
-    let a = put_or_dash(out, at, parent, 4294967295);
+    let a = put_or_dash(out, at, parent, UNSET);
     let b = put_byte(out, a, 32);
     let c = put_decimal(out, b, num, 10);
     let d = put_byte(out, c, 32);
@@ -321,12 +326,9 @@ fn report_read(
     put_refusal(out, number, reply.carried())
 }
 
-// What the lister prints for a text, at the start of `out`. How many bytes that is.
+// What the lister prints for a text, at the start of `out`. How many bytes that is. The points that are read stand in columns of its own.
 pub fn report(
     text: &[u8],
-    px: &mut [f64; 1152],
-    py: &mut [f64; 1152],
-    pe: &mut [u64; 1152],
     x: &mut [f64; 1152],
     y: &mut [f64; 1152],
     seen: &mut [u8; 1152],
@@ -340,18 +342,20 @@ pub fn report(
     out: &mut [u8; 156672],
 ) -> usize
     ensures { λ r.
-        let p = lentPoints px py pe in
         let l = lentAll x y seen id parent num energy ids coords near in
-        ⌜ Reports (old text) (lending (p .entry) (l .entry) (old out)) r (lending (p .exit) (l .exit) (new out)) ⌝ }
+        ⌜ Reports (old text) (lending (l .entry) (old out)) r (lending (l .exit) (new out)) ⌝ }
 {
-    let Parsed::Read(h) = listing::parse(text, px, py, pe) else {
+    let mut px = [0.0f64; 1152];
+    let mut py = [0.0f64; 1152];
+    let mut pe = [0u64; 1152];
+    let Parsed::Read(h) = listing::parse(text, &mut px, &mut py, &mut pe) else {
         return put_refusal(out, 12, 0);
     };
     report_read(
         h,
-        px,
-        py,
-        pe,
+        &px,
+        &py,
+        &pe,
         x,
         y,
         seen,

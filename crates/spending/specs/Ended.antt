@@ -11,8 +11,8 @@ use Rattle.kdbush.specs.Run.{sound, whole, filled}
 use Rattle.asking.specs.Filled.{filled-none, filled-next}
 use Rattle.spending.specs.declared.Spent.{Spent}
 use Rattle.spending.specs.Trials.{Mark, mark, hits, items}
-use Rattle.spending.specs.Reply.{fresh, settled, answer, column}
-use Rattle.spending.specs.Spend.{Went, went, spoilt, made, due, andThen, spend, spend-over, spend-sum}
+use Rattle.spending.specs.Reply.{answer, column}
+use Rattle.spending.specs.Spend.{Went, went, fresh, settled, spoilt, made, due, andThen, spend, spend-over, spend-sum}
 
 -- a search that has found k and has the allowance b
 abbrev from : ℕ → ℕ → Spent

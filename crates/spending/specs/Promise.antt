@@ -1,11 +1,11 @@
 -- What an allowance promises, over any columns: the items of a smaller one begin those of a larger; as many tests are made as the
--- definition has, or as are allowed; one that is not used up, or just used up, gives the full answer; and the tests of a plan find what
--- its searches answer. Assumes nothing.
+-- definition has, or as are allowed; one that is not used up, or just used up, gives the full answer; and the tests of queries find
+-- what these answer. Assumes nothing.
 use mathlib.Core.Bool.{Bool, true, false}
 use mathlib.Core.Path.{_≡_, refl, sym, ap, ap₂, _∙_}
-use mathlib.Core.List.{List, [], _∷_, _++_}
-use Prim.Native.Nat.{ℕ, _+_, _-_, _*_, _≤_, min}
-use native.Mathlib.Nat.{min-eq-right}
+use mathlib.Core.List.{List, [], _∷_, _++_, flatMap}
+use Prim.Native.Nat.{ℕ, zero, suc, _+_, _-_, _*_, _≤_, min}
+use native.Mathlib.Nat.{min-eq-right, suc-mul}
 use native.Mathlib.Omega.{arith}
 use borrow.Author.Tests.{ltb-false, le-ltb}
 use lib.Dec.{ltb}
@@ -13,11 +13,9 @@ use lib.ListN.{length, take, drop, take-append-drop, length-append}
 use lib.Seq.{take-all, take-add}
 use lib.Ieee.{Float}
 use Rattle.kdslots.specs.declared.Query.{Query}
-use Rattle.kdslots.specs.Slots.{when, over}
-use Rattle.kdslots.specs.Intervals.{when-length}
+use Rattle.kdslots.specs.Slots.{over}
 use Rattle.kdbush.specs.Run.{places, sound}
 use Rattle.kdbush.specs.Reply.{found}
-use Rattle.boxplan.specs.declared.Plan.{Plan}
 use Rattle.spending.specs.Tested.{tests, answers-tested, tests-length}
 use Rattle.spending.specs.Trials.{Mark, marks, hits, trials, items, marks-length, hits-append, hits-marks}
 use Rattle.spending.specs.Reply.{effortOf}
@@ -76,39 +74,31 @@ pub none : (ms : List Mark) → (items 0 ms ≡ []) × (effortOf 0 ms .tested �
 unfolding hits
 none ms = (refl, omega arith)
 
--- ---- the tests of a plan
+-- ---- the tests of queries
 
 module _ (size n : ℕ) (ids : List ℕ) (co : List Float) where
   one-found : (q : Query) → hits (marks (over q co) ids (tests q co size n)) ≡ found q size n ids co
   one-found q = hits-marks (over q co) ids (tests q co size n) ∙ sym (ap (places ids) (answers-tested q co size n))
 
-  second-found : (b : Bool) (q : Query) → hits (marks (over q co) ids (when b (tests q co size n))) ≡ when b (found q size n ids co)
-  unfolding hits marks
-  second-found true q = one-found q
-  second-found false q = refl
+  -- they find what the queries find, one after the other
+  pub trials-found : (qs : List Query) → hits (trials qs size n ids co) ≡ flatMap (λ q. found q size n ids co) qs
+  unfolding flatMap hits
+  trials-found [] = refl
+  trials-found (q ∷ qs) =
+      hits-append (marks (over q co) ids (tests q co size n)) (trials qs size n ids co)
+      ∙ ap₂ (λ (u v : List ℕ). u ++ v) (one-found q) (trials-found qs)
 
-  -- they find what its searches answer, the first and then the second
-  pub trials-found : (p : Plan)
-      → hits (trials p size n ids co) ≡ found (p .first) size n ids co ++ when (p .two) (found (p .second) size n ids co)
-  trials-found p =
-      hits-append (marks (over (p .first) co) ids (tests (p .first) co size n))
-      (marks (over (p .second) co) ids (when (p .two) (tests (p .second) co size n)))
-      ∙ ap₂ (λ (u v : List ℕ). u ++ v) (one-found (p .first)) (second-found (p .two) (p .second))
-
-  -- there are as many as the definition has, of both searches together at most twice the slots
-  pub trials-length : (p : Plan)
-      → length (trials p size n ids co) ≡ length (tests (p .first) co size n) + length (when (p .two) (tests (p .second) co size n))
-  trials-length p =
-      length-append (marks (over (p .first) co) ids (tests (p .first) co size n))
-      (marks (over (p .second) co) ids (when (p .two) (tests (p .second) co size n)))
-      ∙ ap₂ (λ (j k : ℕ). j + k) (marks-length (over (p .first) co) ids (tests (p .first) co size n))
-      (marks-length (over (p .second) co) ids (when (p .two) (tests (p .second) co size n)))
-
-  pub trials-most : (p : Plan) → length (trials p size n ids co) ≤ 2 * n
-  trials-most p = omega (
-    arith,
-    trials-length p,
-    tests-length (p .first) co size n,
-    tests-length (p .second) co size n,
-    when-length (p .two) (tests (p .second) co size n),
-  )
+  -- for each query there are as many as the definition has, at most the slots
+  pub trials-most : (k : ℕ) (qs : List Query) → length qs ≤ k → length (trials qs size n ids co) ≤ k * n
+  unfolding flatMap
+  trials-most k [] h = omega arith
+  trials-most zero (q ∷ qs) h = absurd (omega arith)
+  trials-most (suc k) (q ∷ qs) h =
+      omega (
+        arith,
+        suc-mul k n,
+        length-append (marks (over q co) ids (tests q co size n)) (trials qs size n ids co),
+        marks-length (over q co) ids (tests q co size n),
+        tests-length q co size n,
+        trials-most k qs (omega arith),
+      )

@@ -2,14 +2,13 @@
 -- Definitions only.
 use mathlib.Core.Bool.{Bool, false, cond}
 use mathlib.Core.List.{List}
-use Prim.Native.Nat.{ℕ, _-_, min}
+use Prim.Native.Nat.{ℕ, min}
 use lib.Dec.{leb, ltb}
 use lib.ListN.{length}
 use Rattle.kdbush.specs.Run.{sound, whole, filled}
 use Rattle.spending.specs.declared.Effort.{Effort}
 use Rattle.spending.specs.declared.EffortReply.{EffortReply}
 use Rattle.spending.specs.declared.EffortReply.the-variants.{Found, Box, NoRoom, Spoiled}
-use Rattle.spending.specs.declared.Spent.{Spent}
 use Rattle.spending.specs.Trials.{Mark, items}
 
 -- ---- 01's number of a reply, and what it carries
@@ -47,13 +46,3 @@ answer n ms a room = cond (whole n (items a ms)) (fitted (effortOf a ms) room) S
 -- the places before the first that is past the table, as many as fit, and then the old contents
 abbrev pub column : ℕ → List Mark → ℕ → List ℕ → List ℕ
 column n ms a out = filled (sound n (items a ms)) out
-
--- ---- as the code has it
-
--- a search that begins with an allowance
-abbrev pub fresh : ℕ → Spent
-fresh a = record { found = 0; left = a; over = false; spoiled = false }
-
--- the reply by how far a search came that was allowed a tests
-abbrev pub settled : Spent → ℕ → ℕ → EffortReply
-settled s a room = cond (s .spoiled) Spoiled (fitted (record { items = s .found; tested = a - s .left; stopped = s .over }) room)

@@ -1,6 +1,6 @@
--- A search with an allowance, test by test: what it has found, may still test, and leaves in the column. The first are definitions, and
--- then the laws by which the code goes from test to test. Assumes nothing.
-use mathlib.Core.Bool.{Bool, true, false}
+-- A search with an allowance, test by test, as the code has it: what it has found, may still test, and leaves in the column. The first say
+-- what the code's own functions do, and then the laws by which it goes from test to test. Assumes nothing.
+use mathlib.Core.Bool.{Bool, true, false, cond}
 use mathlib.Core.Path.{_≡_, refl, sym, ap, _∙_}
 use mathlib.Core.List.{List, [], _∷_, _++_}
 use Prim.Native.Nat.{ℕ, suc, _+_, _-_, _≤_, _<_}
@@ -8,12 +8,23 @@ use native.Mathlib.Omega.{arith}
 use borrow.Author.Tests.{eqb-false}
 use lib.Dec.{ltb, eqb}
 use lib.ListN.{set}
+use Rattle.spending.specs.declared.EffortReply.{EffortReply}
+use Rattle.spending.specs.declared.EffortReply.the-variants.{Spoiled}
 use Rattle.spending.specs.declared.Spent.{Spent}
 use Rattle.spending.specs.Trials.{Mark, mark}
+use Rattle.spending.specs.Reply.{fitted}
 
 -- how far a search came, beside what the column holds
 pub data Went : Type 0 where
   went : Spent → List ℕ → Went
+
+-- a search that begins with an allowance
+abbrev pub fresh : ℕ → Spent
+fresh a = record { found = 0; left = a; over = false; spoiled = false }
+
+-- the reply by how far a search came that was allowed a tests
+abbrev pub settled : Spent → ℕ → ℕ → EffortReply
+settled s a room = cond (s .spoiled) Spoiled (fitted (record { items = s .found; tested = a - s .left; stopped = s .over }) room)
 
 -- a search that is spoiled
 abbrev pub spoilt : Spent

@@ -1,16 +1,15 @@
--- The tests of a plan over an index, both halves of a box across the date line in one list, and what the first of them find. The first
--- are definitions. Assumes nothing.
+-- The tests of queries over an index, those of both halves of a box across the date line in one list, and what the first of them find.
+-- The first are definitions. Assumes nothing.
 use mathlib.Core.Bool.{Bool, true, false}
 use mathlib.Core.Path.{_≡_, refl, ap, _∙_}
-use mathlib.Core.List.{List, [], _∷_, _++_}
+use mathlib.Core.List.{List, [], _∷_, _++_, flatMap}
 use Prim.Native.Nat.{ℕ, zero, suc}
 use lib.ListN.{length, getD, take}
 use lib.Ieee.{Float}
 use Rattle.kdslots.specs.declared.Query.{Query}
-use Rattle.kdslots.specs.Slots.{Search, when, over}
+use Rattle.kdslots.specs.Slots.{Search, over}
 use Rattle.kdslots.specs.Keep.{put, keep}
 use Rattle.kdbush.specs.Run.{places}
-use Rattle.boxplan.specs.declared.Plan.{Plan}
 use Rattle.spending.specs.Tested.{tests}
 
 -- a test: whether the slot passes, and the place that it names
@@ -27,11 +26,9 @@ unfoldable pub hits : List Mark → List ℕ
 hits [] = []
 hits (mark b p ∷ ms) = put b p (hits ms)
 
--- the tests of a plan over an index of n, in order: those of the first search, and then, if there are two, those of the second
-abbrev pub trials : Plan → ℕ → ℕ → List ℕ → List Float → List Mark
-trials p size n ids co =
-    marks (over (p .first) co) ids (tests (p .first) co size n)
-    ++ marks (over (p .second) co) ids (when (p .two) (tests (p .second) co size n))
+-- the tests of queries over an index of n, in order, one query after the other
+abbrev pub trials : List Query → ℕ → ℕ → List ℕ → List Float → List Mark
+trials qs size n ids co = flatMap (λ q. marks (over q co) ids (tests q co size n)) qs
 
 -- the places that the first a tests find
 abbrev pub items : ℕ → List Mark → List ℕ

@@ -13,10 +13,11 @@ ghost use Rattle.lent.specs.Lent.{old, new};
 ghost use Rattle.kdsort.specs.Shape.{shape};
 ghost use Rattle.kdslots.specs.Slots.{over, when, scanned, slots};
 ghost use Rattle.kdbush.specs.Reply.{indexOk};
+ghost use Rattle.boxplan.specs.Queries.{queriesOf};
 ghost use Rattle.spending.specs.Tested.{testing};
 ghost use Rattle.spending.specs.Trials.{marks, trials};
-ghost use Rattle.spending.specs.Reply.{effortNumber, noEffort, effortCarried, settled, answer, column};
-ghost use Rattle.spending.specs.Spend.{went, spend};
+ghost use Rattle.spending.specs.Reply.{effortNumber, noEffort, effortCarried, answer, column};
+ghost use Rattle.spending.specs.Spend.{settled, went, spend};
 
 // How many places were found, how many slots were tested, and whether the search stopped with a test still due.
 pub struct Effort {
@@ -244,7 +245,7 @@ pub fn search(
 ) -> EffortReply
     requires { ⌜ indexOk «node_size» n (now ids) (now coords) ≡ true ⌝ }
     ensures { λ r.
-        let t = trials p «node_size» n (old ids) (old coords) in
+        let t = trials (queriesOf p) «node_size» n (old ids) (old coords) in
         ⌜ (r ≡ answer n t allowance (length (old out))) × (new out ≡ column n t allowance (old out)) ⌝ }
 {
     let q = p.first;

@@ -1,5 +1,6 @@
--- The build, by 01's 'Tables' and the Rust's `load`: the refusals in order; otherwise the finest table, and each zoom from max_zoom down to min_zoom, every table
--- with its index, packed from position 0. The zooms and the packing are those of `Zooms`, in the crate zooms. Definitions only.
+-- The build, by 01's 'Tables' and the Rust's `load`: the refusals in order; otherwise the finest table, and each zoom from max_zoom down
+-- to min_zoom, every table with its index, packed from position 0. The zooms and the packing are those of `Zooms`, in the crate zooms.
+-- Definitions only.
 use mathlib.Core.Bool.{Bool, true, false, cond, _&&_}
 use mathlib.Core.List.{List, [], _∷_, map}
 use Prim.Native.Nat.{ℕ, suc, _+_, _*_}
@@ -74,7 +75,12 @@ written size n ts l =
 -- the state: the tables from max_zoom + 1 down, packed from 0
 abbrev pub stateOf : Options → ℕ → List Table → State
 stateOf o n ts =
-    record { options = o; count = n; starts = starts (o .«max_zoom» + 1) 0 ts (replicate 32 0); lens = lens (o .«max_zoom» + 1) ts (replicate 32 0) }
+    record {
+      options = o;
+      count = n;
+      starts = starts (o .«max_zoom» + 1) 0 ts (replicate 32 0);
+      lens = lens (o .«max_zoom» + 1) ts (replicate 32 0);
+    }
 
 -- ---- the replies
 
@@ -91,8 +97,8 @@ roomyBy m x y seen id parent num energy ids coords near =
 abbrev pub roomy : ℕ → Lent → Bool
 roomy m l =
     let c = l .table in
-    roomyBy m (length (c .x)) (length (c .y)) (length (c .seen)) (length (c .id)) (length (c .parent)) (length (c .num)) (length (c .energy))
-    (length (l .ids)) (length (l .coords)) (length (l .near))
+    roomyBy m (length (c .x)) (length (c .y)) (length (c .seen)) (length (c .id)) (length (c .parent)) (length (c .num))
+    (length (c .energy)) (length (l .ids)) (length (l .coords)) (length (l .near))
 
 -- the largest energy of a point, in watt-hours: 2^40
 abbrev pub mostEnergy : ℕ

@@ -1,5 +1,5 @@
--- The finest table, entry by entry: how long it is, what each entry is, and that points within [0,1] make entries there, of one lamp each. And zeros, one by
--- one. Assumes nothing.
+-- The finest table, entry by entry: how long it is, what each entry is, and that points within [0,1] make entries there, of one lamp
+-- each. And zeros, one by one. Assumes nothing.
 use mathlib.Core.Path.{_≡_, refl, ap, sym, _∙_}
 use mathlib.Core.Bool.{Bool, true, false, _&&_}
 use mathlib.Core.List.{List, [], _∷_, _++_, map, append-nil}
@@ -24,7 +24,7 @@ use Rattle.zoom.specs.Lamps.{sumOf, total}
 use Rattle.zoom.specs.Zoom.{energyOf}
 use Rattle.zoom.specs.Sound.{Next}
 use Rattle.zooms.specs.Zooms.{over}
-use Rattle.zooms.specs.Parts.{Inside}
+use Rattle.kdbush.specs.Indexed.{Inside}
 use Rattle.supercluster.specs.Build.{convertedAll, lamp, finest, mostEnergy, firstOver}
 
 -- the columns of points

@@ -15,6 +15,10 @@ givenAll x y seen id parent num energy ids coords near = lent (given x y seen id
 abbrev pub lentAll : L Float → L Float → L ℕ → L ℕ → L ℕ → L ℕ → L ℕ → L ℕ → L Float → L ℕ → Both Lent Lent
 lentAll x y seen id parent num energy ids coords near =
     record {
-      entry = givenAll (x .entry) (y .entry) (seen .entry) (id .entry) (parent .entry) (num .entry) (energy .entry) (ids .entry) (coords .entry) (near .entry);
-      exit = givenAll (x .exit) (y .exit) (seen .exit) (id .exit) (parent .exit) (num .exit) (energy .exit) (ids .exit) (coords .exit) (near .exit);
+      entry =
+          givenAll (x .entry) (y .entry) (seen .entry) (id .entry) (parent .entry) (num .entry) (energy .entry)
+          (ids .entry) (coords .entry) (near .entry);
+      exit =
+          givenAll (x .exit) (y .exit) (seen .exit) (id .exit) (parent .exit) (num .exit) (energy .exit)
+          (ids .exit) (coords .exit) (near .exit);
     }

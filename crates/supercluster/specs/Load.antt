@@ -1,5 +1,5 @@
--- A build that is not refused: its points lie within [0,1] and its columns are long enough; and what it leaves in columns that were cut from longer ones.
--- Assumes nothing.
+-- A build that is not refused: its points lie within [0,1] and its columns are long enough; and what it leaves in columns that were cut
+-- from longer ones. Assumes nothing.
 use mathlib.Core.Path.{_≡_, refl, ap, sym, _∙_}
 use mathlib.Core.Bool.{Bool, true, false}
 use mathlib.Core.List.{List, _++_, map}
@@ -25,7 +25,8 @@ use Rattle.tables.specs.declared.Entry.{Entry}
 use Rattle.tables.specs.declared.Options.{Options}
 use Rattle.tables.specs.declared.State.{State}
 use Rattle.zooms.specs.Zooms.{joined, joinedIds, joinedCo, over}
-use Rattle.supercluster.specs.Build.{convertedAll, tablesOf, Lent, lent, written, need, roomy, tripleOk, ordered, firstOver, checked, byReply, loaded}
+use Rattle.supercluster.specs.Build.{convertedAll, tablesOf, Lent, lent, written, need, roomy, tripleOk, ordered, firstOver}
+use Rattle.supercluster.specs.Build.{checked, byReply, loaded}
 use Rattle.supercluster.specs.Fill.{pxs, pys, none-over}
 use Rattle.supercluster.specs.Over.{over-map, cut-over}
 use Rattle.supercluster.specs.Ready.{Accepted, Made}

@@ -22,7 +22,8 @@ use Rattle.zoom.specs.Lamps.{sumOf, total}
 use Rattle.zoom.specs.Zoom.{energyOf}
 use Rattle.zoom.specs.Sound.{Body, Next}
 use Rattle.zooms.specs.Zooms.{slotsOf, planOf, run, zoomsOf, joined, joinedIds, joinedCo, over, starts, lens}
-use Rattle.zooms.specs.Parts.{putAt, part-put, Inside}
+use Rattle.kdbush.specs.Indexed.{Inside}
+use Rattle.zooms.specs.Parts.{putAt, part-put}
 use Rattle.zooms.specs.Progress.{Finished, starts-again, lens-again}
 use Rattle.zooms.specs.Running.{Able, Running, table-inside, slots-ids, slots-co}
 use Rattle.supercluster.specs.Build.{convertedAll, tablesOf, stateOf, need, mostEnergy}

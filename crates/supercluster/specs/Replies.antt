@@ -1,5 +1,5 @@
--- Any two outcomes that meet the contract of `load` are equal: the reply, the state and every column; and so are any two numbers of a reply, and any two
--- that it carries. Assumes nothing.
+-- Any two outcomes that meet the contract of `load` are equal: the reply, the state and every column; and so are any two numbers of a
+-- reply, and any two that it carries. Assumes nothing.
 use mathlib.Core.Path.{_≡_}
 use mathlib.Core.List.{List}
 use Prim.Native.Nat.{ℕ}

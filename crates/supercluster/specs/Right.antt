@@ -1,5 +1,5 @@
--- Of every build that is accepted: each entry of each table lies from 0 to 1 and counts one lamp or more, each table counts the lamps, once each, and has 1 to N
--- entries; and all tables together have no more entries than a lent column has to hold. Assumes nothing.
+-- Of every build that is accepted: each entry of each table lies from 0 to 1 and counts one lamp or more, each table counts the lamps,
+-- once each, and has 1 to N entries; and all tables together have no more entries than a lent column has to hold. Assumes nothing.
 use mathlib.Core.Path.{_≡_, refl, ap, _∙_}
 use mathlib.Core.List.{List, [], _∷_}
 use Prim.Native.Nat.{ℕ, zero, suc, _+_, _-_, _*_, _≤_}

@@ -1,5 +1,5 @@
-// The public build, `load` of the Rust: the finest table of the converted points, then each zoom from max_zoom down to min_zoom, every table with its index.
-// Nothing is asked of the caller: what 01 does not take is refused with its number, and then no column is written.
+// The public build, `load` of the Rust: the finest table of the converted points, then each zoom from max_zoom down to min_zoom, every
+// table with its index. Nothing is asked of the caller: what 01 does not take is refused with its number, and then no column is written.
 use kdbush::Outside;
 use range::CoordinateSystem;
 use range::Point;
@@ -17,7 +17,8 @@ ghost use Rattle.tables.specs.Lent.{given, lentCols};
 ghost use Rattle.tables.specs.Options.{optionsOk};
 ghost use Rattle.tables.specs.State.{newState};
 ghost use Rattle.zooms.specs.Zooms.{over};
-ghost use Rattle.supercluster.specs.Build.{convertedAll, finest, written, stateOf, tablesOf, need, roomyBy, firstOver, tripleOk, ordered, loadNumber, loadCarried, outcome, loaded};
+ghost use Rattle.supercluster.specs.Build.{convertedAll, finest, written, stateOf, tablesOf, need, roomyBy, firstOver, tripleOk};
+ghost use Rattle.supercluster.specs.Build.{ordered, loadNumber, loadCarried, outcome, loaded};
 ghost use Rattle.supercluster.specs.Lent.{givenAll, lentAll};
 ghost use Rattle.supercluster.specs.Ready.{Accepted, Made};
 ghost use Rattle.supercluster.specs.Load.{Holds};
@@ -101,9 +102,9 @@ fn fill(
         let e = Entry {
             x: p.x,
             y: p.y,
-            seen: 255,
+            seen: tables::NEVER,
             id: place as u32,
-            parent: 4294967295,
+            parent: tables::UNSET,
             num: 1,
             energy: energies[place],
         };
@@ -144,11 +145,13 @@ fn build_in(
 ) -> State
     requires { let t = given x y seen id parent num energy in
         let n = length (now xs) in
-        ⌜ Even t × Accepted o (now xs) (now ys) (now energies) × (length (t .x) ≡ need o n) × (length (now ids) ≡ need o n) × (length (now coords) ≡ need o n * 2)
+        ⌜ Even t × Accepted o (now xs) (now ys) (now energies) × (length (t .x) ≡ need o n) × (length (now ids) ≡ need o n)
+        × (length (now coords) ≡ need o n * 2)
         × (length (now near) ≡ n + n) ⌝ }
     ensures { λ s.
         let t = lentCols x y seen id parent num energy in
-        ⌜ Made o (old xs) (old ys) (old energies) s (rows (t .entry)) (rows (t .exit)) (old ids) (new ids) (old coords) (new coords) (new near) ⌝ }
+        ⌜ Made o (old xs) (old ys) (old energies) s (rows (t .entry)) (rows (t .exit))
+        (old ids) (new ids) (old coords) (new coords) (new near) ⌝ }
 {
     let n = xs.len();
     let c = o.coordinate_system;
@@ -202,7 +205,7 @@ fn build_all(
 {
     let n = xs.len();
     let w = n + n;
-    let m = o.table_count() * n;
+    let m = tables::table_count(o) * n;
     let c = m * 2;
     build_in(
         o,
@@ -334,7 +337,7 @@ fn check(
     if n < 1 {
         return LoadReply::Count;
     }
-    if 1048576 < n {
+    if kdslots::MOST_POINTS < n {
         return LoadReply::Count;
     }
     if ys.len() != n {
@@ -350,7 +353,7 @@ fn check(
     if let Outside::At(i) = first_over(energies) {
         return LoadReply::Energy(i);
     }
-    let m = o.table_count() * n;
+    let m = tables::table_count(o) * n;
     if !is_roomy(m, x, y, seen, id, parent, num, energy, ids, coords, near) {
         return LoadReply::Tables;
     }

@@ -1,4 +1,5 @@
--- Definitions that contracts cite: Given, Options, State, Sound (its first), Entries, Rows (its first), Lent, Ids (its first), Radius (its first). All else is laws.
+-- Definitions that contracts cite: Given, Options, State, Sound (its first), Entries, Rows (its first), Lent, Ids (its first), Radius
+-- (its first). All else is laws.
 pub mod Given
 pub mod Options
 pub mod Bounds
@@ -10,3 +11,4 @@ pub mod Lent
 pub mod Columns
 pub mod Ids
 pub mod Radius
+pub mod Replies

@@ -1,4 +1,5 @@
--- The radius of a zoom, by the table of powers; for the radius and the extent that a build takes it is finite and not below 0. Assumes nothing.
+-- The radius of a zoom, by the table of powers; for the radius and the extent that a build takes it is finite and not below 0. Assumes
+-- nothing.
 use Prim.Native.Nat.{ℕ, _^_, _≤_}
 use lib.Dec.{T}
 use lib.Ieee.{Float, binary64, le, mul, div, fits}

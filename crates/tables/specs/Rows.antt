@@ -1,5 +1,6 @@
--- The table that the lent columns hold, and how a store in them is in it: a whole entry, a mark, a parent. The columns go by one record, and all that is said of
--- them is said of that. Only x says how long the table is; the laws on stores ask that the others are as long as it. Assumes nothing.
+-- The table that the lent columns hold, and how a store in them is in it: a whole entry, a mark, a parent. The columns go by one record,
+-- and all that is said of them is said of that. Only x says how long the table is; the laws on stores ask that the others are as long as
+-- it. Assumes nothing.
 use mathlib.Core.Path.{_≡_, refl, ap, sym, _∙_}
 use mathlib.Core.List.{List, [], _∷_, map}
 use mathlib.Core.Bool.{Bool, true, false}

@@ -39,7 +39,13 @@ pub struct State {
     pub lens: [u32; 32],
 }
 
-// An entry of a table. seen 255 stands for the Rust's infinity, parent 4,294,967,295 for its -1: unset.
+// What `seen` is before any zoom has seen an entry: it stands for the Rust's infinity.
+pub const NEVER: u8 = 255;
+
+// What `parent` is where no cluster has absorbed an entry: it stands for the Rust's -1.
+pub const UNSET: u32 = 4294967295;
+
+// An entry of a table.
 pub struct Entry {
     pub x: f64,
     pub y: f64,
@@ -87,7 +93,7 @@ impl Options {
         if self.node_size < 1 {
             return false;
         }
-        if 65535 < self.node_size {
+        if kdslots::MOST_NODE_SIZE < self.node_size {
             return false;
         }
         let system = self.coordinate_system;
@@ -113,14 +119,6 @@ impl Options {
         ensures { λ r. ⌜ r ≡ extentOk self ⌝ }
     {
         1.0 <= self.extent && self.extent <= 65536.0
-    }
-
-    // How many tables a build has.
-    pub fn table_count(self) -> usize
-        requires { ⌜ self .«min_zoom» ≤ self .«max_zoom» ⌝ }
-        ensures { λ r. ⌜ r ≡ tableCount self ⌝ }
-    {
-        (self.max_zoom - self.min_zoom) as usize + 2
     }
 
     // The zoom whose table a question at this zoom goes to.
@@ -158,37 +156,31 @@ fn is_table(start: u32, len: u32, n: u32, at: usize) -> bool
     len <= n
 }
 
+// How many tables a build has.
+pub fn table_count(o: Options) -> usize
+    requires { ⌜ o .«min_zoom» ≤ o .«max_zoom» ⌝ }
+    ensures { λ r. ⌜ r ≡ tableCount o ⌝ }
+{
+    (o.max_zoom - o.min_zoom) as usize + 2
+}
+
 impl State {
-    // Where the table of a zoom starts, and how many entries it has. The array alone is copied, not the state.
-    pub fn start_of(self, zoom: usize) -> usize
-        requires { ⌜ zoom < 32 ⌝ }
-        ensures { λ r. ⌜ r ≡ startOf self zoom ⌝ }
-    {
-        let starts = self.starts;
-        starts[zoom] as usize
-    }
-
-    pub fn len_of(self, zoom: usize) -> usize
-        requires { ⌜ zoom < 32 ⌝ }
-        ensures { λ r. ⌜ r ≡ lenOf self zoom ⌝ }
-    {
-        let lens = self.lens;
-        lens[zoom] as usize
-    }
-
-    // Whether the finest table has N entries, and the tables are packed from 0 on, the largest zoom first, within columns of cap entries. The state's arrays
-    // are lent beside it, so that they are read in place.
+    // Whether the finest table has N entries, and the tables are packed from 0 on, the largest zoom first, within columns of cap entries.
+    // The state's arrays are lent beside it, so that they are read in place.
     fn is_filled(self, starts: &[u32; 32], lens: &[u32; 32], cap: usize) -> bool
-        requires { ⌜ (self .options .«min_zoom» ≤ self .options .«max_zoom») × (self .options .«max_zoom» ≤ 30) × (self .count ≤ 1048576) ⌝ }
+        requires { ⌜ (self .options .«min_zoom» ≤ self .options .«max_zoom») × (self .options .«max_zoom» ≤ 30)
+            × (self .count ≤ 1048576) ⌝ }
         requires { ⌜ (now starts ≡ self .starts) × (now lens ≡ self .lens) ⌝ }
-        ensures { λ r. ⌜ r ≡ (eqb (lenOf self (self .options .«max_zoom» + 1)) (self .count) && packed self cap (tableCount (self .options)) 0) ⌝ }
+        ensures { λ r.
+            let o = self .options in
+            ⌜ r ≡ (eqb (lenOf self (o .«max_zoom» + 1)) (self .count) && packed self cap (tableCount o) 0) ⌝ }
     {
         let o = self.options;
         if lens[o.max_zoom as usize + 1] != self.count {
             return false;
         }
         let low = o.min_zoom as usize;
-        let mut left = o.table_count();
+        let mut left = table_count(o);
         let mut at = 0;
         while 0 < left {
             left -= 1;
@@ -201,32 +193,49 @@ impl State {
         at <= cap
     }
 
-    // Whether a question may go by this state over columns of cap entries: 01's 11 is for any other. The state's arrays are lent beside it.
-    pub fn is_sound_by(self, starts: &[u32; 32], lens: &[u32; 32], cap: usize) -> bool
-        requires { ⌜ (now starts ≡ self .starts) × (now lens ≡ self .lens) ⌝ }
-        ensures { λ r. ⌜ r ≡ stateOk self cap ⌝ }
-    {
-        let o = self.options;
-        if !o.is_in_bounds() {
-            return false;
-        }
-        if self.count < 1 {
-            return false;
-        }
-        if 1048576 < self.count {
-            return false;
-        }
-        self.is_filled(starts, lens, cap)
-    }
-
-    // The same, with copies of the arrays.
+    // Whether a question may go by this state over columns of cap entries: 01's 11 is for any other.
     pub fn is_sound(self, cap: usize) -> bool
         ensures { λ r. ⌜ r ≡ stateOk self cap ⌝ }
     {
         let starts = self.starts;
         let lens = self.lens;
-        self.is_sound_by(&starts, &lens, cap)
+        is_sound_by(self, &starts, &lens, cap)
     }
+}
+
+// Where the table of a zoom starts, and how many entries it has. The array alone is copied, not the state.
+pub fn start_of(s: State, zoom: usize) -> usize
+    requires { ⌜ zoom < 32 ⌝ }
+    ensures { λ r. ⌜ r ≡ startOf s zoom ⌝ }
+{
+    let starts = s.starts;
+    starts[zoom] as usize
+}
+
+pub fn len_of(s: State, zoom: usize) -> usize
+    requires { ⌜ zoom < 32 ⌝ }
+    ensures { λ r. ⌜ r ≡ lenOf s zoom ⌝ }
+{
+    let lens = s.lens;
+    lens[zoom] as usize
+}
+
+// `State::is_sound`, with the state's arrays lent beside it, so that they are read in place.
+pub fn is_sound_by(s: State, starts: &[u32; 32], lens: &[u32; 32], cap: usize) -> bool
+    requires { ⌜ (now starts ≡ s .starts) × (now lens ≡ s .lens) ⌝ }
+    ensures { λ r. ⌜ r ≡ stateOk s cap ⌝ }
+{
+    let o = s.options;
+    if !o.is_in_bounds() {
+        return false;
+    }
+    if s.count < 1 {
+        return false;
+    }
+    if 1048576 < s.count {
+        return false;
+    }
+    s.is_filled(starts, lens, cap)
 }
 
 // A build of no tables yet.

@@ -1,9 +1,10 @@
 -- The question of a tile: what it comes to, its answer, and the three columns afterwards, for every input. Definitions only.
 use mathlib.Core.Bool.{Bool, true, false, cond, not}
-use mathlib.Core.List.{List, _++_, map}
+use mathlib.Core.List.{List, map}
 use Prim.Native.Nat.{ℕ, zero, suc, min}
-use lib.ListN.{length, take, drop}
+use lib.ListN.{length, take}
 use lib.IntN.{ℤ}
+use Rattle.kdbush.specs.Run.{filled}
 use Rattle.tables.specs.declared.State.{State}
 use Rattle.tables.specs.Options.{zoomUsed}
 use Rattle.tables.specs.Sound.{stateOk}
@@ -11,6 +12,7 @@ use Rattle.tables.specs.Entries.{Table}
 use Rattle.asking.specs.declared.Answer.{Answer}
 use Rattle.asking.specs.declared.Answer.the-variants.{Tile, EmptyTile, Spoiled}
 use Rattle.asking.specs.Answers.{fitted}
+use Rattle.asking.specs.Asked.{AskedFor, refused, told}
 use Rattle.asking.specs.Columns.{Columns, roomOf, tableAt, idsAt, coordsAt}
 use Rattle.tiling.specs.declared.Item.{Item}
 use Rattle.tiling.specs.Tile.{Visit, isTile, visited, listed, whole, items}
@@ -21,12 +23,12 @@ tableFor s c z = tableAt s c (zoomUsed (s .options) z)
 
 abbrev pub visitsFor : State → Columns → ℕ → ℕ → ℕ → List Visit
 visitsFor s c z x y =
-    visited (s .options) z x y (tableFor s c z) (idsAt s (c .ids) (zoomUsed (s .options) z)) (coordsAt s (c .coords) (zoomUsed (s .options) z))
+    let u = zoomUsed (s .options) z in
+    visited (s .options) z x y (tableFor s c z) (idsAt s (c .ids) u) (coordsAt s (c .coords) u)
 
--- a tile is refused with nothing written; or it comes to the items listed, and whether everything that was found could be listed
-pub data Asked : Type 0 where
-  refused : Answer → Asked
-  told : Bool → List Item → Asked
+-- a question that lists items of a tile; whether the walk went to its end is whether everything that was found could be listed
+abbrev pub Asked : Type 0
+Asked = AskedFor Item
 
 -- the refusals in 01's order: the state over the nine columns (11), no such tile (7)
 unfoldable pub asked : State → Columns → ℕ → ℕ → ℕ → Asked
@@ -49,13 +51,10 @@ answerOf (told false l) room = Spoiled
 abbrev pub shortest : List ℕ → List ℤ → List ℤ → ℕ
 shortest places xs ys = min (length places) (min (length xs) (length ys))
 
--- the first items, as many as there is room for, and then the old contents
-abbrev pub firstOf : {A : Type 0} → ℕ → List A → List A → List A
-firstOf room l out = take room l ++ drop (length (take room l)) out
-
+-- a column afterwards: the first items, as many as there is room for, and then the old contents
 abbrev pub columnOf : {A : Type 0} → (Item → A) → Asked → ℕ → List A → List A
 columnOf f (refused a) room out = out
-columnOf f (told b l) room out = firstOf room (map f l) out
+columnOf f (told b l) room out = filled (take room (map f l)) out
 
 -- the answer, and what it leaves in the three columns: places in the table, and places in the tile
 pub record Outcome : Type 0 where

@@ -1,6 +1,6 @@
--- A tile of a sound state: every number of its three ranges is finite, so that the walk by pages is the whole answer of `range`. And where the table of the zoom
--- used stands in the columns with its built index, and its entries have x and y in [0,1], the tile is not refused 11, and it lists each entry that lies in it.
--- Assumes nothing.
+-- A tile of a sound state: every number of its three ranges is finite, so that the walk by pages is the whole answer of `range`. And
+-- where the table of the zoom used stands in the columns with its built index, and its entries have x and y in [0,1], the tile is not
+-- refused 11, and it lists each entry that lies in it. Assumes nothing.
 use mathlib.Core.Path.{_≡_, ap, _∙_}
 use mathlib.Core.Bool.{Bool, true}
 use mathlib.Core.List.{List}
@@ -18,6 +18,7 @@ use Rattle.tables.specs.Options.{zoomUsed}
 use Rattle.tables.specs.State.{lenOf}
 use Rattle.tables.specs.Sound.{stateOk, given}
 use Rattle.tables.specs.Entries.{entry, xsOf, ysOf}
+use Rattle.asking.specs.Asked.{told}
 use Rattle.asking.specs.Columns.{Columns, roomOf, idsAt, coordsAt}
 use Rattle.tiling.specs.declared.Item.{Item}
 use Rattle.tiling.specs.Tile.{isTile, here, east, west, visited, listed, whole, items, itemOf}
@@ -25,7 +26,7 @@ use Rattle.tiling.specs.Framed.{tile-is}
 use Rattle.tiling.specs.Finite.{walk-whole, here-fine, east-fine, west-fine}
 use Rattle.tiling.specs.Inside.{InTile}
 use Rattle.tiling.specs.Lists.{Lists, tile-whole, tile-lists}
-use Rattle.tiles.specs.Asked.{tableFor, visitsFor, told, asked}
+use Rattle.tiles.specs.Asked.{tableFor, visitsFor, asked}
 use Rattle.tiles.specs.Used.{coords-ok}
 use Rattle.tiles.specs.Ends.{asked-is}
 

@@ -1,5 +1,5 @@
--- How a tile ends: the three columns, lent as far as the shortest of them reaches, hold the first items afterwards, and then what they held; and the answer is 01's, by
--- how far the listing came. Assumes nothing.
+-- How a tile ends: the three columns, lent as far as the shortest of them reaches, hold the first items afterwards, and then what they
+-- held; and the answer is 01's, by how far the listing came. Assumes nothing.
 use mathlib.Core.Path.{_≡_, refl, sym, ap, _∙_}
 use mathlib.Core.Bool.{Bool, true, false}
 use mathlib.Core.List.{List, [], _∷_, _++_, map}
@@ -8,10 +8,13 @@ use native.Mathlib.Omega.{arith}
 use lib.ListN.{length, set, take, drop, length-map}
 use lib.Seq.{sets}
 use lib.IntN.{ℤ}
+use Rattle.kdbush.specs.Run.{filled}
 use Rattle.tables.specs.declared.State.{State}
 use Rattle.tables.specs.Sound.{stateOk}
 use Rattle.asking.specs.declared.Answer.{Answer}
 use Rattle.asking.specs.declared.Answer.the-variants.{Tile, Spoiled as No}
+use Rattle.asking.specs.Asked.{told}
+use Rattle.asking.specs.Filled.{filled-none}
 use Rattle.asking.specs.Columns.{Columns, roomOf}
 use Rattle.tiling.specs.declared.Item.{Item}
 use Rattle.tiling.specs.declared.Ran.{Ran}
@@ -23,7 +26,7 @@ use Rattle.tiling.specs.Runs.{left, run, ranOf, run-is}
 use Rattle.tiling.specs.Tally.{weightIn}
 use Rattle.tiling.specs.Counting.{runningOf}
 use Rattle.tiles.specs.Tallied.{sumOf, tallied}
-use Rattle.tiles.specs.Asked.{tableFor, visitsFor, Asked, told, asked, someOf, answerOf, shortest, firstOf, outcome, outcomeOf, tiled}
+use Rattle.tiles.specs.Asked.{tableFor, visitsFor, Asked, asked, someOf, answerOf, shortest, outcome, outcomeOf, tiled}
 
 -- ---- a column
 
@@ -42,8 +45,9 @@ module _ {A : Type 0} where
   back (suc r) (a ∷ out) = ap (λ (l : List A). a ∷ l) (back r out)
 
   -- what is stored one after the other in the part that is lent, and the rest
-  pub first-items : (room : ℕ) (vs out : List A) → room ≤ length out → sets (take room out) 0 vs ++ drop room out ≡ firstOf room vs out
-  first-items zero vs out h = ap (λ (l : List A). l ++ out) (sets-nil 0 vs)
+  pub first-items : (room : ℕ) (vs out : List A) → room ≤ length out
+      → sets (take room out) 0 vs ++ drop room out ≡ filled (take room vs) out
+  first-items zero vs out h = ap (λ (l : List A). l ++ out) (sets-nil 0 vs) ∙ sym (filled-none out)
   first-items (suc r) vs [] h = absurd (omega arith)
   first-items (suc r) [] (a ∷ out) h = ap (λ (l : List A). a ∷ l) (back r out)
   first-items (suc r) (v ∷ vs) (a ∷ out) h =
@@ -90,9 +94,12 @@ module _ (s : State) (c : Columns) (z x y : ℕ) (places : List ℕ) (xs ys : Li
       let m = room-fits (length places) (length xs) (length ys) in
       let A : finish r room ≡ answerOf (told (whole t vs) l) room =
       ap (λ (k : Ran). finish k room) (w .0) ∙ finish-is (whole t vs) l (length (listed t vs)) room (sym (length-map (listed t vs) (itemAt t))) in
-      let P : o ++ drop room places ≡ firstOf room (map (λ i. i .place) l) places = ap (λ (k : List ℕ). k ++ drop room places) (w .1) ∙ first-items room (map (λ i. i .place) l) places (omega (arith, m)) in
-      let X : a ++ drop room xs ≡ firstOf room (map (λ i. i .x) l) xs = ap (λ (k : List ℤ). k ++ drop room xs) (w .2) ∙ first-items room (map (λ i. i .x) l) xs (omega (arith, m)) in
-      let Y : b ++ drop room ys ≡ firstOf room (map (λ i. i .y) l) ys = ap (λ (k : List ℤ). k ++ drop room ys) (w .3) ∙ first-items room (map (λ i. i .y) l) ys (omega (arith, m)) in
+      let P : o ++ drop room places ≡ filled (take room (map (λ i. i .place) l)) places =
+      ap (λ (k : List ℕ). k ++ drop room places) (w .1) ∙ first-items room (map (λ i. i .place) l) places (omega (arith, m)) in
+      let X : a ++ drop room xs ≡ filled (take room (map (λ i. i .x) l)) xs =
+      ap (λ (k : List ℤ). k ++ drop room xs) (w .2) ∙ first-items room (map (λ i. i .x) l) xs (omega (arith, m)) in
+      let Y : b ++ drop room ys ≡ filled (take room (map (λ i. i .y) l)) ys =
+      ap (λ (k : List ℤ). k ++ drop room ys) (w .3) ∙ first-items room (map (λ i. i .y) l) ys (omega (arith, m)) in
       rw (A, P, X, Y, q) (ap (λ (k : Asked). outcomeOf k places xs ys) (sym (asked-is s c z x y e f)))
 
 -- ---- the ends of a tally

@@ -15,8 +15,8 @@ abbrev pub sumOf : Bool → ℕ → Tally
 sumOf true sum = Sum sum
 sumOf false sum = Spoiled
 
--- the refusals in 01's order: the state over the nine columns (11), no such tile (7); otherwise, over the distinct entries listed, the sum of
--- num of those whose centre the tile holds
+-- the refusals in 01's order: the state over the nine columns (11), no such tile (7); otherwise, over the distinct entries listed, the
+-- sum of num of those whose centre the tile holds
 unfoldable pub tallied : State → Columns → ℕ → ℕ → ℕ → Tally
 tallied s c z x y =
     cond (not (stateOk s (roomOf c))) Spoiled

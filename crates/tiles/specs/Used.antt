@@ -1,4 +1,5 @@
--- The table of the zoom used, of a sound state: it stands in the columns, and what is lent of them from its start to its end is the table and its index. Assumes nothing.
+-- The table of the zoom used, of a sound state: it stands in the columns, and what is lent of them from its start to its end is the table
+-- and its index. Assumes nothing.
 use mathlib.Core.Path.{_≡_, ap, _∙_}
 use mathlib.Core.Bool.{true}
 use mathlib.Core.List.{List}
@@ -15,7 +16,8 @@ use Rattle.tables.specs.Bounds.{InBounds}
 use Rattle.tables.specs.Entries.{Table}
 use Rattle.tables.specs.Rows.{rows, each}
 use Rattle.tables.specs.Columns.{part, part-long}
-use Rattle.asking.specs.Columns.{Columns, roomOf, Held, held, room-index, index-held, lent, lent-part, lent-rows, coordsAt, coords-length, stands-index}
+use Rattle.asking.specs.Columns.{Columns, roomOf, Held, held, room-index, index-held, lent, lent-part, lent-rows, coordsAt, coords-length}
+use Rattle.asking.specs.Columns.{stands-index}
 use Rattle.tiling.specs.Tile.{visited}
 use Rattle.tiles.specs.Asked.{tableFor, visitsFor}
 

@@ -94,8 +94,8 @@ fn list_used(
     )
 }
 
-// The entries that the tile (z, tx, ty) lists: their places in the table of the zoom used, and their places in the tile. The state is given by its parts: a
-// caller that holds its arrays elsewhere lends them, and none is copied.
+// The entries that the tile (z, tx, ty) lists: their places in the table of the zoom used, and their places in the tile. The state is
+// given by its parts: a caller that holds its arrays elsewhere lends them, and none is copied.
 pub fn tile_lent(
     options: Options,
     count: u32,
@@ -128,7 +128,8 @@ pub fn tile_lent(
         starts: *starts,
         lens: *lens,
     };
-    if !s.is_sound_by(
+    if !tables::is_sound_by(
+        s,
         starts,
         lens,
         asking::room(x, y, seen, id, parent, num, energy, ids, coords),
@@ -269,7 +270,8 @@ fn sum_of(r: Running) -> Tally
     Tally::Sum(r.sum)
 }
 
-// The sum of num over the distinct entries that the tile (z, tx, ty) lists and whose centre it holds, of a state that is given by its parts.
+// The sum of num over the distinct entries that the tile (z, tx, ty) lists and whose centre it holds, of a state that is given by its
+// parts.
 pub fn tally_lent(
     options: Options,
     count: u32,
@@ -299,7 +301,8 @@ pub fn tally_lent(
         starts: *starts,
         lens: *lens,
     };
-    if !s.is_sound_by(
+    if !tables::is_sound_by(
+        s,
         starts,
         lens,
         asking::room(x, y, seen, id, parent, num, energy, ids, coords),

@@ -10,7 +10,7 @@ use Rattle.kdwalk.proofs.Step.{the-type}
 use Rattle.kdwalk.specs.declared.Step.{Step}
 use Rattle.kdwalk.specs.declared.Step.the-variants.{Slot, Done}
 use Rattle.kdwalk.specs.Reply.{nextStep}
-use Rattle.kdwalk.specs.Pages.{next-end}
+use Rattle.kdpages.specs.Pages.{next-end}
 
 no-slot : (s : Step) → OneOf (1 ∷ 2 ∷ 3 ∷ []) (tagOf the-type s) → (i : ℕ) → s ≡ Slot i → ⊥
 no-slot s h i e =

@@ -18,11 +18,11 @@ use Rattle.tiling.specs.Tally.{atHome, weightIn}
 
 -- the edges of the tile (z, x, y)
 abbrev pub edgesOf : ℕ → ℕ → ℕ → Home
-edgesOf z x y = record { west = begins z x; east = ends z x; north = begins z y; south = ends z y }
+edgesOf z x y = record { west = begins z x; east = ends z x; «least_y» = begins z y; «greatest_y» = ends z y }
 
 -- the entry's centre lies between them
 abbrev pub inside : Home → Entry → Bool
-inside h e = le (h .west) (e .x) && (lt (e .x) (h .east) && (le (h .north) (e .y) && lt (e .y) (h .south)))
+inside h e = le (h .west) (e .x) && (lt (e .x) (h .east) && (le (h .«least_y») (e .y) && lt (e .y) (h .«greatest_y»)))
 
 -- what the entry counts by them
 unfoldable pub weightBy : Home → Entry → ℕ
@@ -51,4 +51,4 @@ home-inside z x y t e u v h =
     let w = and-both (eqb (homeOf z (e .x)) x) (eqb (homeOf z (e .y)) y) h in
     let a = within z x (t .z-to) (t .x-to) (e .x) u (eqb-true (homeOf z (e .x)) x (w .0)) in
     let b = within z y (t .z-to) (t .y-to) (e .y) v (eqb-true (homeOf z (e .y)) y (w .1)) in
-    record { west = a .0; east = a .1; north = b .0; south = b .1 }
+    record { west = a .0; east = a .1; low = b .0; high = b .1 }

@@ -1,5 +1,5 @@
--- A point that lies in a tile passes the tile's own range, whatever the margin: x / z2 <= cx <= (x + 1) / z2, and the same on y. By monotone rounding the range
--- reaches as far on each side. Assumes nothing.
+-- A point that lies in a tile passes the tile's own range, whatever the margin: x / z2 <= cx <= (x + 1) / z2, and the same on y. By
+-- monotone rounding the range reaches as far on each side. Assumes nothing.
 use mathlib.Core.Path.{_≡_}
 use mathlib.Core.Bool.{true}
 use Prim.Native.Nat.{ℕ, _^_, _≤_, _<_}
@@ -24,8 +24,8 @@ use Rattle.tiling.specs.Finite.{side-positive, margin-least, margin-fini
 pub record InTile (z x y : ℕ) (cx cy : Float) : Type 0 where
   pub west : T (le (div binary64 (float x) (side z)) cx)
   pub east : T (le cx (div binary64 (add binary64 (float x) one) (side z)))
-  pub north : T (le (div binary64 (float y) (side z)) cy)
-  pub south : T (le cy (div binary64 (add binary64 (float y) one) (side z)))
+  pub low : T (le (div binary64 (float y) (side z)) cy)
+  pub high : T (le cy (div binary64 (add binary64 (float y) one) (side z)))
 
 module _ (o : Options) (b : InBounds o) (z : ℕ) (Z : z ≤ 31) (v : ℕ) (less : v < 2 ^ z) where
   -- the range begins at the tile or before it, and ends at its end or past it
@@ -45,6 +45,6 @@ unfolding here
 inside-passes o z x y b t cx cy i =
     let w = le-le-trans (least o z x) (div binary64 (float x) (side z)) cx (least-before o b z (t .z-to) x (t .x-to)) (i .west) in
     let e = le-le-trans cx (div binary64 (add binary64 (float x) one) (side z)) (greatest o z x) (i .east) (greatest-past o b z (t .z-to) x (t .x-to)) in
-    let n = le-le-trans (least o z y) (div binary64 (float y) (side z)) cy (least-before o b z (t .z-to) y (t .y-to)) (i .north) in
-    let s = le-le-trans cy (div binary64 (add binary64 (float y) one) (side z)) (greatest o z y) (i .south) (greatest-past o b z (t .z-to) y (t .y-to)) in
+    let n = le-le-trans (least o z y) (div binary64 (float y) (side z)) cy (least-before o b z (t .z-to) y (t .y-to)) (i .low) in
+    let s = le-le-trans cy (div binary64 (add binary64 (float y) one) (side z)) (greatest o z y) (i .high) (greatest-past o b z (t .z-to) y (t .y-to)) in
     rw (is-true (le (least o z x) cx) w, is-true (le cx (greatest o z x)) e, is-true (le (least o z y) cy) n, is-true (le cy (greatest o z y)) s)

@@ -1,4 +1,5 @@
--- Definitions that contracts cite: Tile, Floor (its first), Runs (its first), Tally (its first), Home (its first), Counting (its first). All else is laws.
+-- Definitions that contracts cite: Tile, Floor (its first), Runs (its first), Tally, Home (its first), Counting (its first). All else is
+-- laws.
 pub mod Tile
 pub mod Framed
 pub mod Finite
@@ -10,6 +11,7 @@ pub mod Lists
 pub mod Marks
 pub mod Floor
 pub mod Tally
+pub mod Distinct
 pub mod Counting
 pub mod Told
 pub mod Home

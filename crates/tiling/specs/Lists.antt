@@ -1,5 +1,5 @@
--- A tile over a built index: everything that it finds can be listed, and each entry that lies in the tile is listed. Rests on kdbush's promises of `range`, for a table
--- whose entries have x and y in [0,1]. Assumes nothing.
+-- A tile over a built index: everything that it finds can be listed, and each entry that lies in the tile is listed. Rests on kdbush's
+-- promises of `range`, for a table whose entries have x and y in [0,1]. Assumes nothing.
 use mathlib.Core.Path.{_≡_, refl, sym, ap, _∙_, subst}
 use mathlib.Core.Bool.{Bool, true, false}
 use mathlib.Core.List.{List, [], _∷_, _++_, append-assoc}
@@ -23,7 +23,8 @@ use Rattle.tables.specs.Bounds.{InBounds}
 use Rattle.tables.specs.Entries.{Table, entry, none, xsOf, ysOf}
 use Rattle.tiling.specs.declared.Search.{Search}
 use Rattle.tiling.specs.declared.Item.{Item}
-use Rattle.tiling.specs.Tile.{Visit, visitsOf, visits, visited, here, east, west, least, greatest, listable, listed, whole, itemOf, itemAt, items}
+use Rattle.tiling.specs.Tile.{Visit, visitsOf, visits, visited, here, east, west, least, greatest, listable, listed, whole, itemOf}
+use Rattle.tiling.specs.Tile.{itemAt, items}
 use Rattle.tiling.specs.Framed.{IsTile}
 use Rattle.tiling.specs.Inside.{InTile, inside-passes}
 

@@ -1,5 +1,5 @@
--- What listing leaves: the reply beside the three columns, an item at a time. It is the items before the first that cannot be listed, stored one after the other,
--- and whether there is none such. Assumes nothing.
+-- What listing leaves: the reply beside the three columns, an item at a time. It is the items before the first that cannot be listed,
+-- stored one after the other, and whether there is none such. Assumes nothing.
 use mathlib.Core.Path.{_≡_, refl, ap, _∙_}
 use mathlib.Core.Bool.{Bool, true, false}
 use mathlib.Core.List.{List, [], _∷_, _++_, map}
@@ -30,7 +30,8 @@ module _ {r : Ran} {o : List ℕ} {a b : List ℤ} {l : Left} where
   abbrev pub pyLeft : left r o a b ≡ l → List ℤ
   pyLeft e = b
 
--- the visits one after the other, k listed before: the item of each goes to its position, if a column reaches so far. The first that cannot be listed ends it.
+-- the visits one after the other, k listed before: the item of each goes to its position, if a column reaches so far. The first that
+-- cannot be listed ends it.
 unfoldable pub run : Table → ℕ → List Visit → List ℕ → List ℤ → List ℤ → Left
 run t k [] out xs ys = left (All k) out xs ys
 run t k (v ∷ vs) out xs ys =

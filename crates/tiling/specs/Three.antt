@@ -1,5 +1,5 @@
--- A tile's three searches, one after the other, are what the tile finds: each walk goes over its whole answer, and what one leaves the next goes on
--- from. Assumes nothing.
+-- A tile's three searches, one after the other, are what the tile finds: each walk goes over its whole answer, and what one leaves the
+-- next goes on from. Assumes nothing.
 use mathlib.Core.Path.{_≡_, refl, sym, ap, _∙_, subst}
 use mathlib.Core.Bool.{Bool, true, false, _&&_, _||_}
 use mathlib.Core.List.{List, _++_, append-nil}
@@ -16,7 +16,7 @@ use Rattle.tables.specs.Entries.{Table}
 use Rattle.tiling.specs.declared.Search.{Search}
 use Rattle.tiling.specs.declared.Ran.{Ran}
 use Rattle.tiling.specs.declared.Ran.the-variants.{All, Spoiled}
-use Rattle.tiling.specs.Tile.{Visit, here, east, west, visits, visited, wraps, atEnd}
+use Rattle.tiling.specs.Tile.{Visit, here, east, west, visits, visited, wraps}
 use Rattle.tiling.specs.Framed.{Framed, IsTile, here-framed, east-framed, west-framed}
 use Rattle.tiling.specs.Finite.{here-fine, east-fine, west-fine}
 use Rattle.tiling.specs.Runs.{Left, left, run, run-more, run-ends, run-count}
@@ -54,6 +54,10 @@ module _ (o : Options) (z x y : ℕ) (b : InBounds o) (w : IsTile z x y) (g : Se
     west-whole e = of (west o z x y) e (walked-whole (west o z x y) t ids co long (west-fine o b z x y w))
 
 -- ---- a tile that has no strip finds what its own range finds
+
+-- strips run, and the tile is the first or the last of its row: no other has a strip
+abbrev pub atEnd : Options → ℕ → ℕ → Bool
+atEnd o z x = wraps o && (eqb x 0 || eqb (x + 1) (2 ^ z))
 
 pub own-range : (o : Options) (z x y : ℕ) (t : Table) (ids : List ℕ) (co : List Float)
     → atEnd o z x ≡ false → visited o z x y t ids co ≡ visits (here o z x y) t ids co

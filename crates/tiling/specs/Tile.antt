@@ -1,5 +1,6 @@
--- A tile (z, x, y), by 01's 'Tile': its three searches, what they find in a table with its index, and the item of each entry that is listed. Definitions only.
-use mathlib.Core.Bool.{Bool, true, false, cond, _&&_, _||_}
+-- A tile (z, x, y), by 01's 'Tile': its three searches, what they find in a table with its index, and the item of each entry that is
+-- listed. Definitions only.
+use mathlib.Core.Bool.{Bool, true, false, cond, _&&_}
 use mathlib.Core.List.{List, [], _∷_, _++_, map}
 use Prim.Native.Nat.{ℕ, _+_, _^_}
 use lib.Dec.{leb, ltb, eqb}
@@ -19,8 +20,6 @@ use Rattle.tables.specs.declared.Entry.{Entry}
 use Rattle.tables.specs.Entries.{Table, entry}
 use Rattle.tiling.specs.declared.Search.{Search}
 use Rattle.tiling.specs.declared.Item.{Item}
-use Rattle.tiling.specs.declared.Named.{Named}
-use Rattle.tiling.specs.declared.Named.the-variants.{At, Bad}
 
 -- z is at most 31, and x and y are below 2^z
 abbrev pub isTile : ℕ → ℕ → ℕ → Bool
@@ -78,10 +77,6 @@ east o z x y = strip o z y (wraps o && eqb x 0) (sub binary64 one (edge o z)) on
 unfoldable pub west : Options → ℕ → ℕ → ℕ → Search
 west o z x y = strip o z y (wraps o && eqb (x + 1) (2 ^ z)) zero (edge o z) (neg one)
 
--- strips run, and the tile is the first or the last of its row: no other has a strip
-abbrev pub atEnd : Options → ℕ → ℕ → Bool
-atEnd o z x = wraps o && (eqb x 0 || eqb (x + 1) (2 ^ z))
-
 -- ---- what they find
 
 -- a place that a search names
@@ -105,9 +100,6 @@ visited o z x y t ids co = visits (here o z x y) t ids co ++ (visits (east o z x
 -- a place of the table, whose entry has x and y in [0,1]
 abbrev pub listable : Table → ℕ → Bool
 listable t p = ltb p (length t) && (in01 (entry t p .x) && in01 (entry t p .y))
-
-abbrev pub namedAt : Table → ℕ → Named
-namedAt t p = cond (listable t p) (At (entry t p)) Bad
 
 -- those before the first that cannot be listed
 unfoldable pub listed : Table → List Visit → List Visit

@@ -16,7 +16,8 @@ use Rattle.tiling.specs.declared.Running.{Running}
 use Rattle.tiling.specs.Tile.{Visit, listable, listed, whole}
 use Rattle.tiling.specs.Marks.{marked, mark, fresh, mark-same, mark-other}
 use Rattle.tiling.specs.Tally.{member, distinct, total, tallyOf}
-use Rattle.tiling.specs.Counting.{Held, held, heldOf, placesIn, places-append, markOf, marksFor, doubt, added, marking, counted, counted-more, counted-ends, runningOf}
+use Rattle.tiling.specs.Counting.{Held, held, heldOf, placesIn, places-append, markOf, marksFor, doubt, added, marking, counted}
+use Rattle.tiling.specs.Counting.{counted-more, counted-ends, runningOf}
 
 -- ---- the marks are those of the places counted
 

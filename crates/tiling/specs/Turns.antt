@@ -22,9 +22,10 @@ use Rattle.tables.specs.declared.Entry.{Entry}
 use Rattle.tables.specs.Entries.{Table, entry}
 use Rattle.tiling.specs.declared.Search.{Search}
 use Rattle.tiling.specs.declared.Item.{Item}
+use Rattle.tiling.specs.declared.Named.{Named}
 use Rattle.tiling.specs.declared.Named.the-variants.{At, Bad}
 use Rattle.tiling.specs.declared.Ran.the-variants.{All, Spoiled}
-use Rattle.tiling.specs.Tile.{Visit, visitsOf, visits, listable, namedAt, itemOf, itemAt}
+use Rattle.tiling.specs.Tile.{Visit, visitsOf, visits, listable, itemOf, itemAt}
 use Rattle.tiling.specs.Finite.{walk-whole}
 use Rattle.tiling.specs.Runs.{Left, left, run}
 
@@ -50,6 +51,10 @@ walked-whole g t ids co a b =
     ap (λ (l : List ℕ). visitsOf g (when (g .made) (places ids l))) (walk-whole (g .query) (g .«node_size») (length t) co a b)
 
 -- ---- an entry that can be listed, and one that cannot
+
+-- what stands at the place p, as the code says it
+abbrev pub namedAt : Table → ℕ → Named
+namedAt t p = cond (listable t p) (At (entry t p)) Bad
 
 pub named-bad : (t : Table) (p : ℕ) → namedAt t p ≡ Bad → listable t p ≡ false
 named-bad t p = go (listable t p)

@@ -18,10 +18,11 @@ ghost use Rattle.kdslots.specs.Bounds.{coordsOk};
 ghost use Rattle.tables.specs.Bounds.{InBounds};
 ghost use Rattle.tables.specs.Rows.{rows, Even};
 ghost use Rattle.tables.specs.Lent.{given, lentCols};
-ghost use Rattle.tiling.specs.Tile.{isTile, wraps, atEnd, side, strip, here, east, west, visited, namedAt, rounded, itemOf};
+ghost use Rattle.tiling.specs.Tile.{isTile, wraps, side, strip, here, east, west, visited, rounded, itemOf};
 ghost use Rattle.tiling.specs.Framed.{Framed, IsTile};
 ghost use Rattle.tiling.specs.Runs.{left, run};
-ghost use Rattle.tiling.specs.Turns.{walked};
+ghost use Rattle.tiling.specs.Turns.{walked, namedAt};
+ghost use Rattle.tiling.specs.Three.{atEnd};
 ghost use Rattle.tiling.specs.Marks.{marked};
 ghost use Rattle.tiling.specs.Floor.{ends};
 ghost use Rattle.tiling.specs.Tally.{weightIn, tallyNumber, tallyValue};
@@ -29,7 +30,8 @@ ghost use Rattle.tiling.specs.Home.{edgesOf, weightBy};
 ghost use Rattle.tiling.specs.Counting.{heldOf, placesIn, markOf, marksFor, doubt, added, marking, counted, runningOf};
 ghost use Rattle.tiling.specs.Told.{Blank};
 
-// One search of a tile: whether the tile has it, what it asks of the index, and what stands for the tile's x and y in the items that it finds.
+// One search of a tile: whether the tile has it, what it asks of the index, and what stands for the tile's x and y in the items that it
+// finds.
 pub struct Search {
     pub made: bool,
     pub query: Query,
@@ -331,9 +333,9 @@ fn list_by(
     let n = x.len();
     let mut k = at;
     let mut page = [0usize; 16];
-    let mut pages = kdwalk::begin();
+    let mut pages = kdpages::begin();
     loop {
-        let t = kdwalk::next_slot(q, size, n, ids, coords, &mut page, pages);
+        let t = kdpages::next_slot(q, size, n, coords, &mut page, pages);
         pages = t.pages;
         let s = t.step;
         let Step::Slot(c) = s else {
@@ -471,8 +473,8 @@ fn add_once(marks: &mut [u8], q: usize, num: u32, sum: u64) -> u64
 pub struct Home {
     pub west: f64,
     pub east: f64,
-    pub north: f64,
-    pub south: f64,
+    pub least_y: f64,
+    pub greatest_y: f64,
 }
 
 // Where the tiles from v end: past every coordinate for the last, which holds 1.0 too.
@@ -493,12 +495,12 @@ fn home_of(z: u32, x: u32, y: u32) -> Home
 {
     let z2 = floats::power(z);
     let east = end_of(z, z2, x);
-    let south = end_of(z, z2, y);
+    let greatest_y = end_of(z, z2, y);
     Home {
         west: x as f64 / z2,
         east,
-        north: y as f64 / z2,
-        south,
+        least_y: y as f64 / z2,
+        greatest_y,
     }
 }
 
@@ -512,10 +514,10 @@ fn weigh(h: Home, e: Entry) -> u32
     if !(e.x < h.east) {
         return 0;
     }
-    if !(h.north <= e.y) {
+    if !(h.least_y <= e.y) {
         return 0;
     }
-    if !(e.y < h.south) {
+    if !(e.y < h.greatest_y) {
         return 0;
     }
     e.num
@@ -643,9 +645,9 @@ fn tally_by(
     let size = g.node_size;
     let n = x.len();
     let mut page = [0usize; 16];
-    let mut pages = kdwalk::begin();
+    let mut pages = kdpages::begin();
     loop {
-        let u = kdwalk::next_slot(q, size, n, ids, coords, &mut page, pages);
+        let u = kdpages::next_slot(q, size, n, coords, &mut page, pages);
         pages = u.pages;
         let s = u.step;
         let Step::Slot(c) = s else {

@@ -1,4 +1,5 @@
--- What the comparisons are that replays share: of columns with those expected, and of a build's reply with one that is not a refusal. Definitions only.
+-- What the comparisons are that replays share: of columns with those expected, and of a build's reply with one that is not a refusal.
+-- Definitions only.
 use Prim.Native.Nat.{ℕ}
 use mathlib.Core.Bool.{Bool, true, false, _&&_}
 use mathlib.Core.List.{List}

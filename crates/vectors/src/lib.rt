@@ -1,9 +1,9 @@
-// What the programs share that replay stored vectors: a vector's words are 16 lowercase hexadecimal digits, a number's or the bits of an f64.
-// Proved: a word is read exactly as io::hex would write it, every pattern of a NaN is read as NaN, a number with a sign is the one that its bits stand for, and two floats
-// agree where they are equal or both NaN.
-// Proved too: the tally of a replay counts each case once, and names the first that differs. What is written is only proved to be safe.
-// Proved of what is read and compared: a word's number is what its 17 bytes spell, a count is within its limit, two columns are compared to their ends.
-// Assumed: nothing beyond the contracts of `floats`, `kdbush` and `io`. What standard input gives is not modelled: a function that reads it is only proved to be safe.
+// What the programs share that replay stored vectors: a vector's words are 16 lowercase hexadecimal digits, a number's or the bits of an
+// f64. Proved: a word is read exactly as io::hex would write it, every pattern of a NaN is read as NaN, a number with a sign is the one
+// that its bits stand for, and two floats agree where they are equal or both NaN. Proved too: the tally of a replay counts each case
+// once, and names the first that differs. What is written is only proved to be safe. Proved of what is read and compared: a word's number
+// is what its 17 bytes spell, a count is within its limit, two columns are compared to their ends. Assumed: nothing beyond the contracts
+// of `floats`, `kdbush` and `io`. What standard input gives is not modelled: a function that reads it is only proved to be safe.
 use kdbush::BuildReply;
 use libc::STDIN_FILENO;
 use libc::STDOUT_FILENO;
@@ -67,7 +67,8 @@ pub enum Question {
     Tally,
 }
 
-// The functions that vectors have answers of: those of `range`, those of `kdbush` and `kdwalk`, that of `supercluster`, that of `report`, and the questions.
+// The functions that vectors have answers of: those of `range`, those of `kdbush` and `kdwalk`, that of `supercluster`, that of `report`,
+// and the questions.
 pub enum Function {
     Normalize,
     Denormalize,

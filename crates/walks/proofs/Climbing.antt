@@ -1,19 +1,53 @@
 -- The loop of the expansion zoom: from where it stands, the definition gives what it gave from the start. Assumes nothing.
 use mathlib.Core.Bool.{Bool, true, false, cond}
 use mathlib.Core.Path.{_≡_, refl, sym, ap, _∙_}
-use Prim.Native.Nat.{ℕ, zero, suc, _+_, _-_, _<_, _≤_}
+use mathlib.Core.List.{List, [], _∷_}
+use Prim.Native.Nat.{ℕ, suc, _+_, _-_, _<_, _≤_}
 use native.Mathlib.Omega.{arith}
+use lib.Dec.{ltb}
 use Rattle.tables.specs.declared.State.{State}
+use Rattle.tables.specs.Entries.{Table, entry}
 use Rattle.asking.specs.declared.Target.{Target}
-use Rattle.asking.specs.declared.Target.the-variants.{At as Target·At, Spoiled as Target·Spoiled, NoTree as Target·NoTree, NoCluster as Target·NoCluster}
-use Rattle.asking.specs.Columns.{Columns}
+use Rattle.asking.specs.declared.Target.the-variants.{At as Target·At, Spoiled as Target·Spoiled}
+use Rattle.asking.specs.declared.Target.the-variants.{NoTree as Target·NoTree, NoCluster as Target·NoCluster}
+use Rattle.asking.specs.Columns.{Columns, tableAt}
 use Rattle.asking.specs.Ids.{onward}
 use Rattle.asking.specs.Reached.{Reached, onward-reached}
+use Rattle.kids.specs.Kids.{kidsAt, cleanAt}
 use Rattle.walks.specs.declared.Expansion.{Expansion}
-use Rattle.walks.specs.declared.Expansion.the-variants.{At, NoTree, NoCluster, Spoiled}
+use Rattle.walks.specs.declared.Expansion.the-variants.{At, NoCluster, Spoiled}
 use Rattle.walks.specs.declared.Fetched.{Fetched}
 use Rattle.walks.specs.declared.Fetched.the-variants.{Cluster, Nobody, Others, Spoiled as Fetched·Spoiled}
-use Rattle.walks.specs.Expansion.{fetchedAt, afterFetch, expand}
+use Rattle.walks.specs.Expansion.{fetched, expand}
+use Rattle.walks.specs.Fetch.{sole, fetchedAt}
+
+-- ---- a turn of the definition is a fetch
+
+-- an expansion zoom after a fetch at zoom z
+abbrev afterFetch : Fetched → Bool → ℕ → (ℕ → Expansion) → Expansion
+afterFetch Fetched·Spoiled first z on = Spoiled
+afterFetch Nobody first z on = cond first NoCluster Spoiled
+afterFetch Others first z on = At (z + 1)
+afterFetch (Cluster v) first z on = on v
+
+after-fetch : (clean : Bool) (t : Table) (l : List ℕ) (first : Bool) (z : ℕ) (on : ℕ → Expansion)
+    → cond clean (fetched t l first z on) Spoiled ≡ afterFetch (cond clean (sole t l) Fetched·Spoiled) first z on
+after-fetch false t l first z on = refl
+after-fetch true t [] first z on = refl
+after-fetch true t (p ∷ []) first z on = of (ltb 1 (entry t p .num))
+  where
+    of : (b : Bool) → cond b (on (entry t p .id)) (At (z + 1)) ≡ afterFetch (cond b (Cluster (entry t p .id)) Others) first z on
+    of true = refl
+    of false = refl
+after-fetch true t (p ∷ q ∷ l) first z on = refl
+
+-- one turn of the definition is one fetch
+expand-fetched : (s : State) (c : Columns) (k t o id z : ℕ) (first : Bool) → expand s c (suc k) (Target·At t o) id z first
+    ≡ afterFetch (fetchedAt s c id t o) first z (λ v. expand s c k (onward s t v) v (z + 1) false)
+unfolding expand fetchedAt
+expand-fetched s c k t o id z first = after-fetch (cleanAt s c t o) (tableAt s c t) (kidsAt s c id t o) first z _
+
+-- ---- the loop
 
 module _ (s : State) (c : Columns) (cap top : ℕ) (E : Expansion) where
   -- there is no place to fetch from
@@ -32,11 +66,11 @@ module _ (s : State) (c : Columns) (cap top : ℕ) (E : Expansion) where
 
   module _ (z of at from : ℕ) (first : Bool) (w : Climbing z of at from first) (r : Fetched) (q : r ≡ fetchedAt s c of at from) where
     turn : (x : Fetched) → r ≡ x → afterFetch x first z (λ v. expand s c (top - z) (onward s at v) v (z + 1) false) ≡ E
-    unfolding expand
     turn x d =
         let k = w .low in
         let e : suc (top - z) ≡ top + 1 - z = omega arith in
         ap (λ (y : Fetched). afterFetch y first z (λ v. expand s c (top - z) (onward s at v) v (z + 1) false)) (sym d ∙ q)
+        ∙ sym (expand-fetched s c (top - z) at from of z first)
         ∙ ap (λ (n : ℕ). expand s c n (Target·At at from) of z first) e ∙ w .whole
 
     pub turn-spoiled : r ≡ Fetched·Spoiled → Spoiled ≡ E

@@ -18,7 +18,7 @@ use Rattle.kids.specs.declared.Kids.the-variants.{All, Spoiled as Kids·Spoiled
 use Rattle.kids.specs.Kids.{kidsAt}
 use Rattle.kids.specs.Next.{tableIn, kids-below}
 use Rattle.walks.specs.declared.Fetched.the-variants.{Cluster, Nobody, Others, Spoiled}
-use Rattle.walks.specs.Expansion.{sole, fetchedAt}
+use Rattle.walks.specs.Fetch.{sole, fetchedAt}
 use Rattle.walks.proofs.Led.{none-is, Looked, looked-column, looked-spoiled, looked-all}
 
 sole-is : (l : List ℕ) → length l ≡ 1 → l ≡ getD (filled l (0 ∷ [])) 0 0 ∷ []

@@ -25,7 +25,7 @@ use Rattle.asking.specs.Around.{ringOf}
 use Rattle.kids.specs.declared.Kids.{Kids}
 use Rattle.kids.specs.declared.Kids.the-variants.{All, Spoiled}
 use Rattle.kids.specs.Kids.{kidsAt, cleanAt}
-use Rattle.kids.specs.Next.{Listed, listed-around, all-is, spoiled-is}
+use Rattle.kids.specs.Next.{kidsReply, Listed, listed-around, all-is, spoiled-is}
 use Rattle.walks.specs.Children.{atTarget}
 
 pub none-is : (l : List ℕ) → length l ≡ 0 → l ≡ []
@@ -64,18 +64,24 @@ module _ {s : State} {c : Columns} {id cap : ℕ} {t : Target} (q : Led s c id c
   gives-refused u a f d h out =
       gives (atTarget (targetOf s (roomOf c) id) f) (refused a) a out out (ap (λ (x : Target). atTarget x f) (leads u d) ∙ h) (refl, refl)
 
--- a search around the entry o of zoom z's table for the children of the cluster id replied r, and left out' where out was
+-- a search around the entry o of zoom z's table, which was reached, for the children of the cluster id replied r, and left out' where out
+-- was
 pub record Looked (s : State) (c : Columns) (id z o : ℕ) (g : Ring) (out : List ℕ) (r : Kids) (out' : List ℕ) : Type 0 where
+  pub cap : ℕ
+  pub reach : Reached s cap z o × (cap ≤ roomOf c)
   pub ring : g ≡ ringOf s (tableAt s c z) z o
   pub listed : Listed g c id out r out'
 
 module _ {s : State} {c : Columns} {id z o : ℕ} {g : Ring} {out : List ℕ} {r : Kids} {out' : List ℕ}
     (q : Looked s c id z o g out r out') where
+  around : (r ≡ kidsReply (cleanAt s c z o) (length (kidsAt s c id z o))) × (out' ≡ filled (kidsAt s c id z o) out)
+  around = listed-around s c (q .cap) z o (q .reach .0) (q .reach .1) g (q .ring) id out r out' (q .listed)
+
   pub looked-column : out' ≡ filled (kidsAt s c id z o) out
-  looked-column = listed-around s c z o g (q .ring) id out r out' (q .listed) .1
+  looked-column = around .1
 
   pub looked-spoiled : r ≡ Spoiled → cleanAt s c z o ≡ false
-  looked-spoiled v = spoiled-is (cleanAt s c z o) _ (sym v ∙ listed-around s c z o g (q .ring) id out r out' (q .listed) .0)
+  looked-spoiled v = spoiled-is (cleanAt s c z o) _ (sym v ∙ around .0)
 
   pub looked-all : (n : ℕ) → r ≡ All n → (cleanAt s c z o ≡ true) × (n ≡ length (kidsAt s c id z o))
-  looked-all n v = all-is (cleanAt s c z o) _ n (sym v ∙ listed-around s c z o g (q .ring) id out r out' (q .listed) .0)
+  looked-all n v = all-is (cleanAt s c z o) _ n (sym v ∙ around .0)

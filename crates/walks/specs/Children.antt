@@ -21,5 +21,6 @@ atTarget Target·NoCluster f = refused NoCluster
 unfoldable pub childrenAt : State → Columns → ℕ → ℕ → ℕ → Asked
 childrenAt s c id z o = cond (childless s c id z o) (refused NoCluster) (told (cleanAt s c z o) (kidsAt s c id z o))
 
+-- the question: the children of the cluster where the id leads
 unfoldable pub childrenOf : State → Columns → ℕ → Asked
 childrenOf s c id = atTarget (targetOf s (roomOf c) id) (λ z o. childrenAt s c id z o)

@@ -1,5 +1,5 @@
--- The expansion zoom of a cluster: start at its table - 1; while at most max_zoom, fetch children and add 1; go on only with a sole child that is a cluster.
--- Definitions only.
+-- The expansion zoom of a cluster: start at its table - 1; while at most max_zoom, fetch children and add 1; go on only with a sole child
+-- that is a cluster. Definitions only.
 use mathlib.Core.Bool.{Bool, true, false, cond}
 use mathlib.Core.List.{List, [], _∷_}
 use Prim.Native.Nat.{ℕ, zero, suc, _+_, _-_}
@@ -7,14 +7,13 @@ use lib.Dec.{ltb}
 use Rattle.tables.specs.declared.State.{State}
 use Rattle.tables.specs.Entries.{Table, entry}
 use Rattle.asking.specs.declared.Target.{Target}
-use Rattle.asking.specs.declared.Target.the-variants.{At as Target·At, Spoiled as Target·Spoiled, NoTree as Target·NoTree, NoCluster as Target·NoCluster}
+use Rattle.asking.specs.declared.Target.the-variants.{At as Target·At, Spoiled as Target·Spoiled}
+use Rattle.asking.specs.declared.Target.the-variants.{NoTree as Target·NoTree, NoCluster as Target·NoCluster}
 use Rattle.asking.specs.Columns.{Columns, roomOf, tableAt}
 use Rattle.asking.specs.Ids.{targetOf, onward}
 use Rattle.kids.specs.Kids.{kidsAt, cleanAt}
 use Rattle.walks.specs.declared.Expansion.{Expansion}
 use Rattle.walks.specs.declared.Expansion.the-variants.{At, NoTree, NoCluster, Spoiled}
-use Rattle.walks.specs.declared.Fetched.{Fetched}
-use Rattle.walks.specs.declared.Fetched.the-variants.{Cluster, Nobody, Others, Spoiled as Fetched·Spoiled}
 
 -- 01's number of a reply; 0 where there is no refusal
 abbrev pub expansionNumber : Expansion → ℕ
@@ -30,27 +29,21 @@ expansionCarried NoTree = 0
 expansionCarried NoCluster = 0
 expansionCarried Spoiled = 0
 
--- children of a table, as far as it matters: a sole one that is a cluster, by its id; none; or others
-abbrev pub sole : Table → List ℕ → Fetched
-sole t [] = Nobody
-sole t (p ∷ []) = cond (ltb 1 (entry t p .num)) (Cluster (entry t p .id)) Others
-sole t (p ∷ q ∷ l) = Others
+-- the children fetched at zoom z, places of the table t: none is 01's 6 for the cluster that is asked for (`first`), and 11 for another; on
+-- with a sole one that is a cluster, by its id; otherwise z + 1
+abbrev pub fetched : Table → List ℕ → Bool → ℕ → (ℕ → Expansion) → Expansion
+fetched t [] first z on = cond first NoCluster Spoiled
+fetched t (p ∷ []) first z on = cond (ltb 1 (entry t p .num)) (on (entry t p .id)) (At (z + 1))
+fetched t (p ∷ q ∷ l) first z on = At (z + 1)
 
--- the children of the cluster id, made at the entry o of zoom t's table: the whole search, so that a slot that names a place past the table is always met
-unfoldable pub fetchedAt : State → Columns → ℕ → ℕ → ℕ → Fetched
-fetchedAt s c id t o = cond (cleanAt s c t o) (sole (tableAt s c t) (kidsAt s c id t o)) Fetched·Spoiled
-
--- after a fetch at zoom z: no children is 01's 6 for the cluster that is asked for (`first`), and 11 for another
-abbrev pub afterFetch : Fetched → Bool → ℕ → (ℕ → Expansion) → Expansion
-afterFetch Fetched·Spoiled first z on = Spoiled
-afterFetch Nobody first z on = cond first NoCluster Spoiled
-afterFetch Others first z on = At (z + 1)
-afterFetch (Cluster v) first z on = on v
-
--- with the cluster id, whose origin is `to`, at zoom z; k zooms from z on are at most max_zoom. A child cluster is looked for only where there is one more fetch.
+-- with the cluster id, whose origin is `to`, at zoom z; k zooms from z on are at most max_zoom. A fetch is the whole search, so that a slot
+-- that names a place past the table is always met. A child cluster is looked for only where there is one more fetch.
 unfoldable pub expand : State → Columns → ℕ → Target → ℕ → ℕ → Bool → Expansion
 expand s c zero to id z first = At z
-expand s c (suc k) (Target·At t o) id z first = afterFetch (fetchedAt s c id t o) first z (λ v. expand s c k (onward s t v) v (z + 1) false)
+expand s c (suc k) (Target·At t o) id z first =
+    cond (cleanAt s c t o)
+    (fetched (tableAt s c t) (kidsAt s c id t o) first z (λ v. expand s c k (onward s t v) v (z + 1) false))
+    Spoiled
 expand s c (suc k) Target·Spoiled id z first = Spoiled
 expand s c (suc k) Target·NoTree id z first = Spoiled
 expand s c (suc k) Target·NoCluster id z first = Spoiled
@@ -62,5 +55,7 @@ zoomAt Target·Spoiled f = Spoiled
 zoomAt Target·NoTree f = NoTree
 zoomAt Target·NoCluster f = NoCluster
 
+-- the question: from table - 1 on, k = max_zoom + 1 - (table - 1) zooms are at most max_zoom
 unfoldable pub zoomOf : State → Columns → ℕ → Expansion
-zoomOf s c id = zoomAt (targetOf s (roomOf c) id) (λ t o. expand s c (s .options .«max_zoom» + 1 - (t - 1)) (Target·At t o) id (t - 1) true)
+zoomOf s c id =
+    zoomAt (targetOf s (roomOf c) id) (λ t o. expand s c (s .options .«max_zoom» + 1 - (t - 1)) (Target·At t o) id (t - 1) true)

@@ -1,4 +1,5 @@
--- Any two replies that meet the contract of a public function of this crate are equal, and so are any two columns that they leave. Assumes nothing.
+-- Any two replies that meet the contract of a public function of this crate are equal, and so are any two columns that they leave. Assumes
+-- nothing.
 use mathlib.Core.Path.{_≡_}
 use mathlib.Core.List.{List}
 use Prim.Native.Nat.{ℕ}
@@ -12,10 +13,12 @@ use Rattle.walks.specs.Children.{childrenOf}
 use Rattle.walks.specs.Expansion.{expansionNumber, expansionCarried, zoomOf}
 use Rattle.walks.specs.Leaves.{leavesOf}
 
-pub children-replies : (s : State) (c : Columns) (id room : ℕ) (r t : Answer) → r ≡ answerOf (childrenOf s c id) room → t ≡ answerOf (childrenOf s c id) room → r ≡ t
+pub children-replies : (s : State) (c : Columns) (id room : ℕ) (r t : Answer) → r ≡ answerOf (childrenOf s c id) room
+    → t ≡ answerOf (childrenOf s c id) room → r ≡ t
 children-replies s c id room r t = same-reply
 
-pub children-columns : (s : State) (c : Columns) (id : ℕ) (out u v : List ℕ) → u ≡ columnOf (childrenOf s c id) out → v ≡ columnOf (childrenOf s c id) out → u ≡ v
+pub children-columns : (s : State) (c : Columns) (id : ℕ) (out u v : List ℕ) → u ≡ columnOf (childrenOf s c id) out
+    → v ≡ columnOf (childrenOf s c id) out → u ≡ v
 children-columns s c id out u v = same-reply
 
 pub expansion-replies : (s : State) (c : Columns) (id : ℕ) (r t : Expansion) → r ≡ zoomOf s c id → t ≡ zoomOf s c id → r ≡ t

@@ -1,5 +1,5 @@
-// The questions that walk from cluster to cluster: the children of a cluster, the zoom at which it falls apart, and its lamps. Each looks at the state first, then
-// at where the id leads.
+// The questions that walk from cluster to cluster: the children of a cluster, the zoom at which it falls apart, and its lamps. Each looks
+// at the state first, then at where the id leads.
 use asking::Answer;
 use asking::Target;
 use kids::Child;
@@ -8,7 +8,7 @@ use tables::Entry;
 use tables::State;
 ghost use mathlib.Core.Path.{_≡_};
 ghost use mathlib.Core.Bool.{true};
-ghost use Prim.Native.Nat.{_+_, _-_, _≤_};
+ghost use Prim.Native.Nat.{ℕ, _+_, _-_, _≤_};
 ghost use lib.ListN.{length};
 ghost use Rattle.lent.specs.Lent.{old, new};
 ghost use Rattle.asking.specs.declared.Target.the-variants.{At as Target·At};
@@ -17,10 +17,11 @@ ghost use Rattle.asking.specs.Columns.{roomOf};
 ghost use Rattle.asking.specs.Lent.{givenColumns, lentColumns};
 ghost use Rattle.asking.specs.Reached.{Reached};
 ghost use Rattle.walks.specs.Children.{childrenOf};
-ghost use Rattle.walks.specs.Expansion.{expansionNumber, expansionCarried, fetchedAt, expand, zoomOf};
+ghost use Rattle.walks.specs.Expansion.{expansionNumber, expansionCarried, expand, zoomOf};
 ghost use Rattle.walks.specs.declared.Walk.the-variants.{Went as Walk·Went};
-ghost use Rattle.walks.specs.Leaves.{fateOf, listOne, noneBy, leavesOf};
-ghost use Rattle.walks.specs.Column.{col, column, tripOf, Opened, Walked};
+ghost use Rattle.walks.specs.Leaves.{listOne, leavesAt, leavesOf};
+ghost use Rattle.walks.specs.Fetch.{fetchedAt};
+ghost use Rattle.walks.specs.Column.{fateOf, Does, Opened, Walked};
 
 // The children of the cluster cid: their places in its table.
 pub fn children(
@@ -344,7 +345,7 @@ fn skip_to(skipped: u32, so: Sofar) -> Walk
 
 // A lamp is listed, unless `count` are.
 fn list_one(count: u32, lamp: u32, so: Sofar, out: &mut [u32]) -> Walk
-    ensures { λ r. ⌜ tripOf r (new out) ≡ listOne column count lamp (so .skipped) (col (so .listed) (old out)) ⌝ }
+    ensures { λ r. ⌜ Does (so .listed) (old out) r (new out) (listOne count lamp (so .skipped)) ⌝ }
 {
     if count as usize <= so.listed {
         return Walk::Broke(so.listed);
@@ -377,7 +378,7 @@ fn enter(
     requires { ⌜ leg .cap ≤ roomOf (givenColumns x y seen id parent num energy ids coords) ⌝ }
     ensures { λ r.
         let c = lentColumns x y seen id parent num energy ids coords in
-        ⌜ Opened s c (leg .limit) (leg .offset) (leg .table) (e .id) (so .skipped) (col (so .listed) (old out)) r (new out) ⌝ }
+        ⌜ Opened s c (leg .limit) (leg .offset) (leg .table) (e .id) (so .skipped) (so .listed) (old out) r (new out) ⌝ }
 {
     let to = asking::go_on(s, leg.table, e.id);
     let Target::At { table, origin } = to else {
@@ -430,7 +431,7 @@ fn walk_into(
     requires { ⌜ leg .cap ≤ roomOf (givenColumns x y seen id parent num energy ids coords) ⌝ }
     ensures { λ r.
         let c = lentColumns x y seen id parent num energy ids coords in
-        ⌜ Walked s c (leg .limit) (leg .offset) cid (leg .table) origin (was .skipped) (col (was .listed) (old out)) r (new out) ⌝ }
+        ⌜ Walked s c (leg .limit) (leg .offset) cid (leg .table) origin (was .skipped) (was .listed) (old out) r (new out) ⌝ }
 {
     let g = asking::ring_of(
         s,
@@ -448,7 +449,7 @@ fn walk_into(
     let mut any = false;
     let mut so = was;
     let mut page = [0usize; 16];
-    let mut from = kdwalk::begin();
+    let mut from = kdpages::begin();
     loop {
         match kids::next_child(
             g,
@@ -516,7 +517,8 @@ fn walk_into(
     }
 }
 
-// No lamps of the cluster cid, whose origin is an entry of the table: the whole search for its children has its refusals, and otherwise nothing is listed.
+// No lamps of the cluster cid, whose origin is an entry of the table: the whole search for its children has its refusals, and otherwise
+// nothing is listed, whatever the offset and the room.
 fn list_none(
     s: State,
     cap: usize,
@@ -535,7 +537,9 @@ fn list_none(
 ) -> Answer
     requires { ⌜ Reached s cap table origin ⌝ }
     requires { ⌜ cap ≤ roomOf (givenColumns x y seen id parent num energy ids coords) ⌝ }
-    ensures { λ r. ⌜ r ≡ noneBy (fetchedAt s (lentColumns x y seen id parent num energy ids coords) cid table origin) ⌝ }
+    ensures { λ r.
+        let c = lentColumns x y seen id parent num energy ids coords in
+        ⌜ ((offset room : ℕ) → r ≡ answerOf (leavesAt s c cid 0 offset table origin) room) ⌝ }
 {
     match fetch(
         s,
@@ -560,7 +564,8 @@ fn list_none(
     }
 }
 
-// The lamps of the cluster cid: the ids of at most limit of them, after the first offset. Limit 0 lists nothing at every offset, and enters no child.
+// The lamps of the cluster cid: the ids of at most limit of them, after the first offset. Limit 0 lists nothing at every offset, and enters
+// no child.
 pub fn leaves(
     s: State,
     x: &[f64],

@@ -1,5 +1,5 @@
--- 01's worked build as `load` leaves it: in columns of 12 entries or more, whatever they held, the build is accepted, and this is its state and what stands in the
--- columns of entries and of the index. The state is sound over them. Assumes nothing.
+-- 01's worked build as `load` leaves it: in columns of 12 entries or more, whatever they held, the build is accepted, and this is its
+-- state and what stands in the columns of entries and of the index. The state is sound over them. Assumes nothing.
 use mathlib.Core.Path.{_≡_, refl, ap, _∙_}
 use mathlib.Core.Bool.{Bool, true, cond}
 use mathlib.Core.List.{List, _∷_}
@@ -16,7 +16,8 @@ use Rattle.tables.specs.declared.State.{State}
 use Rattle.tables.specs.Options.{optionsOk}
 use Rattle.tables.specs.Sound.{packed, stateOk}
 use Rattle.tables.specs.Entries.{Table, never, unset}
-use Rattle.zooms.specs.Zooms.{indexOf, slotsOf, joined, joinedIds, joinedCo, starts, lens}
+use Rattle.kdbush.specs.Reply.{indexOf}
+use Rattle.zooms.specs.Zooms.{slotsOf, joined, joinedIds, joinedCo, starts, lens}
 use Rattle.supercluster.specs.declared.LoadReply.the-variants.{Done, Tables}
 use Rattle.supercluster.specs.Build.{convertedAll, Lent, firstOver, written, stateOf, roomy, checked, Outcome, outcome, byReply, loaded}
 use Rattle.asking.specs.Columns.{Columns, columns, roomOf}

@@ -1,5 +1,5 @@
--- 01's lines that are not marked P, computed from the definitions too: the largest max_zoom, options that are refused, a lone lamp at
--- (1, 0.5), which tile (0,0,0) lists twice and counts once, and lists once with the strips for longitude only (02, #114); and of 'Easy to get
+-- 01's lines that are not marked P, computed from the definitions too: the largest max_zoom, options that are refused, a lone lamp at (1,
+-- 0.5), which tile (0,0,0) lists twice and counts once, and lists once with the strips for longitude only (02, #114); and of 'Easy to get
 -- wrong' the four lamps with min_points 3, and both edge strips at z = 0. Assumes nothing.
 use mathlib.Core.Path.{_≡_, refl, ap}
 use mathlib.Core.Bool.{Bool, true, cond}
@@ -25,7 +25,8 @@ use Rattle.tables.specs.Radius.{radiusAt}
 use Rattle.tables.specs.Rows.{rows}
 use Rattle.tables.specs.Sound.{packed, stateOk}
 use Rattle.zoom.specs.Zoom.{moreOf, absorbOne, absorb, copyOne, copyAll, visit, scanOne, scanFrom, cluster}
-use Rattle.zooms.specs.Zooms.{indexOf, slotsOf, run, joined, joinedIds, joinedCo, starts, lens}
+use Rattle.kdbush.specs.Reply.{indexOf}
+use Rattle.zooms.specs.Zooms.{slotsOf, run, joined, joinedIds, joinedCo, starts, lens}
 use Rattle.supercluster.specs.declared.LoadReply.the-variants.{Done, Tables}
 use Rattle.supercluster.specs.Build.{convertedAll, finest, tablesOf, Lent, written, roomy, firstOver, checked, loadNumber, Outcome, loaded}
 use Rattle.asking.specs.declared.Answer.the-variants.{NoRoom}
@@ -34,7 +35,8 @@ use Rattle.tiling.specs.Floor.{homeOf}
 use Rattle.tiling.specs.Tile.{here, wraps, east, west, visited, listed, whole, rounded}
 use Rattle.tiling.specs.Tally.{member, distinct, total, tallyOf}
 use Rattle.tiles.specs.Tallied.{tallied}
-use Rattle.tiles.specs.Asked.{Asked, told, asked, outcome, outcomeOf, tiled}
+use Rattle.asking.specs.Asked.{told}
+use Rattle.tiles.specs.Asked.{Asked, asked, outcome, outcomeOf, tiled}
 use Rattle.worked.specs.Tables.{b, options, xs, ys, ws, zeros}
 use Rattle.answers.specs.Stored.{columnsOf}
 

@@ -1,4 +1,5 @@
--- Each lamp's owner in each of the three tables of 01's worked build, and the lamps of each entry, computed from the definitions. Assumes nothing.
+-- Each lamp's owner in each of the three tables of 01's worked build, and the lamps of each entry, computed from the definitions. Assumes
+-- nothing.
 use mathlib.Core.Path.{_≡_, refl}
 use mathlib.Core.List.{[], _∷_, map}
 use lib.Ieee.{add, sub, mul, div, ofInt, ofBits, le, lt, eq}
@@ -12,7 +13,8 @@ use Rattle.kdbush.specs.Run.{places}
 use Rattle.tables.specs.Radius.{radiusAt}
 use Rattle.zoom.specs.Zoom.{moreOf, absorbOne, absorb, copyOne, copyAll, visit, scanOne, scanFrom, cluster}
 use Rattle.groups.specs.Groups.{weighed}
-use Rattle.zooms.specs.Zooms.{indexOf, slotsOf, run}
+use Rattle.kdbush.specs.Reply.{indexOf}
+use Rattle.zooms.specs.Zooms.{slotsOf, run}
 use Rattle.supercluster.specs.Build.{convertedAll, finest, tablesOf}
 use Rattle.builds.specs.Given.{Given, given}
 use Rattle.builds.specs.Came.{comes, came, tableAt}

@@ -1,5 +1,5 @@
--- 01's example of the table lister, computed: the text that it gives is the writing of the example, and what is printed for it is its seven lines. The tables
--- are those of Tables. Assumes nothing.
+-- 01's example of the table lister, computed: the text that it gives is the writing of the example, and what is printed for it is its
+-- seven lines. The tables are those of Tables. Assumes nothing.
 use mathlib.Core.List.{List, [], _∷_, _++_}
 use mathlib.Core.Path.{_≡_, refl, ap, _∙_}
 use Prim.Native.Nat.{ℕ}

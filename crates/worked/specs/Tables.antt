@@ -1,5 +1,5 @@
--- 01's worked build, computed from the definitions: the real index, the real search and the real distance test give the tables that 01 prints, at its node
--- size and at node size 1, where the index is split; and columns one entry too short are refused 4. Assumes nothing.
+-- 01's worked build, computed from the definitions: the real index, the real search and the real distance test give the tables that 01
+-- prints, at its node size and at node size 1, where the index is split; and columns one entry too short are refused 4. Assumes nothing.
 use mathlib.Core.Path.{_≡_, refl}
 use mathlib.Core.Bool.{false}
 use mathlib.Core.List.{List, [], _∷_}
@@ -24,7 +24,8 @@ use Rattle.tables.specs.Entries.{Table, never, unset}
 use Rattle.tables.specs.Radius.{radiusAt}
 use Rattle.tables.specs.Rows.{cols}
 use Rattle.zoom.specs.Zoom.{moreOf, absorbOne, absorb, copyOne, copyAll, visit, scanOne, scanFrom, cluster}
-use Rattle.zooms.specs.Zooms.{indexOf, slotsOf, run, starts}
+use Rattle.kdbush.specs.Reply.{indexOf}
+use Rattle.zooms.specs.Zooms.{slotsOf, run, starts}
 use Rattle.supercluster.specs.declared.LoadReply.the-variants.{Tables}
 use Rattle.supercluster.specs.Build.{convertedAll, finest, tablesOf, Lent, lent, firstOver, checked, loaded}
 

@@ -1,5 +1,5 @@
--- 01's P line on a tile, over the state and the columns of the worked build (Build), computed from the definitions; what the tile leaves in output columns, and its
--- tally. Assumes nothing.
+-- 01's P line on a tile, over the state and the columns of the worked build (Build), computed from the definitions; what the tile leaves
+-- in output columns, and its tally. Assumes nothing.
 use mathlib.Core.Path.{_≡_, ap}
 use mathlib.Core.Bool.{Bool, true, cond, not}
 use mathlib.Core.List.{[], _∷_}
@@ -16,7 +16,8 @@ use Rattle.tiling.specs.Floor.{homeOf}
 use Rattle.tiling.specs.Tile.{here, wraps, east, west, visited, listed, whole, rounded}
 use Rattle.tiling.specs.Tally.{member, distinct, total, tallyOf}
 use Rattle.tiles.specs.Tallied.{tallied}
-use Rattle.tiles.specs.Asked.{Asked, refused, told, asked, outcome, outcomeOf, tiled}
+use Rattle.asking.specs.Asked.{refused, told}
+use Rattle.tiles.specs.Asked.{Asked, asked, outcome, outcomeOf, tiled}
 use Rattle.supercluster.specs.Build.{Lent}
 use Rattle.worked.specs.Tables.{b, options}
 use Rattle.worked.specs.Build.{state, after, held, sound}

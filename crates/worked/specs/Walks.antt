@@ -1,5 +1,5 @@
--- 01's P lines on children, leaves, expansion zoom and refusals, over the state and the columns of the worked build (Build), computed from the definitions. Assumes
--- nothing.
+-- 01's P lines on children, leaves, expansion zoom and refusals, over the state and the columns of the worked build (Build), computed
+-- from the definitions. Assumes nothing.
 use mathlib.Core.Path.{_≡_, ap}
 use mathlib.Core.Bool.{Bool, true, cond, not}
 use mathlib.Core.List.{List, [], _∷_}
@@ -18,17 +18,17 @@ use Rattle.asking.specs.Answers.{answerNumber}
 use Rattle.asking.specs.Asked.{told, answerOf, columnOf}
 use Rattle.asking.specs.Columns.{Columns, roomOf}
 use Rattle.asking.specs.Ids.{targetOf, onward}
-use Rattle.asking.specs.Around.{slotsOf}
-use Rattle.kids.specs.Kids.{kidsOf, kidsAt, cleanAt}
+use Rattle.kids.specs.Kids.{kidsAt, cleanAt}
 use Rattle.walks.specs.declared.Expansion.the-variants.{At as Zoom·At}
 use Rattle.walks.specs.Children.{atTarget, childrenAt, childrenOf}
-use Rattle.walks.specs.Expansion.{expansionNumber, fetchedAt, expand, zoomAt, zoomOf}
+use Rattle.walks.specs.Expansion.{expansionNumber, expand, zoomAt, zoomOf}
 use Rattle.walks.specs.Leaves.{visit, steps, walk, leavesAt, leavesOf}
 use Rattle.supercluster.specs.Build.{Lent}
 use Rattle.worked.specs.Tables.{b, options}
 use Rattle.worked.specs.Build.{state, after, held, sound}
 
--- children, leaves and expansion zoom of this id are refused with 01's number n, whatever limit, offset and column are given, and the column stays as it was
+-- children, leaves and expansion zoom of this id are refused with 01's number n, whatever limit, offset and column are given, and the
+-- column stays as it was
 pub record Refused (s : State) (c : Columns) (id n : ℕ) : Type 0 where
   pub children : (out : List ℕ) → (answerNumber (answerOf (childrenOf s c id) (length out)) ≡ n) × (columnOf (childrenOf s c id) out ≡ out)
   pub leaves : (limit offset : ℕ) (out : List ℕ)
@@ -68,7 +68,7 @@ module _ (l : Lent) where
   -- ---- children: entries 0 and 1 of table 1
 
   pub children-5 : childrenOf state (held l) 5 ≡ told true (0 ∷ 1 ∷ [])
-  unfolding childrenOf childrenAt kidsAt cleanAt kidsOf slotsOf radiusAt rows places sound·places whole slots scanned shape split add
+  unfolding childrenOf childrenAt kidsAt cleanAt radiusAt rows places sound·places whole slots scanned shape split add
       sub mul div ofInt ofBits le lt eq state options after b
   children-5 = ap (λ (t : Target). atTarget t (λ z o. childrenAt state (held l) 5 z o)) at-5
 
@@ -79,34 +79,34 @@ module _ (l : Lent) where
   leaves-at limit offset = ap (λ (t : Target). atTarget t (λ z o. leavesAt state (held l) 5 limit offset z o)) at-5
 
   pub leaves-10-0 : leavesOf state (held l) 5 10 0 ≡ told true (0 ∷ 1 ∷ 2 ∷ 3 ∷ [])
-  unfolding leavesAt walk steps visit onward kidsAt cleanAt kidsOf slotsOf radiusAt rows places sound·places whole slots scanned shape
+  unfolding leavesAt walk steps visit onward kidsAt cleanAt radiusAt rows places sound·places whole slots scanned shape
       split add sub mul div ofInt ofBits le lt eq state options after b
   leaves-10-0 = leaves-at 10 0
 
   pub leaves-3-1 : leavesOf state (held l) 5 3 1 ≡ told true (1 ∷ 2 ∷ 3 ∷ [])
-  unfolding leavesAt walk steps visit onward kidsAt cleanAt kidsOf slotsOf radiusAt rows places sound·places whole slots scanned shape
+  unfolding leavesAt walk steps visit onward kidsAt cleanAt radiusAt rows places sound·places whole slots scanned shape
       split add sub mul div ofInt ofBits le lt eq state options after b
   leaves-3-1 = leaves-at 3 1
 
   pub leaves-0-0 : leavesOf state (held l) 5 0 0 ≡ told true []
-  unfolding leavesAt walk steps visit onward kidsAt cleanAt kidsOf slotsOf radiusAt rows places sound·places whole slots scanned shape
+  unfolding leavesAt walk steps visit onward kidsAt cleanAt radiusAt rows places sound·places whole slots scanned shape
       split add sub mul div ofInt ofBits le lt eq state options after b
   leaves-0-0 = leaves-at 0 0
 
   pub leaves-0-1 : leavesOf state (held l) 5 0 1 ≡ told true []
-  unfolding leavesAt walk steps visit onward kidsAt cleanAt kidsOf slotsOf radiusAt rows places sound·places whole slots scanned shape
+  unfolding leavesAt walk steps visit onward kidsAt cleanAt radiusAt rows places sound·places whole slots scanned shape
       split add sub mul div ofInt ofBits le lt eq state options after b
   leaves-0-1 = leaves-at 0 1
 
   -- ---- expansion zooms
 
   pub zoom-5 : zoomOf state (held l) 5 ≡ Zoom·At 1
-  unfolding zoomOf expand fetchedAt onward kidsAt cleanAt kidsOf slotsOf radiusAt rows places sound·places whole slots scanned shape
+  unfolding zoomOf expand onward kidsAt cleanAt radiusAt rows places sound·places whole slots scanned shape
       split add sub mul div ofInt ofBits le lt eq state options after b
   zoom-5 = ap (λ (t : Target). zoomAt t (λ z o. expand state (held l) (2 - (z - 1)) (At z o) 5 (z - 1) true)) at-5
 
   pub zoom-6 : zoomOf state (held l) 6 ≡ Zoom·At 2
-  unfolding zoomOf expand fetchedAt onward kidsAt cleanAt kidsOf slotsOf radiusAt rows places sound·places whole slots scanned shape
+  unfolding zoomOf expand onward kidsAt cleanAt radiusAt rows places sound·places whole slots scanned shape
       split add sub mul div ofInt ofBits le lt eq state options after b
   zoom-6 = ap (λ (t : Target). zoomAt t (λ z o. expand state (held l) (2 - (z - 1)) (At z o) 6 (z - 1) true)) at-6
 

@@ -1,5 +1,6 @@
--- 01's lines marked P as one proved table, in 01's order and words, before them the lines that the table lister prints. What is asked of the worked build is asked
--- of the state and the columns that `load` replies and leaves of 01's four lamps, in any columns that are long enough. Assumes nothing.
+-- 01's lines marked P as one proved table, in 01's order and words, before them the lines that the table lister prints. What is asked of
+-- the worked build is asked of the state and the columns that `load` replies and leaves of 01's four lamps, in any columns that are long
+-- enough. Assumes nothing.
 use mathlib.Core.Path.{_≡_, refl, sym, subst}
 use mathlib.Core.Bool.{true}
 use mathlib.Core.List.{[], _∷_}
@@ -15,7 +16,7 @@ use Rattle.walks.specs.declared.Expansion.the-variants.{At}
 use Rattle.walks.specs.Children.{childrenOf}
 use Rattle.walks.specs.Expansion.{zoomOf}
 use Rattle.walks.specs.Leaves.{leavesOf}
-use Rattle.tiles.specs.Asked.{asked, told as tile·told}
+use Rattle.tiles.specs.Asked.{asked}
 use Rattle.supercluster.specs.declared.LoadReply.the-variants.{Done}
 use Rattle.supercluster.specs.Build.{Lent, roomy, Outcome, loaded}
 use Rattle.listing.specs.Text.{text, headIs, xsOf, ysOf, energiesOf}
@@ -23,7 +24,8 @@ use Rattle.listing.specs.Values.{optionsOf}
 use Rattle.report.specs.Report.{columns as zeros, linesOf}
 use Rattle.answers.specs.Stored.{columnsOf}
 use Rattle.worked.specs.Build.{built, stateIn, columnsIn, state, held, built-is}
-use Rattle.worked.specs.Walks.{Refused, children-5, leaves-10-0, leaves-3-1, leaves-0-0, leaves-0-1, zoom-5, zoom-6, refused-3, refused-4, refused-7, refused-134}
+use Rattle.worked.specs.Walks.{Refused, children-5, leaves-10-0, leaves-3-1, leaves-0-0, leaves-0-1, zoom-5, zoom-6, refused-3}
+use Rattle.worked.specs.Walks.{refused-4, refused-7, refused-134}
 use Rattle.worked.specs.Tiles.{tile-000}
 use Rattle.worked.specs.Printed.{example, example-built, exampleText, sevenLines, text-is, lines-are}
 
@@ -52,7 +54,7 @@ pub record Worked (s : State) (c : Columns) : Type 0 where
   pub id-7 : Refused s c 7 5
   pub id-134 : Refused s c 134 6
   -- tile (0,0,0) lists entry 0 at (176,256)
-  pub tile : asked s c 0 0 0 ≡ tile·told true (record { place = 0; x = pos 176; y = pos 256 } ∷ [])
+  pub tile : asked s c 0 0 0 ≡ told true (record { place = 0; x = pos 176; y = pos 256 } ∷ [])
   -- 0.5 rounds to 1, -0.5 to -1
   pub half-up : away half ≡ pos 1
   pub half-down : away (neg half) ≡ negsuc 0

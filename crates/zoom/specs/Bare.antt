@@ -10,8 +10,10 @@ use lib.Ieee.{Float}
 use Rattle.tables.specs.declared.Entry.{Entry}
 use Rattle.tables.specs.Entries.{Table, entry, none, unseen, marked, under}
 use Rattle.tables.specs.Ids.{clusterId}
-use Rattle.zoom.specs.Zoom.{moreOf, more, numOf, Absorbed, absorbOne, absorb, started, centre, Scan, made, madeAt, copyOne, copyAll, leftAt, enough, visit, markAt, scanOne, scanFrom, cluster}
-use Rattle.zoom.specs.Steps.{joined, absorbOne-yes, absorbOne-no, copiedOne, copyOne-yes, copyOne-no, totalOf, visit-made, visit-left, scan-seen, scan-visit}
+use Rattle.zoom.specs.Zoom.{moreOf, more, numOf, Absorbed, absorbOne, absorb, started, centre, Scan, made, madeAt, copyOne, copyAll}
+use Rattle.zoom.specs.Zoom.{leftAt, enough, visit, markAt, scanOne, scanFrom, cluster}
+use Rattle.zoom.specs.Steps.{joined, absorbOne-yes, absorbOne-no, copiedOne, copyOne-yes, copyOne-no, totalOf, visit-made}
+use Rattle.zoom.specs.Steps.{visit-left, scan-seen, scan-visit}
 
 -- without its energy
 abbrev pub bare : Entry → Entry

@@ -1,4 +1,5 @@
--- There is room for what a scan makes: at each step the next table grows by no more than the table's unseen entries become fewer. Assumes nothing.
+-- There is room for what a scan makes: at each step the next table grows by no more than the table's unseen entries become fewer. Assumes
+-- nothing.
 use mathlib.Core.Path.{_≡_, refl}
 use mathlib.Core.Bool.{Bool, true, false}
 use mathlib.Core.List.{List, [], _∷_, _++_}

@@ -1,5 +1,5 @@
--- A property of tables that each store of a scan keeps is kept by the scan. So are every field but seen and parent, the length, and what is seen; what is
--- unseen does not grow; and an entry that was scanned is seen. Assumes nothing.
+-- A property of tables that each store of a scan keeps is kept by the scan. So are every field but seen and parent, the length, and what
+-- is seen; what is unseen does not grow; and an entry that was scanned is seen. Assumes nothing.
 use mathlib.Core.Path.{_≡_, refl, sym, _∙_, subst}
 use mathlib.Core.Bool.{Bool, true, false}
 use mathlib.Core.Logic.{⊎-elim}
@@ -16,8 +16,10 @@ use Rattle.tables.specs.declared.Entry.{Entry}
 use Rattle.tables.specs.Entries.{Table, entry, none, unseen, marked, under}
 use Rattle.tables.specs.Ids.{clusterId}
 use Rattle.zoom.specs.Scanned.{unseenCount, unseenOf}
-use Rattle.zoom.specs.Zoom.{Absorbed, absorbOne, absorb, started, Scan, copyOne, copyAll, enough, visit, markAt, scanOne, scanFrom, cluster}
-use Rattle.zoom.specs.Steps.{absorbOne-yes, absorbOne-no, copyOne-yes, copyOne-no, totalOf, visit-made, visit-left, scan-seen, scan-visit}
+use Rattle.zoom.specs.Zoom.{Absorbed, absorbOne, absorb, started, Scan, copyOne, copyAll, enough, visit, markAt, scanOne, scanFrom}
+use Rattle.zoom.specs.Zoom.{cluster}
+use Rattle.zoom.specs.Steps.{absorbOne-yes, absorbOne-no, copyOne-yes, copyOne-no, totalOf, visit-made, visit-left, scan-seen}
+use Rattle.zoom.specs.Steps.{scan-visit}
 use Rattle.zoom.specs.Unseen.{unseenCount-le, unseenOf-le, unseenCount-under, unseenOf-under}
 
 -- what each entry has, the entry at a place has

@@ -1,6 +1,6 @@
--- No lamp is lost or counted twice, and no energy: at each step of a scan what is unseen and what is made add up to the same. So the next table
--- adds up to no more than the table. Said once, of any number that an entry carries: a mark and a parent leave it, and a cluster's is the sum. Assumes
--- nothing.
+-- No lamp is lost or counted twice, and no energy: at each step of a scan what is unseen and what is made add up to the same. So the next
+-- table adds up to no more than the table. Said once, of any number that an entry carries: a mark and a parent leave it, and a cluster's
+-- is the sum. Assumes nothing.
 use mathlib.Core.Path.{_≡_, refl, ap, _∙_}
 use mathlib.Core.Bool.{Bool, true, false}
 use mathlib.Core.List.{List, [], _∷_, _++_}
@@ -16,8 +16,10 @@ use Rattle.tables.specs.declared.Entry.{Entry}
 use Rattle.tables.specs.Entries.{Table, entry, none, unseen, marked, under}
 use Rattle.tables.specs.Ids.{clusterId}
 use Rattle.zoom.specs.Scanned.{unseenOf}
-use Rattle.zoom.specs.Zoom.{numOf, energyOf, adds, moreOf, Absorbed, absorbOne, absorb, started, centre, Scan, copyOne, copyAll, enough, visit, markAt, scanOne, scanFrom, cluster}
-use Rattle.zoom.specs.Steps.{joined, absorbOne-yes, absorbOne-no, copyOne-yes, copyOne-no, more-nil, more-yes, more-no, totalOf, visit-made, visit-left, scan-seen, scan-visit}
+use Rattle.zoom.specs.Zoom.{numOf, energyOf, adds, moreOf, Absorbed, absorbOne, absorb, started, centre, Scan, copyOne, copyAll}
+use Rattle.zoom.specs.Zoom.{enough, visit, markAt, scanOne, scanFrom, cluster}
+use Rattle.zoom.specs.Steps.{joined, absorbOne-yes, absorbOne-no, copyOne-yes, copyOne-no, more-nil, more-yes, more-no, totalOf}
+use Rattle.zoom.specs.Steps.{visit-made, visit-left, scan-seen, scan-visit}
 use Rattle.zoom.specs.Unseen.{unseen-in, unseenOf-mark, unseenOf-under, more-same}
 
 -- f of a table's entries, added up

@@ -1,5 +1,5 @@
--- The neighbours of a place: what `within` answers around it, over the index of the table; and what a search that is not refused leaves of them in the
--- lent column. Assumes nothing.
+-- The neighbours of a place: what `within` answers around it, over the index of the table; and what a search that is not refused leaves
+-- of them in the lent column. Assumes nothing.
 use mathlib.Core.Path.{_≡_, refl}
 use mathlib.Core.Bool.{true}
 use mathlib.Core.List.{List, _++_}

@@ -1,5 +1,5 @@
--- What is noted of an entry before a table is scanned: nothing, or the very list that `within` answers at its place, where that is the entry itself or the
--- entry and one other. The notes of a table stand in the column `near` past the places for a list. Assumes nothing.
+-- What is noted of an entry before a table is scanned: nothing, or the very list that `within` answers at its place, where that is the
+-- entry itself or the entry and one other. The notes of a table stand in the column `near` past the places for a list. Assumes nothing.
 use mathlib.Core.Path.{_≡_, refl, ap, sym, _∙_, subst}
 use mathlib.Core.Bool.{Bool, true, false}
 use mathlib.Core.List.{List, [], _∷_, _++_}
@@ -27,7 +27,8 @@ use Rattle.zoom.specs.Near.{Answered, nearOf}
 
 -- ---- one note
 
--- the note v of the entry i, where it says anything, says l: 0 nothing; 1 the entry alone; 2 + 2 * o the entry and then o; 3 + 2 * o first o and then the entry
+-- the note v of the entry i, where it says anything, says l: 0 nothing; 1 the entry alone; 2 + 2 * o the entry and then o; 3 + 2 * o
+-- first o and then the entry
 pub record Tells (i v : ℕ) (l : List ℕ) : Type 0 where
   pub alone : v ≡ 1 → l ≡ i ∷ []
   pub before : (o : ℕ) → v ≡ 2 + 2 * o → l ≡ i ∷ o ∷ []

@@ -1,5 +1,5 @@
--- What the columns hold while a table is scanned: its entries, and right after them the next table's, as far as it is made. And what is counted
--- on the way. Definitions only.
+-- What the columns hold while a table is scanned: its entries, and right after them the next table's, as far as it is made. And what is
+-- counted on the way. Definitions only.
 use mathlib.Core.Path.{_≡_}
 use mathlib.Core.Bool.{cond}
 use mathlib.Core.List.{[], _∷_}

@@ -1,5 +1,5 @@
--- The loop over a table in the columns: what holds at its head, at its start, after a step and at its end, where the columns hold the definition's scan.
--- Assumes nothing.
+-- The loop over a table in the columns: what holds at its head, at its start, after a step and at its end, where the columns hold the
+-- definition's scan. Assumes nothing.
 use mathlib.Core.Path.{_≡_, refl, ap, sym, _∙_, subst}
 use mathlib.Core.List.{List}
 use Prim.Native.Nat.{ℕ, suc, _+_, _-_, _<_, _≤_}
@@ -18,8 +18,8 @@ use Rattle.zoom.specs.Unseen.{unseenCount-length}
 use Rattle.zoom.specs.Keeps.{keep-one, kept-unseenOf}
 use Rattle.zoom.specs.Fewer.{needed, scan-fewer}
 
--- the i-th entry is next: what is still to be scanned leads to the whole scan, the rows past the two tables are old, there is room for each unseen entry, and
--- what is unseen carries no more than at the start
+-- the i-th entry is next: what is still to be scanned leads to the whole scan, the rows past the two tables are old, there is room for
+-- each unseen entry, and what is unseen carries no more than at the start
 pub record Scanning (n least z : ℕ) (near : Float → Float → List ℕ) (len : ℕ) (t₀ t : Table) (d i : ℕ) : Type 0 where
   pub scan : scanFrom n least z near (scanOf len d t) i (len - i) ≡ cluster n least z near (take len t₀)
   pub rest : drop (len + d) t ≡ drop (len + d) t₀

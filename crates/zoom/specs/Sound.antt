@@ -18,8 +18,10 @@ use Rattle.tables.specs.declared.Entry.{Entry}
 use Rattle.tables.specs.Entries.{Table, entry, none, unseen, marked, under}
 use Rattle.tables.specs.Ids.{clusterId}
 use Rattle.zoom.specs.Scanned.{unseenOf, unseenNum}
-use Rattle.zoom.specs.Zoom.{numOf, energyOf, more, Absorbed, absorbOne, absorb, started, centre, Scan, copyOne, copyAll, enough, visit, markAt, scanOne, scanFrom, cluster}
-use Rattle.zoom.specs.Steps.{joined, absorbOne-yes, absorbOne-no, copyOne-yes, copyOne-no, more-nil, more-yes, more-no, totalOf, visit-made, visit-left, scan-seen, scan-visit}
+use Rattle.zoom.specs.Zoom.{numOf, energyOf, more, Absorbed, absorbOne, absorb, started, centre, Scan, copyOne, copyAll, enough}
+use Rattle.zoom.specs.Zoom.{visit, markAt, scanOne, scanFrom, cluster}
+use Rattle.zoom.specs.Steps.{joined, absorbOne-yes, absorbOne-no, copyOne-yes, copyOne-no, more-nil, more-yes, more-no, totalOf}
+use Rattle.zoom.specs.Steps.{visit-made, visit-left, scan-seen, scan-visit}
 use Rattle.zoom.specs.Unseen.{unseen-in, unseenCount-length, unseenOf-mark, unseenOf-none, more-same}
 use Rattle.zoom.specs.Keeps.{all-at, Keeps, kept-all, keep-copy, keep-one, keep-scan, kept-field, kept-length, scan-sees}
 use Rattle.zoom.specs.Fewer.{from-fewer}

@@ -1,5 +1,5 @@
--- One step of a scan, by cases. A neighbour that is unseen is joined to the cluster or copied, and its num counts; one that is seen changes nothing. An
--- entry that is visited is made a cluster or left; one that is scanned is visited or passed by. Assumes nothing.
+-- One step of a scan, by cases. A neighbour that is unseen is joined to the cluster or copied, and its num counts; one that is seen
+-- changes nothing. An entry that is visited is made a cluster or left; one that is scanned is visited or passed by. Assumes nothing.
 use mathlib.Core.Path.{_≡_, refl, sym, subst}
 use mathlib.Core.Bool.{true, false}
 use mathlib.Core.List.{List, [], _∷_, _++_}

@@ -1,5 +1,5 @@
--- A new entry, stored right after the next table's last: what the columns then hold is the definition's scan after an entry was left, and after it was made a
--- cluster. Assumes nothing.
+-- A new entry, stored right after the next table's last: what the columns then hold is the definition's scan after an entry was left, and
+-- after it was made a cluster. Assumes nothing.
 use mathlib.Core.Path.{_≡_, refl, ap, sym, _∙_, subst}
 use mathlib.Core.Bool.{Bool, true, false}
 use mathlib.Core.List.{List, [], _∷_, _++_}

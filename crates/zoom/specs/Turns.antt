@@ -1,5 +1,6 @@
--- A turn of each loop over the neighbours: what is done with the j-th neighbour is the definition's step, so that what remains from the next one
--- on leads to the same. For a neighbour that is absorbed or copied, also that what the code stores in the columns is that step. Assumes nothing.
+-- A turn of each loop over the neighbours: what is done with the j-th neighbour is the definition's step, so that what remains from the
+-- next one on leads to the same. For a neighbour that is absorbed or copied, also that what the code stores in the columns is that step.
+-- Assumes nothing.
 use mathlib.Core.Path.{_≡_, refl, ap, sym, _∙_, subst}
 use mathlib.Core.Bool.{Bool, true, false}
 use mathlib.Core.List.{List, _∷_}

@@ -1,5 +1,6 @@
--- What is unseen in a table: how many entries, and how many lamps they count. A store that marks an unseen entry takes it from both numbers, no mark adds to
--- them, and a parent changes neither. The unseen among distinct neighbours count no more lamps than all that are unseen. Assumes nothing.
+-- What is unseen in a table: how many entries, and how many lamps they count. A store that marks an unseen entry takes it from both
+-- numbers, no mark adds to them, and a parent changes neither. The unseen among distinct neighbours count no more lamps than all that are
+-- unseen. Assumes nothing.
 use mathlib.Core.Path.{_≡_, refl, ap, sym, _∙_}
 use mathlib.Core.Bool.{Bool, true, false, cond}
 use mathlib.Core.List.{List, [], _∷_, _++_}

@@ -1,5 +1,5 @@
--- An entry of the columns is marked and then visited: what the visit asks holds, and what it leaves is the definition's scan of the entry. One that was seen is
--- passed by. Assumes nothing.
+-- An entry of the columns is marked and then visited: what the visit asks holds, and what it leaves is the definition's scan of the
+-- entry. One that was seen is passed by. Assumes nothing.
 use mathlib.Core.Path.{_≡_, refl, ap, sym, _∙_}
 use mathlib.Core.List.{List}
 use Prim.Native.Nat.{ℕ, _+_, _<_, _≤_}

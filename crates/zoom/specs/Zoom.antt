@@ -1,5 +1,6 @@
--- One zoom, by 01: the entries of a table in order, each passed by, or marked and then made a cluster with its unseen neighbours, or copied with them. In every
--- definition n is the number of points, least is min_points, z the zoom, and `near x y` are the places that `within` answers at (x, y). Definitions only.
+-- One zoom, by 01: the entries of a table in order, each passed by, or marked and then made a cluster with its unseen neighbours, or
+-- copied with them. In every definition n is the number of points, least is min_points, z the zoom, and `near x y` are the places that
+-- `within` answers at (x, y). Definitions only.
 use mathlib.Core.Bool.{Bool, cond, _&&_}
 use mathlib.Core.List.{List, [], _∷_, _++_}
 use Prim.Native.Nat.{ℕ, zero, suc, _+_}
@@ -66,7 +67,16 @@ started t e = absorbed t (mul binary64 (e .x) (float (e .num))) (mul binary64 (e
 
 -- the new entry
 abbrev pub centre : Absorbed → ℕ → ℕ → Entry
-centre s id total = record { x = div binary64 (s .sx) (float total); y = div binary64 (s .sy) (float total); seen = never; id = id; parent = unset; num = total; energy = s .se }
+centre s id total =
+    record {
+      x = div binary64 (s .sx) (float total);
+      y = div binary64 (s .sy) (float total);
+      seen = never;
+      id = id;
+      parent = unset;
+      num = total;
+      energy = s .se;
+    }
 
 -- ---- a scan: the table, with its marks so far, and the next table, as far as it is made
 pub record Scan : Type 0 where
@@ -78,7 +88,9 @@ abbrev pub made : ℕ → Absorbed → Table → ℕ → ℕ → Scan
 made i s next id total = record { table = set (s .table) i (under id (entry (s .table) i)); next = next ++ (centre s id total ∷ []) }
 
 abbrev pub madeAt : ℕ → ℕ → ℕ → ℕ → List ℕ → Scan → Scan
-madeAt n z i total near s = made i (absorb z (clusterId n z i) (started (s .table) (entry (s .table) i)) near) (s .next) (clusterId n z i) total
+madeAt n z i total near s =
+    let id = clusterId n z i in
+    made i (absorb z id (started (s .table) (entry (s .table) i)) near) (s .next) id total
 
 -- one neighbour: where it is unseen, it is marked and copied
 unfoldable pub copyOne : ℕ → Scan → ℕ → Scan

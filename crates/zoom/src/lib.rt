@@ -1,5 +1,6 @@
-// One zoom, `cluster` of the Rust: the entries of a table in order, each passed by, or made a cluster with its unseen neighbours, or copied with them.
-// The table stands in the first `len` rows of the lent columns, and the next one, `done` entries so far, right after it. An entry is read as one record.
+// One zoom, `cluster` of the Rust: the entries of a table in order, each passed by, or made a cluster with its unseen neighbours, or
+// copied with them. The table stands in the first `len` rows of the lent columns, and the next one, `done` entries so far, right after
+// it. An entry is read as one record.
 use kdbush::SearchReply;
 use kdslots::Query;
 use tables::Entry;
@@ -10,9 +11,7 @@ ghost use lib.Dec.{T};
 ghost use lib.ListN.{length, getD, take};
 ghost use lib.Ieee.Scale.{finite};
 ghost use Rattle.kdsort.specs.Cols.{key};
-ghost use Rattle.kdsort.specs.Shape.{shape};
 ghost use Rattle.kdslots.specs.All.{All, AllBelow};
-ghost use Rattle.kdslots.specs.Slots.{over, when, scanned, slots, answers};
 ghost use Rattle.kdbush.specs.Promise.{Promised};
 ghost use Rattle.lent.specs.Lent.{old, new};
 ghost use Rattle.tables.specs.Entries.{Table, entry};
@@ -237,9 +236,9 @@ fn make_one(
     let e = Entry {
         x: s.x / t,
         y: s.y / t,
-        seen: 255,
+        seen: tables::NEVER,
         id: cluster,
-        parent: 4294967295,
+        parent: tables::UNSET,
         num: total,
         energy: s.energy,
     };
@@ -274,11 +273,11 @@ fn leave_one(
 }
 
 // Whether the total exceeds the entry's own num and is at least min_points.
-fn is_enough(own: u32, total: u32, least: u8) -> bool
+fn is_enough(own: u32, total: u32, least: u32) -> bool
     ensures { λ r. ⌜ r ≡ enough own total least ⌝ }
 {
     if own < total {
-        return least as u32 <= total;
+        return least <= total;
     }
     false
 }
@@ -298,7 +297,7 @@ fn visit_one(
     i: usize,
     z: u8,
     n: u32,
-    least: u8,
+    least: u32,
 ) -> usize
     requires { let c = given x y seen id parent num energy in
         ⌜ Even c × AllBelow len (now near) × (i < len) × (len + done + 1 + unseenCount z (take len (rows c)) ≤ length (c .x))
@@ -332,58 +331,6 @@ fn visit_one(
         return done + 1;
     }
     leave_one(x, y, seen, id, parent, num, energy, near, len, done, i, z)
-}
-
-// How many of the slots from lo up to hi are answered. No test decides where to go on, so that several slots are tested at once.
-fn count_slots(q: Query, coords: &[f64], lo: usize, hi: usize) -> usize
-    requires { ⌜ 2 * hi ≤ length (now coords) ⌝ }
-    ensures { λ r. ⌜ r ≡ length (scanned (over q (old coords)) lo (hi - lo)) ⌝ }
-{
-    let mut k = 0;
-    let mut i = lo;
-    while i < hi {
-        k += kdslots::test_at(q, coords, i) as usize;
-        i += 1;
-    }
-    k
-}
-
-// How many slots are answered of those from lo up to hi, if they are searched.
-fn count_part(
-    is_searched: bool,
-    q: Query,
-    coords: &[f64],
-    most: usize,
-    lo: usize,
-    hi: usize,
-    axis: usize,
-) -> usize
-    requires { ⌜ (2 * hi ≤ length (now coords)) × (lo ≤ hi) × (axis < 2) ⌝ }
-    ensures { λ r. ⌜ r ≡ length (when «is_searched» (slots (over q (old coords)) axis (shape most lo hi))) ⌝ }
-{
-    if !is_searched {
-        return 0;
-    }
-    if hi - lo <= most {
-        return count_slots(q, coords, lo, hi);
-    }
-    let m = lo + (hi - lo - 1) / 2;
-    let median = kdslots::test_at(q, coords, m) as usize;
-    let goes_right = kdslots::right_at(q, coords, axis, m);
-    let goes_left = kdslots::left_at(q, coords, axis, m);
-    let right = count_part(goes_right, q, coords, most, m + 1, hi, 1 - axis);
-    let left = count_part(goes_left, q, coords, most, lo, m, 1 - axis);
-    median + right + left
-}
-
-// How many places there are around (qx, qy).
-fn count_near(coords: &[f64], node_size: usize, r: f64, len: usize, qx: f64, qy: f64) -> usize
-    requires { ⌜ (2 * len ≤ length (now coords)) × («node_size» ≤ 65535) ⌝ }
-    ensures { λ k. ⌜ k ≡ length (answers (Query.Within qx qy r) (old coords) «node_size» len) ⌝ }
-{
-    let q = Query::Within { qx, qy, radius: r };
-    let v = kdslots::narrow(q, coords, node_size + 1, len);
-    count_part(true, q, coords, node_size + 1, v.lo, v.hi, v.axis)
 }
 
 // The note of an entry at whose place these two are answered: 2 + 2 * other where it comes first, 3 + 2 * other where the other does.
@@ -436,8 +383,8 @@ struct Note {
     found: usize,
 }
 
-// The note of the entry of the slot s, from what is answered at the slot's own coordinates: 1 where that is the entry alone, and 0 where it is more than
-// two.
+// The note of the entry of the slot s, from what is answered at the slot's own coordinates: 1 where that is the entry alone, and 0 where
+// it is more than two.
 fn note_at(ids: &[u32], coords: &[f64], node_size: usize, r: f64, len: usize, s: usize) -> Note
     requires { ⌜ Promised «node_size» len (now ids) (now coords) × (s < len) × (len ≤ 1048576) ⌝ }
     requires { ⌜ Owned len (nearOf «node_size» len (now ids) (now coords) r) (now ids) (now coords) ⌝ }
@@ -447,7 +394,7 @@ fn note_at(ids: &[u32], coords: &[f64], node_size: usize, r: f64, len: usize, s:
 {
     let qx = coords[2 * s];
     let qy = coords[2 * s + 1];
-    let found = count_near(coords, node_size, r, len, qx, qy);
+    let found = kdcount::count(Query::Within { qx, qy, radius: r }, node_size, len, coords);
     if found == 1 {
         return Note { note: 1, found };
     }
@@ -476,8 +423,8 @@ fn wide(x: u32) -> usize
     x as usize
 }
 
-// Notes of the entries of a table, in the order of its index's slots, where one search finds in the caches what the one before it read. They stand in `near`
-// from `notes` on. Where much is answered they end early: what has no note is searched for when it is scanned.
+// Notes of the entries of a table, in the order of its index's slots, where one search finds in the caches what the one before it read.
+// They stand in `near` from `notes` on. Where much is answered they end early: what has no note is searched for when it is scanned.
 fn note_all(
     ids: &[u32],
     coords: &[f64],
@@ -487,14 +434,15 @@ fn note_all(
     len: usize,
     notes: usize,
 )
-    requires { ⌜ Promised «node_size» len (now ids) (now coords) × (notes + len ≤ length (now near)) × (notes ≤ 1048576) × (len ≤ 1048576) ⌝ }
+    requires { ⌜ Promised «node_size» len (now ids) (now coords) × (notes + len ≤ length (now near)) × (notes ≤ 1048576)
+        × (len ≤ 1048576) ⌝ }
     requires { ⌜ Owned len (nearOf «node_size» len (now ids) (now coords) r) (now ids) (now coords) ⌝ }
     ensures { λ _.
         let around = nearOf «node_size» len (old ids) (old coords) r in
         ⌜ ((t : Table) → Slotted len (old ids) (old coords) t → Noted notes len around (new near) t) ⌝ }
 {
     forget(near, notes, len);
-    let mut left = 8 * len;
+    let mut left = 4 * len;
     let mut s = 0;
     while s < len {
         let n = note_at(ids, coords, node_size, r, len, s);
@@ -533,8 +481,8 @@ fn search_near(
     }
 }
 
-// Lists the neighbours of the entry i, which is at (qx, qy), at the front of `near`: how many there are. They are those of its note, or are searched for where
-// that says nothing.
+// Lists the neighbours of the entry i, which is at (qx, qy), at the front of `near`: how many there are. They are those of its note, or
+// are searched for where that says nothing.
 fn neighbours(
     ids: &[u32],
     coords: &[f64],
@@ -592,7 +540,7 @@ fn scan_one(
     i: usize,
     z: u8,
     n: u32,
-    least: u8,
+    least: u32,
 ) -> usize
     requires { let c = given x y seen id parent num energy in
         let t = take len (rows c) in
@@ -648,7 +596,7 @@ pub fn cluster(
     len: usize,
     z: u8,
     n: u32,
-    least: u8,
+    least: u32,
 ) -> usize
     requires { let c = given x y seen id parent num energy in
         let t = take len (rows c) in

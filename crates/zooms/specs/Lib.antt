@@ -1,4 +1,5 @@
--- Definitions that contracts cite: Zooms, and of Parts, Step, Running and Progress the records that the crate's functions ask and leave. All else is laws.
+-- Definitions that contracts cite: Zooms, and of Parts, Step, Running and Progress the records that the crate's functions ask and leave.
+-- All else is laws.
 pub mod Zooms
 pub mod Parts
 pub mod Step

@@ -21,7 +21,8 @@ use Rattle.zoom.specs.Lamps.{sumOf, total}
 use Rattle.zoom.specs.Zoom.{energyOf}
 use Rattle.zoom.specs.Sound.{Body, Next, Sound, cluster-sound}
 use Rattle.zooms.specs.Zooms.{slotsOf, nearIn, Plan, zoomed}
-use Rattle.zooms.specs.Parts.{putAt, part-put, Inside, Indexable, index-ids, index-co, index-promised}
+use Rattle.kdbush.specs.Indexed.{Inside, Indexable, index-ids, index-co, index-promised}
+use Rattle.zooms.specs.Parts.{putAt, part-put}
 
 -- ---- a table whose entries lie from 0 to 1 has an index that keeps its promises
 

@@ -9,7 +9,8 @@ use Rattle.tables.specs.Columns.{part}
 use Rattle.tables.specs.Entries.{Table}
 use Rattle.tables.specs.declared.State.{State}
 use Rattle.zooms.specs.Zooms.{Plan}
-use Rattle.zooms.specs.Progress.{Whole, wholeOf, Progress, Finished, progress-step, progress-start, rows-end, ids-end, co-end, ss-end, ll-end, rows-length-end, ids-length-end, co-length-end}
+use Rattle.zooms.specs.Progress.{Whole, wholeOf, Progress, Finished, progress-step, progress-start, rows-end, ids-end, co-end}
+use Rattle.zooms.specs.Progress.{ss-end, ll-end, rows-length-end, ids-length-end, co-length-end}
 use Rattle.zooms.specs.Running.{Running, Advanced, running-step}
 
 module _ (p : Plan) (M z start len : ℕ) (t : Table) (ids : List ℕ) (co : List Float) (lz : p .options .«min_zoom» < z) (r : Running p M (z - p .options .«min_zoom») start len t ids co) where

@@ -19,8 +19,10 @@ use Rattle.zoom.specs.Near.{nearOf, Placed, Radius}
 use Rattle.zoom.specs.Scanned.{unseenOf}
 use Rattle.zoom.specs.Sound.{Body}
 use Rattle.zoom.specs.Zoom.{numOf, energyOf, Scan, cluster}
-use Rattle.zooms.specs.Zooms.{indexOf, slotsOf, nearIn, Plan, zoomed}
-use Rattle.zooms.specs.Parts.{putAt, Inside}
+use Rattle.kdbush.specs.Reply.{indexOf}
+use Rattle.zooms.specs.Zooms.{slotsOf, nearIn, Plan, zoomed}
+use Rattle.kdbush.specs.Indexed.{Inside}
+use Rattle.zooms.specs.Parts.{putAt}
 use Rattle.zooms.specs.Running.{Running, Advanced, next-some, next-few, cur-long, cur-body, table-inside, next-body}
 use Rattle.zooms.specs.Step.{Stepped}
 

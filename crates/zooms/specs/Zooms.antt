@@ -1,12 +1,11 @@
--- The zooms of a build, by 01's 'Tables' and the Rust's `load`: the index of a table, zoom after zoom on tables as values, and how tables are packed one after
--- the other in columns and recorded in a state. Definitions only.
+-- The zooms of a build, by 01's 'Tables' and the Rust's `load`: the index of a table, zoom after zoom on tables as values, and how tables
+-- are packed one after the other in columns and recorded in a state. Definitions only.
 use mathlib.Core.List.{List, [], _∷_, _++_}
 use Prim.Native.Nat.{ℕ, zero, suc, _+_, _-_}
 use lib.ListN.{length, set, drop}
 use lib.Ieee.{Float}
 use Rattle.kdsort.specs.Cols.{Cols}
-use Rattle.kdsort.specs.Sort.{indexed}
-use Rattle.kdsort.specs.Indexes.{blank}
+use Rattle.kdbush.specs.Reply.{indexOf}
 use Rattle.tables.specs.declared.Options.{Options}
 use Rattle.tables.specs.Entries.{Table, xsOf, ysOf}
 use Rattle.tables.specs.Radius.{radiusAt}
@@ -15,10 +14,7 @@ use Rattle.zoom.specs.Near.{nearOf}
 
 -- ---- the tables
 
--- the index of points, in columns that just hold it; and of a table
-unfoldable pub indexOf : ℕ → List Float → List Float → Cols
-indexOf size xs ys = indexed size xs ys (blank (length xs))
-
+-- the index of a table
 unfoldable pub slotsOf : ℕ → Table → Cols
 slotsOf size t = indexOf size (xsOf t) (ysOf t)
 
@@ -37,7 +33,8 @@ planOf o n = record { options = o; count = n }
 -- zoom z on the table t: t, marked, and the next table
 abbrev pub zoomed : Plan → ℕ → Table → Scan
 zoomed p z t =
-    cluster (p .count) (p .options .«min_points») z (nearIn (p .options .«node_size») (radiusAt (p .options .radius) (p .options .extent) z) t) t
+    let r = radiusAt (p .options .radius) (p .options .extent) z in
+    cluster (p .count) (p .options .«min_points») z (nearIn (p .options .«node_size») r t) t
 
 -- the tables from t down to that of min_zoom, k zooms being left
 unfoldable pub run : Plan → ℕ → Table → List Table

@@ -15,8 +15,10 @@ ghost use Rattle.zoom.specs.Zoom.{numOf, energyOf, cluster};
 ghost use Rattle.zoom.specs.Scanned.{unseenOf};
 ghost use Rattle.zoom.specs.Near.{nearOf, Placed, Radius};
 ghost use Rattle.zoom.specs.Notes.{Owned, Slotted};
-ghost use Rattle.zooms.specs.Zooms.{indexOf, planOf, zoomsOf};
-ghost use Rattle.zooms.specs.Parts.{Inside, putAt};
+ghost use Rattle.kdbush.specs.Reply.{indexOf};
+ghost use Rattle.zooms.specs.Zooms.{planOf, zoomsOf};
+ghost use Rattle.kdbush.specs.Indexed.{Inside};
+ghost use Rattle.zooms.specs.Parts.{putAt};
 ghost use Rattle.zooms.specs.Step.{Stepped};
 ghost use Rattle.zooms.specs.Running.{Running, Advanced};
 ghost use Rattle.zooms.specs.Progress.{Finished};
@@ -45,7 +47,8 @@ fn zoom_step(
         let slots = part start len (now ids) in
         let co = part (start * 2) (len * 2) (now coords) in
         ⌜ Even c × Promised (o .«node_size») len slots co × Radius r × All Placed t
-        × (start + len ≤ length (now ids)) × ((start + len) * 2 ≤ length (now coords)) × (n + len ≤ length (now near)) × (start + len + len ≤ length (c .x))
+        × (start + len ≤ length (now ids)) × ((start + len) * 2 ≤ length (now coords)) × (n + len ≤ length (now near))
+        × (start + len + len ≤ length (c .x))
         × (unseenOf numOf z t < 2 ^ 32) × (start ≤ 67108864) × (len ≤ n) × (n ≤ 1048576) × (z ≤ 30)
         × Slotted len slots co t × Owned len (nearOf (o .«node_size») len slots co r) slots co
         × (unseenOf energyOf z t < 2 ^ 64) ⌝ }
@@ -58,7 +61,7 @@ fn zoom_step(
     let c0 = start * 2;
     let c1 = end * 2;
     let size = o.node_size;
-    let least = o.min_points;
+    let least = o.min_points as u32;
     zoom::cluster(
         &mut x[start..],
         &mut y[start..],
@@ -90,7 +93,8 @@ pub fn index_part(
     len: usize,
 )
     requires { ⌜ (1 ≤ len) × (len ≤ 1048576) × (start ≤ 67108864) × (1 ≤ size) × (size ≤ 65535) ⌝ }
-    requires { ⌜ (length (now y) ≡ length (now x)) × (start + len ≤ length (now x)) × (start + len ≤ length (now ids)) × ((start + len) * 2 ≤ length (now coords)) ⌝ }
+    requires { ⌜ (length (now y) ≡ length (now x)) × (start + len ≤ length (now x)) × (start + len ≤ length (now ids))
+        × ((start + len) * 2 ≤ length (now coords)) ⌝ }
     requires { ⌜ Inside (part start len (now x)) (part start len (now y)) ⌝ }
     ensures { λ _.
         let i = indexOf size (part start len (old x)) (part start len (old y)) in
@@ -180,7 +184,8 @@ pub fn run_zooms(
     ensures { λ r.
         let c = lentCols x y seen id parent num energy in
         let t = rows (c .entry) in
-        ⌜ Finished (planOf (s .options) n) (zoomsOf (s .options)) s r (part 0 n t) t (rows (c .exit)) (old ids) (new ids) (old coords) (new coords) ⌝ }
+        ⌜ Finished (planOf (s .options) n) (zoomsOf (s .options)) s r (part 0 n t) t (rows (c .exit))
+        (old ids) (new ids) (old coords) (new coords) ⌝ }
 {
     let o = s.options;
     let low = o.min_zoom;

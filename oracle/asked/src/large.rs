@@ -1,4 +1,4 @@
-//! Builds with more lamps than 131,072: in the index of such a table the port's walks look ahead.
+//! Builds with many lamps: in the index of such a table a search narrows by many medians before it comes to the slots that it tests.
 
 use crate::{Build, Form};
 use options::{corners, Options};
@@ -8,7 +8,7 @@ use splitmix::Splitmix;
 /// How the lamps lie: many of them in one place would make the Rust search for each among all.
 const SHAPES: [Shape; 3] = [Shape::Random, Shape::Grid, Shape::Clustered];
 
-/// Node sizes up to the largest with which a walk looks ahead.
+/// Node sizes, small and large.
 const NODE_SIZES: [usize; 5] = [10, 64, 64, 512, 2_047];
 
 /// How many lamps the builds have, in the short form and in the full one.

@@ -71,8 +71,8 @@ pub struct Lent<'a> {
 /// What a state says of its tables: where each starts and how long it is, by zoom.
 #[derive(Debug)]
 pub struct State<'a> {
-    pub starts: &'a mut [u32],
-    pub lens: &'a mut [u32],
+    pub starts: &'a mut [u32; ZOOMS],
+    pub lens: &'a mut [u32; ZOOMS],
 }
 
 /// Declares the build.
@@ -84,8 +84,9 @@ macro_rules! linked_load {
                 [
                     xs: *const f64, ys: *const f64, energies: *const u64,
                     $($entry: *mut $number,)* $($slot: *mut $kind,)*
-                    near: *mut u32, starts: *mut u32, lens: *mut u32
+                    near: *mut u32
                 ]
+                starts: *mut [u32; ZOOMS], lens: *mut [u32; ZOOMS]
             );
         }
     };
@@ -114,17 +115,15 @@ macro_rules! call_load {
                 $(tables.$slot.as_mut_ptr(), tables.$slot.len(),)*
                 near.as_mut_ptr(),
                 near.len(),
-                $state.starts.as_mut_ptr(),
-                $state.starts.len(),
-                $state.lens.as_mut_ptr(),
-                $state.lens.len(),
+                $state.starts,
+                $state.lens,
             )
         )
     }};
 }
 
-/// Builds the tables of points in the columns; the state is left as far as it has room. On the globe ys are in [0,1]
-/// already.
+/// Builds the tables of points in the columns, and leaves the state; a refusal leaves it as it was. On the globe ys are
+/// in [0,1] already.
 pub fn load(options: &Options, given: &Given, columns: Lent, state: State) -> Reply {
     with_columns!(call_load! options, given, columns, state)
 }

@@ -33,10 +33,10 @@ macro_rules! linked_to_all {
 linked_to! {
     [ids: u32, coords: f64]
     supercluster_box(
-        zoom: u8, w: f64, s: f64, e: f64, n: f64, out: *mut u32, out_length: usize
+        zoom: u8, west: f64, least_y: f64, east: f64, greatest_y: f64, out: *mut u32, out_length: usize
     );
     supercluster_box_effort(
-        zoom: u8, w: f64, s: f64, e: f64, n: f64, allowance: usize,
+        zoom: u8, west: f64, least_y: f64, east: f64, greatest_y: f64, allowance: usize,
         out: *mut u32, out_length: usize, tested: *mut usize, stopped: *mut bool
     );
     supercluster_ring(
@@ -100,17 +100,32 @@ macro_rules! ask_with_all {
 }
 
 impl Asked<'_> {
-    /// The places in the box of these corners: least x, least y, greatest x, greatest y.
-    pub fn in_box(&self, zoom: u8, [w, s, e, n]: [f64; 4], out: &mut [u32]) -> Reply {
+    /// The places in the box of these corners: west, least y, east, greatest y.
+    pub fn in_box(
+        &self,
+        zoom: u8,
+        [west, least_y, east, greatest_y]: [f64; 4],
+        out: &mut [u32],
+    ) -> Reply {
         let (start, length) = (out.as_mut_ptr(), out.len());
-        ask!([ids, coords] self, supercluster_box, zoom, w, s, e, n, start, length)
+        ask!(
+            [ids, coords] self,
+            supercluster_box,
+            zoom,
+            west,
+            least_y,
+            east,
+            greatest_y,
+            start,
+            length
+        )
     }
 
     /// The same within so many tests: what they find, how many were made, and whether one was still due.
     pub fn box_effort(
         &self,
         zoom: u8,
-        [w, s, e, n]: [f64; 4],
+        [west, least_y, east, greatest_y]: [f64; 4],
         allowance: usize,
         out: &mut [u32],
     ) -> EffortReply {
@@ -121,10 +136,10 @@ impl Asked<'_> {
             [ids, coords] self,
             supercluster_box_effort,
             zoom,
-            w,
-            s,
-            e,
-            n,
+            west,
+            least_y,
+            east,
+            greatest_y,
             allowance,
             start,
             length,

@@ -6,7 +6,8 @@ use crate::{
 };
 use options::Plane;
 
-/// A box: w, least y, e, greatest y.
+/// A box: west, least y, east, greatest y. y grows downwards on a mercator map, so that the least y is the northern
+/// edge on the globe; on a plan it is the least y as given.
 type Corners = [f64; 4];
 
 /// The places in a box, in the table of the zoom used. Its corners are least x, least y, greatest x and
@@ -52,16 +53,16 @@ pub fn searches(plane: &Plane, corners: Corners) -> usize {
 }
 
 /// 01's rule of the longitudes: the whole row, or two halves that go through the rule again, or one box.
-fn around_the_globe([w, south, e, north]: Corners) -> Vec<Corners> {
-    let (mut new_w, mut new_e) = (turned(w), if e == 180.0 { 180.0 } else { turned(e) });
-    if e - w >= 360.0 {
+fn around_the_globe([west, least_y, east, greatest_y]: Corners) -> Vec<Corners> {
+    let (mut new_w, mut new_e) = (turned(west), if east == 180.0 { 180.0 } else { turned(east) });
+    if east - west >= 360.0 {
         (new_w, new_e) = (-180.0, 180.0);
     } else if new_w > new_e {
-        let mut halves = around_the_globe([new_w, south, 180.0, north]);
-        halves.extend(around_the_globe([-180.0, south, new_e, north]));
+        let mut halves = around_the_globe([new_w, least_y, 180.0, greatest_y]);
+        halves.extend(around_the_globe([-180.0, least_y, new_e, greatest_y]));
         return halves;
     }
-    vec![[converted(new_w), south, converted(new_e), north]]
+    vec![[converted(new_w), least_y, converted(new_e), greatest_y]]
 }
 
 /// A longitude, turned to one from -180 on.

@@ -1,4 +1,5 @@
--- `asking::next_in` meets its contract: it is that of kdwalk over the part of the coordinates that the ring's table has, and no places. Assumes nothing.
+-- `asking::next_in` meets its contract: it is that of `kdpages::next_slot` over the part of the coordinates that the ring's table has.
+-- Assumes nothing.
 use mathlib.Core.Path.{_≡_, subst}
 use mathlib.Core.List.{List}
 use Prim.Native.Nat.{_*_}
@@ -6,7 +7,7 @@ use lib.Ieee.{Float}
 use denote.Ref.{now}
 use Rattle.kdwalk.specs.declared.Step.the-variants.{Done}
 use Rattle.kdwalk.specs.Reply.{nextStep}
-use Rattle.kdwalk.specs.Pages.{aheadOf, tailOf}
+use Rattle.kdpages.specs.Pages.{aheadOf, tailOf}
 use Rattle.asking.specs.Columns.{lent-part}
 use Rattle.asking.specs.Around.{queryOf}
 use borrow.Author.Needs.{needs}
@@ -21,9 +22,6 @@ mul-to c = search needs
 
 add-to : tie.Need-add-to
 add-to c = search needs
-
-slice-aggregate-next-slot : tie.Need-slice-aggregate-next-slot
-slice-aggregate-next-slot c = search needs
 
 mul-next-slot : tie.Need-mul-next-slot
 mul-next-slot c = search needs
@@ -46,11 +44,11 @@ same-length c = search needs
 returns : tie.Need-returns
 returns c =
     let v = c .before .before in
-    let a = v .before .before .before .before .before .before .before .before .args in
+    let a = v .before .before .before .before .before .before .before .args in
     let g = a .g in
     let r = v .next-slot .result in
     subst (λ (l : List Float). (r .step ≡ nextStep Done (aheadOf (queryOf g) (g .«node_size») (g .len) l (now (a .page)) (a .p)))
-    × (aheadOf (queryOf g) (g .«node_size») (g .len) l (v .next-slot .last .1 .1 .1 .1 .1 .0) (r .pages) ≡ tailOf (aheadOf (queryOf g) (g .«node_size») (g .len) l (now (a .page)) (a .p))))
+    × (aheadOf (queryOf g) (g .«node_size») (g .len) l (v .next-slot .last .1 .1 .1 .1 .0) (r .pages) ≡ tailOf (aheadOf (queryOf g) (g .«node_size») (g .len) l (now (a .page)) (a .p))))
     (lent-part (2 * g .start) (2 * g .len) (now (a .coords))) (v .next-slot .ensures)
 
 pub next-in-spec : {M : Type 1} → statement M
@@ -60,7 +58,6 @@ next-in-spec =
     mul-from
     mul-to
     add-to
-    slice-aggregate-next-slot
     mul-next-slot
     sub-next-slot
     part-next-slot-start

@@ -1,14 +1,15 @@
 -- `list_box` meets its contract, by its ways out. Assumes nothing.
 use mathlib.Core.Path.{_≡_, sym, ap, _∙_}
 use mathlib.Core.Bool.{Bool, true}
+use mathlib.Core.List.{List}
 use denote.Ref.{now}
 use lib.ListN.{length}
 use borrow.Author.Tests.{not-true, not-false}
+use Rattle.kdslots.specs.declared.Query.{Query}
 use Rattle.tables.specs.Options.{zoomUsed}
 use Rattle.tables.specs.Sound.{stateOk}
 use Rattle.asking.specs.Asked.{Asked, answerOf, columnOf}
 use Rattle.asking.specs.Columns.{indexRoom}
-use Rattle.boxplan.specs.declared.Plan.{Plan}
 use Rattle.boxplan.specs.Rule.{planOf, boxOk}
 use Rattle.boxes.specs.Lists.{boxAsked, listedAt}
 use Rattle.boxes.proofs.Used.{asked-spoiled, asked-box, asked-listed}
@@ -18,10 +19,10 @@ use Rattle.boxes.proofs.list_box.Tie as tie
 
 -- the box as it is given
 abbrev fine : tie.Start → Bool
-fine k = let a = k .args in boxOk (a .s .options .«coordinate_system») (a .w) (a .south) (a .e) (a .n)
+fine k = let a = k .args in boxOk (a .s .options .«coordinate_system») (a .west) (a .least-y) (a .east) (a .greatest-y)
 
-abbrev plan-of : tie.Start → Plan
-plan-of k = let a = k .args in planOf (a .s .options .«coordinate_system») (a .w) (a .south) (a .e) (a .n)
+abbrev plan-of : tie.Start → List Query
+plan-of k = let a = k .args in planOf (a .s .options .«coordinate_system») (a .west) (a .least-y) (a .east) (a .greatest-y)
 
 -- where the state is sound
 abbrev start-of : tie.Else1 → tie.Start

@@ -1,6 +1,7 @@
 -- `list_ring` meets its contract, by its ways out. Assumes nothing.
 use mathlib.Core.Path.{_≡_, sym, ap, _∙_}
 use mathlib.Core.Bool.{true}
+use mathlib.Core.List.{[], _∷_}
 use denote.Ref.{now}
 use lib.ListN.{length}
 use borrow.Author.Tests.{not-true, not-false}
@@ -9,7 +10,6 @@ use Rattle.kdslots.specs.Query.{queryOk}
 use Rattle.tables.specs.Sound.{stateOk}
 use Rattle.asking.specs.Asked.{Asked, answerOf, columnOf}
 use Rattle.asking.specs.Columns.{indexRoom}
-use Rattle.boxplan.specs.Rule.{once}
 use Rattle.boxes.specs.Lists.{ringAsked}
 use Rattle.boxes.proofs.Used.{asked-spoiled, asked-box, asked-listed}
 use borrow.Author.Needs.{needs}
@@ -37,7 +37,7 @@ returns c =
     let r = c .before .before in
     let a = r .before .before .before .before .args in
     let q = Within (a .x) (a .y) (a .radius) in
-    let e = asked-spoiled (a .s) (now (a .ids)) (now (a .coords)) (a .zoom) (queryOk q) (once q) (sym (ap (stateOk (a .s)) (r .index-room .ensures)) ∙ sym (c .before .is-sound .ensures) ∙ not-true _ (c .if1 .taken)) in
+    let e = asked-spoiled (a .s) (now (a .ids)) (now (a .coords)) (a .zoom) (queryOk q) (q ∷ []) (sym (ap (stateOk (a .s)) (r .index-room .ensures)) ∙ sym (c .before .is-sound .ensures) ∙ not-true _ (c .if1 .taken)) in
     (ap (λ (x : Asked). answerOf x (length (now (a .out)))) e, ap (λ (x : Asked). columnOf x (now (a .out))) e)
 
 ring-ok-requires : tie.Need-ring-ok-requires
@@ -49,7 +49,7 @@ returns-2 c =
     let l = c .before .before in
     let a = start-of l .args in
     let q = Within (a .x) (a .y) (a .radius) in
-    let e = asked-box (a .s) (now (a .ids)) (now (a .coords)) (a .zoom) (queryOk q) (once q) (sound l) (sym (c .before .ring-ok .ensures) ∙ not-true _ (c .if2 .taken)) in
+    let e = asked-box (a .s) (now (a .ids)) (now (a .coords)) (a .zoom) (queryOk q) (q ∷ []) (sound l) (sym (c .before .ring-ok .ensures) ∙ not-true _ (c .if2 .taken)) in
     (ap (λ (x : Asked). answerOf x (length (now (a .out)))) e, ap (λ (x : Asked). columnOf x (now (a .out))) e)
 
 list-used-requires : tie.Need-list-used-requires
@@ -66,7 +66,7 @@ returns-3 c =
     let l = f .before .before in
     let a = start-of l .args in
     let q = Within (a .x) (a .y) (a .radius) in
-    let e = asked-listed (a .s) (now (a .ids)) (now (a .coords)) (a .zoom) (queryOk q) (once q) (sound l) (sym (f .before .ring-ok .ensures) ∙ not-false _ (f .if2 .left)) in
+    let e = asked-listed (a .s) (now (a .ids)) (now (a .coords)) (a .zoom) (queryOk q) (q ∷ []) (sound l) (sym (f .before .ring-ok .ensures) ∙ not-false _ (f .if2 .left)) in
     (v .list-used .ensures .0 ∙ ap (λ (x : Asked). answerOf x (length (now (a .out)))) e, v .list-used .ensures .1 ∙ ap (λ (x : Asked). columnOf x (now (a .out))) e)
 
 pub list-ring-spec : {M : Type 1} → statement M

@@ -3,6 +3,7 @@ use mathlib.Core.Path.{ap, _∙_}
 use denote.Ref.{now}
 use lib.ListN.{length}
 use Rattle.asking.specs.Asked.{Asked, answerOf, columnOf}
+use Rattle.boxplan.specs.Queries.{queriesOf}
 use Rattle.boxes.specs.Standing.{used-small, at-used}
 use Rattle.boxes.proofs.Used.{listed-used}
 use borrow.Author.Needs.{needs}
@@ -42,7 +43,7 @@ returns c =
     let v = c .before .before in
     let n = v .before .before in
     let a = n .before .before .before .before .before .before .before .args in
-    let e = listed-used (a .s) (now (a .ids)) (now (a .coords)) (a .zoom) _ _ _ (a .p) (n .before .before .zoom-used .ensures) (n .before .start-of .ensures) (n .len-of .ensures) in
+    let e = listed-used (a .s) (now (a .ids)) (now (a .coords)) (a .zoom) _ _ _ (queriesOf (a .p)) (n .before .before .zoom-used .ensures) (n .before .start-of .ensures) (n .len-of .ensures) in
     (v .list-at .ensures .0 ∙ ap (λ (x : Asked). answerOf x (length (now (a .out)))) e, v .list-at .ensures .1 ∙ ap (λ (x : Asked). columnOf x (now (a .out))) e)
 
 pub list-used-spec : {M : Type 1} → statement M

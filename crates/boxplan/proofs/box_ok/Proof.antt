@@ -11,10 +11,10 @@ use Rattle.boxplan.proofs.box_ok.Tie as tie
 abbrev start-of : tie.Else2 → tie.Start
 start-of k = k .before .before .before .before
 
-first-finite : (k : tie.Else2) → let a = start-of k .args in (finite (a .w) && finite (a .s)) ≡ true
+first-finite : (k : tie.Else2) → let a = start-of k .args in (finite (a .west) && finite (a .least-y)) ≡ true
 first-finite k = sym (k .before .before .before .both-finite .ensures) ∙ not-false _ (k .before .before .if1 .left)
 
-second-finite : (k : tie.Else2) → let a = start-of k .args in (finite (a .e) && finite (a .n)) ≡ true
+second-finite : (k : tie.Else2) → let a = start-of k .args in (finite (a .east) && finite (a .greatest-y)) ≡ true
 second-finite k = sym (k .before .both-finite2 .ensures) ∙ not-false _ (k .if2 .left)
 
 both-finite-requires : tie.Need-both-finite-requires

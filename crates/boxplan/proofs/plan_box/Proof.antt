@@ -33,8 +33,22 @@ box-of-requires-3 c κs = search needs
 returns : tie.Need-returns
 unfolding planOf ofBits ofInt round neg
 returns c =
-    let r = c .before .before .before .before .before in
-    simp (r .before .enum-told .given .1, sym (r .rule .ensures), c .before .before .before .before .if1 .taken, sym (c .before .before .before .rule2 .ensures), sym (c .before .before .rule3 .ensures), c .before .box-of2 .ensures, c .box-of3 .ensures)
+    let t = c .before .before .before .before in
+    let r = t .before .before in
+    let a = c .before .before .before .rule2 .ensures in
+    let b = c .before .before .rule3 .ensures in
+    simp (
+      r .before .enum-told .given .1,
+      sym (r .rule .ensures .0),
+      sym (r .rule .ensures .1),
+      t .if1 .taken,
+      sym (a .0),
+      sym (a .1),
+      sym (b .0),
+      sym (b .1),
+      c .before .box-of2 .ensures,
+      c .box-of3 .ensures,
+    )
 
 box-of-requires-4 : tie.Need-box-of-requires-4
 box-of-requires-4 c κs = search needs
@@ -46,8 +60,8 @@ returns-2 c = simp (c .before .before .c .given .1, c .box-of .ensures)
 returns-3 : tie.Need-returns-3
 unfolding planOf
 returns-3 c =
-    let r = c .before .before in
-    simp (r .before .enum-told .given .1, sym (r .rule .ensures), c .before .if1 .left, c .box-of4 .ensures)
+    let r = c .before .before .before in
+    simp (r .before .enum-told .given .1, sym (r .rule .ensures .0), sym (r .rule .ensures .1), c .before .if1 .left, c .box-of4 .ensures)
 
 pub plan-box-spec : {M : Type 1} → statement M
 plan-box-spec =

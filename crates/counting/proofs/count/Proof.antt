@@ -1,5 +1,5 @@
--- `counting::count` meets its contract: what is counted and what is ahead of the cursor make the whole walk. The measure is what is ahead. It goes by the
--- promises of kdwalk's Walk alone. Assumes nothing.
+-- `counting::count` meets its contract: what is counted and what is ahead of the cursor make the whole walk. The measure is what is
+-- ahead. It goes by the promises of kdwalk's Walk alone. Assumes nothing.
 use mathlib.Core.Path.{_≡_, sym, ap, _∙_}
 use Prim.Native.Nat.{ℕ, _+_, _≤_}
 use native.Mathlib.Omega.{arith}

@@ -31,7 +31,7 @@ returns : tie.Need-returns
 returns c =
     let r = c .before .before in
     let a = r .before .before .before .before .args in
-    let e = asked-spoiled (a .s) (now (a .ids)) (now (a .coords)) (a .zoom) (a .w) (a .south) (a .e) (a .n)
+    let e = asked-spoiled (a .s) (now (a .ids)) (now (a .coords)) (a .zoom) (a .west) (a .least-y) (a .east) (a .greatest-y)
     (sym (ap (stateOk (a .s)) (r .index-room .ensures)) ∙ sym (c .before .is-sound .ensures) ∙ not-true _ (c .if1 .taken)) in (
       ap (λ (x : Sought). replyOf x (a .allowance) (length (now (a .out)))) e,
       ap (λ (x : Sought). columnOf x (a .allowance) (now (a .out))) e,
@@ -44,7 +44,7 @@ returns-2 : tie.Need-returns-2
 returns-2 c =
     let l = c .before .before .before in
     let a = start-of l .args in
-    let e = asked-box (a .s) (now (a .ids)) (now (a .coords)) (a .zoom) (a .w) (a .south) (a .e) (a .n) (sound l)
+    let e = asked-box (a .s) (now (a .ids)) (now (a .coords)) (a .zoom) (a .west) (a .least-y) (a .east) (a .greatest-y) (sound l)
     (sym (c .before .box-ok .ensures) ∙ not-true _ (c .if2 .taken)) in (
       ap (λ (x : Sought). replyOf x (a .allowance) (length (now (a .out)))) e,
       ap (λ (x : Sought). columnOf x (a .allowance) (now (a .out))) e,
@@ -66,7 +66,7 @@ returns-3 c =
     let f = b .before in
     let l = f .before .before .before in
     let a = start-of l .args in
-    let e = asked-sought (a .s) (now (a .ids)) (now (a .coords)) (a .zoom) (a .w) (a .south) (a .e) (a .n) (sound l)
+    let e = asked-sought (a .s) (now (a .ids)) (now (a .coords)) (a .zoom) (a .west) (a .least-y) (a .east) (a .greatest-y) (sound l)
     (sym (f .before .box-ok .ensures) ∙ not-false _ (f .if2 .left)) _ (b .plan-box .ensures) in (
       v .effort-used .ensures .0 ∙ ap (λ (x : Sought). replyOf x (a .allowance) (length (now (a .out)))) e,
       v .effort-used .ensures .1 ∙ ap (λ (x : Sought). columnOf x (a .allowance) (now (a .out))) e,

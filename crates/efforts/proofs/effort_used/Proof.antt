@@ -2,6 +2,7 @@
 use mathlib.Core.Path.{ap, _∙_}
 use denote.Ref.{now}
 use lib.ListN.{length}
+use Rattle.boxplan.specs.Queries.{queriesOf}
 use Rattle.boxes.specs.Standing.{used-small, at-used}
 use Rattle.efforts.specs.Effort.{Sought, replyOf, columnOf}
 use Rattle.efforts.proofs.Used.{sought-used}
@@ -43,7 +44,7 @@ returns c =
     let v = c .before .before in
     let n = v .before .before in
     let a = n .before .before .before .before .before .before .before .args in
-    let e = sought-used (a .s) (now (a .ids)) (now (a .coords)) (a .zoom) _ _ _ (a .p) (n .before .before .zoom-used .ensures)
+    let e = sought-used (a .s) (now (a .ids)) (now (a .coords)) (a .zoom) _ _ _ (queriesOf (a .p)) (n .before .before .zoom-used .ensures)
     (n .before .start-of .ensures) (n .len-of .ensures) in (
       v .effort-at .ensures .0 ∙ ap (λ (x : Sought). replyOf x (a .allowance) (length (now (a .out)))) e,
       v .effort-at .ensures .1 ∙ ap (λ (x : Sought). columnOf x (a .allowance) (now (a .out))) e,

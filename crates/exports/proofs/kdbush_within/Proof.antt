@@ -8,11 +8,11 @@ use Rattle.exports.proofs.kdbush_within.Tie as tie
 within-requires : tie.Need-within-requires
 within-requires c κs = search needs
 
-search-carried-requires : tie.Need-search-carried-requires
-search-carried-requires c κs = search needs
+carried-requires : tie.Need-carried-requires
+carried-requires c κs = search needs
 
-search-number-requires : tie.Need-search-number-requires
-search-number-requires c κs = search needs
+number-requires : tie.Need-number-requires
+number-requires c κs = search needs
 
 same-length : tie.Need-same-length
 same-length c = search needs
@@ -20,9 +20,9 @@ same-length c = search needs
 returns : tie.Need-returns
 returns c =
     let v = c .before .before .before .before .within .ensures in
-    (c .search-number .ensures ∙ ap searchNumber (v .0), (c .before .search-carried .ensures ∙ ap searchCarried (v .0), v .1))
+    (c .number .ensures ∙ ap searchNumber (v .0), (c .before .carried .ensures ∙ ap searchCarried (v .0), v .1))
 
 pub kdbush-within-spec : {M : Type 1} → statement M
 kdbush-within-spec =
     tie.close
-    (tie.spec within-requires search-carried-requires search-number-requires same-length returns)
+    (tie.spec within-requires carried-requires number-requires same-length returns)

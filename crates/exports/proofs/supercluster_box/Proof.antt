@@ -1,4 +1,5 @@
--- `exports::supercluster_box` meets its contract: it is the public function, its state made from numbers, its reply as numbers. Assumes nothing.
+-- `exports::supercluster_box` meets its contract: it is the public function, its state made from numbers, its reply as numbers. Assumes
+-- nothing.
 use mathlib.Core.Path.{_≡_, ap}
 use denote.Ref.{now}
 use borrow.Author.Needs.{needs}
@@ -41,7 +42,7 @@ returns c =
     let w = c .before .before .before .before in
     let y = w .before .before in
     let a = start-of y .args in
-    told-is (now (a .out)) _ _ (c .number .ensures) (c .before .carried .ensures) (w .list-box .ensures .0) (w .list-box .ensures .1) (ap (λ (s : State). boxAsked s (now (a .ids)) (now (a .coords)) (a .zoom) (a .w) (a .south) (a .e) (a .n)) (state-given y))
+    told-is (now (a .out)) _ _ (c .number .ensures) (c .before .carried .ensures) (w .list-box .ensures .0) (w .list-box .ensures .1) (ap (λ (s : State). boxAsked s (now (a .ids)) (now (a .coords)) (a .zoom) (a .west) (a .least-y) (a .east) (a .greatest-y)) (state-given y))
 
 pub supercluster-box-spec : {M : Type 1} → statement M
 supercluster-box-spec =

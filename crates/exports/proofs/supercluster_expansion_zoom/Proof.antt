@@ -1,4 +1,5 @@
--- `exports::supercluster_expansion_zoom` meets its contract: it is the public function, its state made from numbers, its reply as numbers. Assumes nothing.
+-- `exports::supercluster_expansion_zoom` meets its contract: it is the public function, its state made from numbers, its reply as
+-- numbers. Assumes nothing.
 use mathlib.Core.Path.{_≡_, ap, _∙_}
 use denote.Ref.{now}
 use borrow.Author.Needs.{needs}

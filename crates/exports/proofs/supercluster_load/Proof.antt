@@ -1,5 +1,5 @@
--- `exports::supercluster_load` meets its contract: it is the public function, its options made from numbers, its reply and its state as numbers.
--- Assumes nothing.
+-- `exports::supercluster_load` meets its contract: it is the public function, its options made from numbers, its reply and its state as
+-- numbers. Assumes nothing.
 use mathlib.Core.Path.{ap, _∙_}
 use native.Mathlib.Omega.{arith}
 use denote.Ref.{now}
@@ -56,6 +56,4 @@ supercluster-load-spec =
     (λ c. let w : tie.After-load = search in omega (arith, w .load .kept))
     (λ c. let w : tie.After-load = search in omega (arith, w .load .kept))
     (λ c. let w : tie.After-load = search in omega (arith, w .load .kept))
-    (λ c. let t : tie.After-tell = search in omega (arith, t .tell .kept))
-    (λ c. let t : tie.After-tell = search in omega (arith, t .tell .kept))
     returns)

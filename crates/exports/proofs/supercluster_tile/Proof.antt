@@ -1,4 +1,5 @@
--- `exports::supercluster_tile` meets its contract: it is the public function, its state given by its parts, its reply as numbers. Assumes nothing.
+-- `exports::supercluster_tile` meets its contract: it is the public function, its state given by its parts, its reply as numbers. Assumes
+-- nothing.
 use mathlib.Core.Path.{ap, _∙_}
 use denote.Ref.{now}
 use borrow.Author.Needs.{needs}

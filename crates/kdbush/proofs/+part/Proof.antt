@@ -1,5 +1,5 @@
--- `kdbush::part` meets its contract: a leaf is scanned; a node is its median, then its right part if it is searched, then its left. The measure is the
--- interval's length. Assumes nothing.
+-- `kdbush::part` meets its contract: a leaf is scanned; a node is its median, then its right part if it is searched, then its left. The
+-- measure is the interval's length. Assumes nothing.
 use mathlib.Core.Path.{_≡_, sym, ap, _∙_}
 use mathlib.Core.Logic.{⊎-elim}
 use mathlib.Core.List.{List, [], _∷_}

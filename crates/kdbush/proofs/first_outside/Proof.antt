@@ -1,4 +1,5 @@
--- `kdbush::first_outside` meets its contract: what is left of the points has the first one outside. The measure is how many are left. Assumes nothing.
+-- `kdbush::first_outside` meets its contract: what is left of the points has the first one outside. The measure is how many are left.
+-- Assumes nothing.
 use mathlib.Core.Path.{_≡_, refl, sym, ap, _∙_}
 use Prim.Native.Nat.{_-_, _≤_}
 use native.Mathlib.Omega.{arith}

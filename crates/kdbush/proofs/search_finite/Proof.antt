@@ -1,4 +1,5 @@
--- `kdbush::search_finite` meets its contract: a query that is fine is searched, another is refused, after an index that is. Assumes nothing.
+-- `kdbush::search_finite` meets its contract: a query that is fine is searched, another is refused, after an index that is. Assumes
+-- nothing.
 use mathlib.Core.Path.{sym, _∙_}
 use borrow.Author.Needs.{needs}
 use borrow.Author.Tests.{not-true, not-false, le-leb, lt-leb}

@@ -1,4 +1,5 @@
--- `kdslots::passes` meets its contract, by the cases of the query; of a box the code tests both least edges before the greatest. Assumes nothing.
+-- `kdslots::passes` meets its contract, by the cases of the query; of a box the code tests both least edges before the greatest. Assumes
+-- nothing.
 use mathlib.Core.Path.{_≡_, refl}
 use mathlib.Core.Bool.{Bool, true, false, _&&_}
 use lib.Ieee.{le}

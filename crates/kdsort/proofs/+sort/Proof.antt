@@ -1,5 +1,5 @@
--- `kdsort::sort` meets its contract: a leaf is left as it is, a node is its selection and then its two sides. The measure is the interval's length.
--- Assumes nothing.
+-- `kdsort::sort` meets its contract: a leaf is left as it is, a node is its selection and then its two sides. The measure is the
+-- interval's length. Assumes nothing.
 use mathlib.Core.Path.{_≡_, sym, ap, _∙_}
 use Prim.Native.Nat.{ℕ, _+_, _-_, _*_, _<_, _≤_}
 use native.Mathlib.Omega.{arith}

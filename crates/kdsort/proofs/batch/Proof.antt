@@ -1,4 +1,5 @@
--- `kdsort::batch` meets its contract: the stops that are written down are those of the next passes, so that their exchanges are theirs. Assumes nothing.
+-- `kdsort::batch` meets its contract: the stops that are written down are those of the next passes, so that their exchanges are theirs.
+-- Assumes nothing.
 use mathlib.Core.Path.{_≡_}
 use mathlib.Core.List.{List}
 use Prim.Native.Nat.{ℕ, _+_, _-_, _*_, _<_, _≤_}

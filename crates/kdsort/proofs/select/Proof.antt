@@ -1,5 +1,5 @@
--- `kdsort::select` meets its contract: each turn is one partition of the definition's, on the side of k. The measure is the length of that side.
--- Assumes nothing.
+-- `kdsort::select` meets its contract: each turn is one partition of the definition's, on the side of k. The measure is the length of
+-- that side. Assumes nothing.
 use mathlib.Core.Path.{_≡_, refl, sym, ap, _∙_}
 use mathlib.Core.Logic.{_⊎_, ⊎-elim, inl, inr}
 use mathlib.Core.Bool.{Bool, cond}

@@ -1,4 +1,5 @@
--- `kdsort::swap_item` meets its contract: the two slots' ids and both their coordinates are exchanged together, and nothing else changes. Assumes nothing.
+-- `kdsort::swap_item` meets its contract: the two slots' ids and both their coordinates are exchanged together, and nothing else changes.
+-- Assumes nothing.
 use borrow.Author.Needs.{needs}
 use mathlib.Core.Path.{refl, sym, subst}
 use mathlib.Core.List.{List}

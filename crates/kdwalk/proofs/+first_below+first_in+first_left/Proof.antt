@@ -1,5 +1,6 @@
--- `kdwalk::first_in`, `first_below` and `first_left` meet their contracts, as one cycle of calls: the median, the right part, the left part. The measure is
--- three times the interval's length and a little, so that it falls from one function to the next too. Assumes nothing.
+-- `kdwalk::first_in`, `first_below` and `first_left` meet their contracts, as one cycle of calls: the median, the right part, the left
+-- part. The measure is three times the interval's length and a little, so that it falls from one function to the next too. Assumes
+-- nothing.
 use mathlib.Core.Path.{_≡_, sym, ap, _∙_}
 use mathlib.Core.Logic.{⊎-elim}
 use Prim.Native.Nat.{ℕ, _+_, _-_, _*_, _<_}

@@ -1,5 +1,5 @@
--- `kdwalk::next_in` meets its contract, by where the slot stands: left of the median, at it, or right of it. The measure is the interval's length.
--- Assumes nothing.
+-- `kdwalk::next_in` meets its contract, by where the slot stands: left of the median, at it, or right of it. The measure is the
+-- interval's length. Assumes nothing.
 use mathlib.Core.Path.{_≡_, sym, ap, _∙_}
 use Prim.Native.Nat.{ℕ, _+_, _-_, _<_}
 use native.Mathlib.Omega.{arith}

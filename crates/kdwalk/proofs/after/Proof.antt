@@ -1,5 +1,5 @@
--- `kdwalk::after` meets its contract, by its ways out: the rest of the leaf that has the slot is looked at first, then what comes after the leaf.
--- Assumes nothing.
+-- `kdwalk::after` meets its contract, by its ways out: the rest of the leaf that has the slot is looked at first, then what comes after
+-- the leaf. Assumes nothing.
 use mathlib.Core.Path.{_≡_, sym, ap, _∙_}
 use mathlib.Core.Bool.{true}
 use Prim.Native.Nat.{ℕ, _+_, _-_}

@@ -1,4 +1,5 @@
--- `kdwalk::leaf_end` meets its contract: the interval that has the slot is halved until it is a leaf. The measure is its length. Assumes nothing.
+-- `kdwalk::leaf_end` meets its contract: the interval that has the slot is halved until it is a leaf. The measure is its length. Assumes
+-- nothing.
 use mathlib.Core.Path.{_≡_, refl, sym, _∙_}
 use Prim.Native.Nat.{_-_, _≤_, _<_}
 use native.Mathlib.Omega.{arith}

@@ -1,5 +1,6 @@
 -- `owners::load` meets its contract: what `supercluster::load` replies and leaves has one owner for every lamp. Assumes nothing.
 use borrow.Author.Needs.{needs}
+use Rattle.lamps.specs.Owner.{owner}
 use Rattle.owners.specs.Proved.{outcome-owners}
 use Rattle.owners.proofs.load.Statement.{statement}
 use Rattle.owners.proofs.load.Tie as tie
@@ -46,7 +47,7 @@ returns : tie.Need-returns
 returns c =
     let w = loaded-at c in
     let e = w .load .ensures in
-    (e, λ d. outcome-owners _ _ _ e d)
+    (e, λ d. (owner _, outcome-owners _ _ _ e d))
 
 pub load-spec : {M : Type 1} → statement M
 load-spec =

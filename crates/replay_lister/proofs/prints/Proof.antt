@@ -1,4 +1,5 @@
--- `replay_lister::prints` meets its contract: what `report` leaves is what is printed, and the comparison of bytes decides. Assumes nothing.
+-- `replay_lister::prints` meets its contract: what `report` leaves is what is printed, and the comparison of bytes decides. Assumes
+-- nothing.
 use borrow.Author.Needs.{needs}
 use Rattle.report.specs.Replies.{report-counts}
 use Rattle.replay_lister.specs.One.{reported, decides}

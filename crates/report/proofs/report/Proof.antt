@@ -1,17 +1,20 @@
--- `report::report` meets its contract: what `parse` refuses is the writing of no input; what it reads is the input's head and points. Assumes nothing.
-use mathlib.Core.List.{List}
-use mathlib.Core.Path.{_≡_, ap, _∙_, subst}
+-- `report::report` meets its contract: what `parse` refuses is the writing of no input; what it reads is the input's head and points.
+-- Assumes nothing.
+use mathlib.Core.List.{List, map}
+use mathlib.Core.Path.{_≡_, ap, sym, _∙_, subst}
 use Prim.Native.Nat.{ℕ}
 use native.Mathlib.Omega.{arith}
 use borrow.Author.Needs.{needs}
 use denote.Ref.{now}
-use lib.ListN.{length}
+use lib.ListN.{length, replicate, length-replicate}
+use lib.Seq.{length-sets}
+use lib.Ieee.{ofBits}
+use Rattle.floats.specs.Numbers.{zero}
 use Rattle.listing.specs.declared.Parsed.{Parsed}
 use Rattle.listing.specs.declared.Head.{Head}
-use Rattle.listing.specs.Text.{PointCols, pointCols, Parsing, Reads}
-use Rattle.listing.specs.Lent.{givenPoints}
+use Rattle.listing.specs.Text.{Place, xOf, yOf, whOf, PointCols, pointCols, putPoints, Parsing, Reads}
 use Rattle.listing.specs.Values.{optionsOf}
-use Rattle.listing.specs.Whole.{Front, reads-front}
+use Rattle.listing.specs.Whole.{Wide, Front, reads-front}
 use Rattle.zooms.specs.Zooms.{over}
 use Rattle.supercluster.specs.Build.{Lent}
 use Rattle.supercluster.specs.Lent.{givenAll}
@@ -20,51 +23,55 @@ use Rattle.report.specs.Put.{put-over}
 use Rattle.report.proofs.report.Statement.{statement}
 use Rattle.report.proofs.report.Tie as tie
 
-abbrev energies-of : tie.After-report-read-arg17 → tie.After-report-read-arg6
-energies-of c = c .before .before .before .before .before .before .before .before .before .before .before
+abbrev told-of : tie.After-px2 → tie.After-h
+told-of c = c .before .before
 
-abbrev told-of : tie.After-report-read-arg17 → tie.After-h
-told-of c = energies-of c .before .before .before .before .before .before .before
-
-abbrev parse-of : tie.After-report-read-arg17 → tie.After-parse
+abbrev parse-of : tie.After-px2 → tie.After-parse
 parse-of c = told-of c .before .before
+
+abbrev read-of : tie.After-report-read-arg11 → tie.After-px2
+read-of c = c .before .before .before .before .before .before .before .before .before .before .before .before .before
 
 abbrev start-of : tie.After-parse → tie.Start
 start-of p = p .before .before .before .before .before
 
--- the columns as they came, and those of the points as `parse` leaves them
+-- the columns as they came
 abbrev columns-of : tie.Start → Lent
 columns-of s = let a = s .args in givenAll (a .x) (a .y) (a .seen) (a .id) (a .parent) (a .num) (a .energy) (a .ids) (a .coords) (a .near)
 
-abbrev points-of : tie.Start → PointCols
-points-of s = givenPoints (s .args .px) (s .args .py) (s .args .pe)
+-- the columns of the points, before and after `parse`
+abbrev points : PointCols
+points = pointCols (replicate 1152 zero) (replicate 1152 zero) (replicate 1152 0)
 
 abbrev points-after : tie.After-parse → PointCols
 points-after p = let a = p .parse .last .1 in pointCols (a .0) (a .1 .0) (a .1 .1 .0)
 
-abbrev head-of : tie.After-report-read-arg17 → Head
+abbrev head-of : tie.After-px2 → Head
 head-of c = told-of c .h .given .0 .0
 
 -- what `parse` tells, by its reply
-parsed : (p : tie.After-parse) (r : Parsed) → p .parse .result ≡ r
-    → let s = start-of p in Parsing (now (s .args .text)) (points-of s) r (points-after p)
-parsed p r e =
-    let s = start-of p in
-    subst (λ (k : Parsed). Parsing (now (s .args .text)) (points-of s) k (points-after p)) e (p .parse .ensures)
+parsed : (p : tie.After-parse) (r : Parsed) → p .parse .result ≡ r → Parsing (now (start-of p .args .text)) points r (points-after p)
+unfolding ofBits
+parsed p r e = subst (λ (k : Parsed). Parsing (now (start-of p .args .text)) points k (points-after p)) e (p .parse .ensures)
 
 -- what was read of a text of the form
-reads-of : (c : tie.After-report-read-arg17)
-    → let p = parse-of c in let s = start-of p in Reads (now (s .args .text)) (points-of s) (head-of c) (points-after p)
+reads-of : (c : tie.After-px2) → let p = parse-of c in Reads (now (start-of p .args .text)) points (head-of c) (points-after p)
 reads-of c = parsed (parse-of c) _ (told-of c .h .given .1)
 
-front-of : (c : tie.After-report-read-arg17) → Front (reads-of c .input) (head-of c .count) (points-after (parse-of c))
-front-of c =
-    let p = parse-of c in
-    let e = energies-of c in
-    let y = e .before .before in
-    let x = y .before .before in
-    reads-front _ _ (head-of c) (points-after p) (reads-of c)
-    (record { x = x .report-read-arg2 .given .0; y = y .report-read-arg4 .given .0; energy = e .report-read-arg6 .given .0 })
+-- the columns are as long as they were
+put-wide : (c : PointCols) (ps : List Place) → c ≡ putPoints points 0 ps → Wide c
+put-wide c ps e =
+    record {
+      x = ap (λ (d : PointCols). length (d .xs)) e ∙ length-sets (points .xs) 0 (map xOf ps) ∙ length-replicate 1152 zero;
+      y = ap (λ (d : PointCols). length (d .ys)) e ∙ length-sets (points .ys) 0 (map yOf ps) ∙ length-replicate 1152 zero;
+      energy = ap (λ (d : PointCols). length (d .energies)) e ∙ length-sets (points .energies) 0 (map whOf ps) ∙ length-replicate {A = ℕ} 1152 0;
+    }
+
+wide-of : (c : tie.After-px2) → Wide (points-after (parse-of c))
+wide-of c = put-wide (points-after (parse-of c)) (reads-of c .input .points) (reads-of c .stored)
+
+front-of : (c : tie.After-px2) → Front (reads-of c .input) (head-of c .count) (points-after (parse-of c))
+front-of c = reads-front _ _ (head-of c) (points-after (parse-of c)) (reads-of c) (wide-of c)
 
 parse-requires : tie.Need-parse-requires
 parse-requires c κs = search needs
@@ -84,22 +91,32 @@ returns c =
     let p = t .before .before in
     let r = parsed p _ (t .enum-told .given .1) in
     let o = put-over (c .put-refusal .ensures) (omega (arith, c .before .put-refusal-arg .given .0 .1)) in
-    refused (r .none) (o .0) (λ k. lending (r .same k) (columns-of (start-of p)) (o .1 k))
+    refused (r .none) (o .0) (λ k. lending (columns-of (start-of p)) (o .1 k))
+
+slice-aggregate-report-read : tie.Need-slice-aggregate-report-read
+slice-aggregate-report-read c = sym (wide-of c .x)
+
+slice-aggregate-report-read-2 : tie.Need-slice-aggregate-report-read-2
+slice-aggregate-report-read-2 c = sym (wide-of (c .before) .y)
+
+slice-aggregate-report-read-3 : tie.Need-slice-aggregate-report-read-3
+slice-aggregate-report-read-3 c = sym (wide-of (c .before .before) .energy)
 
 report-read-requires : tie.Need-report-read-requires
-report-read-requires c κs = front-of c .fits
+report-read-requires c κs = front-of (read-of c) .fits
 
 returns-2 : tie.Need-returns-2
 unfolding left linesOf
 returns-2 c =
-    let r = reads-of (c .before) in
-    let f = front-of (c .before) .is in
-    let s = start-of (parse-of (c .before)) in
-    let t : buildText (optionsOf (head-of (c .before))) _ ≡ linesOf (r .input) = λ k. buildText (optionsOf (r .head k)) (f k) in
+    let g = read-of (c .before) in
+    let r = reads-of g in
+    let f = front-of g .is in
+    let s = start-of (parse-of g) in
+    let t : buildText (optionsOf (head-of g)) _ ≡ linesOf (r .input) = λ k. buildText (optionsOf (r .head k)) (f k) in
     let l = c .report-read .ensures .1 ∙ (λ k. loadedBy (optionsOf (r .head k)) (f k) (columns-of s) .columns) in
     let o = put-over (c .report-read .ensures .0) (omega arith) in
     let told = o .1 ∙ ap (λ (b : List ℕ). over b (now (s .args .out))) t in
-    read (r .input) (r .valid) (r .is) (o .0 ∙ ap length t) (λ k. lending (r .stored k) (l k) (told k))
+    read (r .input) (r .valid) (r .is) (o .0 ∙ ap length t) (λ k. lending (l k) (told k))
 
 pub report-spec : {M : Type 1} → statement M
 report-spec =
@@ -110,5 +127,8 @@ report-spec =
     enum-told
     put-refusal-requires
     returns
+    slice-aggregate-report-read
+    slice-aggregate-report-read-2
+    slice-aggregate-report-read-3
     report-read-requires
     returns-2)

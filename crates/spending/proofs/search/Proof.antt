@@ -1,6 +1,7 @@
 -- `search` meets its contract: the second search goes on where the first ended. Assumes nothing.
-use mathlib.Core.Path.{_≡_, ap, _∙_}
-use mathlib.Core.List.{List}
+use mathlib.Core.Path.{_≡_, refl, sym, ap, _∙_}
+use mathlib.Core.Bool.{Bool, true, false, cond}
+use mathlib.Core.List.{List, [], _∷_, _++_, append-nil, flatMap}
 use Prim.Native.Nat.{ℕ, _≤_}
 use native.Mathlib.Omega.{arith}
 use borrow.Author.Needs.{needs}
@@ -10,10 +11,10 @@ use lib.Dec.{leb}
 use lib.ListN.{length}
 use Rattle.kdslots.specs.Slots.{over, when}
 use Rattle.kdslots.specs.Bounds.{coordsOk, Searchable, coords-is, and-both}
+use Rattle.boxplan.specs.Queries.{queriesOf}
 use Rattle.spending.specs.Tested.{tests}
 use Rattle.spending.specs.Trials.{Mark, marks, trials}
-use Rattle.spending.specs.Reply.{fresh, settled}
-use Rattle.spending.specs.Spend.{went, spend, spend-then, spend-sum}
+use Rattle.spending.specs.Spend.{fresh, settled, went, spend, spend-then, spend-sum}
 use Rattle.spending.specs.Ended.{ends, left-small}
 use Rattle.spending.proofs.search.Statement.{statement}
 use Rattle.spending.proofs.search.Tie as tie
@@ -57,15 +58,28 @@ seconds k =
     marks (over (a .p .second) (now (a .coords))) (now (a .ids))
     (when (a .p .two) (tests (a .p .second) (now (a .coords)) (a .node-size) (a .n)))
 
+-- they are the tests of the plan's queries
+in-turn : (k : tie.Start) → let a = k .args in
+    firsts k ++ seconds k ≡ trials (queriesOf (a .p)) (a .node-size) (a .n) (now (a .ids)) (now (a .coords))
+unfolding flatMap marks
+in-turn k = ap (λ (l : List Mark). firsts k ++ l) (go (k .args .p .two))
+  where
+    go : (b : Bool) → let a = k .args in
+        marks (over (a .p .second) (now (a .coords))) (now (a .ids)) (when b (tests (a .p .second) (now (a .coords)) (a .node-size) (a .n)))
+        ≡ trials (cond b (a .p .second ∷ []) []) (a .node-size) (a .n) (now (a .ids)) (now (a .coords))
+    go true = sym (append-nil _)
+    go false = refl
+
 left : (v : tie.After-part2) → let a = start-of (first-of v) .args in
     went (v .part2 .result) (both-left v)
-    ≡ spend (a .n) (trials (a .p) (a .node-size) (a .n) (now (a .ids)) (now (a .coords))) (fresh (a .allowance)) (now (a .out))
+    ≡ spend (a .n) (trials (queriesOf (a .p)) (a .node-size) (a .n) (now (a .ids)) (now (a .coords))) (fresh (a .allowance)) (now (a .out))
 left v =
     let u = first-of v in
     let k = start-of u in
     let a = k .args in
     spend-then (a .n) (firsts k) (seconds k) (fresh (a .allowance)) (u .part .result) (v .part2 .result) (now (a .out)) (first-left u)
     (both-left v) (u .part .ensures) (v .part2 .ensures)
+    ∙ ap (λ (ms : List Mark). spend (a .n) ms (fresh (a .allowance)) (now (a .out))) (in-turn k)
 
 -- ---- the calls, and the way out
 
@@ -92,7 +106,7 @@ settle-requires : tie.Need-settle-requires
 settle-requires c κs =
     let v = c .before .before in
     let a = start-of (first-of v) .args in
-    left-small (a .n) (a .allowance) (trials (a .p) (a .node-size) (a .n) (now (a .ids)) (now (a .coords))) (v .part2 .result)
+    left-small (a .n) (a .allowance) (trials (queriesOf (a .p)) (a .node-size) (a .n) (now (a .ids)) (now (a .coords))) (v .part2 .result)
     (now (a .out)) (both-left v) (left v)
 
 same-length : tie.Need-same-length
@@ -104,7 +118,7 @@ returns c =
     let u = first-of v in
     let a = start-of u .args in
     let room = v .part2 .kept .1 .1 .1 .1 .1 .1 .1 .1 .1 .1 .0 ∙ u .part .kept .1 .1 .1 .1 .1 .1 .1 .1 .1 .1 .0 in
-    let w = ends (a .n) (a .allowance) (trials (a .p) (a .node-size) (a .n) (now (a .ids)) (now (a .coords))) (v .part2 .result)
+    let w = ends (a .n) (a .allowance) (trials (queriesOf (a .p)) (a .node-size) (a .n) (now (a .ids)) (now (a .coords))) (v .part2 .result)
     (now (a .out)) (both-left v) (length (now (a .out))) (left v) in
     (c .settle .ensures ∙ ap (settled (v .part2 .result) (a .allowance)) room ∙ w .0, w .1)
 

@@ -1,4 +1,5 @@
--- `stored::setting_of` meets its contract: the word 1 stands for a number that is given, any other for one that is derived. Assumes nothing.
+-- `stored::setting_of` meets its contract: the word 1 stands for a number that is given, any other for one that is derived. Assumes
+-- nothing.
 use borrow.Author.Needs.{needs}
 use Rattle.stored.proofs.setting_of.Statement.{statement}
 use Rattle.stored.proofs.setting_of.Tie as tie

@@ -1,5 +1,5 @@
--- `supercluster::build_all` meets its contract: the fronts of the columns just hold the build, and what `build_in` leaves in them, with what follows them, are
--- the definition's columns. Assumes nothing.
+-- `supercluster::build_all` meets its contract: the fronts of the columns just hold the build, and what `build_in` leaves in them, with
+-- what follows them, are the definition's columns. Assumes nothing.
 use mathlib.Core.Path.{_≡_, refl, ap, sym, _∙_, subst}
 use Prim.Native.Nat.{ℕ, _+_, _-_, _*_, _<_, _≤_}
 use native.Mathlib.Omega.{arith}

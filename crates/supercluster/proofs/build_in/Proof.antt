@@ -1,5 +1,5 @@
--- `supercluster::build_in` meets its contract: the columns are filled with the finest table, its index stands in the first part of the index's columns, and
--- from there the zooms leave the definition's tables. Assumes nothing.
+-- `supercluster::build_in` meets its contract: the columns are filled with the finest table, its index stands in the first part of the
+-- index's columns, and from there the zooms leave the definition's tables. Assumes nothing.
 use mathlib.Core.Path.{_≡_, refl, ap, sym, _∙_, subst}
 use Prim.Native.Nat.{ℕ, _+_, _-_, _*_, _<_, _≤_}
 use native.Mathlib.Omega.{arith}
@@ -13,7 +13,8 @@ use Rattle.tables.specs.Columns.{part}
 use Rattle.tables.specs.Rows.{Cols, cols, rows, Even, Kept, even-kept, kept-then, rows-length}
 use Rattle.tables.specs.Lent.{given}
 use Rattle.tables.specs.State.{withTable}
-use Rattle.zooms.specs.Zooms.{slotsOf, indexOf}
+use Rattle.kdbush.specs.Reply.{indexOf}
+use Rattle.zooms.specs.Zooms.{slotsOf}
 use Rattle.zooms.specs.Parts.{putAt}
 use Rattle.zooms.specs.Zooming.{part-index}
 use Rattle.supercluster.specs.Build.{need}

@@ -1,4 +1,5 @@
--- `supercluster::fill` meets its contract: at the head of the loop the first rows, up to the place, are the finest table's, and the rest is as it was. Assumes nothing.
+-- `supercluster::fill` meets its contract: at the head of the loop the first rows, up to the place, are the finest table's, and the rest
+-- is as it was. Assumes nothing.
 use mathlib.Core.Path.{_≡_, refl, ap, sym, _∙_, subst}
 use mathlib.Core.List.{_++_}
 use Prim.Native.Nat.{ℕ, _+_, _-_, _*_, _<_, _≤_}

@@ -1,5 +1,5 @@
--- `supercluster::first_outside` meets its contract: at the head of the loop every point before i is inside, and the first of the rest is the first of all.
--- Assumes nothing.
+-- `supercluster::first_outside` meets its contract: at the head of the loop every point before i is inside, and the first of the rest is
+-- the first of all. Assumes nothing.
 use mathlib.Core.Path.{_≡_, refl, ap, sym, _∙_}
 use mathlib.Core.Bool.{Bool, true, false, _&&_}
 use Prim.Native.Nat.{_-_, _≤_}

@@ -1,4 +1,5 @@
--- `supercluster::first_over` meets its contract: at the head of the loop every energy before i is small enough, and the first of the rest is the first of all. Assumes nothing.
+-- `supercluster::first_over` meets its contract: at the head of the loop every energy before i is small enough, and the first of the rest
+-- is the first of all. Assumes nothing.
 use mathlib.Core.Path.{_≡_, refl, ap, sym, _∙_, subst}
 use Prim.Native.Nat.{ℕ, _+_, _-_, _*_, _<_, _≤_}
 use native.Mathlib.Omega.{arith}

@@ -1,5 +1,5 @@
--- `supercluster::load` meets its contract: what `check` lets pass, `build_all` builds; and each of its refusals is handed on, with no tables and no column
--- written. Assumes nothing.
+-- `supercluster::load` meets its contract: what `check` lets pass, `build_all` builds; and each of its refusals is handed on, with no
+-- tables and no column written. Assumes nothing.
 use mathlib.Core.Path.{_≡_, refl, ap, sym, _∙_, subst}
 use lib.ListN.{length}
 use borrow.Author.Needs.{needs}

@@ -15,7 +15,8 @@ use Rattle.tables.specs.Lent.{given}
 use Rattle.tiling.specs.declared.Ran.{Ran}
 use Rattle.tiling.specs.Tile.{Visit, here, east, west, visits, visited}
 use Rattle.tiling.specs.Runs.{left, outLeft, pxLeft, pyLeft, run}
-use Rattle.tiling.specs.Three.{here-may, east-may, west-may, here-whole, east-whole, west-whole, own-range, listed-few, first-ends, second-ends, third-ends}
+use Rattle.tiling.specs.Three.{here-may, east-may, west-may, here-whole, east-whole, west-whole, own-range, listed-few, first-ends}
+use Rattle.tiling.specs.Three.{second-ends, third-ends}
 use Rattle.tiling.proofs.list.Statement.{statement}
 use Rattle.tiling.proofs.list.Tie as tie
 

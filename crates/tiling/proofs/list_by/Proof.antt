@@ -1,5 +1,5 @@
--- `tiling::list_by` meets its contract: at the head of the loop what is ahead of the walk, listed after what the columns hold, gives the whole run. The measure is
--- what is ahead. Assumes nothing.
+-- `tiling::list_by` meets its contract: at the head of the loop what is ahead of the walk, listed after what the columns hold, gives the
+-- whole run. The measure is what is ahead. Assumes nothing.
 use mathlib.Core.Path.{_≡_, refl, sym, ap, _∙_, subst}
 use mathlib.Core.List.{List, _∷_}
 use Prim.Native.Nat.{ℕ, _+_, _<_, _≤_}
@@ -8,12 +8,12 @@ use lib.ListN.{length, getD}
 use denote.Ref.{now}
 use borrow.Author.Needs.{needs}
 use borrow.Author.Tests.{not-true, not-false}
-use Rattle.kdwalk.specs.declared.Pages.{Pages}
+use Rattle.kdpages.specs.declared.Pages.{Pages}
 use Rattle.kdslots.specs.All.{AllBelow}
 use Rattle.kdbush.specs.Run.{places}
 use Rattle.kdwalk.specs.Reply.{walk}
 use Rattle.kdwalk.specs.Walk.{walk-length}
-use Rattle.kdwalk.specs.Pages.{aheadOf, ahead-begun, next-slot, below-next, walk-below}
+use Rattle.kdpages.specs.Pages.{aheadOf, ahead-begun, next-slot, below-next, walk-below}
 use Rattle.tables.specs.Entries.{Table}
 use Rattle.tables.specs.Rows.{Cols, cols, rows}
 use Rattle.tables.specs.Lent.{given}
@@ -82,7 +82,7 @@ loop-of t = t .before .before .before .before
 
 -- what is ahead after it
 abbrev onward : Turn → List ℕ
-onward t = let u = t .before .before .next-slot in slots (begin (loop-of t)) (u .last .1 .1 .1 .1 .1 .0) (u .result .pages)
+onward t = let u = t .before .before .next-slot in slots (begin (loop-of t)) (u .last .1 .1 .1 .1 .0) (u .result .pages)
 
 abbrev Found : Type 0
 Found = tie.After-s Inv-loop μ-loop
@@ -256,7 +256,7 @@ loop-again c =
       turn-next (table s) (a .g) (now (a .ids)) (l .loop .k) (ahead l) (l .loop .out) (l .loop .px) (l .loop .py) (slot f) (onward t) (moves f)
           (g .0 .0) (sym (r .entry-named .ensures) ∙ g .1) (i .before .before .before .before .item-of .result) (i .before .before .before .before .item-of .ensures) _ _ _ (w .0) (w .1) (w .2)
           ∙ l .loop .inv .5,
-      t .before .before .next-slot .kept .1 .1 .1 .1 .1 .0 ∙ l .loop .inv .6,
+      t .before .before .next-slot .kept .1 .1 .1 .1 .0 ∙ l .loop .inv .6,
     )
 
 pub list-by-spec : {M : Type 1} → statement M

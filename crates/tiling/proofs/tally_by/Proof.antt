@@ -9,19 +9,20 @@ use lib.ListN.{length, getD}
 use denote.Ref.{now}
 use borrow.Author.Needs.{needs}
 use borrow.Author.Tests.{not-true, not-false}
-use Rattle.kdwalk.specs.declared.Pages.{Pages}
+use Rattle.kdpages.specs.declared.Pages.{Pages}
 use Rattle.kdslots.specs.All.{AllBelow}
 use Rattle.kdbush.specs.Run.{places}
 use Rattle.kdwalk.specs.Reply.{walk}
 use Rattle.kdwalk.specs.Walk.{walk-length}
-use Rattle.kdwalk.specs.Pages.{aheadOf, ahead-begun, next-slot, below-next, walk-below}
+use Rattle.kdpages.specs.Pages.{aheadOf, ahead-begun, next-slot, below-next, walk-below}
 use Rattle.tables.specs.Entries.{Table}
 use Rattle.tables.specs.Rows.{Cols, cols, rows}
 use Rattle.tables.specs.Lent.{given}
 use Rattle.tiling.specs.Tile.{Visit}
 use Rattle.tiling.specs.Turns.{walked, walked-none, walked-made}
 use Rattle.tiling.specs.Home.{weightBy}
-use Rattle.tiling.specs.Counting.{Held, heldOf, marksHeld, placesIn, places-of, counted, counted-none, counted-sure, count-end, count-stop, count-next}
+use Rattle.tiling.specs.Counting.{Held, heldOf, marksHeld, placesIn, places-of, counted, counted-none, counted-sure, count-end}
+use Rattle.tiling.specs.Counting.{count-stop, count-next}
 use Rattle.tiling.proofs.Ends.{no-more}
 use Rattle.tiling.proofs.tally_by.Statement.{statement}
 use Rattle.tiling.proofs.tally_by.Tie as tie
@@ -98,7 +99,7 @@ loop-of t = t .before .before .before .before
 
 -- what is ahead after it
 abbrev onward : Turn → List ℕ
-onward t = let u = t .before .before .next-slot in slots (begin (loop-of t)) (u .last .1 .1 .1 .1 .1 .0) (u .result .pages)
+onward t = let u = t .before .before .next-slot in slots (begin (loop-of t)) (u .last .1 .1 .1 .1 .0) (u .result .pages)
 
 abbrev Found : Type 0
 Found = tie.After-s Inv-loop μ-loop
@@ -261,7 +262,7 @@ loop-again c =
           (slot f) (onward t) (moves f)
           (w .tally-one .result) (marks-of w) (one w) g
           ∙ l .loop .inv .3,
-      t .before .before .next-slot .kept .1 .1 .1 .1 .1 .0 ∙ l .loop .inv .4,
+      t .before .before .next-slot .kept .1 .1 .1 .1 .0 ∙ l .loop .inv .4,
       length-at w,
       g,
       counted-sure (s .args .few) (weightBy (s .args .h)) (table s) (a .count) (a .sum) _ (l .loop .marks) (w .tally-one .result)

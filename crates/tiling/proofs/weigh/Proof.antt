@@ -18,16 +18,16 @@ module _ (h : Home) (e : Entry) where
   unfolding weightBy
   east-of a b = rw (a, b)
 
-  north-of : le (h .west) (e .x) ≡ true → lt (e .x) (h .east) ≡ true → le (h .north) (e .y) ≡ false → 0 ≡ weightBy h e
+  least-of : le (h .west) (e .x) ≡ true → lt (e .x) (h .east) ≡ true → le (h .«least_y») (e .y) ≡ false → 0 ≡ weightBy h e
   unfolding weightBy
-  north-of a b c = rw (a, b, c)
+  least-of a b c = rw (a, b, c)
 
-  south-of : le (h .west) (e .x) ≡ true → lt (e .x) (h .east) ≡ true → le (h .north) (e .y) ≡ true → lt (e .y) (h .south) ≡ false
+  greatest-of : le (h .west) (e .x) ≡ true → lt (e .x) (h .east) ≡ true → le (h .«least_y») (e .y) ≡ true → lt (e .y) (h .«greatest_y») ≡ false
       → 0 ≡ weightBy h e
   unfolding weightBy
-  south-of a b c d = rw (a, b, c, d)
+  greatest-of a b c d = rw (a, b, c, d)
 
-  between : le (h .west) (e .x) ≡ true → lt (e .x) (h .east) ≡ true → le (h .north) (e .y) ≡ true → lt (e .y) (h .south) ≡ true
+  between : le (h .west) (e .x) ≡ true → lt (e .x) (h .east) ≡ true → le (h .«least_y») (e .y) ≡ true → lt (e .y) (h .«greatest_y») ≡ true
       → e .num ≡ weightBy h e
   unfolding weightBy
   between a b c d = rw (a, b, c, d)
@@ -58,7 +58,7 @@ returns-3 c =
     let l = c .before .before .before in
     let k = second l in
     let a = first k .args in
-    north-of (a .h) (a .e) (not-false _ (k .if1 .left)) (not-false _ (l .if2 .left)) (not-true _ (c .if3 .taken))
+    least-of (a .h) (a .e) (not-false _ (k .if1 .left)) (not-false _ (l .if2 .left)) (not-true _ (c .if3 .taken))
 
 returns-4 : tie.Need-returns-4
 returns-4 c =
@@ -66,7 +66,7 @@ returns-4 c =
     let l = third m in
     let k = second l in
     let a = first k .args in
-    south-of (a .h) (a .e) (not-false _ (k .if1 .left)) (not-false _ (l .if2 .left)) (not-false _ (m .if3 .left))
+    greatest-of (a .h) (a .e) (not-false _ (k .if1 .left)) (not-false _ (l .if2 .left)) (not-false _ (m .if3 .left))
     (not-true _ (c .if4 .taken))
 
 returns-5 : tie.Need-returns-5

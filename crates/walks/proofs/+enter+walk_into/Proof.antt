@@ -18,8 +18,7 @@ use Rattle.asking.specs.Lent.{givenColumns}
 use Rattle.asking.specs.Reached.{near, beside, onward-reached}
 use Rattle.asking.specs.Around.{aheadIn, ring-begun}
 use Rattle.kids.specs.Next.{ring-room, Further, kid-next, kid-done, kid-spoiled}
-use Rattle.walks.specs.declared.Walk.{Walk}
-use Rattle.walks.specs.Column.{col, tripOf}
+use Rattle.walks.specs.Column.{does-nothing}
 use Rattle.walks.proofs.Led.{no-place}
 use Rattle.walks.proofs.Visiting.{Visited, visit-by, opened-lost, opened-in}
 use Rattle.walks.proofs.Walking.{Walking, walking-first, walking-spoiled, walking-done, walking-none}
@@ -32,7 +31,7 @@ use Rattle.walks.proofs.walk_into.Kinds as into-kinds
 use Rattle.walks.proofs.+enter+walk_into.Lts-walk_into as into-lts
 use Rattle.asking.proofs.go_on.Reads as go-on-reads
 use Rattle.asking.proofs.ring_of.Reads as ring-of-reads
-use Rattle.kdwalk.proofs.begin.Reads as begin-reads
+use Rattle.kdpages.proofs.begin.Reads as begin-reads
 use Rattle.kids.proofs.next_child.Reads as next-child-reads
 use Rattle.walks.proofs.fate_of.Reads as fate-of-reads
 use Rattle.walks.proofs.list_one.Reads as list-one-reads
@@ -214,7 +213,7 @@ module _ (t : ℕ) where
       let b = ring-begun (g .result) (now (a .coords)) _ (c .begin .result) (c .begin .ensures) in (
         refl,
         walking-first (a .s) (lent s) (a .leg .limit) (a .leg .offset) (a .cid) (a .leg .table) (a .origin) _ (now (a .out)) (g .result)
-            (g .ensures) _ b,
+            _ (s .pre .1 .0) (s .pre .1 .1) (g .ensures) _ b,
       )
 
   into-slice-aggregate-next-child : into-lts.Need-slice-aggregate-next-child told into-at into.Post Inv μ
@@ -300,17 +299,17 @@ module _ (t : ℕ) where
     from-loop = loop-of at-child
 
     visited : let a = walked from-loop .args in let l = from-loop .loop in
-        Visited (a .s) (here from-loop) (a .leg .limit) (a .leg .offset) (a .leg .table) (child at-child) (l .so .skipped)
-        (col (l .so .listed) (l .out)) (m .match2 .w) (m .match2 .out)
+        Visited (a .s) (here from-loop) (a .leg .limit) (a .leg .offset) (a .leg .table) (child at-child) (l .so .skipped) (l .so .listed)
+        (l .out) (m .match2 .w) (m .match2 .out)
     visited =
         let a = walked from-loop .args in
         let l = from-loop .loop in
         let by = visit-by (a .s) (here from-loop) (a .leg .limit) (a .leg .offset) (a .leg .table) (child at-child) (l .so .skipped)
-        (col (l .so .listed) (l .out)) (m .before .fate-of .result) (m .before .fate-of .ensures) in
+        (l .so .listed) (l .out) (m .before .fate-of .result) (m .before .fate-of .ensures) in
         ⊎-elim (λ i. by _ (i .1 .given .1) (i .3 .result) _ (i .3 .ensures) (m .match2 .w) (m .match2 .out) (i .6) (i .7))
         (λ j. ⊎-elim (λ i. by _ (i .1 .given .1) (i .3 .result) _ (λ f h. i .3 .ensures) (m .match2 .w) (m .match2 .out) (i .6) (i .7))
-        (λ i. by _ (i .1 .given .1) (i .3 .result) _ (λ f h. ap (λ (r : Walk). tripOf r (l .out)) (i .3 .ensures)) (m .match2 .w)
-        (m .match2 .out) (i .4) (i .5)) j)
+        (λ i. by _ (i .1 .given .1) _ _ (λ f h. does-nothing (l .so .listed) (l .out) _ refl) (m .match2 .w) (m .match2 .out) (i .4)
+        (i .5 ∙ i .3 .ensures)) j)
         (m .match2 .came)
 
     kept : length (m .match2 .out) ≡ length (from-loop .loop .out)
@@ -332,7 +331,7 @@ module _ (t : ℕ) where
       let m = c .before .before .before in
       let w = from-loop m in
       walking-broke _ _ _ _ _ _ _ _ _ _ (low w) _ _ _ _ (w .loop .inv .1) (ringed w .ring-of .ensures) _ _ (m .match2 .w) (m .match2 .out)
-      (visited m) _ (further (at-child m)) _ _ (c .before .w .given .1) refl
+      (visited m) _ (further (at-child m)) _ _ (c .before .w .given .1) (λ l. refl) refl
 
   into-enum-known-w-2 : into-lts.Need-enum-known-w-2 told into-at into.Post Inv μ
   into-enum-known-w-2 c = search needs
@@ -345,7 +344,7 @@ module _ (t : ℕ) where
       let m = c .before .before .before in
       let w = from-loop m in
       walking-broke _ _ _ _ _ _ _ _ _ _ (low w) _ _ _ _ (w .loop .inv .1) (ringed w .ring-of .ensures) _ _ (m .match2 .w) (m .match2 .out)
-      (visited m) _ (further (at-child m)) _ _ (c .before .w2 .given .1) refl
+      (visited m) _ (further (at-child m)) _ _ (c .before .w2 .given .1) (λ l. refl) refl
 
   into-enum-known-w-3 : into-lts.Need-enum-known-w-3 told into-at into.Post Inv μ
   into-enum-known-w-3 c = search needs

@@ -40,7 +40,13 @@ module _ (l : tie.After-list-kids) where
 
   looked : let a = start (found at) .args in let p = at .table .given .0 in
       Looked (a .s) (lent (found at)) (a .cid) (p .0) (p .1 .0) (ring .ring-of .result) (now (a .out)) (l .list-kids .result) column
-  looked = record { ring = ring .ring-of .ensures; listed = l .list-kids .ensures }
+  looked =
+      record {
+        cap = _;
+        reach = reached (led (found at)) _ _ (at .table .given .1);
+        ring = ring .ring-of .ensures;
+        listed = l .list-kids .ensures;
+      }
 
 room-requires : tie.Need-room-requires
 room-requires c κs = tt

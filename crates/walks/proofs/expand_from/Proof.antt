@@ -1,4 +1,5 @@
--- `walks::expand_from` meets its contract: a turn of the loop is one fetch of the definition. The measure is how many zooms are left. Assumes nothing.
+-- `walks::expand_from` meets its contract: a turn of the loop is one fetch of the definition. The measure is how many zooms are left.
+-- Assumes nothing.
 use mathlib.Core.Bool.{true}
 use mathlib.Core.Path.{refl}
 use Prim.Native.Nat.{_+_, _-_, _≤_}

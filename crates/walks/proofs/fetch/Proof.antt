@@ -33,7 +33,7 @@ module _ (l : tie.After-list-kids) where
 
   looked : let a = start ring .args in
       Looked (a .s) (lent (start ring)) (a .cid) (a .table) (a .origin) (ring .ring-of .result) (0 ∷ []) (l .list-kids .result) column
-  looked = record { ring = ring .ring-of .ensures; listed = l .list-kids .ensures }
+  looked = record { cap = _; reach = start ring .pre; ring = ring .ring-of .ensures; listed = l .list-kids .ensures }
 
 ring-of-requires : tie.Need-ring-of-requires
 ring-of-requires c κs = let s : tie.Start = search in (s .pre .0, held (lent s) _ (s .pre .1))

@@ -1,7 +1,6 @@
 -- `walks::list_none` meets its contract: each case of the fetch has its answer. Assumes nothing.
-use mathlib.Core.Path.{sym, ap, _∙_}
 use borrow.Author.Needs.{needs}
-use Rattle.walks.specs.Leaves.{noneBy}
+use Rattle.walks.proofs.GivesLeaves.{none-fetched}
 use Rattle.walks.proofs.list_none.Statement.{statement}
 use Rattle.walks.proofs.list_none.Tie as tie
 
@@ -21,16 +20,16 @@ enum-told-4 : tie.Need-enum-told-4
 enum-told-4 c = search needs
 
 returns : tie.Need-returns
-returns c = ap noneBy (sym (c .enum-told .given .1) ∙ c .before .before .fetch .ensures)
+returns c = none-fetched _ _ _ _ _ _ (c .before .before .fetch .ensures) _ (c .enum-told .given .1)
 
 returns-2 : tie.Need-returns-2
-returns-2 c = ap noneBy (sym (c .enum-told2 .given .1) ∙ c .before .before .fetch .ensures)
+returns-2 c = none-fetched _ _ _ _ _ _ (c .before .before .fetch .ensures) _ (c .enum-told2 .given .1)
 
 returns-3 : tie.Need-returns-3
-returns-3 c = ap noneBy (sym (c .enum-told3 .given .1) ∙ c .before .before .fetch .ensures)
+returns-3 c = none-fetched _ _ _ _ _ _ (c .before .before .fetch .ensures) _ (c .enum-told3 .given .1)
 
 returns-4 : tie.Need-returns-4
-returns-4 c = ap noneBy (sym (c .enum-told4 .given .1) ∙ c .before .before .fetch .ensures)
+returns-4 c = none-fetched _ _ _ _ _ _ (c .before .before .fetch .ensures) _ (c .enum-told4 .given .1)
 
 pub list-none-spec : {M : Type 1} → statement M
 list-none-spec =

@@ -1,16 +1,15 @@
--- `walks::list_one` meets its contract: the lamp goes to the column's next place, unless as many are listed as there may be. Assumes nothing.
-use mathlib.Core.Path.{sym, ap, _∙_}
-use mathlib.Core.List.{List}
-use Prim.Native.Nat.{ℕ, _+_}
-use borrow.Author.Tests.{lt-ltb, le-ltb}
+-- `walks::list_one` meets its contract: the lamp goes to the column's next place, unless as many are listed as there may be. Assumes
+-- nothing.
 use borrow.Author.Needs.{needs}
-use Rattle.walks.specs.Leaves.{went}
-use Rattle.walks.specs.Column.{col}
+use denote.Ref.{now}
+use Rattle.walks.proofs.Visiting.{list-broke, list-went}
 use Rattle.walks.proofs.list_one.Statement.{statement}
 use Rattle.walks.proofs.list_one.Tie as tie
 
 returns : tie.Need-returns
-returns c = sym (simp (le-ltb _ _ (c .if1 .taken)))
+returns c =
+    let s : tie.Start = search in
+    list-broke (s .args .count) (s .args .lamp) (s .args .so .skipped) (s .args .so .listed) (now (s .args .out)) (c .if1 .taken)
 
 put-at-requires : tie.Need-put-at-requires
 put-at-requires c κs = tt
@@ -23,10 +22,10 @@ same-length c = search needs
 
 returns-2 : tie.Need-returns-2
 returns-2 c =
+    let s : tie.Start = search in
     let p = c .before .before .before in
-    let s = p .before .before .before .before .before in
-    let k = s .args .so .listed in
-    ap (λ (o : List ℕ). went (s .args .so .skipped) (col (k + 1) o)) (p .put-at .ensures) ∙ sym (simp (lt-ltb _ _ (p .before .before .if1 .left)))
+    list-went (s .args .count) (s .args .lamp) (s .args .so .skipped) (s .args .so .listed) (now (s .args .out))
+    (p .before .before .if1 .left) _ (p .put-at .ensures)
 
 pub list-one-spec : {M : Type 1} → statement M
 list-one-spec = tie.close (tie.spec returns put-at-requires add-t5 same-length returns-2)

@@ -1,5 +1,5 @@
--- `zoom::make_one` meets its contract: what absorbing gives, the origin's parent, and the new entry after the table are a cluster made. Assumes
--- nothing.
+-- `zoom::make_one` meets its contract: what absorbing gives, the origin's parent, and the new entry after the table are a cluster made.
+-- Assumes nothing.
 use mathlib.Core.Path.{_≡_, refl, ap, sym, _∙_, subst}
 use Prim.Native.Nat.{ℕ, _+_, _<_}
 use native.Mathlib.Omega.{arith}
@@ -9,7 +9,8 @@ use Rattle.kdslots.specs.All.{below-le}
 use Rattle.tables.specs.declared.Entry.{Entry}
 use Rattle.tables.specs.Entries.{Table, entry}
 use Rattle.tables.specs.Lent.{given}
-use Rattle.tables.specs.Rows.{Cols, rows, Even, Kept, withSeen, withParent, rows-length, rows-parent, even-seen, even-parent, kept-even, kept-then}
+use Rattle.tables.specs.Rows.{Cols, rows, Even, Kept, withSeen, withParent, rows-length, rows-parent, even-seen, even-parent, kept-even}
+use Rattle.tables.specs.Rows.{kept-then}
 use Rattle.zoom.specs.Back.{lastCols, keptCols}
 use Rattle.zoom.specs.Stored.{made-with}
 use mathlib.Core.List.{List}

@@ -1,4 +1,5 @@
--- `zoom::note_at` meets its contract: the count is how many are answered at the slot, and the slot's own place is one of them. Assumes nothing.
+-- `zoom::note_at` meets its contract: the count is how many are answered at the slot, and the slot's own place is one of them. Assumes
+-- nothing.
 use mathlib.Core.Path.{_≡_, sym, _∙_}
 use mathlib.Core.List.{List}
 use Prim.Native.Nat.{ℕ, _+_, _*_}
@@ -19,7 +20,7 @@ use Rattle.zoom.proofs.note_at.Statement.{statement}
 use Rattle.zoom.proofs.note_at.Tie as tie
 use Rattle.zoom.proofs.note_at.Reads as reads
 use Rattle.zoom.proofs.note_at.Lts as lts
-use Rattle.zoom.proofs.count_near.Reads as count-near-reads
+use Rattle.kdcount.proofs.count.Reads as count-reads
 use Rattle.zoom.proofs.note_two.Reads as note-two-reads
 
 able : (s : tie.Start) → Searchable (s .args .node-size) (s .args .len) (length (now (s .args .coords)))
@@ -32,14 +33,14 @@ near-of s = let a = s .args in nearOf (a .node-size) (a .len) (now (a .ids)) (no
 abbrev places : tie.Start → List ℕ
 places s = let a = s .args in near-of s (getD (now (a .coords)) (2 * a .s) nan) (getD (now (a .coords)) (2 * a .s + 1) nan)
 
-abbrev start-of : tie.After-count-near → tie.Start
+abbrev start-of : tie.After-count → tie.Start
 start-of c = c .before .before .before .before .before
 
-count-is : (c : tie.After-count-near) → length (places (start-of c)) ≡ c .count-near .result
+count-is : (c : tie.After-count) → length (places (start-of c)) ≡ c .count .result
 count-is c =
     let a = start-of c .args in
     places-length (now (a .ids)) (answers (Within (getD (now (a .coords)) (2 * a .s) nan) (getD (now (a .coords)) (2 * a .s + 1) nan) (a .r)) (now (a .coords)) (a .node-size) (a .len))
-    ∙ sym (c .count-near .ensures)
+    ∙ sym (c .count .ensures)
 
 own-in : (s : tie.Start) → In (getD (now (s .args .ids)) (s .args .s) 0) (places s)
 own-in s = let a = s .args in rw (add-zero (2 * a .s)) at (s .pre .1 (a .s) (s .pre .0 .1))
@@ -65,8 +66,8 @@ mul-qy-2 c = search needs
 shared-slice-read-qy : tie.Need-shared-slice-read-qy
 shared-slice-read-qy c = let s = c .before .before .before .before in omega (arith, s .pre .0 .1, able s .pairs)
 
-count-near-requires : tie.Need-count-near-requires
-count-near-requires c κs = let s = c .before .before .before .before in (able s .pairs, able s .size-to)
+count-requires : tie.Need-count-requires
+count-requires c κs = let s = c .before .before .before .before in (able s .pairs, able s .size-to)
 
 returns : tie.Need-returns
 returns c =
@@ -105,7 +106,7 @@ note-at-spec =
     add-qy
     mul-qy-2
     shared-slice-read-qy
-    count-near-requires
+    count-requires
     returns
     returns-2
     mul-note-two

@@ -1,5 +1,5 @@
--- `zooms::index_part` meets its contract: the parts lent to the index's build have just room for it, so that it is not refused and what it leaves is
--- the index of the part's points. Assumes nothing.
+-- `zooms::index_part` meets its contract: the parts lent to the index's build have just room for it, so that it is not refused and what
+-- it leaves is the index of the part's points. Assumes nothing.
 use mathlib.Core.Path.{_≡_, ap, sym, _∙_}
 use mathlib.Core.List.{_++_}
 use Prim.Native.Nat.{ℕ, _+_, _-_, _*_}
@@ -10,8 +10,8 @@ use borrow.Author.Needs.{needs}
 use Rattle.kdsort.specs.Cols.{Cols, cols}
 use Rattle.kdbush.specs.Reply.{built}
 use Rattle.tables.specs.Columns.{part, part-long}
-use Rattle.zooms.specs.Zooms.{indexOf}
-use Rattle.zooms.specs.Parts.{Indexable, built-is}
+use Rattle.kdbush.specs.Reply.{indexOf}
+use Rattle.kdbush.specs.Indexed.{Indexable, built-is}
 use Rattle.zooms.proofs.index_part.Statement.{statement}
 use Rattle.zooms.proofs.index_part.Tie as tie
 

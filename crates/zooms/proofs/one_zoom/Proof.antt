@@ -1,5 +1,5 @@
--- `zooms::one_zoom` meets its contract: what holds between two zooms gives what the scan and the index ask, and the scan and the index together advance
--- the tables by one. Assumes nothing.
+-- `zooms::one_zoom` meets its contract: what holds between two zooms gives what the scan and the index ask, and the scan and the index
+-- together advance the tables by one. Assumes nothing.
 use Prim.Native.Nat.{ℕ, suc, _+_, _-_, _*_, _^_, _<_, _≤_}
 use native.Mathlib.Omega.{arith}
 use lib.ListN.{length, drop, take}
@@ -11,7 +11,8 @@ use Rattle.zooms.specs.Zooms.{Plan, planOf}
 use Rattle.zoom.specs.Near.{Radius}
 use Rattle.zooms.specs.Running.{Running, cur-promised}
 use Rattle.zooms.specs.OwnPlace.{cur-slotted, cur-owned}
-use Rattle.zooms.specs.Zooming.{Zoomed, z-few, step-room, step-light, step-watts, step-radius, step-placed, made-some, made-few, made-body, scanned, inside-made, advanced}
+use Rattle.zooms.specs.Zooming.{Zoomed, z-few, step-room, step-light, step-watts, step-radius, step-placed, made-some, made-few}
+use Rattle.zooms.specs.Zooming.{made-body, scanned, inside-made, advanced}
 use Rattle.zooms.proofs.one_zoom.Statement.{statement}
 use Rattle.zooms.proofs.one_zoom.Tie as tie
 

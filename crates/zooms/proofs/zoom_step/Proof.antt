@@ -1,5 +1,5 @@
--- `zooms::zoom_step` meets its contract: the columns are lent from `start` on, where the scan's table stands at 0, and the index's own part of its
--- columns is lent. Assumes nothing.
+-- `zooms::zoom_step` meets its contract: the columns are lent from `start` on, where the scan's table stands at 0, and the index's own
+-- part of its columns is lent. Assumes nothing.
 use mathlib.Core.Path.{_≡_, refl, ap, sym, _∙_, subst}
 use Prim.Native.Nat.{ℕ, suc, _+_, _-_, _*_, _^_, _<_, _≤_}
 use native.Mathlib.Omega.{arith}
@@ -34,7 +34,7 @@ abbrev scan-of : tie.After-slice-known16 → tie.After-cluster
 scan-of c = c .before .before .before .before .before .before .before .before .before .before .before .before .before .before .before .before
 
 abbrev start-of : tie.After-cluster → tie.Start
-start-of c = c .before .before .before .before .before .before .before .before .before .before .before .before .before .before .before .before .before .before .before .before .before
+start-of c = c .before .before .before .before .before .before .before .before .before .before .before .before .before .before .before .before .before .before .before .before .before .before
 
 abbrev came : tie.After-cluster → Cols
 came c = let w = c .cluster in (cols (w .last .0) (w .last .1 .0) (w .last .1 .1 .0) (w .last .1 .1 .1 .0) (w .last .1 .1 .1 .1 .0) (w .last .1 .1 .1 .1 .1 .0) (w .last .1 .1 .1 .1 .1 .1 .0))
@@ -54,6 +54,9 @@ mul-c0 c = search needs
 
 mul-c1 : tie.Need-mul-c1
 mul-c1 c = search needs
+
+cast-least : tie.Need-cast-least
+cast-least c = search needs
 
 mul-cluster : tie.Need-mul-cluster
 mul-cluster c = search needs
@@ -162,7 +165,7 @@ part-cluster-end-9 c = search needs
 
 cluster-requires : tie.Need-cluster-requires
 cluster-requires c κs =
-    let s = c .before .before .before .before .before .before .before .before .before .before .before .before .before .before .before .before .before .before .before .before in
+    let s = c .before .before .before .before .before .before .before .before .before .before .before .before .before .before .before .before .before .before .before .before .before in
     let a = s .args in
     let p = s .pre in (
       even-from (a .start) (columns s) (p .0),
@@ -219,6 +222,7 @@ zoom-step-spec =
     add-end
     mul-c0
     mul-c1
+    cast-least
     mul-cluster
     sub-cluster
     part-cluster-start

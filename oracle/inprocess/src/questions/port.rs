@@ -3,7 +3,7 @@
 use super::columns::Columns;
 use crate::tables::Request;
 use asked::{Build, Rooms};
-use ported::{needed, Asked, Reply, ZOOMS};
+use ported::{needed, Asked, Reply};
 use questions::{Lent, Out, Outcome, Question, State};
 
 /// The port's own build of the points of a build: its state and its columns.
@@ -17,7 +17,7 @@ impl Port {
     pub fn loaded(build: &Build) -> Result<Port, String> {
         let State { options, count, starts, lens } = &build.state;
         let lengths = needed(options, *count as usize);
-        let outcome = Request { options, given: build.given(), lengths, zooms: ZOOMS }.made();
+        let outcome = Request { options, given: build.given(), lengths }.made();
         match outcome.is_not_of(&build.columns.lent(), [starts, lens]) {
             Some(difference) => Err(format!("the port's tables are others: {difference}")),
             None => {

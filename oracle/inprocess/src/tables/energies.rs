@@ -4,7 +4,7 @@ use super::outcome::Request;
 use crate::report::{other, Group};
 use columns::Given;
 use options::{Options, MOST_ENERGY, USUAL};
-use ported::{needed, ZOOMS};
+use ported::needed;
 use refusals::MOST_POINTS;
 
 /// The sum of all of them.
@@ -19,7 +19,7 @@ pub fn at_their_bound() -> Group {
     let energies = vec![MOST_ENERGY; MOST_POINTS];
     let given = Given { xs: &xs, ys: &ys, energies: &energies };
     let lengths = needed(&options, MOST_POINTS);
-    let outcome = Request { options: &options, given, lengths, zooms: ZOOMS }.made();
+    let outcome = Request { options: &options, given, lengths }.made();
     let tables = builds::patched::tables(&options, &given);
     group.compare(|| "beside the patched Rust".to_string(), outcome.is_not(&tables));
     for (zoom, total) in outcome.totals() {

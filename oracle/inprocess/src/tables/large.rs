@@ -4,7 +4,7 @@ use super::{cases::Case, outcome::Request};
 use crate::report::Group;
 use options::{corners, Options, Plane, USUAL};
 use points::{Drawn, Shape};
-use ported::{needed, ZOOMS};
+use ported::needed;
 use splitmix::Splitmix;
 
 /// Number of points, shape, how they are drawn together, options.
@@ -43,5 +43,5 @@ fn differs(case: &Case) -> Option<String> {
     let patched = builds::patched::tables(options, &case.given(ys));
     let ys = patched.lent_ys(&options.plane, ys);
     let lengths = needed(options, xs.len());
-    Request { options, given: case.given(&ys), lengths, zooms: ZOOMS }.made().is_not(&patched)
+    Request { options, given: case.given(&ys), lengths }.made().is_not(&patched)
 }

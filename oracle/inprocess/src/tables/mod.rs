@@ -16,7 +16,7 @@ use cases::Case;
 use columns::width;
 use outcome::Outcome;
 pub use outcome::Request;
-use ported::{needed, Lengths, COLUMNS, ZOOMS};
+use ported::{needed, Lengths, COLUMNS};
 use splitmix::Splitmix;
 use std::process::ExitCode;
 
@@ -35,7 +35,6 @@ pub fn run(form: Form) -> ExitCode {
     groups.push(bounds::run());
     groups.push(refusals::run());
     groups.push(refusals::of_short_columns());
-    groups.push(refusals::of_short_states());
     finish("tables", groups)
 }
 
@@ -66,7 +65,7 @@ impl Beside {
         let lent_ys = patched.lent_ys(&options.plane, ys);
         let lengths = needed(options, xs.len()).map(|length| length + source.below(3) as usize);
         let given = case.given(&lent_ys);
-        let outcome = Request { options, given, lengths, zooms: ZOOMS }.made();
+        let outcome = Request { options, given, lengths }.made();
         self.patched.compare(|| case.name(), outcome.is_not(&patched));
         let points: u128 = case.energies.iter().map(|energy| u128::from(*energy)).sum();
         for (zoom, total) in outcome.totals() {

@@ -14,14 +14,11 @@ pub struct Request<'a> {
     pub options: &'a Options,
     pub given: Given<'a>,
     pub lengths: Lengths,
-    /// How much of the state there is room for.
-    pub zooms: usize,
 }
 
 /// What a build left.
 pub struct Outcome {
     count: usize,
-    zooms: usize,
     reply: Reply,
     columns: Columns,
     starts: Vec<u32>,
@@ -32,11 +29,11 @@ impl Request<'_> {
     /// The port's build, in columns with old contents.
     pub fn made(&self) -> Outcome {
         let mut columns = old_columns(self.lengths);
-        let [mut starts, mut lens] = [STARTS, LENS].map(|name| old(name, self.zooms + GUARD));
-        let state = State { starts: &mut starts[..self.zooms], lens: &mut lens[..self.zooms] };
+        let [mut starts, mut lens] = [STARTS, LENS].map(|name| old(name, ZOOMS + GUARD));
+        let state = State { starts: whole(&mut starts), lens: whole(&mut lens) };
         let lent = columns.fronts(self.lengths);
         let reply = ported::load(self.options, &self.given, lent, state);
-        Outcome { count: self.given.xs.len(), zooms: self.zooms, reply, columns, starts, lens }
+        Outcome { count: self.given.xs.len(), reply, columns, starts, lens }
     }
 }
 
@@ -54,9 +51,10 @@ impl Outcome {
             .or_else(|| self.other_columns(columns, &near))
     }
 
-    /// The energies of each table that was built, by its zoom, added up.
+    /// The energies of each table that was built, by its zoom, added up; of a refused build there are none.
     pub fn totals(&self) -> impl Iterator<Item = (usize, u128)> + '_ {
-        let built = (0..ZOOMS).filter(|zoom| self.lens[*zoom] > 0);
+        let zooms = if self.reply.number == 0 { 0..ZOOMS } else { 0..0 };
+        let built = zooms.filter(|zoom| self.lens[*zoom] > 0);
         built.map(|zoom| {
             let (start, length) = (self.starts[zoom] as usize, self.lens[zoom] as usize);
             let table = &self.columns.tables.energy[start..start + length];
@@ -66,21 +64,18 @@ impl Outcome {
 
     /// What is left: the columns of the tables, starts and lengths.
     pub fn left(self) -> (columns::Columns, [[u32; ZOOMS]; 2]) {
-        let whole = |column: Vec<u32>| column[..ZOOMS].try_into().expect("room for the state");
-        (self.columns.tables, [self.starts, self.lens].map(whole))
+        (self.columns.tables, [self.starts, self.lens].map(|mut column| *whole(&mut column)))
     }
 
     /// How this is not a build refused by this reply, if it is not.
     pub fn is_not_refused(&self, reply: Reply) -> Option<String> {
         other("reply", reply, self.reply)
-            .or_else(|| self.other_state(&[0; ZOOMS], &[0; ZOOMS]))
+            .or_else(|| self.other_state(&[], &[]))
             .or_else(|| self.other_columns(&columns::Columns::default().lent(), &[]))
     }
 
     fn other_state(&self, starts: &[u32], lens: &[u32]) -> Option<String> {
-        let written = self.zooms.min(ZOOMS);
-        other_front(STARTS, &starts[..written], &self.starts)
-            .or_else(|| other_front(LENS, &lens[..written], &self.lens))
+        other_front(STARTS, starts, &self.starts).or_else(|| other_front(LENS, lens, &self.lens))
     }
 
     fn other_columns(&self, columns: &Lent, near: &[u32]) -> Option<String> {
@@ -103,6 +98,11 @@ impl ReadBoth for Other {
             self.0 = other_front(name, expected, found);
         }
     }
+}
+
+/// What is lent of a column of starts or lengths.
+fn whole(column: &mut [u32]) -> &mut [u32; ZOOMS] {
+    column.first_chunk_mut().expect("room for the state")
 }
 
 /// Columns that hold nothing of a build yet, with something behind what is lent of them.

@@ -5,7 +5,7 @@ use super::{outcome::Request, room};
 use crate::report::Group;
 use columns::Given;
 use options::{Options, Plane, Range, MOST_ENERGY, UNIT, USUAL};
-use ported::{needed, Lengths, Reply, COLUMNS, ZOOMS};
+use ported::{needed, Lengths, Reply, COLUMNS};
 use refusals::{refusal, Refusal, MOST_POINTS};
 
 const NAN: f64 = f64::NAN;
@@ -42,14 +42,9 @@ type Energies = &'static [(usize, u64)];
 
 /// One build, refused by the reference or built as the patched Rust does.
 pub fn judge(asked: &Asked, group: &mut Group) {
-    judge_state(asked, ZOOMS, group);
-}
-
-/// The same, with room for so much of the state.
-fn judge_state(asked: &Asked, zooms: usize, group: &mut Group) {
     let Asked { options, points, lengths } = asked;
     let given = points.given();
-    let outcome = Request { options, given, lengths: *lengths, zooms }.made();
+    let outcome = Request { options, given, lengths: *lengths }.made();
     let difference = match refusal(options, &given, room(lengths)) {
         Some(Refusal { number, carried }) => outcome.is_not_refused(Reply { number, carried }),
         None => outcome.is_not(&rust_tables(options, &given)),
@@ -57,7 +52,7 @@ fn judge_state(asked: &Asked, zooms: usize, group: &mut Group) {
     let about = || {
         let Given { xs, ys, energies } = given;
         let counts = [xs.len(), ys.len(), energies.len()];
-        format!("{counts:?} given, columns of {lengths:?}, state of {zooms}, {options:?}")
+        format!("{counts:?} given, columns of {lengths:?}, {options:?}")
     };
     group.compare(about, difference);
 }
@@ -244,21 +239,6 @@ pub fn of_short_columns() -> Group {
                     let points = points.clone();
                     judge(&Asked { options, points, lengths }, &mut group);
                 }
-            }
-        }
-    }
-    group
-}
-
-/// Room for none of the state, for a part of it, for all, and for more; accepted and refused.
-pub fn of_short_states() -> Group {
-    let mut group = Group::new("tables, room for the state");
-    for zooms in 0..=40 {
-        for options in some_options() {
-            for energies in [ENERGIES[0], ENERGIES[1]] {
-                let points = changed([9; 3], &[], energies);
-                let lengths = roomy(&options, 9);
-                judge_state(&Asked { options, points, lengths }, zooms, &mut group);
             }
         }
     }

@@ -1,5 +1,5 @@
--- The places of `kdsort::partition` and what is known there: its invariants, the columns before, during and after the passes, and what stops each scan.
--- Assumes nothing.
+-- The places of `kdsort::partition` and what is known there: its invariants, the columns before, during and after the passes, and what
+-- stops each scan. Assumes nothing.
 use mathlib.Core.Path.{_≡_, sym, ap, _∙_}
 use mathlib.Core.Logic.{⊎-elim}
 use mathlib.Core.Bool.{false}
@@ -30,26 +30,26 @@ Inv-down ids coords k left right axis t i j₀ j = Down axis t coords j₀ j × 
 abbrev pub μ-down : tie.MeasureT-down
 μ-down ids coords k left right axis t i j₀ j = j
 
-abbrev pub Inv-pass : tie.InvT-pass
-Inv-pass ids₀ coords₀ k left right axis t i₀ j₀ ids coords i j = Pass (passes (j₀ - i₀) (ltb i₀ j₀) axis t (cols ids₀ coords₀) i₀ j₀) axis t left right (length ids₀) (length coords₀) ids coords i j
+abbrev pub Inv-loop : tie.InvT-loop
+Inv-loop ids₀ coords₀ k left right axis t i₀ j₀ ids coords i j = Pass (passes (j₀ - i₀) (ltb i₀ j₀) axis t (cols ids₀ coords₀) i₀ j₀) axis t left right (length ids₀) (length coords₀) ids coords i j
 
-abbrev pub μ-pass : tie.MeasureT-pass
-μ-pass ids₀ coords₀ k left right axis t i₀ j₀ ids coords i j = j - i
+abbrev pub μ-loop : tie.MeasureT-loop
+μ-loop ids₀ coords₀ k left right axis t i₀ j₀ ids coords i j = j - i
 
 abbrev pub Start : Type 0
-Start = tie.Start Inv-up μ-up Inv-down μ-down Inv-pass μ-pass
+Start = tie.Start Inv-up μ-up Inv-down μ-down Inv-loop μ-loop
 
 abbrev pub Joined1 : Type 0
-Joined1 = tie.Joined1 Inv-up μ-up Inv-down μ-down Inv-pass μ-pass
+Joined1 = tie.Joined1 Inv-up μ-up Inv-down μ-down Inv-loop μ-loop
 
-abbrev pub After-pass : Type 0
-After-pass = tie.After-pass Inv-up μ-up Inv-down μ-down Inv-pass μ-pass
+abbrev pub After-loop : Type 0
+After-loop = tie.After-loop Inv-up μ-up Inv-down μ-down Inv-loop μ-loop
 
 abbrev pub Swapped : Type 0
-Swapped = tie.After-slice-known10 Inv-up μ-up Inv-down μ-down Inv-pass μ-pass
+Swapped = tie.After-slice-known10 Inv-up μ-up Inv-down μ-down Inv-loop μ-loop
 
 abbrev pub Met : Type 0
-Met = tie.After-slice-known12 Inv-up μ-up Inv-down μ-down Inv-pass μ-pass
+Met = tie.After-slice-known12 Inv-up μ-up Inv-down μ-down Inv-loop μ-loop
 
 -- ---- the start: its columns and pivot
 abbrev pub columns : Start → Cols
@@ -89,20 +89,20 @@ placed-long c =
     }
 
 -- ---- a pass, after its exchange
-abbrev pub s→pass : Swapped → tie.In-pass Inv-up μ-up Inv-down μ-down Inv-pass μ-pass
-s→pass c = c .before .before .before .before .before .before .before
+abbrev pub s→loop : Swapped → tie.In-loop Inv-up μ-up Inv-down μ-down Inv-loop μ-loop
+s→loop c = c .before .before .before .before .before .before .before
 
 abbrev pub s→start : Swapped → Start
-s→start c = j1→start (s→pass c .before .before)
+s→start c = j1→start (s→loop c .before .before)
 
 abbrev pub i-of : Swapped → ℕ
-i-of c = s→pass c .before .pass .i
+i-of c = s→loop c .before .loop .i
 
 abbrev pub j-of : Swapped → ℕ
-j-of c = s→pass c .before .pass .j
+j-of c = s→loop c .before .loop .j
 
 abbrev pub passed : Swapped → Cols
-passed c = cols (s→pass c .before .pass .ids) (s→pass c .before .pass .coords)
+passed c = cols (s→loop c .before .loop .ids) (s→loop c .before .loop .coords)
 
 abbrev pub swapped : Swapped → Cols
 swapped c = cols (c .before .before .before .before .swap-item3 .last .0) (c .before .before .before .before .swap-item3 .last .1 .0)
@@ -133,11 +133,11 @@ pub record Turn (i j l r a n m : ℕ) (s s' : Cols) : Type 0 where
 pub turn : (c : Swapped) → let s = s→start c in Turn (i-of c) (j-of c) (s .args .left) (s .args .right) (s .args .axis) (length (columns s .ids)) (length (columns s .co)) (passed c) (swapped c)
 turn c =
     let h = s→start c .pre in
-    let p = s→pass c .before .pass .inv in
-    let e = placed-long (s→pass c .before .before) in
+    let p = s→loop c .before .loop .inv in
+    let e = placed-long (s→loop c .before .before) in
     let g = swapped-long c in
     record {
-      ij = s→pass c .pass-test .taken;
+      ij = s→loop c .loop-test .taken;
       li = p .i-from;
       jr = p .j-to;
       rn = h .rn;
@@ -206,7 +206,7 @@ pub record Next (l r i j u d : ℕ) : Type 0 where
 pub next : {i j x y l r a n m low : ℕ} {s : Cols} (u d : ℕ) → Step i j x y l r a n m s → x ≤ u → u ≤ y + 1 → l ≤ low → low ≤ d → d ≤ y → Next l r i j u d
 next u d h xu uy ll ld dy = record { i-from = omega arith; i-to = omega arith; j-from = omega arith; j-to = omega arith; moved = omega arith; less = omega arith }
 
-pub next-of : (c : tie.Then3 Inv-up μ-up Inv-down μ-down Inv-pass μ-pass)
+pub next-of : (c : tie.Then3 Inv-up μ-up Inv-down μ-down Inv-loop μ-loop)
     → let q = c .before .before .before .before .before .before in
     let s = s→start (m→s q) in
     Next (s .args .left) (s .args .right) (i-of (m→s q)) (j-of (m→s q)) (c .before .before .before .before .before .up .i) (c .before .before .down .j)
@@ -223,7 +223,7 @@ both i j x y h ir jr xn ym = (omega arith, omega arith, omega arith, omega arith
 abbrev pub end-of : Met → Cut
 end-of c =
     let a = s→start (m→s c) .args in
-    let z = s→pass (m→s c) .before .before in
+    let z = s→loop (m→s c) .before .before in
     passes (a .right - a .left) (ltb (a .left) (a .right)) (a .axis) (pivot (s→start (m→s c))) (cols (z .if1 .ids) (z .if1 .coords)) (a .left) (a .right)
 
 pub scanning : (c : Met) → let s = s→start (m→s c) in Scanning (end-of c) (s .args .axis) (pivot s) (met c) (up-of c) (down-of c)
@@ -231,7 +231,7 @@ scanning c =
     let q = m→s c in
     let s = s→start q in
     let h = turn q in
-    let p = s→pass q .before .pass .inv in
+    let p = s→loop q .before .loop .inv in
     c .before .before .before .before .batch .ensures .goes (end-of c)
     (scanning-cols (end-of c) (s .args .axis) (pivot s) (swapped q) (swapItem (passed q) (i-of q) (j-of q)) (i-of q + 1) (j-of q - 1) (swapped-is q)
     (scanning-turn (end-of c) (s .args .axis) (pivot s) (passed q) (i-of q) (j-of q) (p .goes) (h .ij) (h .a2) (room-j h) (p .i-stop) (p .j-stop))) where
@@ -239,13 +239,13 @@ scanning c =
       room-j h = omega arith
 
 -- the scan up has not reached its last stop, and the scan down neither
-pub up-ahead : (c : tie.Else2 Inv-up μ-up Inv-down μ-down Inv-pass μ-pass) → c .before .before .up .i < down-of (c .before .before .before) + 1
+pub up-ahead : (c : tie.Else2 Inv-up μ-up Inv-down μ-down Inv-loop μ-loop) → c .before .before .up .i < down-of (c .before .before .before) + 1
 up-ahead c =
     let q = c .before .before .before in
     let s = s→start (m→s q) in
     before-stop (s .args .axis) (pivot s) (met q .co) (c .before .before .up .i) (down-of q + 1) (c .before .before .up .inv .1) (not-false _ (c .if2 .left)) (c .before .before .up .inv .2)
 
-pub down-ahead : (c : tie.Else3 Inv-up μ-up Inv-down μ-down Inv-pass μ-pass) → c .before .before .down .inv .1 .slot < c .before .before .down .j
+pub down-ahead : (c : tie.Else3 Inv-up μ-up Inv-down μ-down Inv-loop μ-loop) → c .before .before .down .inv .1 .slot < c .before .before .down .j
 down-ahead c =
     let q = c .before .before .before .before .before .before in
     let s = s→start (m→s q) in
@@ -253,19 +253,19 @@ down-ahead c =
     after-stop (s .args .axis) (pivot s) (met q .co) (c .before .before .down .j) (low .slot) (low .to) (not-false _ (c .if3 .left)) (low .stop)
 
 -- ---- after the passes
-abbrev pub ap→start : After-pass → Start
+abbrev pub ap→start : After-loop → Start
 ap→start c = j1→start (c .before .before)
 
-pub passed-long : (c : After-pass) → Long (cols (c .before .pass .ids) (c .before .pass .coords)) (columns (ap→start c))
+pub passed-long : (c : After-loop) → Long (cols (c .before .loop .ids) (c .before .loop .coords)) (columns (ap→start c))
 passed-long c =
-    let p = c .before .pass .inv in
+    let p = c .before .loop .inv in
     let e = placed-long (c .before .before) in
     record { ids-as = p .ids-long ∙ e .ids-as; co-as = p .co-long ∙ e .co-as }
 
-pub passes-is : (c : After-pass) → let s = ap→start c in let a = s .args in
-    passes (a .right - a .left) (ltb (a .left) (a .right)) (a .axis) (pivot s) (placed-of s) (a .left) (a .right) ≡ cut (cols (c .before .pass .ids) (c .before .pass .coords)) (c .before .pass .j)
+pub passes-is : (c : After-loop) → let s = ap→start c in let a = s .args in
+    passes (a .right - a .left) (ltb (a .left) (a .right)) (a .axis) (pivot s) (placed-of s) (a .left) (a .right) ≡ cut (cols (c .before .loop .ids) (c .before .loop .coords)) (c .before .loop .j)
 passes-is c =
     let s = ap→start c in
     let a = s .args in
     ap (λ (x : Cols). passes (a .right - a .left) (ltb (a .left) (a .right)) (a .axis) (pivot s) x (a .left) (a .right)) (sym (placed-is (c .before .before)))
-    ∙ passing-ends _ (a .axis) (pivot s) (cols (c .before .pass .ids) (c .before .pass .coords)) (c .before .pass .i) (c .before .pass .j) (c .before .pass .inv .goes) (c .pass-test .left)
+    ∙ passing-ends _ (a .axis) (pivot s) (cols (c .before .loop .ids) (c .before .loop .coords)) (c .before .loop .i) (c .before .loop .j) (c .before .loop .inv .goes) (c .loop-test .left)

@@ -1,4 +1,5 @@
--- `State::is_filled` meets its contract: past the test of the finest table, what is left to test from a table on is the whole test. Assumes nothing.
+-- `State::is_filled` meets its contract: past the test of the finest table, what is left to test from a table on is the whole test.
+-- Assumes nothing.
 use mathlib.Core.Path.{_≡_, sym, ap, _∙_}
 use mathlib.Core.Bool.{Bool, true, _&&_}
 use mathlib.Core.List.{List}

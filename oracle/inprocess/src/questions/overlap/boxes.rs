@@ -49,8 +49,8 @@ pub fn common(a: Corners, b: Corners) -> Corners {
 }
 
 /// Whether nothing lies in a box.
-pub fn empty([w, s, e, n]: Corners) -> bool {
-    e < w || n < s
+pub fn empty([west, least_y, east, greatest_y]: Corners) -> bool {
+    east < west || greatest_y < least_y
 }
 
 pub fn normalized(of: Corners, range: &Range) -> Corners {
@@ -95,9 +95,9 @@ fn fresh(scene: &Scene, range: &Range, source: &mut Splitmix) -> Corners {
             [offset - scale, y.min(v), x.max(u), offset + 2.0 * scale],
         ]),
         12..=13 => {
-            let [w, s] = [(); 2].map(|()| source.pick(&[0.0, -0.0]));
-            let [least_x, least_y, e, n] = between;
-            source.pick(&[[w, s, e, n], [least_x, least_y, w, s], [w, s, s, w], [w, least_y, e, s]])
+            let [p, q] = [(); 2].map(|()| source.pick(&[0.0, -0.0]));
+            let [x, y, u, v] = between;
+            source.pick(&[[p, q, u, v], [x, y, p, q], [p, q, q, p], [p, y, u, q]])
         }
         _ => {
             let half = scale * 0.5_f64.powi(source.below(6) as i32);

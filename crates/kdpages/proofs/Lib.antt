@@ -1,0 +1,3 @@
+-- Laws that only this crate's own proofs use.
+pub mod Stores
+pub mod Turns

@@ -1,0 +1,3 @@
+-- Definitions that contracts cite: Pages (its first).
+pub mod Pages
+pub mod Replies
