@@ -103,7 +103,7 @@ const WRONG: [(&str, Port); 23] = [
         _ => right(text),
     }),
     ("needs no energies", |text| right(&with_energies(text))),
-    ("prints no energy", |text| with_fields(text, |fields| drop(fields.pop()))),
+    ("prints no energy", |text| with_fields(text, |fields| _ = fields.pop())),
     ("prints num for the energy", |text| with_fields(text, |fields| fields[8] = fields[7])),
     ("prints the energy for num", |text| with_fields(text, |fields| fields[7] = fields[8])),
     ("prints the energy in front of num", |text| with_fields(text, |fields| fields.swap(7, 8))),

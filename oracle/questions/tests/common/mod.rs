@@ -54,7 +54,8 @@ impl Build {
     }
 }
 
-/// 01's worked build.
+/// 01's worked build. Not every test asks it.
+#[allow(dead_code)]
 pub fn worked() -> Build {
     let finest = [
         (0.25, 0.5, 0, 6, 1),
