@@ -1,4 +1,4 @@
-//! Links the proved library as ../native-lib compiles it: libexports.a in target/native, or in the
+//! Links the proved library as tools/native-lib compiles it: libexports.a in target/native, or in the
 //! folder that EXPORTS_FOLDER names. A file `links` that is made with it has the names of the libraries that it
 //! needs, one a line.
 
@@ -8,7 +8,7 @@ fn main() {
     let folder = folder();
     let library = folder.join("libexports.a");
     println!("cargo::rerun-if-changed={}", library.display());
-    assert!(library.is_file(), "{} is not there: run oracle/native-lib exports", library.display());
+    assert!(library.is_file(), "{} is not there: run tools/native-lib exports", library.display());
     println!("cargo::rustc-link-search=native={}", folder.display());
     println!("cargo::rustc-link-lib=static=exports");
     for name in fs::read_to_string(folder.join("links")).unwrap_or_default().lines() {
