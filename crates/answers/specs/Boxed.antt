@@ -37,7 +37,9 @@ use Rattle.tables.specs.State.{lenOf}
 use Rattle.asking.specs.declared.Answer.the-variants.{Listed, NoRoom, Box, Spoiled}
 use Rattle.asking.specs.Answers.{answerNumber, fitted}
 use Rattle.asking.specs.Asked.{Asked, refused, told, answerOf}
-use Rattle.asking.specs.Columns.{indexRoom, roomOf, room-index, idsAt, coordsAt}
+use Rattle.tables.specs.Room.{indexRoom, roomOf}
+use Rattle.tables.specs.Roomy.{room-index}
+use Rattle.asking.specs.Columns.{idsAt, coordsAt}
 use Rattle.boxes.specs.Inside.{Indexed, Passes, Exactly, cartesian-box, longitude-box, split-box, ring-exactly}
 use Rattle.boxes.specs.Lists.{boxAsked, ringAsked}
 use Rattle.boxplan.specs.Rule.{halfCircle, newWest, newEast, splits, boxOk}

@@ -20,7 +20,8 @@ use Rattle.tables.specs.Bounds.{options-are}
 use Rattle.tables.specs.Entries.{Table, entry}
 use Rattle.tables.specs.Radius.{radiusAt}
 use Rattle.tables.specs.State.{lenOf}
-use Rattle.asking.specs.Columns.{Columns, idsAt, coordsAt}
+use Rattle.tables.specs.Room.{Columns}
+use Rattle.asking.specs.Columns.{idsAt, coordsAt}
 use Rattle.kids.specs.Kids.{kidsOf, placesAround, kidsAt, cleanAt}
 use Rattle.zooms.specs.Zooms.{slotsOf}
 use Rattle.zooms.specs.Running.{slots-promised}

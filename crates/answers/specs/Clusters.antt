@@ -18,7 +18,8 @@ use Rattle.groups.specs.Groups.{Group, joined, entryOf}
 use Rattle.groups.specs.OneZoom.{Joined, Fits}
 use Rattle.groups.specs.Sums.{count, Hit, hit}
 use Rattle.asking.specs.Asked.{told}
-use Rattle.asking.specs.Columns.{Columns, roomOf, tableAt}
+use Rattle.tables.specs.Room.{Columns, roomOf}
+use Rattle.asking.specs.Columns.{tableAt}
 use Rattle.asking.specs.Ids.{targetOf, onward}
 use Rattle.asking.specs.declared.Target.{Target}
 use Rattle.asking.specs.declared.Target.the-variants.{At}

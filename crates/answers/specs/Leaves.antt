@@ -14,7 +14,7 @@ use Rattle.tables.specs.Entries.{entry}
 use Rattle.tables.specs.Ids.{originOf, tableOf}
 use Rattle.groups.specs.Sums.{one, sum, range}
 use Rattle.asking.specs.Asked.{told}
-use Rattle.asking.specs.Columns.{Columns}
+use Rattle.tables.specs.Room.{Columns}
 use Rattle.asking.specs.declared.Target.{Target}
 use Rattle.walks.specs.Children.{atTarget}
 use Rattle.walks.specs.Leaves.{Trip, went, walk, listed, leavesAt, leavesOf}

@@ -21,7 +21,8 @@ use Rattle.tables.specs.State.{startOf, lenOf}
 use Rattle.tables.specs.Sound.{packed, stateOk}
 use Rattle.zoom.specs.Keeps.{cluster-long}
 use Rattle.groups.specs.Sums.{below}
-use Rattle.asking.specs.Columns.{Columns, columns, roomOf, tableAt, idsAt, coordsAt}
+use Rattle.tables.specs.Room.{Columns, columns, roomOf}
+use Rattle.asking.specs.Columns.{tableAt, idsAt, coordsAt}
 use Rattle.zooms.specs.Zooms.{Plan, run, slotsOf, zoomsOf, joined, joinedIds, joinedCo, over}
 use Rattle.zooms.specs.Running.{slots-ids, slots-co}
 use Rattle.supercluster.specs.declared.LoadReply.the-variants.{Done}

@@ -20,7 +20,8 @@ use Rattle.tables.specs.Ids.{originOf, tableOf}
 use Rattle.zoom.specs.Keeps.{all-at}
 use Rattle.zoom.specs.Sound.{Body}
 use Rattle.groups.specs.Sums.{below}
-use Rattle.asking.specs.Columns.{Columns, tableAt}
+use Rattle.tables.specs.Room.{Columns}
+use Rattle.asking.specs.Columns.{tableAt}
 use Rattle.asking.specs.declared.Target.{Target}
 use Rattle.kids.specs.Kids.{kidsAt}
 use Rattle.walks.specs.Leaves.{Trip, went, enter, visit, after, steps, walk}

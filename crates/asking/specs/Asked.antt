@@ -1,5 +1,5 @@
--- What a question comes to: a refusal before its walk, or the items that the walk finds; the answer and the column afterwards are read
--- from it. The items are places or lamps, and of a tile more than that. Definitions only.
+-- What a question comes to: a refusal before its walk, or what the walk finds; the answer and the column afterwards are read from it.
+-- What is found are places or lamps, of a tile more than that, and of a stated effort the tests. Definitions only.
 use mathlib.Core.Bool.{Bool, true, false}
 use mathlib.Core.List.{List}
 use Prim.Native.Nat.{ℕ}
@@ -9,14 +9,14 @@ use Rattle.asking.specs.declared.Answer.{Answer}
 use Rattle.asking.specs.declared.Answer.the-variants.{Spoiled}
 use Rattle.asking.specs.Answers.{fitted}
 
--- refused, with nothing written; or the items found, and whether the walk went to its end
-pub data AskedFor (A : Type 0) : Type 0 where
-  refused : Answer → AskedFor A
-  told : Bool → List A → AskedFor A
+-- refused by R, with nothing written; or what was found, A after A, and W, what is known of the walk as a whole
+pub data AskedFor (R W A : Type 0) : Type 0 where
+  refused : R → AskedFor R W A
+  told : W → List A → AskedFor R W A
 
--- a question that lists places, or lamps
+-- a question that lists places, or lamps, and whether its walk went to its end
 abbrev pub Asked : Type 0
-Asked = AskedFor ℕ
+Asked = AskedFor Answer Bool ℕ
 
 -- the answer, for a column of so many: a walk that did not go to its end is 01's 11
 abbrev pub answerOf : Asked → ℕ → Answer

@@ -4,7 +4,6 @@ pub mod Answers
 pub mod Asked
 pub mod Filled
 pub mod Columns
-pub mod Lent
 pub mod Ids
 pub mod Reached
 pub mod Around

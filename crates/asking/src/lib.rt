@@ -7,7 +7,7 @@ use kdslots::Query;
 use tables::Entry;
 use tables::State;
 ghost use mathlib.Core.Path.{_≡_};
-ghost use Prim.Native.Nat.{_+_, _*_, _<_, _≤_, min};
+ghost use Prim.Native.Nat.{_+_, _*_, _<_, _≤_};
 ghost use lib.ListN.{length, set};
 ghost use Rattle.kdwalk.specs.declared.Step.the-variants.{Done};
 ghost use Rattle.kdwalk.specs.Reply.{nextStep};
@@ -19,8 +19,7 @@ ghost use Rattle.tables.specs.Lent.{given, lentCols};
 ghost use Rattle.tables.specs.Columns.{part};
 ghost use Rattle.tables.specs.State.{startOf, lenOf};
 ghost use Rattle.asking.specs.Answers.{answerNumber, answerCarried, fitted};
-ghost use Rattle.asking.specs.Columns.{roomOf, indexRoom, Held};
-ghost use Rattle.asking.specs.Lent.{lentColumns};
+ghost use Rattle.tables.specs.Roomy.{Roomy};
 ghost use Rattle.asking.specs.Ids.{isBuilt, targetOf, onward};
 ghost use Rattle.asking.specs.Reached.{Reached};
 ghost use Rattle.asking.specs.Around.{ringOf, InRing, aheadIn};
@@ -90,46 +89,6 @@ pub fn put_at(out: &mut [u32], k: usize, p: u32)
     }
 }
 
-// The smaller of two numbers.
-pub fn less(a: usize, b: usize) -> usize
-    ensures { λ r. ⌜ r ≡ min a b ⌝ }
-{
-    if a <= b {
-        return a;
-    }
-    b
-}
-
-// How many entries the columns of the index hold.
-pub fn index_room(ids: &[u32], coords: &[f64]) -> usize
-    ensures { λ r. ⌜ r ≡ indexRoom (old ids) (old coords) ⌝ }
-{
-    less(ids.len(), coords.len() / 2)
-}
-
-// How many entries the nine lent columns hold.
-pub fn room(
-    x: &[f64],
-    y: &[f64],
-    seen: &[u8],
-    id: &[u32],
-    parent: &[u32],
-    num: &[u32],
-    energy: &[u64],
-    ids: &[u32],
-    coords: &[f64],
-) -> usize
-    ensures { λ r. ⌜ r ≡ roomOf (lentColumns x y seen id parent num energy ids coords) ⌝ }
-{
-    let a = less(x.len(), y.len());
-    let b = less(seen.len(), id.len());
-    let c = less(parent.len(), num.len());
-    let d = less(a, b);
-    let e = less(energy.len(), index_room(ids, coords));
-    let f = less(c, e);
-    less(d, f)
-}
-
 // The entry at the place p of the table of len entries that starts at `start` of the columns.
 pub fn entry_in(
     start: usize,
@@ -143,7 +102,7 @@ pub fn entry_in(
     energy: &[u64],
     p: usize,
 ) -> Entry
-    requires { ⌜ Held (start + len) (given x y seen id parent num energy) × (p < len) ⌝ }
+    requires { ⌜ Roomy (start + len) (given x y seen id parent num energy) × (p < len) ⌝ }
     ensures { λ r. let c = lentCols x y seen id parent num energy in ⌜ r ≡ entry (part start len (rows (c .entry))) p ⌝ }
 {
     let end = start + len;
@@ -252,7 +211,7 @@ pub fn ring_of(
     energy: &[u64],
 ) -> Ring
     requires { ⌜ Reached s cap table origin ⌝ }
-    requires { ⌜ Held cap (given x y seen id parent num energy) ⌝ }
+    requires { ⌜ Roomy cap (given x y seen id parent num energy) ⌝ }
     ensures { λ r.
         let c = lentCols x y seen id parent num energy in
         ⌜ r ≡ ringOf s (part (startOf s table) (lenOf s table) (rows (c .entry))) table origin ⌝ }

@@ -12,7 +12,8 @@ use Rattle.tables.specs.Sound.{stateOk}
 use Rattle.kdslots.specs.declared.Query.{Query}
 use Rattle.asking.specs.declared.Answer.the-variants.{Box, Spoiled}
 use Rattle.asking.specs.Asked.{refused}
-use Rattle.asking.specs.Columns.{indexRoom, idsAt, coordsAt}
+use Rattle.tables.specs.Room.{indexRoom}
+use Rattle.asking.specs.Columns.{idsAt, coordsAt}
 use Rattle.boxes.specs.Lists.{walked, planned, listedAt, asked}
 
 module _ (s : State) (ids : List ℕ) (co : List Float) (zoom : ℕ) where

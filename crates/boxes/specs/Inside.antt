@@ -27,7 +27,8 @@ use Rattle.tables.specs.Options.{zoomUsed}
 use Rattle.tables.specs.State.{lenOf}
 use Rattle.tables.specs.Sound.{stateOk}
 use Rattle.asking.specs.Asked.{told}
-use Rattle.asking.specs.Columns.{indexRoom, idsAt, coordsAt}
+use Rattle.tables.specs.Room.{indexRoom}
+use Rattle.asking.specs.Columns.{idsAt, coordsAt}
 use Rattle.boxplan.specs.Rule.{halfCircle, newWest, newEast, splits, ruledBox, planOf, boxOk}
 use Rattle.boxes.specs.Lists.{walked, listedAt, ringAsked, boxAsked}
 

@@ -15,7 +15,8 @@ use Rattle.tables.specs.State.{lenOf}
 use Rattle.tables.specs.Sound.{stateOk}
 use Rattle.asking.specs.declared.Answer.the-variants.{Box, Spoiled}
 use Rattle.asking.specs.Asked.{Asked, refused, told}
-use Rattle.asking.specs.Columns.{indexRoom, idsAt, coordsAt}
+use Rattle.tables.specs.Room.{indexRoom}
+use Rattle.asking.specs.Columns.{idsAt, coordsAt}
 use Rattle.boxplan.specs.Rule.{planOf, boxOk}
 
 -- places of a table of n entries, one after the other: the walk ends before the first that is past the table

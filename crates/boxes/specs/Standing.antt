@@ -14,7 +14,9 @@ use Rattle.tables.specs.Options.{zoomUsed}
 use Rattle.tables.specs.State.{startOf, lenOf}
 use Rattle.tables.specs.Columns.{part}
 use Rattle.tables.specs.Sound.{stateOk, given, used-stands}
-use Rattle.asking.specs.Columns.{indexRoom, idsAt, coordsAt, index-held, ids-length, coords-length}
+use Rattle.tables.specs.Room.{indexRoom}
+use Rattle.tables.specs.Roomy.{index-roomy}
+use Rattle.asking.specs.Columns.{idsAt, coordsAt, ids-length, coords-length}
 
 module _ (s : State) (ids : List ℕ) (co : List Float) (zoom : ℕ) where
   abbrev used : ℕ
@@ -22,7 +24,7 @@ module _ (s : State) (ids : List ℕ) (co : List Float) (zoom : ℕ) where
 
   module _ (e : stateOk s (indexRoom ids co) ≡ true) where
     used-held : (startOf s used + lenOf s used ≤ length ids) × (2 * (startOf s used + lenOf s used) ≤ length co)
-    used-held = index-held ids co (startOf s used + lenOf s used) (used-stands s (indexRoom ids co) e zoom .0 .ends)
+    used-held = index-roomy ids co (startOf s used + lenOf s used) (used-stands s (indexRoom ids co) e zoom .0 .ends)
 
     used-index : indexOk (s .options .«node_size») (lenOf s used) (idsAt s ids used) (coordsAt s co used) ≡ true
     used-index =

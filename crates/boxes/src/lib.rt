@@ -17,7 +17,7 @@ ghost use Rattle.kdbush.specs.Reply.{found, indexOk};
 ghost use Rattle.tables.specs.Options.{zoomUsed};
 ghost use Rattle.tables.specs.Columns.{part};
 ghost use Rattle.tables.specs.Sound.{stateOk};
-ghost use Rattle.asking.specs.Columns.{indexRoom};
+ghost use Rattle.tables.specs.Room.{indexRoom};
 ghost use Rattle.asking.specs.Asked.{answerOf, columnOf};
 ghost use Rattle.boxplan.specs.Queries.{queriesOf};
 ghost use Rattle.boxes.specs.Lists.{walked, planned, listedAt, ringAsked, boxAsked};
@@ -85,7 +85,7 @@ fn list_plan(
     if !p.two {
         return asking::fit(k, out.len());
     }
-    let from = asking::less(k, out.len());
+    let from = tables::less(k, out.len());
     let q2 = p.second;
     let Part::All(j) = list_one(q2, node_size, n, ids, coords, &mut out[from..]) else {
         return Answer::Spoiled;
@@ -157,7 +157,7 @@ pub fn list_ring(
         let a = ringAsked s (old ids) (old coords) zoom x y radius in
         ⌜ (r ≡ answerOf a (length (old out))) × (new out ≡ columnOf a (old out)) ⌝ }
 {
-    if !s.is_sound(asking::index_room(ids, coords)) {
+    if !s.is_sound(tables::index_room(ids, coords)) {
         return Answer::Spoiled;
     }
     if !ring_ok(x, y, radius) {
@@ -193,7 +193,7 @@ pub fn list_box(
         let a = boxAsked s (old ids) (old coords) zoom west «least_y» east «greatest_y» in
         ⌜ (r ≡ answerOf a (length (old out))) × (new out ≡ columnOf a (old out)) ⌝ }
 {
-    if !s.is_sound(asking::index_room(ids, coords)) {
+    if !s.is_sound(tables::index_room(ids, coords)) {
         return Answer::Spoiled;
     }
     let o = s.options;

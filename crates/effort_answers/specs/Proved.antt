@@ -14,8 +14,8 @@ use Rattle.tables.specs.declared.State.{State}
 use Rattle.tables.specs.Options.{zoomUsed}
 use Rattle.tables.specs.State.{lenOf}
 use Rattle.tables.specs.Sound.{stateOk}
-use Rattle.asking.specs.Asked.{Asked, told, answerOf}
-use Rattle.asking.specs.Columns.{indexRoom}
+use Rattle.asking.specs.Asked.{Asked, refused, told, answerOf}
+use Rattle.tables.specs.Room.{indexRoom}
 use Rattle.boxplan.specs.Rule.{planOf, boxOk}
 use Rattle.boxes.specs.Lists.{walked, boxAsked}
 use Rattle.boxes.specs.Joined.{first-past}
@@ -28,7 +28,7 @@ use Rattle.spending.specs.declared.EffortReply.the-variants.{Found, Box, NoRoom
 use Rattle.spending.specs.Trials.{Mark, hits, items}
 use Rattle.spending.specs.Reply.{effortNumber, effortOf, fitted, answer}
 use Rattle.spending.specs.Promise.{items-of-all}
-use Rattle.efforts.specs.Effort.{Sought, refused, replyOf, effortAsked}
+use Rattle.efforts.specs.Effort.{EffortAsked, replyOf, effortAsked}
 use Rattle.efforts.specs.StatedEffort.{testsOf}
 use Rattle.efforts.specs.Proved.{testsAt, unlimited-box}
 use Rattle.builds.specs.Given.{Given, Accepted, points}
@@ -94,7 +94,7 @@ module _ (st : State) (ids : List ℕ) (co : List Float) (zoom : ℕ) (west leas
           let x = t f in
           not-spoiled (effortOf a (testsOf (effortAsked st ids co zoom west least east greatest))) room
           (sym (taken f (x .0) (x .1) a room) ∙ h)
-      by a room false f h = let z = sym (ap (λ (q : Sought). replyOf q a room) (refused-box f)) ∙ h in omega (arith, ap effortNumber z)
+      by a room false f h = let z = sym (ap (λ (q : EffortAsked). replyOf q a room) (refused-box f)) ∙ h in omega (arith, ap effortNumber z)
 
 -- ---- of every build that `load` accepts
 

@@ -10,15 +10,16 @@ use Rattle.tables.specs.Options.{zoomUsed}
 use Rattle.tables.specs.State.{startOf, lenOf}
 use Rattle.tables.specs.Columns.{part}
 use Rattle.tables.specs.Sound.{stateOk}
-use Rattle.asking.specs.Columns.{indexRoom}
+use Rattle.tables.specs.Room.{indexRoom}
 use Rattle.boxplan.specs.Rule.{planOf, boxOk}
 use Rattle.spending.specs.declared.EffortReply.the-variants.{Box, Spoiled}
 use Rattle.spending.specs.Trials.{trials}
-use Rattle.efforts.specs.Effort.{refused, sought, soughtAt, effortAsked}
+use Rattle.asking.specs.Asked.{refused, told}
+use Rattle.efforts.specs.Effort.{soughtAt, effortAsked}
 
 module _ (s : State) (ids : List ℕ) (co : List Float) (zoom : ℕ) where
   pub sought-used : (z start n : ℕ) (qs : List Query) → z ≡ zoomUsed (s .options) zoom → start ≡ startOf s z → n ≡ lenOf s z
-      → sought n (trials qs (s .options .«node_size») n (part start n ids) (part (2 * start) (2 * n) co))
+      → told n (trials qs (s .options .«node_size») n (part start n ids) (part (2 * start) (2 * n) co))
       ≡ soughtAt s ids co (zoomUsed (s .options) zoom) qs
   sought-used z start n qs f g h = rw (g, h, f)
 

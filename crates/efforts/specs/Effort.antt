@@ -9,34 +9,35 @@ use Rattle.tables.specs.declared.State.{State}
 use Rattle.tables.specs.Options.{zoomUsed}
 use Rattle.tables.specs.State.{lenOf}
 use Rattle.tables.specs.Sound.{stateOk}
-use Rattle.asking.specs.Columns.{indexRoom, idsAt, coordsAt}
+use Rattle.tables.specs.Room.{indexRoom}
+use Rattle.asking.specs.Columns.{idsAt, coordsAt}
+use Rattle.asking.specs.Asked.{AskedFor, refused, told}
 use Rattle.boxplan.specs.Rule.{planOf, boxOk}
 use Rattle.spending.specs.declared.EffortReply.{EffortReply}
 use Rattle.spending.specs.declared.EffortReply.the-variants.{Box, Spoiled}
 use Rattle.spending.specs.Trials.{Mark, trials}
 use Rattle.spending.specs.Reply.{answer, column}
 
--- refused, with nothing tested; or the tests, over a table of so many entries
-pub data Sought : Type 0 where
-  refused : EffortReply → Sought
-  sought : ℕ → List Mark → Sought
+-- what such a question comes to: the tests, over a table of so many entries
+abbrev pub EffortAsked : Type 0
+EffortAsked = AskedFor EffortReply ℕ Mark
 
 -- the reply, for an allowance and a column of so many
-abbrev pub replyOf : Sought → ℕ → ℕ → EffortReply
+abbrev pub replyOf : EffortAsked → ℕ → ℕ → EffortReply
 replyOf (refused r) a room = r
-replyOf (sought n ms) a room = answer n ms a room
+replyOf (told n ms) a room = answer n ms a room
 
 -- the column afterwards
-abbrev pub columnOf : Sought → ℕ → List ℕ → List ℕ
+abbrev pub columnOf : EffortAsked → ℕ → List ℕ → List ℕ
 columnOf (refused r) a out = out
-columnOf (sought n ms) a out = column n ms a out
+columnOf (told n ms) a out = column n ms a out
 
 -- the tests of queries in the table of zoom z
-abbrev pub soughtAt : State → List ℕ → List Float → ℕ → List Query → Sought
-soughtAt s ids co z qs = sought (lenOf s z) (trials qs (s .options .«node_size») (lenOf s z) (idsAt s ids z) (coordsAt s co z))
+abbrev pub soughtAt : State → List ℕ → List Float → ℕ → List Query → EffortAsked
+soughtAt s ids co z qs = told (lenOf s z) (trials qs (s .options .«node_size») (lenOf s z) (idsAt s ids z) (coordsAt s co z))
 
 -- the box (west, least y, east, greatest y) at a zoom: refusals as for a box, the state (11), then the numbers (9)
-unfoldable pub effortAsked : State → List ℕ → List Float → ℕ → Float → Float → Float → Float → Sought
+unfoldable pub effortAsked : State → List ℕ → List Float → ℕ → Float → Float → Float → Float → EffortAsked
 effortAsked s ids co zoom west least east greatest =
     let c = s .options .«coordinate_system» in
     cond (not (stateOk s (indexRoom ids co))) (refused Spoiled)

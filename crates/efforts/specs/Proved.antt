@@ -21,8 +21,9 @@ use Rattle.asking.specs.declared.Answer.{Answer}
 use Rattle.asking.specs.declared.Answer.the-variants.{Listed as Answer·Listed, NoRoom as Answer·NoRoom}
 use Rattle.asking.specs.declared.Answer.the-variants.{Box as Answer·Box, Spoiled as Answer·Spoiled}
 use Rattle.asking.specs.Answers.{fitted as plainly}
-use Rattle.asking.specs.Asked.{Asked, refused as Asked·refused, told, answerOf}
-use Rattle.asking.specs.Columns.{indexRoom, idsAt, coordsAt}
+use Rattle.asking.specs.Asked.{Asked, refused, told, answerOf}
+use Rattle.tables.specs.Room.{indexRoom}
+use Rattle.asking.specs.Columns.{idsAt, coordsAt}
 use Rattle.boxplan.specs.Rule.{planOf, boxOk}
 use Rattle.boxplan.specs.Queries.{plan-short}
 use Rattle.boxes.specs.Lists.{walked, listedAt, boxAsked}
@@ -33,7 +34,7 @@ use Rattle.spending.specs.declared.EffortReply.the-variants.{Found, Box, NoRoom
 use Rattle.spending.specs.Trials.{Mark, hits, trials, items}
 use Rattle.spending.specs.Reply.{effortCarried, effortOf, fitted, answer}
 use Rattle.spending.specs.Promise.{not-stopped, given-begin, given-of-all, trials-found, trials-most}
-use Rattle.efforts.specs.Effort.{Sought, refused, sought, replyOf, soughtAt, effortAsked}
+use Rattle.efforts.specs.Effort.{EffortAsked, replyOf, soughtAt, effortAsked}
 use Rattle.efforts.specs.StatedEffort.{plain, Carries, Stated, StatedEffort}
 
 -- ---- of any tests, in a table of n entries
@@ -76,7 +77,7 @@ module _ (n : ℕ) (ms : List Mark) where
             ap (λ (b : Bool). plain (cond b (fitted (effortOf a ms) room) Spoiled)) (ap (whole n) all-items ∙ e)
             ∙ sym (ap (λ (b : Bool). answerOf (told b (sound n (hits ms))) room) e)
 
-  stated-sought : (count : ℕ) → length ms ≤ 2 * count → Stated (sought n ms) (walked n (hits ms)) count
+  stated-sought : (count : ℕ) → length ms ≤ 2 * count → Stated (told n ms) (walked n (hits ms)) count
   stated-sought count m =
       record {
         items = λ a room c. let w = carries a room c in ap (λ (e : Effort). e .items) (w .1)
@@ -95,10 +96,10 @@ module _ (n : ℕ) (ms : List Mark) where
 nothing-carried : (k : ℕ) → 0 < k → (k ≡ 10 → ⊥) → (k ≡ 0) ⊎ (k ≡ 10) → ⊥
 nothing-carried k h g c = ⊎-elim (λ e. omega arith) g c
 
-no-list : (r : Answer) (ok : Bool) (l : List ℕ) → Asked·refused r ≡ told ok l → ⊥
+no-list : (r : Answer) (ok : Bool) (l : List ℕ) → refused r ≡ told ok l → ⊥
 no-list r ok l e = let z : _≡_ {A = ℕ} 0 1 = cc in omega arith
 
-stated-refused : (r : EffortReply) (q : Answer) (count : ℕ) → plain r ≡ q → (Carries r → ⊥) → Stated (refused r) (Asked·refused q) count
+stated-refused : (r : EffortReply) (q : Answer) (count : ℕ) → plain r ≡ q → (Carries r → ⊥) → Stated (refused r) (refused q) count
 stated-refused r q count p none =
     record {
       items = λ a room c. absurd (none c);
@@ -149,8 +150,8 @@ stated-effort st ids co zoom west least east greatest = go (stateOk st (indexRoo
 
     go : (a : Bool) → stateOk st (indexRoom ids co) ≡ a → (b : Bool)
         → Stated (cond (not a) (refused Spoiled) (cond (not b) (refused Box) (soughtAt st ids co (used st ids co zoom) qs)))
-        (cond (not a) (Asked·refused Answer·Spoiled)
-        (cond (not b) (Asked·refused Answer·Box) (listedAt st ids co (used st ids co zoom) qs))) (st .count)
+        (cond (not a) (refused Answer·Spoiled)
+        (cond (not b) (refused Answer·Box) (listedAt st ids co (used st ids co zoom) qs))) (st .count)
     go false g b = stated-refused Spoiled Answer·Spoiled (st .count) refl (λ c. nothing-carried 11 (omega arith) (λ h. omega arith) c)
     go true g false = stated-refused Box Answer·Box (st .count) refl (λ c. nothing-carried 9 (omega arith) (λ h. omega arith) c)
     go true g true = stated-plan st ids co zoom g qs (plan-short c west least east greatest)

@@ -12,23 +12,23 @@ use Rattle.kdbush.specs.Run.{sound}
 use Rattle.tables.specs.declared.State.{State}
 use Rattle.asking.specs.declared.Answer.{Answer}
 use Rattle.asking.specs.declared.Answer.the-variants.{Listed, Box as Answer·Box, NoRoom as Answer·NoRoom, Spoiled as Answer·Spoiled}
-use Rattle.asking.specs.Asked.{Asked, told, answerOf, columnOf as boxColumn}
+use Rattle.asking.specs.Asked.{Asked, refused, told, answerOf, columnOf as boxColumn}
 use Rattle.boxes.specs.Lists.{boxAsked}
 use Rattle.spending.specs.declared.EffortReply.{EffortReply}
 use Rattle.spending.specs.declared.EffortReply.the-variants.{Found, Box, NoRoom, Spoiled}
 use Rattle.spending.specs.Trials.{Mark, items}
 use Rattle.spending.specs.Reply.{effortNumber, effortCarried}
-use Rattle.efforts.specs.Effort.{Sought, refused, sought, replyOf, columnOf, effortAsked}
+use Rattle.efforts.specs.Effort.{EffortAsked, replyOf, columnOf, effortAsked}
 
 -- the tests of the definition of the search, over both halves of a box across the date line
-abbrev pub testsOf : Sought → List Mark
+abbrev pub testsOf : EffortAsked → List Mark
 testsOf (refused r) = []
-testsOf (sought n ms) = ms
+testsOf (told n ms) = ms
 
 -- what an allowance lists: the places that its tests find, before the first that is past the table
-abbrev pub listOf : Sought → ℕ → List ℕ
+abbrev pub listOf : EffortAsked → ℕ → List ℕ
 listOf (refused r) a = []
-listOf (sought n ms) a = sound n (items a ms)
+listOf (told n ms) a = sound n (items a ms)
 
 -- a reply without its effort
 abbrev pub plain : EffortReply → Answer
@@ -42,7 +42,7 @@ abbrev pub Carries : EffortReply → Type 0
 Carries r = (effortNumber r ≡ 0) ⊎ (effortNumber r ≡ 10)
 
 -- of a box question with an effort, beside the box without one, for a build of so many lamps
-pub record Stated (x : Sought) (box : Asked) (count : ℕ) : Type 0 where
+pub record Stated (x : EffortAsked) (box : Asked) (count : ℕ) : Type 0 where
   -- it carries how many places are listed and how many slots were tested, as many as the allowance or all that the definition of the
   -- search tests
   pub items : (a room : ℕ) → Carries (replyOf x a room) → effortCarried (replyOf x a room) .items ≡ length (listOf x a)

@@ -20,7 +20,8 @@ use Rattle.boxplan.specs.Rule.{halfCircle, wrapped, newWest, newEast, planOf}
 use Rattle.boxplan.specs.Worked.{west, east}
 use Rattle.spending.specs.declared.EffortReply.the-variants.{Found, Box, NoRoom, Spoiled}
 use Rattle.spending.specs.Trials.{Mark, mark, marks, hits}
-use Rattle.efforts.specs.Effort.{Sought, refused, sought, replyOf, columnOf, effortAsked}
+use Rattle.asking.specs.Asked.{refused, told}
+use Rattle.efforts.specs.Effort.{EffortAsked, replyOf, columnOf, effortAsked}
 
 -- lamps at -180, -170, 0, 170 and 180 in table 1, one entry in table 0, and two slots at most in an interval that is not split
 abbrev state : State
@@ -42,12 +43,12 @@ coords =
     ∷ half ∷ half ∷ []
 
 -- the box from -180.00000000000006 to -170: its first half is the whole row
-abbrev asked : List ℕ → Sought
+abbrev asked : List ℕ → EffortAsked
 asked is = effortAsked state is coords 9 west zero east one
 
 -- the first half tests the median, the right part, and the left; the second its median, which does not pass, and the left part alone
 pub worked-tests : asked ids
-    ≡ sought 5 (mark true 2 ∷ mark true 3 ∷ mark true 4 ∷ mark true 0 ∷ mark true 1 ∷ mark false 2 ∷ mark true 0 ∷ mark true 1 ∷ [])
+    ≡ told 5 (mark true 2 ∷ mark true 3 ∷ mark true 4 ∷ mark true 0 ∷ mark true 1 ∷ mark false 2 ∷ mark true 0 ∷ mark true 1 ∷ [])
 unfolding effortAsked flatMap planOf newWest newEast wrapped converted mercatorX ofInt neg add sub div sum rem round le lt eq stateOk packed optionsOk systemInBounds slots scanned shape split marks
 worked-tests = refl
 
@@ -83,7 +84,7 @@ abbrev spoilt : List ℕ
 spoilt = 0 ∷ 5 ∷ 2 ∷ 3 ∷ 4 ∷ 0 ∷ []
 
 pub worked-spoilt : asked spoilt
-    ≡ sought 5 (mark true 2 ∷ mark true 3 ∷ mark true 4 ∷ mark true 0 ∷ mark true 5 ∷ mark false 2 ∷ mark true 0 ∷ mark true 5 ∷ [])
+    ≡ told 5 (mark true 2 ∷ mark true 3 ∷ mark true 4 ∷ mark true 0 ∷ mark true 5 ∷ mark false 2 ∷ mark true 0 ∷ mark true 5 ∷ [])
 unfolding effortAsked flatMap planOf newWest newEast wrapped converted mercatorX ofInt neg add sub div sum rem round le lt eq stateOk packed optionsOk systemInBounds slots scanned shape split marks
 worked-spoilt = refl
 

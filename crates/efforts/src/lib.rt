@@ -13,7 +13,7 @@ ghost use Rattle.kdbush.specs.Reply.{indexOk};
 ghost use Rattle.tables.specs.Options.{zoomUsed};
 ghost use Rattle.tables.specs.Columns.{part};
 ghost use Rattle.tables.specs.Sound.{stateOk};
-ghost use Rattle.asking.specs.Columns.{indexRoom};
+ghost use Rattle.tables.specs.Room.{indexRoom};
 ghost use Rattle.boxplan.specs.Queries.{queriesOf};
 ghost use Rattle.spending.specs.Trials.{trials};
 ghost use Rattle.spending.specs.Reply.{answer, column};
@@ -98,7 +98,7 @@ pub fn effort_box(
         let a = effortAsked s (old ids) (old coords) zoom west «least_y» east «greatest_y» in
         ⌜ (r ≡ replyOf a allowance (length (old out))) × (new out ≡ columnOf a allowance (old out)) ⌝ }
 {
-    if !s.is_sound(asking::index_room(ids, coords)) {
+    if !s.is_sound(tables::index_room(ids, coords)) {
         return EffortReply::Spoiled;
     }
     let o = s.options;

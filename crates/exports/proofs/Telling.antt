@@ -13,7 +13,7 @@ use Rattle.asking.specs.Asked.{Asked, answerOf, columnOf}
 use Rattle.spending.specs.declared.Effort.{Effort}
 use Rattle.spending.specs.declared.EffortReply.{EffortReply}
 use Rattle.spending.specs.Reply.{effortNumber, effortCarried}
-use Rattle.efforts.specs.Effort.{Sought, replyOf, columnOf as effortColumn}
+use Rattle.efforts.specs.Effort.{EffortAsked, replyOf, columnOf as effortColumn}
 use Rattle.tiles.specs.Asked.{Outcome, outcome}
 use Rattle.exports.specs.Told.{said, told, toldOf, effortTold, repliedWith, effortToldOf, tileTold, tileOf}
 
@@ -33,14 +33,14 @@ told-is out a b {k = k} {r = r} {l = l} e f g h q =
     ∙ ap (λ (t : List ℕ). told (answerNumber (answerOf a (length out))) (answerCarried (answerOf a (length out))) t) h
     ∙ ap (λ (t : Asked). toldOf t out) q
 
-pub effort-told-is : (a : ℕ) (out : List ℕ) (x y : Sought) {n : ℕ} {k : Effort} {r : EffortReply} {l : List ℕ} → n ≡ effortNumber r → k ≡ effortCarried r → r ≡ replyOf x a (length out)
+pub effort-told-is : (a : ℕ) (out : List ℕ) (x y : EffortAsked) {n : ℕ} {k : Effort} {r : EffortReply} {l : List ℕ} → n ≡ effortNumber r → k ≡ effortCarried r → r ≡ replyOf x a (length out)
     → l ≡ effortColumn x a out → x ≡ y → effortTold n (k .items) (k .tested) (k .stopped) l ≡ effortToldOf y a out
 effort-told-is a out x y {k = k} {r = r} {l = l} e f g h q =
     ap (λ (i : ℕ). effortTold i (k .items) (k .tested) (k .stopped) l) e
     ∙ ap (λ (t : Effort). effortTold (effortNumber r) (t .items) (t .tested) (t .stopped) l) f
     ∙ ap (λ (t : EffortReply). repliedWith t l) g
     ∙ ap (λ (t : List ℕ). repliedWith (replyOf x a (length out)) t) h
-    ∙ ap (λ (t : Sought). effortToldOf t a out) q
+    ∙ ap (λ (t : EffortAsked). effortToldOf t a out) q
 
 pub tile-told-is : {n k : ℕ} {r : Answer} {places : List ℕ} {xs ys : List ℤ} {o : Outcome} → n ≡ answerNumber r → k ≡ answerCarried r → outcome r places xs ys ≡ o
     → tileTold n k places xs ys ≡ tileOf o

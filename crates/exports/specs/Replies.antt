@@ -16,7 +16,7 @@ use Rattle.kdwalk.specs.Reply.{stepNumber, firstStep, afterStep, stepCarried}
 use Rattle.tables.specs.declared.Options.{Options}
 use Rattle.tables.specs.declared.State.{State}
 use Rattle.supercluster.specs.Build.{Lent, loaded}
-use Rattle.asking.specs.Columns.{Columns}
+use Rattle.tables.specs.Room.{Columns}
 use Rattle.boxes.specs.Lists.{boxAsked, ringAsked}
 use Rattle.efforts.specs.Effort.{effortAsked}
 use Rattle.walks.specs.Children.{childrenOf}

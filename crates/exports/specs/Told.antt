@@ -8,7 +8,7 @@ use Rattle.asking.specs.Answers.{answerNumber, answerCarried}
 use Rattle.asking.specs.Asked.{Asked, answerOf, columnOf}
 use Rattle.spending.specs.declared.EffortReply.{EffortReply}
 use Rattle.spending.specs.Reply.{effortNumber, effortCarried}
-use Rattle.efforts.specs.Effort.{Sought, replyOf, columnOf as effortColumn}
+use Rattle.efforts.specs.Effort.{EffortAsked, replyOf, columnOf as effortColumn}
 use Rattle.walks.specs.declared.Expansion.{Expansion}
 use Rattle.walks.specs.Expansion.{expansionNumber, expansionCarried}
 use Rattle.tiling.specs.declared.Tally.{Tally}
@@ -57,7 +57,7 @@ effortTold n k t b out = record { number = n; carried = k; tested = t; stopped =
 abbrev pub repliedWith : EffortReply → List ℕ → EffortTold
 repliedWith r out = effortTold (effortNumber r) (effortCarried r .items) (effortCarried r .tested) (effortCarried r .stopped) out
 
-abbrev pub effortToldOf : Sought → ℕ → List ℕ → EffortTold
+abbrev pub effortToldOf : EffortAsked → ℕ → List ℕ → EffortTold
 effortToldOf x a out = repliedWith (replyOf x a (length out)) (effortColumn x a out)
 
 -- of a tile

@@ -18,7 +18,7 @@ ghost use Rattle.supercluster.specs.Build.{loaded};
 ghost use Rattle.supercluster.specs.Lent.{lentAll};
 ghost use Rattle.kdsort.specs.Cols.{cols};
 ghost use Rattle.tables.specs.State.{stateOf};
-ghost use Rattle.asking.specs.Lent.{lentColumns};
+ghost use Rattle.tables.specs.Lent.{lentColumns};
 ghost use Rattle.lent.specs.Lent.{old, new};
 ghost use Rattle.boxes.specs.Lists.{boxAsked, ringAsked};
 ghost use Rattle.efforts.specs.Effort.{effortAsked};

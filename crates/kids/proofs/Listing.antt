@@ -22,7 +22,8 @@ use Rattle.kdbush.specs.Run.{filled}
 use Rattle.tables.specs.declared.Entry.{Entry}
 use Rattle.tables.specs.Entries.{entry}
 use Rattle.asking.specs.declared.Ring.{Ring}
-use Rattle.asking.specs.Columns.{Columns, part-getD}
+use Rattle.tables.specs.Room.{Columns}
+use Rattle.asking.specs.Columns.{part-getD}
 use Rattle.asking.specs.Filled.{filled-none, filled-next, filled-length}
 use Rattle.asking.specs.Around.{slotsOf, aheadIn, ring-below, ring-next, ring-end, slots-few}
 use Rattle.kids.specs.declared.Kids.the-variants.{All, Spoiled}

@@ -14,7 +14,8 @@ use Rattle.tables.specs.declared.State.{State}
 use Rattle.tables.specs.State.{lenOf}
 use Rattle.tables.specs.Entries.{Table, entry}
 use Rattle.tables.specs.Radius.{radiusAt}
-use Rattle.asking.specs.Columns.{Columns, tableAt, idsAt, coordsAt}
+use Rattle.tables.specs.Room.{Columns}
+use Rattle.asking.specs.Columns.{tableAt, idsAt, coordsAt}
 
 -- `within` at the entry o of zoom z's table: r is that of zoom z - 1, with 2^(z - 1)
 abbrev pub queryAround : State → Columns → ℕ → ℕ → Query

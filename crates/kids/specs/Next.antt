@@ -21,7 +21,9 @@ use Rattle.tables.specs.Entries.{Table, entry}
 use Rattle.tables.specs.Rows.{rows}
 use Rattle.tables.specs.Columns.{part}
 use Rattle.asking.specs.declared.Ring.{Ring}
-use Rattle.asking.specs.Columns.{Columns, roomOf, tableAt, room-index, index-held}
+use Rattle.tables.specs.Room.{Columns, roomOf}
+use Rattle.tables.specs.Roomy.{room-index, index-roomy}
+use Rattle.asking.specs.Columns.{tableAt}
 use Rattle.asking.specs.Reached.{Reached, near}
 use Rattle.asking.specs.Around.{ringOf, slotsOf, aheadIn}
 use Rattle.kids.specs.declared.Child.{Child}
@@ -35,7 +37,7 @@ use Rattle.kids.specs.Within.{around-places}
 
 -- the index holds as many entries as there is room for
 pub index-room : (c : Columns) (n : ℕ) → n ≤ roomOf c → (n ≤ length (c .ids)) × (2 * n ≤ length (c .coords))
-index-room c n h = index-held (c .ids) (c .coords) n (room-index c n h)
+index-room c n h = index-roomy (c .ids) (c .coords) n (room-index c n h)
 
 -- they reach over the table of a place that was reached
 pub ring-room : (s : State) (c : Columns) (cap z o : ℕ) (g : Ring) → Reached s cap z o → cap ≤ roomOf c → g ≡ ringOf s (tableAt s c z) z o

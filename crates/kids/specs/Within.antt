@@ -33,7 +33,8 @@ use Rattle.tables.specs.State.{lenOf}
 use Rattle.tables.specs.Sound.{Stands, given}
 use Rattle.tables.specs.Entries.{entry}
 use Rattle.tables.specs.Radius.{radiusAt, radius-fine}
-use Rattle.asking.specs.Columns.{Columns, roomOf, tableAt, idsAt, coordsAt, coords-length, stands-index}
+use Rattle.tables.specs.Room.{Columns, roomOf}
+use Rattle.asking.specs.Columns.{tableAt, idsAt, coordsAt, coords-length, stands-index}
 use Rattle.asking.specs.Reached.{Reached, reached-stands, near}
 use Rattle.asking.specs.Around.{ringOf, slotsOf}
 use Rattle.kids.specs.Kids.{queryAround, placesAround}

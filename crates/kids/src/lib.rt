@@ -7,8 +7,8 @@ ghost use mathlib.Core.Path.{_≡_};
 ghost use Prim.Native.Nat.{_+_, _≤_};
 ghost use Rattle.lent.specs.Lent.{old, new};
 ghost use Rattle.kdslots.specs.All.{AllBelow};
-ghost use Rattle.asking.specs.Columns.{roomOf};
-ghost use Rattle.asking.specs.Lent.{givenColumns, lentColumns};
+ghost use Rattle.tables.specs.Room.{roomOf};
+ghost use Rattle.tables.specs.Lent.{givenColumns, lentColumns};
 ghost use Rattle.asking.specs.Around.{aheadIn};
 ghost use Rattle.kids.specs.Next.{Listed, nextIn, childIn};
 

@@ -16,7 +16,7 @@ use Rattle.kdslots.specs.Keep.{keep}
 use Rattle.supercluster.specs.declared.LoadReply.the-variants.{Done}
 use Rattle.tables.specs.declared.State.{State}
 use Rattle.asking.specs.Asked.{Asked, told}
-use Rattle.asking.specs.Columns.{Columns}
+use Rattle.tables.specs.Room.{Columns}
 use Rattle.boxes.specs.Lists.{boxAsked}
 use Rattle.supercluster.specs.Build.{Lent}
 use Rattle.answers.specs.Stored.{columnsOf, loadedBy}

@@ -11,7 +11,8 @@ use Rattle.tables.specs.Entries.{entry}
 use Rattle.groups.specs.Sums.{count, range}
 use Rattle.asking.specs.declared.Answer.the-variants.{Listed}
 use Rattle.asking.specs.Asked.{Asked, refused, told, answerOf, columnOf}
-use Rattle.asking.specs.Columns.{Columns, tableAt}
+use Rattle.tables.specs.Room.{Columns}
+use Rattle.asking.specs.Columns.{tableAt}
 use Rattle.walks.specs.Leaves.{leavesOf}
 use Rattle.lamps.specs.Owner.{gather}
 

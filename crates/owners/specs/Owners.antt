@@ -14,7 +14,8 @@ use Rattle.tables.specs.Entries.{entry}
 use Rattle.groups.specs.Sums.{gate, one, sum, count, range}
 use Rattle.asking.specs.declared.Answer.the-variants.{Listed}
 use Rattle.asking.specs.Asked.{told, answerOf, columnOf}
-use Rattle.asking.specs.Columns.{Columns, tableAt}
+use Rattle.tables.specs.Room.{Columns}
+use Rattle.asking.specs.Columns.{tableAt}
 use Rattle.lamps.specs.Owner.{up}
 use Rattle.owners.specs.LeafPages.{numAt, asked, LeafPages}
 

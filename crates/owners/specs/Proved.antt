@@ -15,7 +15,8 @@ use Rattle.tables.specs.Entries.{Table, entry}
 use Rattle.groups.specs.Sums.{one, sum, count, range, below, gate}
 use Rattle.asking.specs.declared.Answer.the-variants.{Listed}
 use Rattle.asking.specs.Asked.{Asked, told, answerOf, columnOf}
-use Rattle.asking.specs.Columns.{Columns, tableAt}
+use Rattle.tables.specs.Room.{Columns}
+use Rattle.asking.specs.Columns.{tableAt}
 use Rattle.walks.specs.Leaves.{leavesOf}
 use Rattle.supercluster.specs.Build.{Lent, Outcome, need}
 use Rattle.supercluster.specs.Load.{Holds}

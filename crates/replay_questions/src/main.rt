@@ -32,7 +32,7 @@ ghost use Prim.Native.Nat.{_≤_};
 ghost use lib.ListN.{length};
 ghost use Rattle.lent.specs.Lent.{old, new};
 ghost use Rattle.asking.specs.Asked.{answerOf, columnOf};
-ghost use Rattle.asking.specs.Lent.{lentColumns};
+ghost use Rattle.tables.specs.Lent.{lentColumns};
 ghost use Rattle.walks.specs.Expansion.{zoomOf};
 ghost use Rattle.tiles.specs.Asked.{tiled};
 ghost use Rattle.tiles.specs.Tallied.{tallied};
@@ -716,7 +716,7 @@ fn replay_tiled(
     let Told::Reply(reply) = read_reply(false) else {
         return Verdict::Malformed;
     };
-    let Count::Is(m) = vectors::next_count(asking::less(room, asking::less(room_x, room_y)), last)
+    let Count::Is(m) = vectors::next_count(tables::less(room, tables::less(room_x, room_y)), last)
     else {
         return Verdict::Malformed;
     };
@@ -957,10 +957,10 @@ fn replay_state(options: Options) -> Verdict {
     };
     let mut starts = [0u32; 32];
     let mut lens = [0u32; 32];
-    if !vectors::read_places(32, false, &mut starts) {
+    if !vectors::read_places(tables::ZOOMS as usize, false, &mut starts) {
         return Verdict::Malformed;
     }
-    if !vectors::read_places(32, false, &mut lens) {
+    if !vectors::read_places(tables::ZOOMS as usize, false, &mut lens) {
         return Verdict::Malformed;
     }
     replay_columns(State {

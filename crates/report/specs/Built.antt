@@ -2,21 +2,23 @@
 -- room for each line. Assumes nothing.
 use mathlib.Core.List.{List, map}
 use mathlib.Core.Path.{_≡_, refl, ap, sym, _∙_, subst}
-use Prim.Native.Nat.{ℕ, _+_, _-_, _≤_}
+use Prim.Native.Nat.{ℕ, _+_, _-_, _/_, _≤_, min}
 use native.Mathlib.Omega.{arith}
+use lib.Dec.{leb}
 use lib.ListN.{length, length-map}
 use Rattle.kdbush.specs.Reply.{firstOutside}
 use Rattle.tables.specs.Bounds.{options-are}
 use Rattle.tables.specs.Entries.{Table}
 use Rattle.tables.specs.Options.{optionsOk}
 use Rattle.tables.specs.Rows.{kept-even}
+use Rattle.tables.specs.Room.{roomBy}
 use Rattle.tables.specs.declared.Entry.{Entry}
 use Rattle.tables.specs.declared.Options.{Options}
 use Rattle.tables.specs.declared.State.{State}
 use Rattle.zooms.specs.Zooms.{joined, over}
 use Rattle.supercluster.specs.declared.LoadReply.{LoadReply}
 use Rattle.supercluster.specs.declared.LoadReply.the-variants.{Done, Options as No·Options, Count, Point, Energy, Tables}
-use Rattle.supercluster.specs.Build.{convertedAll, Lent, written, stateOf, need, roomyBy, firstOver, tripleOk, ordered}
+use Rattle.supercluster.specs.Build.{convertedAll, Lent, written, stateOf, need, firstOver, tripleOk, ordered}
 use Rattle.supercluster.specs.Build.{checked, loadNumber, loadCarried, Outcome, outcome, loaded}
 use Rattle.supercluster.specs.Held.{heldBy, built-held, built-within}
 use Rattle.supercluster.specs.Load.{accepted, replies, holds, rowsIn, EvenIn, by-reply}
@@ -49,7 +51,8 @@ checked-sized o p l m s t =
     let n = s .near ∙ sym (t .near) in
     λ i. ordered (optionsOk o) (tripleOk (p .xs) (p .ys) (p .energies))
     (firstOutside (map (λ p. p .x) ps) (map (λ p. p .y) ps) 0) (firstOver (p .energies) 0)
-    (roomyBy (need o (length (p .xs))) (k .kx i) (k .ky i) (k .ks i) (k .ki i) (k .kp i) (k .kn i) (k .kw i) (d i) (c i) (n i))
+    (leb (need o (length (p .xs)))
+    (min (roomBy (k .kx i) (k .ky i) (k .ks i) (k .ki i) (k .kp i) (k .kn i) (k .kw i) (min (d i) (c i / 2))) (n i)))
 
 columns-sized : Sized columns
 unfolding columns

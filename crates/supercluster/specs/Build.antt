@@ -3,7 +3,7 @@
 -- Definitions only.
 use mathlib.Core.Bool.{Bool, true, false, cond, _&&_}
 use mathlib.Core.List.{List, [], _∷_, map}
-use Prim.Native.Nat.{ℕ, suc, _+_, _*_}
+use Prim.Native.Nat.{ℕ, suc, _+_, _*_, min}
 use lib.Dec.{leb, eqb}
 use lib.ListN.{length, getD, replicate}
 use lib.Ieee.{Float}
@@ -20,6 +20,7 @@ use Rattle.tables.specs.Options.{optionsOk, tableCount}
 use Rattle.tables.specs.State.{newState}
 use Rattle.tables.specs.Entries.{Table, never, unset, xsOf, ysOf, seenOf, idsOf, parentsOf, numsOf, energiesOf}
 use Rattle.tables.specs.Rows.{Cols, cols, each2}
+use Rattle.tables.specs.Room.{columns, roomOf}
 use Rattle.zooms.specs.Zooms.{planOf, run, zoomsOf, joined, joinedIds, joinedCo, over, starts, lens}
 use Rattle.supercluster.specs.declared.LoadReply.{LoadReply}
 use Rattle.supercluster.specs.declared.LoadReply.the-variants.{Done, Options as No·Options, Count, Point as No·Point, Energy, Tables}
@@ -88,17 +89,13 @@ stateOf o n ts =
 abbrev pub need : Options → ℕ → ℕ
 need o n = tableCount o * n
 
--- columns of these lengths hold m entries each, and the index coordinates twice that
-abbrev pub roomyBy : ℕ → ℕ → ℕ → ℕ → ℕ → ℕ → ℕ → ℕ → ℕ → ℕ → ℕ → Bool
-roomyBy m x y seen id parent num energy ids coords near =
-    leb m x && leb m y && leb m seen && leb m id && leb m parent && leb m num && leb m energy
-    && leb m ids && leb (2 * m) coords && leb m near
+-- for how many entries every lent column has room
+abbrev pub roomIn : Lent → ℕ
+roomIn l = min (roomOf (columns (l .table) (l .ids) (l .coords))) (length (l .near))
 
+-- the lent columns hold m entries each
 abbrev pub roomy : ℕ → Lent → Bool
-roomy m l =
-    let c = l .table in
-    roomyBy m (length (c .x)) (length (c .y)) (length (c .seen)) (length (c .id)) (length (c .parent)) (length (c .num))
-    (length (c .energy)) (length (l .ids)) (length (l .coords)) (length (l .near))
+roomy m l = leb m (roomIn l)
 
 -- the largest energy of a point, in watt-hours: 2^40
 abbrev pub mostEnergy : ℕ

@@ -3,7 +3,7 @@
 use mathlib.Core.Path.{_≡_, refl, ap, sym, _∙_}
 use mathlib.Core.Bool.{Bool, true, false}
 use mathlib.Core.List.{List, _++_, map}
-use Prim.Native.Nat.{ℕ, _+_, _*_, _≤_}
+use Prim.Native.Nat.{ℕ, _+_, _*_, _≤_, min}
 use native.Mathlib.Omega.{arith}
 use borrow.Author.Tests.{leb-true, eqb-true}
 use lib.Dec.{leb, eqb}
@@ -20,6 +20,8 @@ use Rattle.supercluster.specs.declared.LoadReply.the-variants.{Done, Opt
 use Rattle.tables.specs.Columns.{xs-rows, ys-rows, seen-rows, id-rows, parent-rows, num-rows, energy-rows}
 use Rattle.tables.specs.Entries.{Table}
 use Rattle.tables.specs.Options.{optionsOk}
+use Rattle.tables.specs.Room.{columns, roomOf}
+use Rattle.tables.specs.Roomy.{low, high, each-roomy, room-index, index-roomy}
 use Rattle.tables.specs.Rows.{Cols, rows, Even, each, each2}
 use Rattle.tables.specs.declared.Entry.{Entry}
 use Rattle.tables.specs.declared.Options.{Options}
@@ -77,27 +79,22 @@ pub record Holds (m : ℕ) (l : Lent) : Type 0 where
 
 pub holds : (m : ℕ) (l : Lent) → roomy m l ≡ true → Holds m l
 holds m l e =
-    let b10 = and-both _ (leb m (length (l .near))) e in
-    let b9 = and-both _ (leb (2 * m) (length (l .coords))) (b10 .0) in
-    let b8 = and-both _ (leb m (length (l .ids))) (b9 .0) in
-    let b7 = and-both _ (leb m (length (l .table .energy))) (b8 .0) in
-    let b6 = and-both _ (leb m (length (l .table .num))) (b7 .0) in
-    let b5 = and-both _ (leb m (length (l .table .parent))) (b6 .0) in
-    let b4 = and-both _ (leb m (length (l .table .id))) (b5 .0) in
-    let b3 = and-both _ (leb m (length (l .table .seen))) (b4 .0) in
-    let b2 = and-both (leb m (length (l .table .x))) (leb m (length (l .table .y))) (b3 .0) in
-    let c = leb-true (2 * m) (length (l .coords)) (b9 .1) in
+    let c = columns (l .table) (l .ids) (l .coords) in
+    let w : m ≤ min (roomOf c) (length (l .near)) = leb-true m _ e in
+    let a = low (roomOf c) (length (l .near)) m w in
+    let h = each-roomy c m a in
+    let k = index-roomy (l .ids) (l .coords) m (room-index c m a) in
     record {
-      hx = leb-true m (length (l .table .x)) (b2 .0);
-      hy = leb-true m (length (l .table .y)) (b2 .1);
-      hs = leb-true m (length (l .table .seen)) (b3 .1);
-      hi = leb-true m (length (l .table .id)) (b4 .1);
-      hp = leb-true m (length (l .table .parent)) (b5 .1);
-      hn = leb-true m (length (l .table .num)) (b6 .1);
-      hw = leb-true m (length (l .table .energy)) (b7 .1);
-      hd = leb-true m (length (l .ids)) (b8 .1);
-      hc = omega (arith, c);
-      hr = leb-true m (length (l .near)) (b10 .1);
+      hx = h .hx;
+      hy = h .hy;
+      hs = h .hs;
+      hi = h .hi;
+      hp = h .hp;
+      hn = h .hn;
+      hw = h .hw;
+      hd = k .0;
+      hc = omega (arith, k .1);
+      hr = high (roomOf c) (length (l .near)) m w;
     }
 
 -- one column, from the rows

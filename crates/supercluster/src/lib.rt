@@ -9,6 +9,7 @@ use tables::State;
 ghost use mathlib.Core.Path.{_≡_};
 ghost use mathlib.Core.List.{map};
 ghost use Prim.Native.Nat.{_+_, _*_, _≤_};
+ghost use lib.Dec.{leb};
 ghost use lib.ListN.{length, replicate};
 ghost use Rattle.kdbush.specs.Reply.{firstOutside};
 ghost use Rattle.lent.specs.Lent.{old, new};
@@ -17,7 +18,7 @@ ghost use Rattle.tables.specs.Lent.{given, lentCols};
 ghost use Rattle.tables.specs.Options.{optionsOk};
 ghost use Rattle.tables.specs.State.{newState};
 ghost use Rattle.zooms.specs.Zooms.{over};
-ghost use Rattle.supercluster.specs.Build.{convertedAll, finest, written, stateOf, tablesOf, need, roomyBy, firstOver, tripleOk};
+ghost use Rattle.supercluster.specs.Build.{convertedAll, finest, written, stateOf, tablesOf, need, firstOver, tripleOk};
 ghost use Rattle.supercluster.specs.Build.{ordered, loadNumber, loadCarried, outcome, loaded};
 ghost use Rattle.supercluster.specs.Lent.{givenAll, lentAll};
 ghost use Rattle.supercluster.specs.Ready.{Accepted, Made};
@@ -260,75 +261,12 @@ fn first_over(energies: &[u64]) -> Outside
     Outside::Nothing
 }
 
-// Whether columns of these lengths hold m entries each, and the index coordinates twice that.
-fn is_roomy(
-    m: usize,
-    x: usize,
-    y: usize,
-    seen: usize,
-    id: usize,
-    parent: usize,
-    num: usize,
-    energy: usize,
-    ids: usize,
-    coords: usize,
-    near: usize,
-) -> bool
-    requires { ⌜ m ≤ 33554432 ⌝ }
-    ensures { λ r. ⌜ r ≡ roomyBy m x y seen id parent num energy ids coords near ⌝ }
-{
-    if x < m {
-        return false;
-    }
-    if y < m {
-        return false;
-    }
-    if seen < m {
-        return false;
-    }
-    if id < m {
-        return false;
-    }
-    if parent < m {
-        return false;
-    }
-    if num < m {
-        return false;
-    }
-    if energy < m {
-        return false;
-    }
-    if ids < m {
-        return false;
-    }
-    if coords < 2 * m {
-        return false;
-    }
-    m <= near
-}
-
 // The refusal of a build, if there is one, for columns of these lengths.
-fn check(
-    o: Options,
-    xs: &[f64],
-    ys: &[f64],
-    energies: &[u64],
-    x: usize,
-    y: usize,
-    seen: usize,
-    id: usize,
-    parent: usize,
-    num: usize,
-    energy: usize,
-    ids: usize,
-    coords: usize,
-    near: usize,
-) -> LoadReply
+fn check(o: Options, xs: &[f64], ys: &[f64], energies: &[u64], room: usize) -> LoadReply
     ensures { λ r.
         let ps = convertedAll (o .«coordinate_system») (old xs) (old ys) in
         ⌜ r ≡ ordered (optionsOk o) (tripleOk (old xs) (old ys) (old energies)) (firstOutside (map (λ p. p .x) ps) (map (λ p. p .y) ps) 0)
-        (firstOver (old energies) 0)
-        (roomyBy (need o (length (old xs))) x y seen id parent num energy ids coords near) ⌝ }
+        (firstOver (old energies) 0) (leb (need o (length (old xs))) room) ⌝ }
 {
     if !o.is_in_bounds() {
         return LoadReply::Options;
@@ -353,8 +291,7 @@ fn check(
     if let Outside::At(i) = first_over(energies) {
         return LoadReply::Energy(i);
     }
-    let m = tables::table_count(o) * n;
-    if !is_roomy(m, x, y, seen, id, parent, num, energy, ids, coords, near) {
+    if room < tables::table_count(o) * n {
         return LoadReply::Tables;
     }
     LoadReply::Done
@@ -389,11 +326,8 @@ pub fn load(
         let l = lentAll x y seen id parent num energy ids coords near in
         ⌜ outcome r (l .exit) ≡ loaded o (old xs) (old ys) (old energies) (l .entry) ⌝ }
 {
-    match check(
-        o,
-        xs,
-        ys,
-        energies,
+    let index = tables::less(ids.len(), coords.len() / 2);
+    let held = tables::room_by(
         x.len(),
         y.len(),
         seen.len(),
@@ -401,10 +335,9 @@ pub fn load(
         parent.len(),
         num.len(),
         energy.len(),
-        ids.len(),
-        coords.len(),
-        near.len(),
-    ) {
+        index,
+    );
+    match check(o, xs, ys, energies, tables::less(held, near.len())) {
         LoadReply::Done => {
             let state = build_all(
                 o,

@@ -7,6 +7,8 @@ pub mod State
 pub mod Sound
 pub mod Entries
 pub mod Rows
+pub mod Room
+pub mod Roomy
 pub mod Lent
 pub mod Columns
 pub mod Ids

@@ -5,7 +5,7 @@ use range::DataRange;
 use range::Setting;
 ghost use mathlib.Core.Path.{_≡_};
 ghost use mathlib.Core.Bool.{_&&_};
-ghost use Prim.Native.Nat.{_+_, _<_, _≤_};
+ghost use Prim.Native.Nat.{_+_, _<_, _≤_, min};
 ghost use lib.Dec.{eqb};
 ghost use lib.ListN.{length, set};
 ghost use Rattle.tables.specs.Given.{settingOf, systemOf};
@@ -14,7 +14,9 @@ ghost use Rattle.tables.specs.State.{newState, withTable, startOf, lenOf
 ghost use Rattle.tables.specs.Sound.{isTable, packed, stateOk};
 ghost use Rattle.tables.specs.Entries.{entry};
 ghost use Rattle.tables.specs.Rows.{rows, Even};
-ghost use Rattle.tables.specs.Lent.{given, lentCols};
+ghost use Rattle.lent.specs.Lent.{old};
+ghost use Rattle.tables.specs.Room.{indexRoom, roomBy, roomOf};
+ghost use Rattle.tables.specs.Lent.{given, lentCols, lentColumns};
 ghost use Rattle.tables.specs.Ids.{clusterId, originOf, tableOf};
 ghost use Rattle.tables.specs.Radius.{radiusAt};
 
@@ -41,6 +43,12 @@ pub struct State {
 
 // What `seen` is before any zoom has seen an entry: it stands for the Rust's infinity.
 pub const NEVER: u8 = 255;
+
+// The most points of a build, as a state counts them.
+pub const MOST_COUNT: u32 = kdslots::MOST_POINTS as u32;
+
+// A state has its tables by zoom, 0 to 31; ids go up by as many from one origin to the next.
+pub const ZOOMS: u32 = 32;
 
 // What `parent` is where no cluster has absorbed an entry: it stands for the Rust's -1.
 pub const UNSET: u32 = 4294967295;
@@ -232,7 +240,7 @@ pub fn is_sound_by(s: State, starts: &[u32; 32], lens: &[u32; 32], cap: usize) -
     if s.count < 1 {
         return false;
     }
-    if 1048576 < s.count {
+    if MOST_COUNT < s.count {
         return false;
     }
     s.is_filled(starts, lens, cap)
@@ -315,7 +323,7 @@ pub fn cluster_id(origin: usize, zoom: u8, n: u32) -> u32
     requires { ⌜ (origin < 1048576) × (zoom ≤ 30) × (n ≤ 1048576) ⌝ }
     ensures { λ r. ⌜ r ≡ clusterId n zoom origin ⌝ }
 {
-    origin as u32 * 32 + (zoom as u32 + 1) + n
+    origin as u32 * ZOOMS + (zoom as u32 + 1) + n
 }
 
 // The place of the entry that a cluster was made at.
@@ -323,7 +331,7 @@ pub fn origin_of(id: u32, n: u32) -> usize
     requires { ⌜ n ≤ id ⌝ }
     ensures { λ r. ⌜ r ≡ originOf n id ⌝ }
 {
-    ((id - n) / 32) as usize
+    ((id - n) / ZOOMS) as usize
 }
 
 // The table of the entry that a cluster was made at.
@@ -331,7 +339,7 @@ pub fn table_of(id: u32, n: u32) -> usize
     requires { ⌜ n ≤ id ⌝ }
     ensures { λ r. ⌜ r ≡ tableOf n id ⌝ }
 {
-    ((id - n) % 32) as usize
+    ((id - n) % ZOOMS) as usize
 }
 
 // The radius of a zoom, in the tables' units: radius / (extent * 2^zoom).
@@ -340,4 +348,70 @@ pub fn radius_at(radius: f64, extent: f64, zoom: u8) -> f64
     ensures { λ r. ⌜ r ≡ radiusAt radius extent zoom ⌝ }
 {
     radius / (extent * floats::power(zoom as u32))
+}
+
+// The smaller of two numbers.
+pub fn less(a: usize, b: usize) -> usize
+    ensures { λ r. ⌜ r ≡ min a b ⌝ }
+{
+    if a <= b {
+        return a;
+    }
+    b
+}
+
+// How many entries the columns of the index hold.
+pub fn index_room(ids: &[u32], coords: &[f64]) -> usize
+    ensures { λ r. ⌜ r ≡ indexRoom (old ids) (old coords) ⌝ }
+{
+    less(ids.len(), coords.len() / 2)
+}
+
+// How many entries columns of these lengths hold, and an index with room for so many.
+pub fn room_by(
+    x: usize,
+    y: usize,
+    seen: usize,
+    id: usize,
+    parent: usize,
+    num: usize,
+    energy: usize,
+    index: usize,
+) -> usize
+    ensures { λ r. ⌜ r ≡ roomBy x y seen id parent num energy index ⌝ }
+{
+    let a = less(x, y);
+    let b = less(seen, id);
+    let c = less(parent, num);
+    let d = less(a, b);
+    let e = less(energy, index);
+    let f = less(c, e);
+    less(d, f)
+}
+
+// How many entries the nine lent columns hold.
+pub fn room(
+    x: &[f64],
+    y: &[f64],
+    seen: &[u8],
+    id: &[u32],
+    parent: &[u32],
+    num: &[u32],
+    energy: &[u64],
+    ids: &[u32],
+    coords: &[f64],
+) -> usize
+    ensures { λ r. ⌜ r ≡ roomOf (lentColumns x y seen id parent num energy ids coords) ⌝ }
+{
+    let index = index_room(ids, coords);
+    room_by(
+        x.len(),
+        y.len(),
+        seen.len(),
+        id.len(),
+        parent.len(),
+        num.len(),
+        energy.len(),
+        index,
+    )
 }

@@ -13,7 +13,8 @@ use Rattle.asking.specs.declared.Answer.{Answer}
 use Rattle.asking.specs.declared.Answer.the-variants.{Tile, EmptyTile, Spoiled}
 use Rattle.asking.specs.Answers.{fitted}
 use Rattle.asking.specs.Asked.{AskedFor, refused, told}
-use Rattle.asking.specs.Columns.{Columns, roomOf, tableAt, idsAt, coordsAt}
+use Rattle.tables.specs.Room.{Columns, roomOf}
+use Rattle.asking.specs.Columns.{tableAt, idsAt, coordsAt}
 use Rattle.tiling.specs.declared.Item.{Item}
 use Rattle.tiling.specs.Tile.{Visit, isTile, visited, listed, whole, items}
 
@@ -28,7 +29,7 @@ visitsFor s c z x y =
 
 -- a question that lists items of a tile; whether the walk went to its end is whether everything that was found could be listed
 abbrev pub Asked : Type 0
-Asked = AskedFor Item
+Asked = AskedFor Answer Bool Item
 
 -- the refusals in 01's order: the state over the nine columns (11), no such tile (7)
 unfoldable pub asked : State → Columns → ℕ → ℕ → ℕ → Asked

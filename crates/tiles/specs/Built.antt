@@ -19,7 +19,8 @@ use Rattle.tables.specs.State.{lenOf}
 use Rattle.tables.specs.Sound.{stateOk, given}
 use Rattle.tables.specs.Entries.{entry, xsOf, ysOf}
 use Rattle.asking.specs.Asked.{told}
-use Rattle.asking.specs.Columns.{Columns, roomOf, idsAt, coordsAt}
+use Rattle.tables.specs.Room.{Columns, roomOf}
+use Rattle.asking.specs.Columns.{idsAt, coordsAt}
 use Rattle.tiling.specs.declared.Item.{Item}
 use Rattle.tiling.specs.Tile.{isTile, here, east, west, visited, listed, whole, items, itemOf}
 use Rattle.tiling.specs.Framed.{tile-is}

@@ -15,7 +15,7 @@ use Rattle.asking.specs.declared.Answer.{Answer}
 use Rattle.asking.specs.declared.Answer.the-variants.{Tile, Spoiled as No}
 use Rattle.asking.specs.Asked.{told}
 use Rattle.asking.specs.Filled.{filled-none}
-use Rattle.asking.specs.Columns.{Columns, roomOf}
+use Rattle.tables.specs.Room.{Columns, roomOf}
 use Rattle.tiling.specs.declared.Item.{Item}
 use Rattle.tiling.specs.declared.Ran.{Ran}
 use Rattle.tiling.specs.declared.Ran.the-variants.{All, Spoiled}

@@ -5,7 +5,7 @@ use Prim.Native.Nat.{ℕ}
 use lib.IntN.{ℤ}
 use Rattle.floats.specs.Replies.{same-reply}
 use Rattle.tables.specs.declared.State.{State}
-use Rattle.asking.specs.Columns.{Columns}
+use Rattle.tables.specs.Room.{Columns}
 use Rattle.tiling.specs.declared.Tally.{Tally}
 use Rattle.tiles.specs.Asked.{Outcome, tiled}
 use Rattle.tiles.specs.Tallied.{tallied}

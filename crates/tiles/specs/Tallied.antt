@@ -3,7 +3,7 @@ use mathlib.Core.Bool.{Bool, true, false, cond, not}
 use Prim.Native.Nat.{ℕ}
 use Rattle.tables.specs.declared.State.{State}
 use Rattle.tables.specs.Sound.{stateOk}
-use Rattle.asking.specs.Columns.{Columns, roomOf}
+use Rattle.tables.specs.Room.{Columns, roomOf}
 use Rattle.tiling.specs.declared.Tally.{Tally}
 use Rattle.tiling.specs.declared.Tally.the-variants.{Sum, Tile, Spoiled}
 use Rattle.tiling.specs.Tile.{isTile, whole}

@@ -16,7 +16,9 @@ use Rattle.tables.specs.Bounds.{InBounds}
 use Rattle.tables.specs.Entries.{Table}
 use Rattle.tables.specs.Rows.{rows, each}
 use Rattle.tables.specs.Columns.{part, part-long}
-use Rattle.asking.specs.Columns.{Columns, roomOf, Held, held, room-index, index-held, lent, lent-part, lent-rows, coordsAt, coords-length}
+use Rattle.tables.specs.Room.{Columns, roomOf}
+use Rattle.tables.specs.Roomy.{Roomy, each-roomy, room-index, index-roomy}
+use Rattle.asking.specs.Columns.{lent, lent-part, lent-rows, coordsAt, coords-length}
 use Rattle.asking.specs.Columns.{stands-index}
 use Rattle.tiling.specs.Tile.{visited}
 use Rattle.tiles.specs.Asked.{tableFor, visitsFor}
@@ -31,7 +33,7 @@ pub record Spot (s : State) (c : Columns) (u a n : ℕ) : Type 0 where
   pub size-to : s .options .«node_size» ≤ 65535
   pub some : 1 ≤ n
   pub most : n ≤ 1048576
-  pub rows-held : Held (a + n) (c .table)
+  pub rows-held : Roomy (a + n) (c .table)
   pub ids-held : a + n ≤ length (c .ids)
   pub coords-held : 2 * (a + n) ≤ length (c .coords)
 
@@ -40,7 +42,7 @@ spot s c z e =
     let g = given s (roomOf c) e in
     let w = used-stands s (roomOf c) e z in
     let k = w .0 in
-    let i = index-held (c .ids) (c .coords) _ (room-index c _ (k .ends)) in
+    let i = index-roomy (c .ids) (c .coords) _ (room-index c _ (k .ends)) in
     record {
       bounds = g .bounds;
       zooms = g .zooms;
@@ -50,7 +52,7 @@ spot s c z e =
       size-to = g .size-to;
       some = k .some;
       most = omega (arith, k .most, g .count-to);
-      rows-held = held c _ (k .ends);
+      rows-held = each-roomy c _ (k .ends);
       ids-held = i .0;
       coords-held = i .1;
     }

@@ -10,8 +10,8 @@ ghost use mathlib.Core.Bool.{true};
 ghost use Rattle.lent.specs.Lent.{old, new};
 ghost use Rattle.tables.specs.State.{stateOf};
 ghost use Rattle.tables.specs.Sound.{stateOk};
-ghost use Rattle.asking.specs.Columns.{roomOf};
-ghost use Rattle.asking.specs.Lent.{givenColumns, lentColumns};
+ghost use Rattle.tables.specs.Room.{roomOf};
+ghost use Rattle.tables.specs.Lent.{givenColumns, lentColumns};
 ghost use Rattle.tiling.specs.Framed.{IsTile};
 ghost use Rattle.tiling.specs.Runs.{left, run};
 ghost use Rattle.tiling.specs.Tally.{weightIn};
@@ -132,14 +132,14 @@ pub fn tile_lent(
         s,
         starts,
         lens,
-        asking::room(x, y, seen, id, parent, num, energy, ids, coords),
+        tables::room(x, y, seen, id, parent, num, energy, ids, coords),
     ) {
         return Answer::Spoiled;
     }
     if !tiling::is_tile(wide(z), tx, ty) {
         return Answer::Tile;
     }
-    let room = asking::less(places.len(), asking::less(px.len(), py.len()));
+    let room = tables::less(places.len(), tables::less(px.len(), py.len()));
     match list_used(
         s,
         starts,
@@ -305,7 +305,7 @@ pub fn tally_lent(
         s,
         starts,
         lens,
-        asking::room(x, y, seen, id, parent, num, energy, ids, coords),
+        tables::room(x, y, seen, id, parent, num, energy, ids, coords),
     ) {
         return Tally::Spoiled;
     }

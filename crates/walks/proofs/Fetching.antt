@@ -12,7 +12,8 @@ use Rattle.tables.specs.declared.State.{State}
 use Rattle.tables.specs.State.{lenOf}
 use Rattle.tables.specs.Entries.{Table, entry}
 use Rattle.asking.specs.declared.Ring.{Ring}
-use Rattle.asking.specs.Columns.{Columns, tableAt}
+use Rattle.tables.specs.Room.{Columns}
+use Rattle.asking.specs.Columns.{tableAt}
 use Rattle.kids.specs.declared.Kids.{Kids}
 use Rattle.kids.specs.declared.Kids.the-variants.{All, Spoiled as Kids·Spoiled}
 use Rattle.kids.specs.Kids.{kidsAt}

@@ -14,7 +14,7 @@ use Rattle.asking.specs.declared.Target.{Target}
 use Rattle.asking.specs.declared.Target.the-variants.{At}
 use Rattle.asking.specs.Answers.{fitted}
 use Rattle.asking.specs.Asked.{refused, told}
-use Rattle.asking.specs.Columns.{Columns}
+use Rattle.tables.specs.Room.{Columns}
 use Rattle.asking.specs.Filled.{filled-none, filled-length}
 use Rattle.kids.specs.declared.Kids.{Kids}
 use Rattle.kids.specs.declared.Kids.the-variants.{All, Spoiled as Kids·Spoiled}

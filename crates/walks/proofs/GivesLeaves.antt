@@ -18,7 +18,8 @@ use Rattle.asking.specs.declared.Target.{Target}
 use Rattle.asking.specs.declared.Target.the-variants.{At}
 use Rattle.asking.specs.Answers.{fitted}
 use Rattle.asking.specs.Asked.{refused, told, answerOf, columnOf}
-use Rattle.asking.specs.Columns.{Columns, tableAt}
+use Rattle.tables.specs.Room.{Columns}
+use Rattle.asking.specs.Columns.{tableAt}
 use Rattle.asking.specs.Filled.{filled-none, filled-length}
 use Rattle.kids.specs.Kids.{kidsAt, cleanAt, childless}
 use Rattle.walks.specs.declared.Fetched.{Fetched}

@@ -18,7 +18,8 @@ use Rattle.asking.specs.declared.Ring.{Ring}
 use Rattle.asking.specs.declared.Target.{Target}
 use Rattle.asking.specs.declared.Target.the-variants.{At, Spoiled as Target·Spoiled, NoTree as Target·NoTree, NoCluster as Target·NoCluster}
 use Rattle.asking.specs.Asked.{Asked, refused, answerOf, columnOf}
-use Rattle.asking.specs.Columns.{Columns, roomOf, tableAt}
+use Rattle.tables.specs.Room.{Columns, roomOf}
+use Rattle.asking.specs.Columns.{tableAt}
 use Rattle.asking.specs.Ids.{targetOf}
 use Rattle.asking.specs.Reached.{Reached, target-reached}
 use Rattle.asking.specs.Around.{ringOf}

@@ -11,7 +11,7 @@ use Rattle.tables.specs.declared.Entry.{Entry}
 use Rattle.tables.specs.declared.State.{State}
 use Rattle.asking.specs.declared.Target.{Target}
 use Rattle.asking.specs.declared.Target.the-variants.{At, Spoiled as Target·Spoiled, NoTree as Target·NoTree, NoCluster as Target·NoCluster}
-use Rattle.asking.specs.Columns.{Columns}
+use Rattle.tables.specs.Room.{Columns}
 use Rattle.asking.specs.Filled.{filled-next}
 use Rattle.asking.specs.Ids.{onward}
 use Rattle.walks.specs.declared.Fate.{Fate}

@@ -13,7 +13,8 @@ use Rattle.tables.specs.declared.Entry.{Entry}
 use Rattle.tables.specs.declared.State.{State}
 use Rattle.tables.specs.Entries.{entry}
 use Rattle.asking.specs.declared.Ring.{Ring}
-use Rattle.asking.specs.Columns.{Columns, roomOf, tableAt}
+use Rattle.tables.specs.Room.{Columns, roomOf}
+use Rattle.asking.specs.Columns.{tableAt}
 use Rattle.asking.specs.Reached.{Reached}
 use Rattle.asking.specs.Around.{ringOf, slotsOf, ring-below}
 use Rattle.kids.specs.Kids.{kidsAt, cleanAt, childless}

@@ -6,7 +6,7 @@ use Rattle.asking.specs.declared.Answer.the-variants.{NoTree, NoCluster, Spoile
 use Rattle.asking.specs.declared.Target.{Target}
 use Rattle.asking.specs.declared.Target.the-variants.{At, Spoiled as Target·Spoiled, NoTree as Target·NoTree, NoCluster as Target·NoCluster}
 use Rattle.asking.specs.Asked.{Asked, refused, told}
-use Rattle.asking.specs.Columns.{Columns, roomOf}
+use Rattle.tables.specs.Room.{Columns, roomOf}
 use Rattle.asking.specs.Ids.{targetOf}
 use Rattle.kids.specs.Kids.{kidsAt, cleanAt, childless}
 

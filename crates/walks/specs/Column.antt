@@ -8,7 +8,7 @@ use lib.Dec.{ltb, leb}
 use lib.ListN.{length}
 use Rattle.kdbush.specs.Run.{filled}
 use Rattle.tables.specs.declared.State.{State}
-use Rattle.asking.specs.Columns.{Columns}
+use Rattle.tables.specs.Room.{Columns}
 use Rattle.asking.specs.Ids.{onward}
 use Rattle.kids.specs.Kids.{childless}
 use Rattle.walks.specs.declared.Fate.{Fate}

@@ -9,7 +9,8 @@ use Rattle.tables.specs.Entries.{Table, entry}
 use Rattle.asking.specs.declared.Target.{Target}
 use Rattle.asking.specs.declared.Target.the-variants.{At as Target·At, Spoiled as Target·Spoiled}
 use Rattle.asking.specs.declared.Target.the-variants.{NoTree as Target·NoTree, NoCluster as Target·NoCluster}
-use Rattle.asking.specs.Columns.{Columns, roomOf, tableAt}
+use Rattle.tables.specs.Room.{Columns, roomOf}
+use Rattle.asking.specs.Columns.{tableAt}
 use Rattle.asking.specs.Ids.{targetOf, onward}
 use Rattle.kids.specs.Kids.{kidsAt, cleanAt}
 use Rattle.walks.specs.declared.Expansion.{Expansion}

@@ -5,7 +5,8 @@ use Prim.Native.Nat.{ℕ}
 use lib.Dec.{ltb}
 use Rattle.tables.specs.declared.State.{State}
 use Rattle.tables.specs.Entries.{Table, entry}
-use Rattle.asking.specs.Columns.{Columns, tableAt}
+use Rattle.tables.specs.Room.{Columns}
+use Rattle.asking.specs.Columns.{tableAt}
 use Rattle.kids.specs.Kids.{kidsAt, cleanAt}
 use Rattle.walks.specs.declared.Fetched.{Fetched}
 use Rattle.walks.specs.declared.Fetched.the-variants.{Cluster, Nobody, Others, Spoiled}

@@ -12,7 +12,8 @@ use Rattle.asking.specs.declared.Answer.the-variants.{NoCluster}
 use Rattle.asking.specs.declared.Target.{Target}
 use Rattle.asking.specs.declared.Target.the-variants.{At, Spoiled, NoTree, NoCluster as Target·NoCluster}
 use Rattle.asking.specs.Asked.{Asked, refused, told}
-use Rattle.asking.specs.Columns.{Columns, roomOf, tableAt}
+use Rattle.tables.specs.Room.{Columns, roomOf}
+use Rattle.asking.specs.Columns.{tableAt}
 use Rattle.asking.specs.Ids.{targetOf, onward}
 use Rattle.kids.specs.Kids.{kidsAt, cleanAt, childless}
 use Rattle.walks.specs.Children.{atTarget}

@@ -7,7 +7,7 @@ use Rattle.floats.specs.Replies.{same-reply}
 use Rattle.tables.specs.declared.State.{State}
 use Rattle.asking.specs.declared.Answer.{Answer}
 use Rattle.asking.specs.Asked.{answerOf, columnOf}
-use Rattle.asking.specs.Columns.{Columns}
+use Rattle.tables.specs.Room.{Columns}
 use Rattle.walks.specs.declared.Expansion.{Expansion}
 use Rattle.walks.specs.Children.{childrenOf}
 use Rattle.walks.specs.Expansion.{expansionNumber, expansionCarried, zoomOf}

@@ -13,8 +13,8 @@ ghost use lib.ListN.{length};
 ghost use Rattle.lent.specs.Lent.{old, new};
 ghost use Rattle.asking.specs.declared.Target.the-variants.{At as Target·At};
 ghost use Rattle.asking.specs.Asked.{answerOf, columnOf};
-ghost use Rattle.asking.specs.Columns.{roomOf};
-ghost use Rattle.asking.specs.Lent.{givenColumns, lentColumns};
+ghost use Rattle.tables.specs.Room.{roomOf};
+ghost use Rattle.tables.specs.Lent.{givenColumns, lentColumns};
 ghost use Rattle.asking.specs.Reached.{Reached};
 ghost use Rattle.walks.specs.Children.{childrenOf};
 ghost use Rattle.walks.specs.Expansion.{expansionNumber, expansionCarried, expand, zoomOf};
@@ -42,7 +42,7 @@ pub fn children(
         let a = childrenOf s (lentColumns x y seen id parent num energy ids coords) cid in
         ⌜ (r ≡ answerOf a (length (old out))) × (new out ≡ columnOf a (old out)) ⌝ }
 {
-    let cap = asking::room(x, y, seen, id, parent, num, energy, ids, coords);
+    let cap = tables::room(x, y, seen, id, parent, num, energy, ids, coords);
     match asking::find_target(s, cap, cid) {
         Target::Spoiled => Answer::Spoiled,
         Target::NoTree => Answer::NoTree,
@@ -264,7 +264,7 @@ pub fn expansion_zoom(
 ) -> Expansion
     ensures { λ r. ⌜ r ≡ zoomOf s (lentColumns x y seen id parent num energy ids coords) cid ⌝ }
 {
-    let cap = asking::room(x, y, seen, id, parent, num, energy, ids, coords);
+    let cap = tables::room(x, y, seen, id, parent, num, energy, ids, coords);
     match asking::find_target(s, cap, cid) {
         Target::Spoiled => Expansion::Spoiled,
         Target::NoTree => Expansion::NoTree,
@@ -586,7 +586,7 @@ pub fn leaves(
         let a = leavesOf s (lentColumns x y seen id parent num energy ids coords) cid limit offset in
         ⌜ (r ≡ answerOf a (length (old out))) × (new out ≡ columnOf a (old out)) ⌝ }
 {
-    let cap = asking::room(x, y, seen, id, parent, num, energy, ids, coords);
+    let cap = tables::room(x, y, seen, id, parent, num, energy, ids, coords);
     match asking::find_target(s, cap, cid) {
         Target::Spoiled => Answer::Spoiled,
         Target::NoTree => Answer::NoTree,

@@ -20,7 +20,7 @@ use Rattle.kdbush.specs.Reply.{indexOf}
 use Rattle.zooms.specs.Zooms.{slotsOf, joined, joinedIds, joinedCo, starts, lens}
 use Rattle.supercluster.specs.declared.LoadReply.the-variants.{Done, Tables}
 use Rattle.supercluster.specs.Build.{convertedAll, Lent, firstOver, written, stateOf, roomy, checked, Outcome, outcome, byReply, loaded}
-use Rattle.asking.specs.Columns.{Columns, columns, roomOf}
+use Rattle.tables.specs.Room.{Columns, columns, roomOf}
 use Rattle.worked.specs.Tables.{b, at, options, xs, ys, ws, shown, tables-are}
 use Rattle.answers.specs.Stored.{columnsOf}
 

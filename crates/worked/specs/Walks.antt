@@ -16,7 +16,7 @@ use Rattle.asking.specs.declared.Target.{Target}
 use Rattle.asking.specs.declared.Target.the-variants.{At, Spoiled, NoTree, NoCluster}
 use Rattle.asking.specs.Answers.{answerNumber}
 use Rattle.asking.specs.Asked.{told, answerOf, columnOf}
-use Rattle.asking.specs.Columns.{Columns, roomOf}
+use Rattle.tables.specs.Room.{Columns, roomOf}
 use Rattle.asking.specs.Ids.{targetOf, onward}
 use Rattle.kids.specs.Kids.{kidsAt, cleanAt}
 use Rattle.walks.specs.declared.Expansion.the-variants.{At as Zoom·At}

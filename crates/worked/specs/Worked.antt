@@ -11,7 +11,7 @@ use Rattle.floats.specs.Away.{away, half-away, minus-half-away}
 use Rattle.tables.specs.declared.State.{State}
 use Rattle.tables.specs.Ids.{originOf, tableOf}
 use Rattle.asking.specs.Asked.{told}
-use Rattle.asking.specs.Columns.{Columns}
+use Rattle.tables.specs.Room.{Columns}
 use Rattle.walks.specs.declared.Expansion.the-variants.{At}
 use Rattle.walks.specs.Children.{childrenOf}
 use Rattle.walks.specs.Expansion.{zoomOf}

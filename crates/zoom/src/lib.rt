@@ -339,7 +339,7 @@ fn note_of(own: u32, first: u32, second: u32) -> u32
         ⌜ ((l rest : List ℕ) → length l ≡ 2 → getD (l ++ rest) 0 0 ≡ first → getD (l ++ rest) 1 0 ≡ second → Tells own v l) ⌝ }
 {
     if first == own {
-        if 1048576 < second {
+        if tables::MOST_COUNT < second {
             return 0;
         }
         return 2 + 2 * second;
@@ -347,7 +347,7 @@ fn note_of(own: u32, first: u32, second: u32) -> u32
     if second != own {
         return 0;
     }
-    if 1048576 < first {
+    if tables::MOST_COUNT < first {
         return 0;
     }
     3 + 2 * first

@@ -2,7 +2,7 @@
 use mathlib.Core.Path.{sym, ap, _∙_}
 use native.Mathlib.Omega.{arith}
 use denote.Ref.{now}
-use Rattle.asking.specs.Columns.{held-fewer}
+use Rattle.tables.specs.Roomy.{roomy-fewer}
 use Rattle.asking.specs.Reached.{Near, near}
 use Rattle.asking.specs.Around.{ringOf}
 use Rattle.asking.proofs.ring_of.Statement.{statement}
@@ -28,7 +28,7 @@ entry-in-requires c κs =
     let n = stood o in
     let a = c .before .start-of .ensures in
     let b = c .len-of .ensures in
-    (held-fewer _ (s .args .cap) (omega (arith, n .ends, a, b)) (s .pre .1), omega (arith, s .pre .0 .inside, b))
+    (roomy-fewer _ (s .args .cap) (omega (arith, n .ends, a, b)) (s .pre .1), omega (arith, s .pre .0 .inside, b))
 
 sub-radius-at : tie.Need-sub-radius-at
 sub-radius-at c = let n = stood (c .before .before .before) in omega (arith, n .some)

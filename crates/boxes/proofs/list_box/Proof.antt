@@ -9,7 +9,7 @@ use Rattle.kdslots.specs.declared.Query.{Query}
 use Rattle.tables.specs.Options.{zoomUsed}
 use Rattle.tables.specs.Sound.{stateOk}
 use Rattle.asking.specs.Asked.{Asked, answerOf, columnOf}
-use Rattle.asking.specs.Columns.{indexRoom}
+use Rattle.tables.specs.Room.{indexRoom}
 use Rattle.boxplan.specs.Rule.{planOf, boxOk}
 use Rattle.boxes.specs.Lists.{boxAsked, listedAt}
 use Rattle.boxes.proofs.Used.{asked-spoiled, asked-box, asked-listed}

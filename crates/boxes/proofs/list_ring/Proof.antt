@@ -9,7 +9,7 @@ use Rattle.kdslots.specs.declared.Query.the-variants.{Within}
 use Rattle.kdslots.specs.Query.{queryOk}
 use Rattle.tables.specs.Sound.{stateOk}
 use Rattle.asking.specs.Asked.{Asked, answerOf, columnOf}
-use Rattle.asking.specs.Columns.{indexRoom}
+use Rattle.tables.specs.Room.{indexRoom}
 use Rattle.boxes.specs.Lists.{ringAsked}
 use Rattle.boxes.proofs.Used.{asked-spoiled, asked-box, asked-listed}
 use borrow.Author.Needs.{needs}

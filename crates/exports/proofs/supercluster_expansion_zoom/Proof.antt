@@ -5,7 +5,7 @@ use denote.Ref.{now}
 use borrow.Author.Needs.{needs}
 use Rattle.tables.specs.declared.State.{State}
 use Rattle.tables.specs.State.{stateOf}
-use Rattle.asking.specs.Lent.{givenColumns}
+use Rattle.tables.specs.Lent.{givenColumns}
 use Rattle.walks.specs.Expansion.{zoomOf}
 use Rattle.exports.specs.Given.{given}
 use Rattle.exports.specs.Told.{zoomSaid}

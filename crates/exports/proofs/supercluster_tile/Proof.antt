@@ -5,7 +5,7 @@ use denote.Ref.{now}
 use borrow.Author.Needs.{needs}
 use Rattle.tables.specs.declared.Options.{Options}
 use Rattle.tables.specs.State.{stateOf}
-use Rattle.asking.specs.Lent.{givenColumns}
+use Rattle.tables.specs.Lent.{givenColumns}
 use Rattle.tiles.specs.Asked.{tiled}
 use Rattle.exports.proofs.Telling.{tile-told-is}
 use Rattle.exports.proofs.supercluster_tile.Statement.{statement}

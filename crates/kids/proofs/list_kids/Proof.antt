@@ -9,8 +9,9 @@ use lib.ListN.{length, getD}
 use denote.Ref.{now}
 use Rattle.tables.specs.Rows.{cols}
 use Rattle.asking.specs.declared.Ring.{Ring}
-use Rattle.asking.specs.Columns.{Columns, columns, held}
-use Rattle.asking.specs.Lent.{givenColumns}
+use Rattle.tables.specs.Room.{Columns, columns}
+use Rattle.tables.specs.Roomy.{each-roomy}
+use Rattle.tables.specs.Lent.{givenColumns}
 use Rattle.asking.specs.Around.{aheadIn, ring-begun}
 use Rattle.kids.specs.Next.{index-room, nextIn, child}
 use Rattle.kids.proofs.Listing.{ended, Met, met, end-none, met-past, met-kid, met-other}
@@ -162,7 +163,7 @@ cast-entry-in : tie.Need-cast-entry-in Inv-loop μ-loop
 cast-entry-in c = cast-if1 (c .before)
 
 entry-in-requires : tie.Need-entry-in-requires Inv-loop μ-loop
-entry-in-requires c κs = let s = start (here (c .before .before)) in (held (lent s) _ (s .pre), c .if1 .left)
+entry-in-requires c κs = let s = start (here (c .before .before)) in (each-roomy (lent s) _ (s .pre), c .if1 .left)
 
 put-at-requires : tie.Need-put-at-requires Inv-loop μ-loop
 put-at-requires c κs = tt

@@ -10,8 +10,9 @@ use denote.Ref.{now}
 use Rattle.kdslots.specs.All.{AllBelow}
 use Rattle.tables.specs.Rows.{cols}
 use Rattle.asking.specs.declared.Ring.{Ring}
-use Rattle.asking.specs.Columns.{Columns, columns, held}
-use Rattle.asking.specs.Lent.{givenColumns}
+use Rattle.tables.specs.Room.{Columns, columns}
+use Rattle.tables.specs.Roomy.{each-roomy}
+use Rattle.tables.specs.Lent.{givenColumns}
 use Rattle.asking.specs.Around.{aheadIn}
 use Rattle.kids.specs.Next.{index-room, nextIn}
 use Rattle.kids.proofs.Listing.{ended, Met, met, end-none, met-past, met-kid, met-other}
@@ -128,7 +129,7 @@ cast-entry-in : tie.Need-cast-entry-in Inv-loop μ-loop
 cast-entry-in c = cast-if1 (c .before)
 
 entry-in-requires : tie.Need-entry-in-requires Inv-loop μ-loop
-entry-in-requires c κs = let w = here (c .before .before) in (held (lent w) _ (start w .pre .0), c .if1 .left)
+entry-in-requires c κs = let w = here (c .before .before) in (each-roomy (lent w) _ (start w .pre .0), c .if1 .left)
 
 same-length-3 : tie.Need-same-length-3 Inv-loop μ-loop
 same-length-3 c = page-same (turned (c .before .before .before .before .before))

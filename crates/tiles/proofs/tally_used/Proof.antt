@@ -9,8 +9,9 @@ use borrow.Author.Needs.{needs}
 use Rattle.tables.specs.Options.{zoomUsed}
 use Rattle.tables.specs.State.{startOf, lenOf}
 use Rattle.tables.specs.Entries.{Table}
-use Rattle.asking.specs.Columns.{Columns, lent, lent-even}
-use Rattle.asking.specs.Lent.{givenColumns}
+use Rattle.tables.specs.Room.{Columns}
+use Rattle.asking.specs.Columns.{lent, lent-even}
+use Rattle.tables.specs.Lent.{givenColumns}
 use Rattle.tiling.specs.Tile.{Visit, visited}
 use Rattle.tiling.specs.Framed.{IsTile}
 use Rattle.tiling.specs.Tally.{weightIn}

@@ -13,8 +13,9 @@ use denote.Ref.{now}
 use Rattle.tables.specs.declared.Entry.{Entry}
 use Rattle.tables.specs.Rows.{cols}
 use Rattle.asking.specs.declared.Ring.{Ring}
-use Rattle.asking.specs.Columns.{Columns, columns, roomOf, held}
-use Rattle.asking.specs.Lent.{givenColumns}
+use Rattle.tables.specs.Room.{Columns, columns, roomOf}
+use Rattle.tables.specs.Roomy.{each-roomy}
+use Rattle.tables.specs.Lent.{givenColumns}
 use Rattle.asking.specs.Reached.{near, beside, onward-reached}
 use Rattle.asking.specs.Around.{aheadIn, ring-begun}
 use Rattle.kids.specs.Next.{ring-room, Further, kid-next, kid-done, kid-spoiled}
@@ -200,7 +201,7 @@ module _ (t : ℕ) where
   into-ring-of-requires : into-lts.Need-ring-of-requires told into-at into.Post Inv μ
   into-ring-of-requires c κs =
       let s : into-lts.Start told into-at into.Post Inv μ = search in
-      (s .pre .1 .0, held (lent s) _ (s .pre .1 .1))
+      (s .pre .1 .0, each-roomy (lent s) _ (s .pre .1 .1))
 
   into-begin-requires : into-lts.Need-begin-requires told into-at into.Post Inv μ
   into-begin-requires c κs = tt

@@ -4,8 +4,9 @@ use mathlib.Core.List.{List}
 use Prim.Native.Nat.{ℕ}
 use borrow.Author.Needs.{needs}
 use denote.Ref.{now}
-use Rattle.asking.specs.Columns.{Columns, held}
-use Rattle.asking.specs.Lent.{givenColumns}
+use Rattle.tables.specs.Room.{Columns}
+use Rattle.tables.specs.Roomy.{each-roomy}
+use Rattle.tables.specs.Lent.{givenColumns}
 use Rattle.kids.specs.Next.{ring-room}
 use Rattle.walks.proofs.Led.{Led, reached, Looked}
 use Rattle.walks.proofs.GivesChildren.{children-refused, gives-spoiled, gives-none, gives-some}
@@ -70,7 +71,7 @@ ring-of-requires : tie.Need-ring-of-requires
 ring-of-requires c κs =
     let f = found (c .before) in
     let r = reached (led f) _ _ (c .before .table .given .1) in
-    (r .0, held (lent f) _ (r .1))
+    (r .0, each-roomy (lent f) _ (r .1))
 
 list-kids-requires : tie.Need-list-kids-requires
 list-kids-requires c κs =

@@ -8,7 +8,7 @@ use borrow.Author.Needs.{needs}
 use Rattle.tables.specs.Rows.{cols}
 use Rattle.tables.specs.Sound.{given}
 use Rattle.asking.specs.declared.Target.the-variants.{At as Target·At}
-use Rattle.asking.specs.Columns.{columns}
+use Rattle.tables.specs.Room.{columns}
 use Rattle.asking.specs.Reached.{near}
 use Rattle.walks.specs.Expansion.{expand}
 use Rattle.walks.proofs.Climbing.{Climbing, turn-spoiled, turn-nobody, turn-nobody-in, turn-others, turn-top, turn-lost, turn-on}

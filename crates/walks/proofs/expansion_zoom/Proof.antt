@@ -5,8 +5,8 @@ use Prim.Native.Nat.{_+_, _-_}
 use borrow.Author.Needs.{needs}
 use Rattle.asking.specs.declared.Target.{Target}
 use Rattle.asking.specs.declared.Target.the-variants.{At as Target·At}
-use Rattle.asking.specs.Columns.{Columns}
-use Rattle.asking.specs.Lent.{givenColumns}
+use Rattle.tables.specs.Room.{Columns}
+use Rattle.tables.specs.Lent.{givenColumns}
 use Rattle.walks.specs.declared.Expansion.{Expansion}
 use Rattle.walks.specs.Expansion.{expand, zoomAt, zoomOf}
 use Rattle.walks.proofs.Led.{Led, leads, reached}

@@ -4,8 +4,9 @@ use Prim.Native.Nat.{ℕ, _+_, _<_, _≤_}
 use native.Mathlib.Omega.{arith}
 use borrow.Author.Needs.{needs}
 use lib.ListN.{getD}
-use Rattle.asking.specs.Columns.{Columns, roomOf, held}
-use Rattle.asking.specs.Lent.{givenColumns}
+use Rattle.tables.specs.Room.{Columns, roomOf}
+use Rattle.tables.specs.Roomy.{each-roomy}
+use Rattle.tables.specs.Lent.{givenColumns}
 use Rattle.kids.specs.Next.{index-room, ring-room}
 use Rattle.walks.proofs.Led.{Looked}
 use Rattle.walks.proofs.Fetching.{fetch-spoiled, fetch-nobody, fetch-others, fetch-below, fetch-cluster, fetch-lamp}
@@ -36,7 +37,7 @@ module _ (l : tie.After-list-kids) where
   looked = record { cap = _; reach = start ring .pre; ring = ring .ring-of .ensures; listed = l .list-kids .ensures }
 
 ring-of-requires : tie.Need-ring-of-requires
-ring-of-requires c κs = let s : tie.Start = search in (s .pre .0, held (lent s) _ (s .pre .1))
+ring-of-requires c κs = let s : tie.Start = search in (s .pre .0, each-roomy (lent s) _ (s .pre .1))
 
 slice-aggregate-list-kids : tie.Need-slice-aggregate-list-kids
 slice-aggregate-list-kids c = search needs
@@ -73,7 +74,7 @@ cast-p c =
     omega (arith, below c, index-room (lent (start g)) _ (reach g) .0, start g .good)
 
 entry-in-requires : tie.Need-entry-in-requires
-entry-in-requires c κs = let g = ring (of (c .before .before .before)) in (held (lent (start g)) _ (reach g), below c)
+entry-in-requires c κs = let g = ring (of (c .before .before .before)) in (each-roomy (lent (start g)) _ (reach g), below c)
 
 returns-3 : tie.Need-returns-3
 returns-3 c =

@@ -2,8 +2,8 @@
 use mathlib.Core.Path.{refl}
 use borrow.Author.Needs.{needs}
 use denote.Ref.{now}
-use Rattle.asking.specs.Columns.{Columns}
-use Rattle.asking.specs.Lent.{givenColumns}
+use Rattle.tables.specs.Room.{Columns}
+use Rattle.tables.specs.Lent.{givenColumns}
 use Rattle.walks.proofs.Led.{Led, reached}
 use Rattle.walks.proofs.GivesLeaves.{leaves-refused, gives-none, gives-broke, gives-childless, gives-went}
 use Rattle.walks.proofs.leaves.Statement.{statement}

@@ -1,7 +1,7 @@
--- `asking::room` meets its contract: the least of the lengths, two at a time. Assumes nothing.
+-- `tables::room_by` meets its contract: the least of the lengths, two at a time. Assumes nothing.
 use borrow.Author.Needs.{needs}
-use Rattle.asking.proofs.room.Statement.{statement}
-use Rattle.asking.proofs.room.Tie as tie
+use Rattle.tables.proofs.room_by.Statement.{statement}
+use Rattle.tables.proofs.room_by.Tie as tie
 
 less-requires : tie.Need-less-requires
 less-requires c κs = search needs
@@ -15,9 +15,6 @@ less-requires-3 c κs = search needs
 less-requires-4 : tie.Need-less-requires-4
 less-requires-4 c κs = search needs
 
-index-room-requires : tie.Need-index-room-requires
-index-room-requires c κs = search needs
-
 less-requires-5 : tie.Need-less-requires-5
 less-requires-5 c κs = search needs
 
@@ -30,15 +27,14 @@ less-requires-7 c κs = search needs
 returns : tie.Need-returns
 returns c = cc
 
-pub room-spec : {M : Type 1} → statement M
-room-spec =
+pub room-by-spec : {M : Type 1} → statement M
+room-by-spec =
     tie.close
     (tie.spec
     less-requires
     less-requires-2
     less-requires-3
     less-requires-4
-    index-room-requires
     less-requires-5
     less-requires-6
     less-requires-7
