@@ -92,7 +92,7 @@ mod tests {
     use super::*;
 
     /// 01's example.
-    const LINES: &str = include_str!("../../../oracle/references/lister_reference/worked.tables");
+    const LINES: &str = include_str!("../../../crates/lister/stdout");
 
     #[test]
     fn owners_of_the_example() {

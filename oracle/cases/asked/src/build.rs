@@ -4,7 +4,7 @@
 use crate::{edges, large, latitudes::latitudes, Form, Scene};
 use columns::{Columns, Given};
 use options::{corners, Options, Plane};
-use points::{Drawn, SHAPES};
+use points::{DRAWN, SHAPES};
 use questions::State;
 use rust_builds::Tables;
 use splitmix::Splitmix;
@@ -23,9 +23,6 @@ pub struct Build {
     pub state: State,
     pub columns: Columns,
 }
-
-const DRAWN: [Drawn; 6] =
-    [Drawn::Not, Drawn::Each, Drawn::By(8), Drawn::Not, Drawn::Each, Drawn::By(22)];
 
 impl Build {
     /// So many points of a shape, drawn together, in the coordinate system of the options.
@@ -83,7 +80,10 @@ impl Build {
 }
 
 /// Numbers of points, and how many builds each has in the short form and in the full one.
-fn sizes() -> [(Vec<usize>, [usize; 2]); 4] {
+pub type Sizes = (Vec<usize>, [usize; 2]);
+
+/// Those of the builds that are asked.
+fn sizes() -> [Sizes; 4] {
     [
         ((1..=64).collect(), [4, 150]),
         ((65..=700).step_by(9).collect(), [1, 20]),
@@ -100,30 +100,35 @@ const ON_EDGES: [usize; 2] = [150, 4_800];
 const AT_RINGS: [usize; 2] = [150, 4_800];
 const AT_RINGS_MOST: u64 = 24;
 
-/// Every build of a form, half of them with options as users have them and half with any; those with lamps on the
-/// edges of tiles; those with lamps at the edges of rings; and the large ones.
-pub fn each(form: Form, source: &mut Splitmix, mut ask: impl FnMut(&Build, &mut Splitmix)) {
-    let [short, full] = ON_EDGES;
-    for _ in 0..if form == Form::Full { full } else { short } {
-        ask(&edges::build(source), source);
-    }
-    for (counts, [short, full]) in sizes() {
-        let builds = if form == Form::Full { full } else { short };
+/// Every number of points as often as a form has it, half of them with options as users have them and half with any.
+pub fn each_count(
+    sizes: &[Sizes],
+    form: Form,
+    source: &mut Splitmix,
+    mut ask: impl FnMut(Options, usize, &mut Splitmix),
+) {
+    for (counts, builds) in sizes {
         for count in counts {
-            for build in 0..builds {
-                let options = match build % 2 {
-                    0 => corners::ordinary(source),
-                    _ => corners::any(source),
-                };
-                ask(&Build::made(options, count, source), source);
+            for build in 0..form.of(*builds) {
+                ask(corners::in_turn(build, source), *count, source);
             }
         }
     }
+}
+
+/// Every build of a form: those with lamps on the edges of tiles; those of every number of points; the large ones; and
+/// those with lamps at the edges of rings.
+pub fn each(form: Form, source: &mut Splitmix, mut ask: impl FnMut(&Build, &mut Splitmix)) {
+    for _ in 0..form.of(ON_EDGES) {
+        ask(&edges::build(source), source);
+    }
+    each_count(&sizes(), form, source, |options, count, source| {
+        ask(&Build::made(options, count, source), source);
+    });
     large::each(form, source, |build, source| ask(&build, source));
     // By a generator of their own, so that what comes after all builds does not depend on them.
     let mut source = Splitmix(5);
-    let [short, full] = AT_RINGS;
-    for _ in 0..if form == Form::Full { full } else { short } {
+    for _ in 0..form.of(AT_RINGS) {
         let count = 1 + source.below(AT_RINGS_MOST) as usize;
         let (options, points) = points::reached(count, &mut source);
         ask(&Build::of(format!("{count} points at a ring"), options, points), &mut source);

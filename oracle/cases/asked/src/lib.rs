@@ -16,7 +16,7 @@ mod tiles;
 
 pub use around::{all_boxes, few, many};
 pub use boxes::ODD_LONGITUDES;
-pub use build::{each, Build};
+pub use build::{each, each_count, Build, Sizes};
 pub use longer::lengthen;
 pub use rooms::{rooms, Rooms};
 
@@ -28,6 +28,16 @@ use splitmix::Splitmix;
 pub enum Form {
     Short,
     Full,
+}
+
+impl Form {
+    /// Of what the short form has and what the full one has, this form's.
+    pub fn of<T>(self, [short, full]: [T; 2]) -> T {
+        match self {
+            Form::Short => short,
+            Form::Full => full,
+        }
+    }
 }
 
 /// What questions are put to: a state and columns, and coordinates of a caller to lay boxes by, y in [0,1] for

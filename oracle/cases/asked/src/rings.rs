@@ -1,6 +1,7 @@
 //! Rings: at entries, with an edge on another, anywhere, far out.
 
 use crate::Scene;
+use points::odd::{NORMAL, NOT_FINITE, TINY};
 use questions::Question;
 use splitmix::Splitmix;
 
@@ -40,9 +41,9 @@ pub fn question(scene: &Scene, kind: usize, source: &mut Splitmix) -> Question {
 /// A ring with a number that is not finite, or a radius below 0.
 fn wrong(mut circle: [f64; 3], source: &mut Splitmix) -> [f64; 3] {
     let at = source.below(3) as usize;
-    circle[at] = source.pick(&[f64::NAN, f64::INFINITY, f64::NEG_INFINITY]);
+    circle[at] = source.pick(&NOT_FINITE);
     match source.below(2) {
         0 => circle,
-        _ => [0.5, 0.5, source.pick(&[-1.0, -f64::MIN_POSITIVE, f64::from_bits(1 << 63 | 1)])],
+        _ => [0.5, 0.5, source.pick(&[-1.0, -NORMAL, -TINY])],
     }
 }

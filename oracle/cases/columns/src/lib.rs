@@ -5,6 +5,8 @@ mod value;
 
 pub use value::{Change, Read, ReadBoth, Value};
 
+use std::ops::Range;
+
 /// Hands the columns to a macro, in the order in which they are lent: those of the entries and those of the index, each
 /// with what it holds; then what else is given.
 #[macro_export]
@@ -17,6 +19,12 @@ macro_rules! with_columns {
         }
     };
 }
+
+/// The mark of an entry that no zoom has seen; the Rust's is infinity.
+pub const UNSEEN: u8 = 255;
+
+/// The parent of an entry that has none; the Rust's is -1.
+pub const NO_PARENT: u32 = u32::MAX;
 
 /// How many numbers of a column are one entry's.
 pub fn width(name: &str) -> usize {
@@ -111,6 +119,12 @@ macro_rules! columns {
             /// The first so many numbers of each.
             pub fn fronts(&self, [$($name),*]: Lengths) -> Lent<'a> {
                 Lent { $($name: &self.$name[..$name],)* }
+            }
+
+            /// The entries at these positions and the slots there, no more.
+            pub fn part(&self, at: Range<usize>) -> Lent<'a> {
+                let of = |name: &str| at.start * width(name)..at.end * width(name);
+                Lent { $($name: &self.$name[of(stringify!($name))],)* }
             }
 
             /// The length of each column.

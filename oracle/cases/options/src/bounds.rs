@@ -1,6 +1,12 @@
-//! The bounds of the options, written from 01's 'Numbers that bound a build', and that of an energy, by 02's #108.
+//! The bounds of the options, and of the points, written from 01's 'Numbers that bound a build'; that of an energy by 02's #108.
 
 use crate::{Options, Plane, Range};
+
+/// The most points of a build, or of an index.
+pub const MOST_POINTS: usize = 1_048_576;
+
+/// How many starts and lengths a state has, by zoom.
+pub const ZOOMS: usize = 32;
 
 /// The largest energy of a point.
 pub const MOST_ENERGY: u64 = 1_099_511_627_776;

@@ -65,6 +65,14 @@ pub fn ordinary(source: &mut Splitmix) -> Options {
     }
 }
 
+/// The options of a build of this number: half of them as users have them, and half any.
+pub fn in_turn(number: usize, source: &mut Splitmix) -> Options {
+    match number % 2 {
+        0 => ordinary(source),
+        _ => any(source),
+    }
+}
+
 /// A coordinate system of a kind; its numbers are picked by chance.
 pub fn plane(kind: usize, source: &mut Splitmix) -> Plane {
     let offset = source.pick(&[0.0, -180.0, 1e6, -0.1, 1e-3, 123.456]);

@@ -3,7 +3,7 @@
 mod bounds;
 pub mod corners;
 
-pub use bounds::MOST_ENERGY;
+pub use bounds::{MOST_ENERGY, MOST_POINTS, ZOOMS};
 
 /// The four numbers of a Cartesian range, and what is given of offset and scale.
 #[derive(Clone, Copy, Debug)]
@@ -66,6 +66,9 @@ impl Options {
         usize::from(self.max_zoom.saturating_sub(self.min_zoom)) + 2
     }
 }
+
+/// The options of 01's worked build.
+pub const WORKED: Options = Options { max_zoom: 1, radius: 64.0, ..USUAL };
 
 /// What the Rust takes where nothing is said, but for the coordinate system; its strips run everywhere.
 pub const USUAL: Options = Options {

@@ -14,6 +14,10 @@ pub enum Drawn {
     Each,
 }
 
+/// Each way, in turn: not at all, by powers of two of their own, by a few, and by many.
+pub const DRAWN: [Drawn; 6] =
+    [Drawn::Not, Drawn::Each, Drawn::By(8), Drawn::Not, Drawn::Each, Drawn::By(22)];
+
 /// The largest power of two by which a point is drawn.
 const MOST: u64 = 36;
 

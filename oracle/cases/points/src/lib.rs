@@ -2,11 +2,13 @@
 
 mod drawn;
 mod energies;
+pub mod odd;
 mod placed;
 mod reached;
 
-pub use drawn::Drawn;
+pub use drawn::{Drawn, DRAWN};
 pub use energies::energies;
+pub use odd::EDGES;
 pub use reached::{fine, reached, steps_beside};
 
 use splitmix::Splitmix;
@@ -33,20 +35,6 @@ pub const SHAPES: [Shape; 8] = [
     Shape::Grid,
     Shape::Clustered,
     Shape::Edges,
-];
-
-/// Numbers at the edges of [0,1] and of the format, and 01's number beside a quarter.
-pub const EDGES: [f64; 10] = [
-    0.0,
-    -0.0,
-    f64::from_bits(1),
-    f64::MIN_POSITIVE,
-    0.25 - 1.0 / (1_u64 << 55) as f64,
-    0.25,
-    0.5,
-    f64::from_bits(0x3fdf_ffff_ffff_ffff),
-    f64::from_bits(0x3fef_ffff_ffff_ffff),
-    1.0,
 ];
 
 /// Points by columns.

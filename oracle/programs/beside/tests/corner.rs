@@ -3,11 +3,11 @@
 use asked::Build;
 use beside::{Case, Rusts, Verdict};
 use options::{Options, USUAL};
+use points::odd::BELOW_QUARTER;
 use questions::{Answer, Outcome, Question};
 use rust_builds::skipped::{ring, Beside};
 
-/// 01's number beside a quarter, and its ring.
-const BELOW_QUARTER: f64 = 0.25 - 1.0 / (1_u64 << 55) as f64;
+/// 01's ring beside a quarter.
 const RING: [f64; 3] = [1.0, 0.5, 0.75];
 
 /// A lamp at x = 1 and two beside a quarter, which it just reaches at zoom 0.

@@ -24,7 +24,7 @@ const NOT_THE_RUSTS: [&str; 4] = [
 ];
 
 /// The seven lines of 'The table lister', with 02's energies.
-const LISTER: &str = include_str!("../../../references/lister_reference/worked.tables");
+const LISTER: &str = lister_reference::WORKED_TABLES;
 
 /// Runs every line against every build; that of the rings only where the Rust has the rule of #106.
 pub fn run() -> ExitCode {

@@ -1,30 +1,14 @@
 //! The plain values that pass between the driver and a build of the Rust: options, entries, items.
 
 pub use beside::{Entry, Item};
-pub use options::{Options, Plane, Range, UNIT};
-
-/// The options of 01's worked build.
-pub const WORKED: Options = Options {
-    min_zoom: 0,
-    max_zoom: 1,
-    min_points: 2,
-    radius: 64.0,
-    extent: 512.0,
-    node_size: 64,
-    plane: Plane::Cartesian(UNIT),
-    longitude_strips_only: false,
-};
+pub use options::{Options, Plane, Range, UNIT, WORKED};
+pub use points::odd::{ABOVE_QUARTER, BELOW_QUARTER};
 
 /// The four lamps of 01's worked build, in 65,536ths.
 pub const LAMPS: [[u32; 2]; 4] = [[16384, 32768], [20480, 32768], [26624, 32768], [26624, 32768]];
 
 /// Their energies, by 02's #108.
 pub const ENERGIES: [u64; 4] = [10, 20, 30, 40];
-
-/// The numbers beside a quarter: 01's, which the rounded edge of a ring at 1 with radius 0.75 cuts off, and the one
-/// above, which that of a ring at -1 with radius 1.25 does.
-pub const BELOW_QUARTER: f64 = 0.25 - 1.0 / (1_u64 << 55) as f64;
-pub const ABOVE_QUARTER: f64 = 0.25 + 1.0 / (1_u64 << 54) as f64;
 
 /// Options by which a lamp at x = 1 just reaches one below a quarter at zoom 0, in an index that is split; the
 /// three lamps of 01's corner.

@@ -2,20 +2,14 @@
 
 use crate::plain::{Options, Plane, Range, WORKED};
 use beside::judge::{Judge, Untouched};
+use points::odd::{ABOVE_1, BELOW_1, INF, MAX, NAN, NORMAL, TINY};
 use splitmix::Splitmix;
 use std::io::{self, Write};
 
 /// How many lines there are by default: the systematic ones, then random ones up to this.
 const DEFAULT_LINES: usize = 4000;
 const DEFAULT_SEED: u64 = 1;
-const MAX: f64 = f64::MAX;
-const INF: f64 = f64::INFINITY;
-const NAN: f64 = f64::NAN;
-const TINY: f64 = f64::from_bits(1);
 const LARGEST_SUBNORMAL: f64 = f64::from_bits(0x000f_ffff_ffff_ffff);
-const NORMAL: f64 = f64::MIN_POSITIVE;
-const BELOW_1: f64 = f64::from_bits(0x3fef_ffff_ffff_ffff);
-const ABOVE_1: f64 = f64::from_bits(0x3ff0_0000_0000_0001);
 const LARGE: f64 = f64::from_bits(0x7fe0_0000_0000_0000);
 
 /// What is normalised in the systematic part.

@@ -8,18 +8,15 @@ mod questions;
 mod tables;
 mod tallies;
 
+use asked::Form;
 use group_counts as report;
 use std::{env, process::ExitCode};
 
 const USAGE: &str =
     "usage: inprocess index|tables|questions|overlap|leaves|effort|tallies [--full], or questions --spoiled";
 
-/// How much is compared.
-#[derive(Clone, Copy, PartialEq, Eq)]
-pub enum Form {
-    Short,
-    Full,
-}
+/// How many entries stand behind a lent column, out of the callee's reach.
+const GUARD: usize = 2;
 
 fn main() -> ExitCode {
     let words: Vec<String> = env::args().skip(1).collect();

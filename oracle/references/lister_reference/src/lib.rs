@@ -11,6 +11,10 @@ pub use compared::{compared, Compared};
 pub use lines::{answer, lines};
 pub use read::{read, Input, NotOfItsForm};
 
+/// 01's example with 02's energies, and its tables: what the proved program is run on, and has to print.
+pub const WORKED: &str = include_str!("../../../../crates/lister/stdin");
+pub const WORKED_TABLES: &str = include_str!("../../../../crates/lister/stdout");
+
 /// What the lister answers.
 #[derive(Clone, Debug, PartialEq, Eq)]
 pub struct Answer {

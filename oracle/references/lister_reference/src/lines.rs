@@ -1,14 +1,14 @@
 //! What is printed for an input: the lines of its tables, the finest first, or the refusal of its build.
 
 use crate::{Answer, Input};
-use columns::{Entry, Given};
+use columns::{Entry, Given, NO_PARENT, UNSEEN};
 use options::{Options, Plane, UNIT};
 use refusals::{refusal, Refusal};
-use rust_builds::{patched, Tables, NO_PARENT, UNSEEN};
+use rust_builds::{patched, Tables};
 use std::fmt::Write;
 
 /// The entries of each column that is lent.
-const LENT: usize = 1_152;
+pub(crate) const LENT: usize = 1_152;
 
 /// The parts of a coordinate.
 const PARTS: f64 = 65_536.0;

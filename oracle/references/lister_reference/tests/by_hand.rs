@@ -1,6 +1,6 @@
 //! Changes to 01's example with the first line that is to be printed, each judged by hand.
 
-use lister_reference::answer_to;
+use lister_reference::{answer_to, WORKED};
 
 /// What the first line is where the tables are listed.
 const LISTED: &str = "listed";
@@ -105,9 +105,10 @@ const CHANGES: [(&str, &str, &str); 92] = [
     ("wh=40", "wh=9999999", LISTED),
 ];
 
-const OPTIONS: &str = "min_zoom=0\nmax_zoom=1\nmin_points=2\nradius=64\nextent=512\nnode_size=64\n";
-const LAMPS: &str = "count=4\nx=16384\ny=32768\nwh=10\nx=20480\ny=32768\nwh=20\n\
-                     x=26624\ny=32768\nwh=30\nx=26624\ny=32768\nwh=40\n";
+/// The six lines of 01's example before its count, and the rest of it.
+fn parts() -> (&'static str, &'static str) {
+    WORKED.split_at(WORKED.find("count=").unwrap())
+}
 
 /// The first line that is printed: `listed` where it is one of the finest table.
 fn first(text: &str) -> String {
@@ -130,10 +131,9 @@ fn first(text: &str) -> String {
 
 #[test]
 fn changes_of_one_place() {
-    let text = format!("{OPTIONS}{LAMPS}");
     for (old, new, expected) in CHANGES {
-        assert!(text.contains(old), "{old}");
-        assert_eq!(first(&text.replacen(old, new, 1)), expected, "{old:?} by {new:?}");
+        assert!(WORKED.contains(old), "{old}");
+        assert_eq!(first(&WORKED.replacen(old, new, 1)), expected, "{old:?} by {new:?}");
     }
 }
 
@@ -141,31 +141,32 @@ fn changes_of_one_place() {
 #[test]
 fn the_order_of_the_refusals() {
     let text = |options: &str, points: &str| first(&format!("{options}{points}"));
-    let wrong = OPTIONS.replace("extent=512", "extent=0");
+    let options = parts().0;
+    let wrong = options.replace("extent=512", "extent=0");
     let outside = "count=2\nx=1\ny=1\nwh=1\nx=1\ny=65537\nwh=1\n";
     let point = |i: u32| format!("x={i}\ny={i}\nwh={i}\n");
     let many = |count: u32| format!("count={count}\n") + &(0..count).map(point).collect::<String>();
     let crowd_outside = many(385).replace("x=384\n", "x=65537\n");
     assert_eq!(text(&wrong, "count=4\nx=1\n"), "refusal=12");
-    assert_eq!(text(OPTIONS, "count=2\nx=65537\ny=1\nwh=1\n"), "refusal=12");
+    assert_eq!(text(options, "count=2\nx=65537\ny=1\nwh=1\n"), "refusal=12");
     assert_eq!(text(&wrong, "count=0\n"), "refusal=1");
     assert_eq!(text(&wrong, outside), "refusal=1");
     assert_eq!(text(&wrong, &many(1_152)), "refusal=1");
-    assert_eq!(text(OPTIONS, "count=0\n"), "refusal=2");
-    assert_eq!(text(OPTIONS, outside), "refusal=3 at=1");
-    assert_eq!(text(OPTIONS, &crowd_outside), "refusal=3 at=384");
+    assert_eq!(text(options, "count=0\n"), "refusal=2");
+    assert_eq!(text(options, outside), "refusal=3 at=1");
+    assert_eq!(text(options, &crowd_outside), "refusal=3 at=384");
     // Three tables of 384 points are 1,152 entries.
-    assert_eq!(text(OPTIONS, &many(384)), LISTED);
-    assert_eq!(text(OPTIONS, &many(385)), "refusal=4");
-    assert_eq!(text(OPTIONS, &many(1_152)), "refusal=4");
-    assert_eq!(text(OPTIONS, &many(1_153)), "refusal=12");
+    assert_eq!(text(options, &many(384)), LISTED);
+    assert_eq!(text(options, &many(385)), "refusal=4");
+    assert_eq!(text(options, &many(1_152)), "refusal=4");
+    assert_eq!(text(options, &many(1_153)), "refusal=12");
 }
 
 /// The two ends of a text.
 #[test]
 fn ends() {
-    let text = format!("{OPTIONS}{LAMPS}");
-    assert_eq!(first(&text), LISTED);
+    let text = WORKED;
+    assert_eq!(first(text), LISTED);
     for length in 0..text.len() {
         assert_eq!(first(&text[..length]), "refusal=12", "{length} bytes");
     }

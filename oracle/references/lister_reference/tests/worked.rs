@@ -1,9 +1,8 @@
 //! 01's example with 02's energies (#108), and what 01 says of its refusals, word for word.
 
-use lister_reference::{answer_to, lines, read, texts::example, Input};
-
-const TEXT: &str = include_str!("../worked.txt");
-const LINES: &str = include_str!("../worked.tables");
+use lister_reference::{
+    answer_to, lines, read, texts::example, Input, WORKED as TEXT, WORKED_TABLES as LINES,
+};
 
 fn printed(text: &str) -> String {
     String::from_utf8(answer_to(text.as_bytes()).printed).unwrap()

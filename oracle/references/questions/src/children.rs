@@ -35,8 +35,8 @@ pub(crate) fn walk_children(
     let Cluster { id, origin, table: zoom } = *cluster;
     let power = (1_u64 << (zoom - 1)) as f64;
     let radius = state.options.radius / (state.options.extent * power);
-    let query = Query::Within([table.x[origin], table.y[origin], radius]);
-    walk(&table.index, &query, &mut |place| match table.parent[place] == id {
+    let query = Query::Within([table.columns.x[origin], table.columns.y[origin], radius]);
+    walk(&table.index, &query, &mut |place| match table.columns.parent[place] == id {
         true => child(place),
         false => Ok(()),
     })
@@ -62,11 +62,11 @@ pub fn expansion_zoom(state: &State, lent: &Lent, id: u32) -> Result<u64, Refusa
             return Err(without_children);
         }
         zoom += 1;
-        let sole_cluster = children.len() == 1 && table.num[children[0]] > 1;
+        let sole_cluster = children.len() == 1 && table.columns.num[children[0]] > 1;
         if !sole_cluster || zoom == state.finest() {
             break;
         }
-        cluster = state.entered(&cluster, table.id[children[0]])?;
+        cluster = state.entered(&cluster, table.columns.id[children[0]])?;
         without_children = Refusal::Spoiled;
     }
     Ok(zoom as u64)

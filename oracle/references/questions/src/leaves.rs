@@ -55,13 +55,13 @@ impl Walk<'_> {
 
     /// One child: a cluster is skipped whole or entered, a lamp skipped or listed.
     fn child(&mut self, from: &Cluster, table: &Table, place: usize) -> Result<(), Refusal> {
-        let num = u64::from(table.num[place]);
+        let num = u64::from(table.columns.num[place]);
         if num > 1 {
             if self.skipped + num <= self.offset {
                 self.skipped += num;
                 return Ok(());
             }
-            let cluster = self.state.entered(from, table.id[place])?;
+            let cluster = self.state.entered(from, table.columns.id[place])?;
             return match self.level(&cluster)? {
                 0 => Err(Refusal::Spoiled),
                 _ => Ok(()),
@@ -74,7 +74,7 @@ impl Walk<'_> {
         if self.lamps.len() == self.state.count as usize {
             return Err(Refusal::Spoiled);
         }
-        self.lamps.push(table.id[place]);
+        self.lamps.push(table.columns.id[place]);
         Ok(())
     }
 }

@@ -2,14 +2,8 @@
 
 use crate::Refusal;
 use columns::Lent;
-use options::Options;
+use options::{Options, MOST_POINTS, ZOOMS};
 use std::ops::Range;
-
-/// How many starts and lengths a state has, by zoom.
-pub const ZOOMS: usize = 32;
-
-/// The most points of a build.
-pub const MOST_POINTS: u32 = 1_048_576;
 
 /// The state of a build: its options, N, and each table's start and length by zoom.
 #[derive(Clone, Debug)]
@@ -20,13 +14,9 @@ pub struct State {
     pub lens: [u32; ZOOMS],
 }
 
-/// One table: its entries, and its index.
+/// One table: the part of the columns that it is, and its index.
 pub(crate) struct Table<'a> {
-    pub x: &'a [f64],
-    pub y: &'a [f64],
-    pub id: &'a [u32],
-    pub parent: &'a [u32],
-    pub num: &'a [u32],
+    pub columns: Lent<'a>,
     pub index: Index<'a>,
 }
 
@@ -58,7 +48,7 @@ impl State {
 
     /// Where the last table ends, if options, N and lengths are in bounds and the tables are packed.
     fn end(&self) -> Option<u64> {
-        if !self.options.in_bounds() || !(1..=MOST_POINTS).contains(&self.count) {
+        if !self.options.in_bounds() || !(1..=MOST_POINTS).contains(&(self.count as usize)) {
             return None;
         }
         let mut end = 0_u64;
@@ -106,14 +96,6 @@ impl State {
 
     /// A table.
     pub(crate) fn table<'a>(&self, lent: &Lent<'a>, zoom: usize) -> Table<'a> {
-        let at = self.positions(zoom);
-        Table {
-            x: &lent.x[at.clone()],
-            y: &lent.y[at.clone()],
-            id: &lent.id[at.clone()],
-            parent: &lent.parent[at.clone()],
-            num: &lent.num[at],
-            index: self.index(lent, zoom),
-        }
+        Table { columns: lent.part(self.positions(zoom)), index: self.index(lent, zoom) }
     }
 }

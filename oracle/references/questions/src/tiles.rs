@@ -46,8 +46,10 @@ pub fn tally(state: &State, lent: &Lent, z: u8, x: u32, y: u32) -> Result<u64, R
     }
     let table = state.table(lent, state.zoom_used(z));
     let places: BTreeSet<usize> = items.iter().map(|item| item.place as usize).collect();
-    let at_home = |place: &usize| [home(z, table.x[*place]), home(z, table.y[*place])] == [x, y];
-    Ok(places.into_iter().filter(at_home).map(|place| u64::from(table.num[place])).sum())
+    let at_home = |place: &usize| {
+        [home(z, table.columns.x[*place]), home(z, table.columns.y[*place])] == [x, y]
+    };
+    Ok(places.into_iter().filter(at_home).map(|place| u64::from(table.columns.num[place])).sum())
 }
 
 /// Whether the strips run: everywhere, or by the option of #114 for longitude only.
@@ -89,7 +91,7 @@ impl Sheet<'_> {
         items: &mut Vec<Item>,
     ) -> Result<(), Refusal> {
         walk(&self.table.index, &Query::Range(corners), &mut |place| {
-            let [cx, cy] = [self.table.x[place], self.table.y[place]];
+            let [cx, cy] = [self.table.columns.x[place], self.table.columns.y[place]];
             if ![cx, cy].iter().all(|v| (0.0..=1.0).contains(v)) {
                 return Err(Refusal::Spoiled.into());
             }

@@ -2,10 +2,7 @@
 //! 'Numbered replies', and from 02's #108.
 
 use columns::Given;
-use options::{Options, Plane, MOST_ENERGY};
-
-/// The most points of a build.
-pub const MOST_POINTS: usize = 1_048_576;
+use options::{Options, Plane, MOST_ENERGY, MOST_POINTS};
 
 /// A refusal: its number, and for 3 the first point outside, for 15 the first of too large an energy, otherwise 0.
 #[derive(Clone, Copy, Debug, PartialEq, Eq)]

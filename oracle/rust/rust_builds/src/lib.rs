@@ -4,7 +4,7 @@
 pub mod skipped;
 mod tables;
 
-pub use tables::{data, Row, Table, Tables, NO_PARENT, UNSEEN};
+pub use tables::{data, Row, Table, Tables};
 
 use geojson::{feature::Id, Feature, Geometry, JsonObject, Value};
 

@@ -1,17 +1,8 @@
 //! The Rust's tables as the port packs them: one after the other in columns, the finest first.
 
-use columns::{Columns, Entry, Slot};
-use options::Plane;
+use columns::{Columns, Entry, Slot, NO_PARENT, UNSEEN};
+use options::{Plane, ZOOMS};
 use std::collections::HashMap;
-
-/// What stands for the Rust's infinity, the mark of an entry that no zoom has seen.
-pub const UNSEEN: u8 = 255;
-
-/// What stands for the Rust's -1, the parent of an entry that has none.
-pub const NO_PARENT: u32 = u32::MAX;
-
-/// How many starts and lengths a state has.
-const ZOOMS: usize = 32;
 
 /// The numbers of an entry in the Rust's data.
 const STRIDE: usize = 6;

@@ -1,24 +1,9 @@
 //! Changes of the entries of the tables.
 
 use crate::Build;
+use points::odd::WILD;
 use questions::{decoded, encoded, ZOOMS};
 use splitmix::Splitmix;
-
-/// Coordinates that no build leaves.
-pub const WILD: [f64; 12] = [
-    f64::NAN,
-    f64::INFINITY,
-    f64::NEG_INFINITY,
-    f64::MAX,
-    -f64::MAX,
-    1e200,
-    -1e-200,
-    -0.0,
-    1.0,
-    1.0000000000000002,
-    1.5,
-    0.25,
-];
 
 /// Changes up to four entries of a column, or one in three of them.
 pub fn some<T>(column: &mut [T], source: &mut Splitmix, value: impl Fn(&T, &mut Splitmix) -> T) {

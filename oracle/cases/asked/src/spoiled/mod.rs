@@ -47,13 +47,9 @@ const LARGE_TIMES: usize = 10;
 
 /// Every spoiled state of a form.
 pub fn each(form: Form, source: &mut Splitmix, mut ask: impl FnMut(&Build, &mut Splitmix)) {
-    let times = match form {
-        Form::Short => 20_000,
-        Form::Full => 200_000,
-    };
     most::states().iter().for_each(|build| ask(build, source));
     large::each(form, source, |build, source| changed_slots(build, source, &mut ask));
-    for number in 0..times {
+    for number in 0..form.of([20_000, 200_000]) {
         ask(&one(number, source), source);
     }
 }

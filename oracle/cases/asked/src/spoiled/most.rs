@@ -2,12 +2,12 @@
 
 use crate::Build;
 use columns::{Columns, Entry, Slot};
-use options::{Options, USUAL};
-use questions::{State, MOST_POINTS, ZOOMS};
+use options::{Options, MOST_POINTS, USUAL};
+use questions::{State, ZOOMS};
 
 /// Lamps in a row, in a table of their own and in one of a single entry.
 pub fn states() -> [Build; 2] {
-    [MOST_POINTS, MOST_POINTS + 1].map(|count| {
+    [MOST_POINTS, MOST_POINTS + 1].map(|count| count as u32).map(|count| {
         let (mut starts, mut lens) = ([0; ZOOMS], [0; ZOOMS]);
         (starts[0], lens[0], lens[1]) = (count, 1, count);
         let options = Options { max_zoom: 0, ..USUAL };

@@ -1,7 +1,8 @@
 //! Changes of the indexes.
 
-use super::entries::{some, WILD};
+use super::entries::some;
 use crate::Build;
+use points::odd::WILD;
 use splitmix::Splitmix;
 
 /// Coordinates: out of order, not finite, no numbers.

@@ -2,8 +2,8 @@
 
 use crate::Build;
 use columns::{width, Change, Value, NAMES};
-use options::{Options, Plane, Range, UNIT};
-use questions::{State, MOST_POINTS, ZOOMS};
+use options::{Options, Plane, Range, MOST_POINTS, UNIT};
+use questions::{State, ZOOMS};
 use splitmix::Splitmix;
 
 /// A zoom: most often a built one.
@@ -42,7 +42,7 @@ pub fn start(build: &mut Build, source: &mut Splitmix) {
 /// N.
 pub fn count(build: &mut Build, source: &mut Splitmix) {
     build.state.count = match source.below(3) {
-        0 => source.pick(&[0, MOST_POINTS, MOST_POINTS + 1]),
+        0 => source.pick(&[0, MOST_POINTS, MOST_POINTS + 1]) as u32,
         _ => another(build.state.count, source),
     };
 }

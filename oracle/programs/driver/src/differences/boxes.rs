@@ -3,9 +3,7 @@
 use super::{case, example, load, told, Case};
 use crate::plain::{ids, listed, Options, Plane, WORKED};
 use beside::judge::Judge;
-
-const INF: f64 = f64::INFINITY;
-const NAN: f64 = f64::NAN;
+use points::odd::{INF, NAN};
 
 pub fn cases<J: Judge>() -> Vec<Case> {
     let mut all = boxes::<J>();

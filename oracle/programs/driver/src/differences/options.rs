@@ -6,9 +6,7 @@ use crate::{
     plain::{ids, spots, Options, Plane, Range, UNIT, WORKED},
 };
 use beside::judge::Judge;
-
-const INF: f64 = f64::INFINITY;
-const NAN: f64 = f64::NAN;
+use points::odd::{INF, NAN};
 
 pub fn cases<J: Judge>() -> Vec<Case> {
     let mut all = zooms_and_node_size::<J>();

@@ -3,9 +3,8 @@
 use super::{case, Case};
 use crate::plain::{Range, UNIT};
 use beside::judge::Judge;
+use points::odd::NAN;
 use std::hint::black_box;
-
-const NAN: f64 = f64::NAN;
 
 pub fn cases<J: Judge>() -> Vec<Case> {
     vec![

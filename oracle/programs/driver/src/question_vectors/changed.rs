@@ -3,11 +3,9 @@
 
 use super::cases::{lamps, with_rooms, Case};
 use asked::Build;
+use columns::NO_PARENT as NONE;
 use questions::Question;
 use splitmix::Splitmix;
-
-/// What stands for an unset parent.
-const NONE: u32 = u32::MAX;
 
 /// The changes to the build of four lamps.
 const CHANGES: [fn(&mut Build); 18] = [

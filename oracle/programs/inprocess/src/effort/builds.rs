@@ -13,7 +13,7 @@ const MOST: [u64; 4] = [5, 12, 30, 100];
 
 /// Every build of a form, a half of them on the globe.
 pub fn each(form: Form, source: &mut Splitmix, mut ask: impl FnMut(&Build, &mut Splitmix)) {
-    for build in 0..BUILDS[usize::from(form == Form::Full)] {
+    for build in 0..form.of(BUILDS) {
         let options = match build % 4 {
             0 | 1 => corners::ordinary(source),
             _ => corners::any(source),

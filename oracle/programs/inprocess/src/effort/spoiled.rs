@@ -11,10 +11,6 @@ const ALL: usize = 24;
 
 /// Runs the group.
 pub fn run(form: Form, source: &mut Splitmix) -> Group {
-    let form = match form {
-        Form::Short => asked::Form::Short,
-        Form::Full => asked::Form::Full,
-    };
     let mut group = Group::new("effort, over spoiled tables");
     let mut replies = Replies::new();
     spoiled::each(form, source, |build, source| {

@@ -1,13 +1,13 @@
 //! The build of an index: every id and the bits of every coordinate, and what stands past them.
 
 use super::{reference::plain, rust};
-use crate::report::{other, other_column, Group};
+use crate::{
+    report::{other, other_column, Group},
+    GUARD,
+};
 use points::Points;
 use ported::Reply;
 use rust_builds::WITHOUT_WINDOW;
-
-/// How many entries stand behind a lent column, out of the callee's reach.
-const GUARD: usize = 2;
 
 /// The two columns of an index.
 pub struct Columns {

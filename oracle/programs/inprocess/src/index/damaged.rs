@@ -8,23 +8,12 @@ use super::{
     searches::{self, Searches},
 };
 use crate::{report::Group, Form};
-use points::{EDGES, SHAPES};
+use points::{
+    odd::{EDGES, WILDEST},
+    SHAPES,
+};
 use ported::Lent;
 use splitmix::Splitmix;
-
-/// Coordinates that a lent column may hold.
-const WILD: [f64; 10] = [
-    f64::NAN,
-    f64::INFINITY,
-    f64::NEG_INFINITY,
-    f64::MAX,
-    -f64::MAX,
-    1e200,
-    -1e-200,
-    -0.0,
-    1.0,
-    0.25,
-];
 
 /// Damaged indexes of all kinds, and queries to each.
 pub fn run(form: Form, judged: &mut Group) -> [Group; 3] {
@@ -34,11 +23,7 @@ pub fn run(form: Form, judged: &mut Group) -> [Group; 3] {
         "index, within over damaged columns",
         "index, cursor over damaged columns",
     );
-    let rounds = match form {
-        Form::Short => 20_000,
-        Form::Full => 200_000,
-    };
-    for round in 0..rounds {
+    for round in 0..form.of([20_000, 200_000]) {
         let most = if round % 64 == 0 { 2_000 } else { 60 };
         let count = 1 + source.below(most) as usize;
         let node_size = source.pick(&[1, 2, 3, 8, 64]);
@@ -55,9 +40,9 @@ fn columns(count: usize, node_size: usize, round: usize, source: &mut Splitmix) 
     let mut columns = rust::patched(node_size, &points.xs, &points.ys);
     match round % 7 {
         0 => columns.coords.iter_mut().for_each(|v| *v = source.unit()),
-        1 => columns.coords.iter_mut().for_each(|v| *v = source.pick(&WILD)),
+        1 => columns.coords.iter_mut().for_each(|v| *v = source.pick(&WILDEST)),
         2 => columns.coords.iter_mut().for_each(|v| *v = source.pick(&EDGES)),
-        3 => change_some(&mut columns.coords, source, |source| source.pick(&WILD)),
+        3 => change_some(&mut columns.coords, source, |source| source.pick(&WILDEST)),
         4 => change_some(&mut columns.coords, source, |source| source.unit()),
         5 => change_medians(&mut columns.coords, source),
         _ => {}
@@ -88,7 +73,7 @@ fn change_medians(coords: &mut [f64], source: &mut Splitmix) {
     let m = last / 2;
     for (slot, axis) in [(m, 0), (m / 2, 1), ((m + 1 + last) / 2, 1)] {
         if source.below(3) > 0 {
-            coords[2 * slot.min(last) + axis] = source.pick(&WILD);
+            coords[2 * slot.min(last) + axis] = source.pick(&WILDEST);
         }
     }
 }

@@ -3,10 +3,8 @@
 //! any columns.
 
 use super::queries::Query;
+use options::MOST_POINTS;
 use ported::{Lent, Reply};
-
-/// The most points of an index.
-pub const MOST_POINTS: usize = 1_048_576;
 
 /// A reply that carries nothing.
 pub fn plain(number: u32) -> Reply {

@@ -4,16 +4,13 @@
 use super::{
     arrangement::{Columns, Request},
     queries::Query,
-    reference::{build_refusal, plain, search_refusal, searched, MOST_POINTS},
+    reference::{build_refusal, plain, search_refusal, searched},
     rust, searches,
 };
 use crate::report::Group;
+use options::MOST_POINTS;
+use points::odd::{ABOVE_1, INF, MAX, NAN, NOT_FINITE, TINY};
 use ported::Lent;
-
-const NAN: f64 = f64::NAN;
-const INF: f64 = f64::INFINITY;
-const TINY: f64 = f64::from_bits(1);
-const ABOVE_1: f64 = f64::from_bits(0x3ff0_0000_0000_0001);
 
 /// Node sizes in bounds and out of them.
 const NODE_SIZES: [usize; 7] = [0, 1, 3, 64, 65_535, 65_536, usize::MAX];
@@ -153,7 +150,7 @@ pub fn of_searches() -> Group {
 fn queries() -> Vec<Query> {
     let (corners, circle) = ([0.25, 0.25, 0.75, 0.75], [0.5, 0.5, 0.25]);
     let mut all = vec![Query::Range(corners), Query::Within(circle)];
-    for wrong in [NAN, INF, -INF] {
+    for wrong in NOT_FINITE {
         for at in 0..4 {
             let mut corners = corners;
             corners[at] = wrong;
@@ -165,7 +162,7 @@ fn queries() -> Vec<Query> {
             all.push(Query::Within(circle));
         }
     }
-    for radius in [0.0, -0.0, TINY, -TINY, -0.25, -f64::MAX, f64::MAX] {
+    for radius in [0.0, -0.0, TINY, -TINY, -0.25, -MAX, MAX] {
         all.push(Query::Within([0.5, 0.5, radius]));
     }
     all

@@ -28,11 +28,7 @@ pub fn run(form: Form, built: &mut Group, judged: &mut Group) -> [Group; 2] {
     let mut source = Splitmix(3);
     let mut group = Group::new("index, rings at rounded edges beside a scan");
     let mut untouched = BesideUntouched::new("index, the same beside the untouched Rust");
-    let rounds = match form {
-        Form::Short => 10_000,
-        Form::Full => 100_000,
-    };
-    for round in 0..rounds {
+    for round in 0..form.of([10_000, 100_000]) {
         let first = circle(&mut source);
         let count = 1 + source.below(MOST) as usize;
         let points: Vec<[f64; 2]> = (0..count).map(|_| point(first, &mut source)).collect();

@@ -4,12 +4,12 @@ use super::{
     queries::Query,
     reference::{self, plain},
 };
-use crate::report::{other, other_column, Group};
+use crate::{
+    report::{other, other_column, Group},
+    GUARD,
+};
 use ported::{Lent, Reply, NO_SLOT};
 use splitmix::Splitmix;
-
-/// How many entries stand behind a lent output column, out of the callee's reach.
-const GUARD: usize = 2;
 
 /// What an output column holds before a search.
 pub fn old_column(length: usize) -> Vec<u32> {

@@ -30,7 +30,7 @@ pub struct Both<'a> {
 /// Builds until so many have a cluster; half of them have options as users have them, and half any in which lamps
 /// come together. How many there were.
 pub fn each(form: Form, source: &mut Splitmix, mut compare: impl FnMut(&Both)) -> usize {
-    let wanted = BUILDS[usize::from(form == Form::Full)];
+    let wanted = form.of(BUILDS);
     let mut builds = 0;
     while builds < wanted {
         let count = 2 + source.below(POINTS - 1) as usize;

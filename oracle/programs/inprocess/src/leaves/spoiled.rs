@@ -11,10 +11,6 @@ type Replies = BTreeMap<[u32; 2], usize>;
 
 /// The ids that each state is asked for children by, and others, at limit 0.
 pub fn run(form: Form, source: &mut Splitmix) -> Group {
-    let form = match form {
-        Form::Short => asked::Form::Short,
-        Form::Full => asked::Form::Full,
-    };
     let mut group = Group::new("leaves, limit 0 over spoiled tables");
     let mut replies = Replies::new();
     spoiled::each(form, source, |build, source| {

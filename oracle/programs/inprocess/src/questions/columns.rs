@@ -1,12 +1,9 @@
 //! The output columns of a question: what they hold before it, and what is read from them after it.
 
-use crate::report::other_column;
+use crate::{report::other_column, GUARD};
 use asked::Rooms;
 use ported::Reply;
 use questions::{Answer, Item, Out, Outcome, Question, Refusal};
-
-/// How many entries stand behind a lent output column, out of the callee's reach.
-const GUARD: usize = 2;
 
 /// Output columns, with old contents and what stands behind them.
 pub struct Columns {

@@ -43,10 +43,6 @@ const OVER_SPOILED: [&str; 7] = [
 
 /// Runs every group, over so many builds and so many spoiled tables.
 pub fn run(over_builds: Form, over_spoiled: Form) -> ExitCode {
-    let [over_builds, over_spoiled] = [over_builds, over_spoiled].map(|form| match form {
-        Form::Short => asked::Form::Short,
-        Form::Full => asked::Form::Full,
-    });
     // The questions are those that `driver questions` asks: the columns have a generator of their own. They are
     // copied before they are lent: a copy has no room behind it, so that the address sanitizer sees their ends.
     let (mut source, mut lengths) = (Splitmix(1), Splitmix(2));

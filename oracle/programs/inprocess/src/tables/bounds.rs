@@ -3,16 +3,9 @@
 use super::refusals::{judge, roomy, spread, Asked};
 use crate::report::Group;
 use options::{Options, Plane, Range, UNIT, USUAL};
+use points::odd::{BELOW_1, INF, MAX, NAN, NOT_FINITE, TINY};
 
-const NAN: f64 = f64::NAN;
-const INF: f64 = f64::INFINITY;
-const MAX: f64 = f64::MAX;
-const TINY: f64 = f64::from_bits(1);
-const BELOW_1: f64 = f64::from_bits(0x3fef_ffff_ffff_ffff);
 const ABOVE_65536: f64 = f64::from_bits(0x40f0_0000_0000_0001);
-
-/// What is neither in bounds nor a number of its own.
-const WILD: [f64; 3] = [NAN, INF, -INF];
 
 pub fn run() -> Group {
     let mut group = Group::new("tables, options at their bounds");
@@ -48,7 +41,7 @@ fn numbers() -> Vec<Options> {
     {
         all.push(Options { extent, ..USUAL });
     }
-    for wild in WILD {
+    for wild in NOT_FINITE {
         all.push(Options { radius: wild, ..USUAL });
         all.push(Options { extent: wild, ..USUAL });
     }

@@ -2,9 +2,10 @@
 //! the rounded edges of rings.
 
 use crate::Form;
+use asked::{each_count, Sizes};
 use columns::Given;
 use options::{corners, Options};
-use points::{Drawn, Shape, SHAPES};
+use points::{Drawn, Shape, DRAWN, SHAPES};
 use splitmix::Splitmix;
 
 /// One build: options, and the points as a caller of the Rust has them.
@@ -16,9 +17,6 @@ pub struct Case {
     pub ys: Vec<f64>,
     pub energies: Vec<u64>,
 }
-
-const DRAWN: [Drawn; 6] =
-    [Drawn::Not, Drawn::Each, Drawn::By(8), Drawn::Not, Drawn::Each, Drawn::By(22)];
 
 impl Case {
     /// So many points of a shape, drawn together, in the coordinate system of the options.
@@ -54,10 +52,7 @@ impl Case {
 /// Every combination of options at the bounds, with a few points of each shape, the coordinate systems in
 /// turn.
 pub fn corners(form: Form, source: &mut Splitmix, mut compare: impl FnMut(&Case, &mut Splitmix)) {
-    let most = match form {
-        Form::Short => 40,
-        Form::Full => 160,
-    };
+    let most = form.of([40, 160]);
     let mut number = 0;
     for min_points in [0, 1, 2, 3, 255] {
         for radius in [0.0, 40.0, 512.0, 65_536.0] {
@@ -91,7 +86,7 @@ pub fn corners(form: Form, source: &mut Splitmix, mut compare: impl FnMut(&Case,
 }
 
 /// Numbers of points, and how many builds each has in the short form and in the full one.
-fn sizes() -> [(Vec<usize>, [usize; 2]); 4] {
+fn sizes() -> [Sizes; 4] {
     [
         ((1..=64).collect(), [160, 1_200]),
         ((65..=200).collect(), [24, 200]),
@@ -102,28 +97,15 @@ fn sizes() -> [(Vec<usize>, [usize; 2]); 4] {
 
 /// Every number of points, with shapes, coordinate systems and options by chance: ordinary ones, and any.
 pub fn counts(form: Form, source: &mut Splitmix, mut compare: impl FnMut(&Case, &mut Splitmix)) {
-    for (counts, [short, full]) in sizes() {
-        let builds = if form == Form::Full { full } else { short };
-        for count in counts {
-            for build in 0..builds {
-                let options = match build % 2 {
-                    0 => corners::ordinary(source),
-                    _ => corners::any(source),
-                };
-                let (shape, drawn) = (source.pick(&SHAPES), source.pick(&DRAWN));
-                compare(&Case::made(options, shape, drawn, count, source), source);
-            }
-        }
-    }
+    each_count(&sizes(), form, source, |options, count, source| {
+        let (shape, drawn) = (source.pick(&SHAPES), source.pick(&DRAWN));
+        compare(&Case::made(options, shape, drawn, count, source), source);
+    });
 }
 
 /// Few points at the rounded edge of a ring by which clusters are made.
 pub fn at_rings(form: Form, source: &mut Splitmix, mut compare: impl FnMut(&Case, &mut Splitmix)) {
-    let builds = match form {
-        Form::Short => 2_000,
-        Form::Full => 20_000,
-    };
-    for _ in 0..builds {
+    for _ in 0..form.of([2_000, 20_000]) {
         let count = 1 + source.below(30) as usize;
         let (options, points) = points::reached(count, source);
         compare(&Case::of(options, "at a ring".to_string(), points), source);

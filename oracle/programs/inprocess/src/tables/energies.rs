@@ -3,9 +3,8 @@
 use super::outcome::Request;
 use crate::report::{other, Group};
 use columns::Given;
-use options::{Options, MOST_ENERGY, USUAL};
+use options::{Options, MOST_ENERGY, MOST_POINTS, USUAL};
 use ported::needed;
-use refusals::MOST_POINTS;
 
 /// The sum of all of them.
 const TOTAL: u128 = 1 << 60;

@@ -1,13 +1,10 @@
 //! One build by the port: its reply, its state and its columns, beside what is expected of them.
 
-use crate::report::other;
+use crate::{report::other, GUARD};
 use columns::{Change, Given, Lent, ReadBoth, Value};
 use options::Options;
 use ported::{Columns, Lengths, Reply, State, ZOOMS};
 use rust_builds::Tables;
-
-/// How many entries stand behind a lent column, out of the callee's reach.
-const GUARD: usize = 2;
 
 /// What a build is asked for: options, points, and the lengths of the lent columns.
 pub struct Request<'a> {

@@ -4,14 +4,10 @@
 use super::{outcome::Request, room};
 use crate::report::Group;
 use columns::Given;
-use options::{Options, Plane, Range, MOST_ENERGY, UNIT, USUAL};
+use options::{Options, Plane, Range, MOST_ENERGY, MOST_POINTS, UNIT, USUAL};
+use points::odd::{ABOVE_1, INF, NAN, TINY};
 use ported::{needed, Lengths, Reply, COLUMNS};
-use refusals::{refusal, Refusal, MOST_POINTS};
-
-const NAN: f64 = f64::NAN;
-const INF: f64 = f64::INFINITY;
-const TINY: f64 = f64::from_bits(1);
-const ABOVE_1: f64 = f64::from_bits(0x3ff0_0000_0000_0001);
+use refusals::{refusal, Refusal};
 
 /// What a build is asked for, y in [0,1] on the globe too.
 pub struct Asked {

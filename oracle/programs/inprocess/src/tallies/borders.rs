@@ -14,11 +14,8 @@ const MOST: [u64; 4] = [4, 12, 40, 200];
 
 /// Every build of a form: in every coordinate system, half of them with options as users have them, half with any.
 pub fn each(form: Form, source: &mut Splitmix, mut compare: impl FnMut(&Build)) {
-    for number in 0..BUILDS[usize::from(form == Form::Full)] {
-        let options = match number % 2 {
-            0 => corners::ordinary(source),
-            _ => corners::any(source),
-        };
+    for number in 0..form.of(BUILDS) {
+        let options = corners::in_turn(number, source);
         let most = source.pick(&MOST);
         let count = 1 + source.below(most) as usize;
         let build = match number % 3 {

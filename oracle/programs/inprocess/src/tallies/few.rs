@@ -27,7 +27,7 @@ pub fn run(form: Form, source: &mut Splitmix) -> Vec<Group> {
     let mut whole = Group::new("tallies, large tables");
     let mut sums = Group::new("tallies, all tiles of zoom 8 of large tables");
     let mut changed = Group::new("tallies, large tables with changed slots");
-    for number in 0..BUILDS[usize::from(form == Form::Full)] {
+    for number in 0..form.of(BUILDS) {
         let mut build = build(number, source);
         let all = (0..1 << 8).flat_map(|y| (0..1 << 8).map(move |x| (8, x, y)));
         let sum: usize = all.map(|tile| compare(&build, tile, &mut whole)).sum();

@@ -1,12 +1,10 @@
 //! Texts of the form, by chance: tables of every shape, and every refusal of a build, alone and before others.
 
 use super::Draft;
+use crate::lines::LENT;
 use options::corners::{MIN_POINTS, NODE_SIZES, ZOOMS};
 use points::{Drawn, SHAPES};
 use splitmix::Splitmix;
-
-/// The entries that are lent.
-const LENT: u64 = 1_152;
 
 /// Usual zooms, of which some lie where points that differ by one part meet.
 const USUAL_ZOOMS: [[u64; 2]; 8] =
@@ -128,7 +126,7 @@ fn one_of<const WAYS: usize>(
 
 /// The most points that the columns have room for.
 fn most(options: &[u64; 6]) -> u64 {
-    LENT / (options[1].saturating_sub(options[0]) + 2)
+    LENT as u64 / (options[1].saturating_sub(options[0]) + 2)
 }
 
 /// From one point to so many, or to as many as there is room for.

@@ -1,26 +1,13 @@
 //! Builds written out by hand, whose indexes are not split.
 
+pub use columns::NO_PARENT as NONE;
 use columns::{Columns, Entry, Lent, Slot};
-use options::{Options, Plane, UNIT};
+pub use options::WORKED;
+use options::{Options, Plane};
 use questions::{State, ZOOMS};
-
-/// What stands for an unset parent.
-pub const NONE: u32 = u32::MAX;
 
 /// An entry: x, y, id, parent, num.
 pub type Given = (f64, f64, u32, u32, u32);
-
-/// The options of 01's worked build.
-pub const WORKED: Options = Options {
-    min_zoom: 0,
-    max_zoom: 1,
-    min_points: 2,
-    radius: 64.0,
-    extent: 512.0,
-    node_size: 64,
-    plane: Plane::Cartesian(UNIT),
-    longitude_strips_only: false,
-};
 
 /// A state and columns of its own.
 #[derive(Clone)]

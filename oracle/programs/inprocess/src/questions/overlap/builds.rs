@@ -13,12 +13,9 @@ const MOST: [u64; 5] = [8, 40, 40, 200, 601];
 
 /// Every build of a form, with its range.
 pub fn each(form: Form, source: &mut Splitmix, mut ask: impl FnMut(&Build, Range, &mut Splitmix)) {
-    for build in 0..BUILDS[usize::from(form == Form::Full)] {
+    for build in 0..form.of(BUILDS) {
         // Half of them with options as users have them, half with any.
-        let options = match build % 2 {
-            0 => corners::ordinary(source),
-            _ => corners::any(source),
-        };
+        let options = corners::in_turn(build, source);
         let range = range(&options, source);
         let options = Options { plane: Plane::Cartesian(range), ..options };
         let most = source.pick(&MOST);
