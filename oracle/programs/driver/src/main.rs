@@ -1,0 +1,81 @@
+//! The driver of the comparison: puts questions to the builds of the Rust. See ../../README.md.
+
+mod attempt;
+mod differences;
+mod index_vectors;
+mod lines_of_01;
+mod lister_vectors;
+mod listing;
+mod load_vectors;
+mod plain;
+mod question_vectors;
+mod questions;
+mod range_vectors;
+mod report;
+
+use asked::Form;
+use std::{
+    env, fs,
+    io::{self, BufWriter, StdoutLock},
+    process::ExitCode,
+};
+
+const USAGE: &str = "usage: driver worked
+       driver differences PAGE
+       driver range-vectors [--count N] [--seed S]
+       driver index-vectors
+       driver load-vectors
+       driver lister-vectors [--fresh N]
+       driver lister
+       driver lister-program PROGRAM [--full]
+       driver question-vectors
+       driver questions [--full]";
+
+fn main() -> ExitCode {
+    attempt::silence();
+    let words: Vec<String> = env::args().skip(1).collect();
+    let words: Vec<&str> = words.iter().map(String::as_str).collect();
+    match words.as_slice() {
+        ["worked"] => lines_of_01::run(),
+        ["differences", page] => match fs::read_to_string(page) {
+            Ok(text) => differences::run(&text),
+            Err(why) => fail(&format!("{page}: {why}")),
+        },
+        ["case", code, build] => differences::run_one(code, build),
+        ["range-vectors", rest @ ..] => match range_vectors::Wanted::parse(rest) {
+            Some(wanted) => written(|out| range_vectors::write(&wanted, out)),
+            None => fail(USAGE),
+        },
+        ["index-vectors"] => written(|out| index_vectors::write(out)),
+        ["load-vectors"] => written(|out| load_vectors::write(out)),
+        ["lister-vectors"] => written(|out| lister_vectors::write(out)),
+        ["lister-vectors", "--fresh", count] => match count.parse() {
+            Ok(count) => written(|out| lister_vectors::write_fresh(count, out)),
+            Err(_) => fail(USAGE),
+        },
+        ["lister"] => written(|out| listing::list(out)),
+        ["lister-program", program] => listing::judge(program, 1_000),
+        ["lister-program", program, "--full"] => listing::judge(program, 50_000),
+        ["question-vectors"] => written(|out| question_vectors::write(out)),
+        ["questions"] => questions::run(Form::Short),
+        ["questions", "--full"] => questions::run(Form::Full),
+        _ => fail(USAGE),
+    }
+}
+
+/// Writes vectors or tables to standard output.
+fn written(write: impl FnOnce(&mut BufWriter<StdoutLock>) -> io::Result<()>) -> ExitCode {
+    match write(&mut BufWriter::new(io::stdout().lock())) {
+        Ok(()) => ExitCode::SUCCESS,
+        Err(why) => {
+            eprintln!("standard output: {why}");
+            ExitCode::FAILURE
+        }
+    }
+}
+
+/// Ends with a word on why nothing was run.
+fn fail(why: &str) -> ExitCode {
+    eprintln!("{why}");
+    ExitCode::from(2)
+}

@@ -1,0 +1,33 @@
+//! The table lister, written from the words of 01's section on it and of 02's #108, and from nothing of the port:
+//! which text is of its form, and what is printed for it. The tables are the patched Rust's, the energies sums over
+//! the lamps that it lists, the refusals 1 to 4 those of the reference; seven digits never make a refusal by 15.
+
+mod compared;
+mod lines;
+mod read;
+pub mod texts;
+
+pub use compared::{compared, Compared};
+pub use lines::{answer, lines};
+pub use read::{read, Input, NotOfItsForm};
+
+/// 01's example with 02's energies, and its tables: what the proved program is run on, and has to print.
+pub const WORKED: &str = include_str!("../../../../crates/lister/stdin");
+pub const WORKED_TABLES: &str = include_str!("../../../../crates/lister/stdout");
+
+/// What the lister answers.
+#[derive(Clone, Debug, PartialEq, Eq)]
+pub struct Answer {
+    /// 01's number of the refusal, 0 where the tables are listed.
+    pub number: u32,
+    /// What is printed.
+    pub printed: Vec<u8>,
+}
+
+/// What the lister answers to this text on its standard input.
+pub fn answer_to(text: &[u8]) -> Answer {
+    match read(text) {
+        Ok(input) => answer(&input),
+        Err(NotOfItsForm) => Answer { number: 12, printed: b"refusal=12\n".to_vec() },
+    }
+}
