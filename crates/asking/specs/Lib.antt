@@ -2,9 +2,6 @@
 -- below the questions. All else is laws.
 pub mod Answers
 pub mod Asked
-pub mod Filled
 pub mod Columns
 pub mod Ids
-pub mod Reached
-pub mod Around
-pub mod Replies
+pub mod laws

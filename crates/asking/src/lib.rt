@@ -19,10 +19,10 @@ ghost use Rattle.tables.specs.Lent.{given, lentCols};
 ghost use Rattle.tables.specs.Columns.{part};
 ghost use Rattle.tables.specs.State.{startOf, lenOf};
 ghost use Rattle.asking.specs.Answers.{answerNumber, answerCarried, fitted};
-ghost use Rattle.tables.specs.Roomy.{Roomy};
+ghost use Rattle.tables.specs.laws.Roomy.{Roomy};
 ghost use Rattle.asking.specs.Ids.{isBuilt, targetOf, onward};
-ghost use Rattle.asking.specs.Reached.{Reached};
-ghost use Rattle.asking.specs.Around.{ringOf, InRing, aheadIn};
+ghost use Rattle.asking.specs.laws.Reached.{Reached};
+ghost use Rattle.asking.specs.laws.Around.{ringOf, InRing, aheadIn};
 
 // The answer of a question that lists, in 01's words: how many items, or a refusal. `Listed` and `NoRoom` carry the whole length.
 pub enum Answer {

@@ -13,7 +13,7 @@ use Rattle.kdbush.specs.Run.{sound, whole, filled}
 use Rattle.kdbush.specs.Reply.{found, indexOk, listed, listedColumn}
 use Rattle.boxes.specs.declared.Part.{Part}
 use Rattle.boxes.specs.declared.Part.the-variants.{All, Past}
-use Rattle.boxes.specs.Joined.{partOf}
+use Rattle.boxes.specs.laws.Joined.{partOf}
 
 -- how a reply came out
 abbrev pub cameOut : SearchReply → Part

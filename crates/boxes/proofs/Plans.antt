@@ -8,19 +8,20 @@ use lib.ListN.{length}
 use lib.Ieee.{Float}
 use lib.Dec.{leb}
 use Rattle.kdbush.specs.Run.{sound, whole, filled}
-use Rattle.kdslots.specs.Bounds.{coordsOk, and-both, coords-is}
+use Rattle.kdslots.specs.Bounds.{coordsOk}
+use Rattle.kdslots.specs.laws.Bounds.{and-both, coords-is}
 use Rattle.kdbush.specs.Reply.{found, indexOk}
-use Rattle.tables.specs.Columns.{from, back}
+use Rattle.tables.specs.laws.Columns.{from, back}
 use Rattle.asking.specs.declared.Answer.{Answer}
 use Rattle.asking.specs.declared.Answer.the-variants.{Spoiled}
 use Rattle.asking.specs.Answers.{fitted}
 use Rattle.asking.specs.Asked.{answerOf, columnOf}
-use Rattle.asking.specs.Filled.{filled-length}
+use Rattle.asking.specs.laws.Filled.{filled-length}
 use Rattle.boxplan.specs.declared.Plan.{Plan}
-use Rattle.boxplan.specs.Queries.{queriesOf}
+use Rattle.boxplan.specs.laws.Queries.{queriesOf}
 use Rattle.boxes.specs.declared.Part.the-variants.{All, Past}
 use Rattle.boxes.specs.Lists.{walked, planned}
-use Rattle.boxes.specs.Joined.{partOf, part-all, part-past, found-length, first-past, only-first, second-past, both-whole}
+use Rattle.boxes.specs.laws.Joined.{partOf, part-all, part-past, found-length, first-past, only-first, second-past, both-whole}
 
 module _ (p : Plan) (size n : ℕ) (ids : List ℕ) (co : List Float) (out : List ℕ) where
   abbrev one : List ℕ

@@ -19,9 +19,9 @@ ghost use Rattle.tables.specs.Columns.{part};
 ghost use Rattle.tables.specs.Sound.{stateOk};
 ghost use Rattle.tables.specs.Room.{indexRoom};
 ghost use Rattle.asking.specs.Asked.{answerOf, columnOf};
-ghost use Rattle.boxplan.specs.Queries.{queriesOf};
+ghost use Rattle.boxplan.specs.laws.Queries.{queriesOf};
 ghost use Rattle.boxes.specs.Lists.{walked, planned, listedAt, ringAsked, boxAsked};
-ghost use Rattle.boxes.specs.Joined.{partOf};
+ghost use Rattle.boxes.specs.laws.Joined.{partOf};
 
 // How one search came out: how many places it found, or that a slot names a place past the table.
 enum Part {

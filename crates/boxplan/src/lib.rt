@@ -6,7 +6,7 @@ use range::CoordinateSystem;
 use range::Point;
 ghost use mathlib.Core.Path.{_≡_};
 ghost use Rattle.boxplan.specs.Rule.{wrapped, wrappedEast, newWest, newEast, boxOf, planOf, boxOk};
-ghost use Rattle.boxplan.specs.Queries.{queriesOf};
+ghost use Rattle.boxplan.specs.laws.Queries.{queriesOf};
 
 // The edges of a box of longitudes after the rule.
 struct Edges {

@@ -11,7 +11,7 @@ use Rattle.tables.specs.declared.Entry.{Entry}
 use Rattle.tables.specs.declared.Options.{Options}
 use Rattle.tables.specs.Entries.{Table, xsOf, ysOf}
 use Rattle.tables.specs.Radius.{radiusAt}
-use Rattle.zoom.specs.Bare.{bare, bares, bareS, cluster-bare}
+use Rattle.zoom.specs.laws.Bare.{bare, bares, bareS, cluster-bare}
 use Rattle.zoom.specs.Near.{nearOf}
 use Rattle.zoom.specs.Zoom.{Scan, cluster}
 use Rattle.kdbush.specs.Reply.{indexOf}

@@ -9,12 +9,12 @@ use Rattle.range.specs.Range.{converted}
 use Rattle.tables.specs.declared.Entry.{Entry}
 use Rattle.tables.specs.declared.Options.{Options}
 use Rattle.tables.specs.Entries.{Table, entry}
-use Rattle.zoom.specs.Lamps.{sumOf}
+use Rattle.zoom.specs.laws.Lamps.{sumOf}
 use Rattle.zoom.specs.Zoom.{energyOf}
 use Rattle.zooms.specs.Zooms.{Plan, planOf}
 use Rattle.supercluster.specs.Build.{lamp, tablesOf}
-use Rattle.supercluster.specs.Fill.{lamps, lamps-length, lamps-at}
-use Rattle.supercluster.specs.Ready.{Accepted as Accepts}
+use Rattle.supercluster.specs.laws.Fill.{lamps, lamps-length, lamps-at}
+use Rattle.supercluster.specs.laws.Ready.{Accepted as Accepts}
 
 -- the options, and the points with their energies
 pub record Given : Type 0 where

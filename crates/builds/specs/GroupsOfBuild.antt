@@ -6,19 +6,19 @@ use Prim.Native.Nat.{ℕ, zero, suc, _+_, _≤_, _<_}
 use native.Mathlib.Omega.{arith}
 use native.Mathlib.Nat.{add-suc}
 use lib.ListN.{length}
-use Rattle.kdslots.specs.All.{all-of}
-use Rattle.kdslots.specs.Members.{In, Distinct}
-use Rattle.tables.specs.Bounds.{options-are}
+use Rattle.kdslots.specs.laws.All.{all-of}
+use Rattle.kdslots.specs.laws.Members.{In, Distinct}
+use Rattle.tables.specs.laws.Bounds.{options-are}
 use Rattle.tables.specs.declared.Entry.{Entry}
 use Rattle.tables.specs.Entries.{Table, entry, none}
 use Rattle.tables.specs.Radius.{radiusAt}
 use Rattle.groups.specs.Groups.{Group, entryOf, around}
-use Rattle.groups.specs.OneZoom.{OneZoom}
+use Rattle.groups.specs.laws.OneZoom.{OneZoom}
 use Rattle.zooms.specs.Zooms.{Plan, nearIn, zoomed, zoomsOf}
-use Rattle.zooms.specs.Running.{Able}
+use Rattle.zooms.specs.laws.Running.{Able}
 use Rattle.supercluster.specs.Build.{convertedAll}
-use Rattle.supercluster.specs.Fill.{lamps, finest-fine, finest-total}
-use Rattle.supercluster.specs.Ready.{able}
+use Rattle.supercluster.specs.laws.Fill.{lamps, finest-fine, finest-total}
+use Rattle.supercluster.specs.laws.Ready.{able}
 use Rattle.builds.specs.Given.{Given, Accepted, points, minZ, maxZ, plan, lampsIn, lampsIn-length, lampsIn-at}
 use Rattle.builds.specs.Came.{came, came-first, came-next, tableAt, table-left, down}
 use Rattle.builds.specs.Steps.{Coming, Grouped, Lone, nearAt, groupsOn, zoom-grouped, coming-next}

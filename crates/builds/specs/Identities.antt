@@ -6,12 +6,13 @@ use mathlib.Core.Logic.{_⊎_, inl, inr}
 use Prim.Native.Nat.{ℕ, suc, _+_, _-_, _≤_, _<_}
 use native.Mathlib.Omega.{arith}
 use lib.ListN.{length}
-use Rattle.tables.specs.Bounds.{options-are}
+use Rattle.tables.specs.laws.Bounds.{options-are}
 use Rattle.tables.specs.declared.Entry.{Entry}
 use Rattle.tables.specs.Entries.{Table, entry}
-use Rattle.tables.specs.Ids.{clusterId, originOf, tableOf, id-origin, id-from}
-use Rattle.zoom.specs.Keeps.{all-at}
-use Rattle.zoom.specs.Sound.{Next}
+use Rattle.tables.specs.Ids.{clusterId, originOf, tableOf}
+use Rattle.tables.specs.laws.Ids.{id-origin, id-from}
+use Rattle.zoom.specs.laws.Keeps.{all-at}
+use Rattle.zoom.specs.laws.Sound.{Next}
 use Rattle.zoom.specs.Zoom.{numOf}
 use Rattle.groups.specs.Sums.{count}
 use Rattle.groups.specs.Groups.{from}

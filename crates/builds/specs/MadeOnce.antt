@@ -7,10 +7,11 @@ use Prim.Native.Nat.{ℕ, suc, _≤_, _<_}
 use native.Mathlib.Omega.{arith}
 use native.Mathlib.Nat.{le-refl}
 use lib.ListN.{length}
-use Rattle.tables.specs.Bounds.{options-are}
+use Rattle.tables.specs.laws.Bounds.{options-are}
 use Rattle.tables.specs.declared.Entry.{Entry}
 use Rattle.tables.specs.Entries.{Table, entry, never}
-use Rattle.tables.specs.Ids.{tableOf, id-apart}
+use Rattle.tables.specs.Ids.{tableOf}
+use Rattle.tables.specs.laws.Ids.{id-apart}
 use Rattle.builds.specs.Given.{Given, Accepted, points, minZ, maxZ}
 use Rattle.builds.specs.Came.{came, tableAt, table-last}
 use Rattle.builds.specs.Identities.{Known, identities, ids-distinct, id-table-suc}

@@ -7,11 +7,12 @@ use Prim.Native.Nat.{ℕ, suc, _≤_, _<_}
 use native.Mathlib.Omega.{arith}
 use native.Mathlib.Nat.{le-refl}
 use lib.ListN.{length}
-use Rattle.tables.specs.Bounds.{options-are}
+use Rattle.tables.specs.laws.Bounds.{options-are}
 use Rattle.tables.specs.declared.Entry.{Entry}
 use Rattle.tables.specs.Entries.{Table, entry, unset}
-use Rattle.tables.specs.Ids.{clusterId, id-small}
-use Rattle.zoom.specs.Keeps.{all-at}
+use Rattle.tables.specs.Ids.{clusterId}
+use Rattle.tables.specs.laws.Ids.{id-small}
+use Rattle.zoom.specs.laws.Keeps.{all-at}
 use Rattle.builds.specs.Given.{Given, Accepted, points, minZ, maxZ, plan}
 use Rattle.builds.specs.Came.{came, tableAt, table-last}
 use Rattle.builds.specs.GroupsOfBuild.{groupsBy, came-coming}

@@ -8,14 +8,15 @@ use Prim.Native.Nat.{ℕ, zero, suc, _≤_, _<_}
 use native.Mathlib.Omega.{arith}
 use lib.Dec.{eqb}
 use lib.ListN.{length, getD, length-map}
-use Rattle.kdslots.specs.All.{all-getD}
+use Rattle.kdslots.specs.laws.All.{all-getD}
 use Rattle.tables.specs.declared.Entry.{Entry}
 use Rattle.tables.specs.Entries.{Table, entry, none, never, unset, marked}
 use Rattle.tables.specs.Ids.{clusterId}
-use Rattle.groups.specs.Sums.{one, hit, below, count, count-head, sum-append}
+use Rattle.groups.specs.Sums.{one, count}
+use Rattle.groups.specs.laws.Sums.{hit, below, count-head, sum-append}
 use Rattle.groups.specs.Groups.{Group, copied, joined, entryOf, from, froms, took}
-use Rattle.groups.specs.Literal.{next-entry}
-use Rattle.groups.specs.OneZoom.{Copied, Joined, Fits, OneZoom}
+use Rattle.groups.specs.laws.Literal.{next-entry}
+use Rattle.groups.specs.laws.OneZoom.{Copied, Joined, Fits, OneZoom}
 
 -- the group at j
 abbrev pub groupAt : List Group → ℕ → Group

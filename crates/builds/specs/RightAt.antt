@@ -3,8 +3,8 @@
 use mathlib.Core.List.{[]}
 use Prim.Native.Nat.{ℕ, _+_, _-_, _≤_}
 use native.Mathlib.Omega.{arith}
-use Rattle.kdslots.specs.All.{all-getD}
-use Rattle.supercluster.specs.Right.{Right, tables-right, tables-count}
+use Rattle.kdslots.specs.laws.All.{all-getD}
+use Rattle.supercluster.specs.laws.Right.{Right, tables-right, tables-count}
 use Rattle.builds.specs.Given.{Given, Accepted, points, minZ, maxZ, tablesBy, energyIn}
 use Rattle.builds.specs.Came.{tableAt}
 

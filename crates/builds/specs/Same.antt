@@ -10,10 +10,10 @@ use lib.ListN.{length, length-map, List·getD-map}
 use lib.Seq.{ext-getD}
 use lib.Ieee.{Float}
 use Rattle.kdsort.specs.Cols.{Cols}
-use Rattle.tables.specs.Bounds.{options-are}
+use Rattle.tables.specs.laws.Bounds.{options-are}
 use Rattle.tables.specs.declared.Entry.{Entry}
 use Rattle.tables.specs.Entries.{Table, entry, none, marked, xsOf, ysOf}
-use Rattle.zoom.specs.Lamps.{Carried}
+use Rattle.zoom.specs.laws.Lamps.{Carried}
 use Rattle.zoom.specs.Near.{nearOf}
 use Rattle.groups.specs.Groups.{took}
 use Rattle.kdbush.specs.Reply.{indexOf}

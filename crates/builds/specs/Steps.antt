@@ -11,22 +11,23 @@ use lib.Dec.{lit≤}
 use lib.ListN.{length}
 use lib.Ieee.{Float}
 use Rattle.kdslots.specs.declared.Query.the-variants.{Within}
-use Rattle.kdslots.specs.All.{All, all-map}
-use Rattle.kdslots.specs.Members.{In, Distinct}
+use Rattle.kdslots.specs.laws.All.{All, all-map}
+use Rattle.kdslots.specs.laws.Members.{In, Distinct}
 use Rattle.tables.specs.declared.Entry.{Entry}
 use Rattle.tables.specs.Entries.{Table, entry, unset, unseen}
-use Rattle.tables.specs.Radius.{radiusAt, radius-fine}
-use Rattle.zoom.specs.Keeps.{all-at}
-use Rattle.zoom.specs.Lamps.{total}
-use Rattle.zoom.specs.Sound.{Body, Next, Sound, cluster-sound}
+use Rattle.tables.specs.Radius.{radiusAt}
+use Rattle.tables.specs.laws.Radius.{radius-fine}
+use Rattle.zoom.specs.laws.Keeps.{all-at}
+use Rattle.zoom.specs.laws.Lamps.{total}
+use Rattle.zoom.specs.laws.Sound.{Body, Next, Sound, cluster-sound}
 use Rattle.zoom.specs.Zoom.{Scan}
 use Rattle.groups.specs.Groups.{Group, copied, joined, entryOf, around, groupsOf}
-use Rattle.groups.specs.Literal.{cluster-groups}
-use Rattle.groups.specs.OneZoom.{Copied, Joined, Fits, OneZoom}
-use Rattle.groups.specs.Fits.{one-zoom}
+use Rattle.groups.specs.laws.Literal.{cluster-groups}
+use Rattle.groups.specs.laws.OneZoom.{Copied, Joined, Fits, OneZoom}
+use Rattle.groups.specs.laws.Fits.{one-zoom}
 use Rattle.zooms.specs.Zooms.{Plan, nearIn, zoomed}
-use Rattle.zooms.specs.Running.{Able, total-some, slots-promised}
-use Rattle.zooms.specs.OwnPlace.{own-answered}
+use Rattle.zooms.specs.laws.Running.{Able, total-some, slots-promised}
+use Rattle.zooms.specs.laws.OwnPlace.{own-answered}
 
 -- what the zoom z answers around a place of the table t
 abbrev pub nearAt : Plan → ℕ → Table → Float → Float → List ℕ

@@ -11,7 +11,8 @@ use Rattle.tables.specs.declared.State.{State}
 use Rattle.tables.specs.Room.{Columns}
 use Rattle.boxplan.specs.Rule.{boxOk}
 use Rattle.supercluster.specs.Build.{Lent}
-use Rattle.answers.specs.Stored.{columnsOf, loadedBy}
+use Rattle.answers.specs.Stored.{columnsOf}
+use Rattle.answers.specs.laws.Stored.{loadedBy}
 use Rattle.spending.specs.declared.EffortReply.the-variants.{Box, Spoiled}
 use Rattle.spending.specs.Reply.{effortOf, fitted}
 use Rattle.asking.specs.Asked.{refused}

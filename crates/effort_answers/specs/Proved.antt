@@ -8,7 +8,7 @@ use native.Mathlib.Omega.{arith}
 use lib.Dec.{leb}
 use lib.ListN.{length}
 use lib.Ieee.{Float}
-use Rattle.kdslots.specs.Bounds.{yes}
+use Rattle.kdslots.specs.laws.Bounds.{yes}
 use Rattle.kdbush.specs.Run.{whole}
 use Rattle.tables.specs.declared.State.{State}
 use Rattle.tables.specs.Options.{zoomUsed}
@@ -18,19 +18,19 @@ use Rattle.asking.specs.Asked.{Asked, refused, told, answerOf}
 use Rattle.tables.specs.Room.{indexRoom}
 use Rattle.boxplan.specs.Rule.{planOf, boxOk}
 use Rattle.boxes.specs.Lists.{walked, boxAsked}
-use Rattle.boxes.specs.Joined.{first-past}
+use Rattle.boxes.specs.laws.Joined.{first-past}
 use Rattle.supercluster.specs.Build.{Lent, need}
-use Rattle.supercluster.specs.Load.{Holds}
-use Rattle.answers.specs.Stored.{stateBy, columnsBy, of-load}
-use Rattle.answers.specs.Boxed.{fits-somehow, index-sound, box-told}
+use Rattle.supercluster.specs.laws.Load.{Holds}
+use Rattle.answers.specs.laws.Stored.{stateBy, columnsBy, of-load}
+use Rattle.answers.specs.laws.Boxed.{fits-somehow, index-sound, box-told}
 use Rattle.spending.specs.declared.Effort.{Effort}
 use Rattle.spending.specs.declared.EffortReply.the-variants.{Found, Box, NoRoom, Spoiled}
 use Rattle.spending.specs.Trials.{Mark, hits, items}
 use Rattle.spending.specs.Reply.{effortNumber, effortOf, fitted, answer}
-use Rattle.spending.specs.Promise.{items-of-all}
+use Rattle.spending.specs.laws.Promise.{items-of-all}
 use Rattle.efforts.specs.Effort.{EffortAsked, replyOf, effortAsked}
 use Rattle.efforts.specs.StatedEffort.{testsOf}
-use Rattle.efforts.specs.Proved.{testsAt, unlimited-box}
+use Rattle.efforts.specs.laws.Proved.{testsAt, unlimited-box}
 use Rattle.builds.specs.Given.{Given, Accepted, points}
 use Rattle.effort_answers.specs.OfBuild.{Answered, effortAt, EffortOfBuild}
 

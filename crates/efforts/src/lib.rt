@@ -14,7 +14,7 @@ ghost use Rattle.tables.specs.Options.{zoomUsed};
 ghost use Rattle.tables.specs.Columns.{part};
 ghost use Rattle.tables.specs.Sound.{stateOk};
 ghost use Rattle.tables.specs.Room.{indexRoom};
-ghost use Rattle.boxplan.specs.Queries.{queriesOf};
+ghost use Rattle.boxplan.specs.laws.Queries.{queriesOf};
 ghost use Rattle.spending.specs.Trials.{trials};
 ghost use Rattle.spending.specs.Reply.{answer, column};
 ghost use Rattle.efforts.specs.Effort.{replyOf, columnOf, soughtAt, effortAsked};

@@ -1,4 +1,4 @@
 pub mod Given
 pub mod Told
 pub mod Laid
-pub mod Replies
+pub mod laws

@@ -22,8 +22,10 @@ use Rattle.kdbush.specs.declared.SearchReply.the-variants.{Found, Box, N
 use Rattle.kdbush.specs.declared.Outside.{Outside}
 use Rattle.kdbush.specs.declared.Outside.the-variants.{At, Nothing}
 use Rattle.kdslots.specs.Query.{queryOk}
-use Rattle.kdslots.specs.Bounds.{nodeSizeOk, countOk, yes, no}
-use Rattle.kdbush.specs.Run.{ran, run, pickReply, sound, whole, filled}
+use Rattle.kdslots.specs.Bounds.{nodeSizeOk, countOk}
+use Rattle.kdslots.specs.laws.Bounds.{yes, no}
+use Rattle.kdbush.specs.laws.Run.{ran, run, pickReply}
+use Rattle.kdbush.specs.Run.{sound, whole, filled}
 use Rattle.kdbush.specs.Reply.{firstOutside, pointed, checked, builtBy, built, found, told, indexOk, listed, listedColumn, searched}
 use Rattle.kdbush.specs.Reply.{columnAfter}
 use Rattle.kdbush.proofs.Runs.{ends}

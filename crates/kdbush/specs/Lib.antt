@@ -2,7 +2,4 @@
 -- about them.
 pub mod Run
 pub mod Reply
-pub mod Built
-pub mod Promise
-pub mod Indexed
-pub mod Replies
+pub mod laws

@@ -9,7 +9,8 @@ ghost use Rattle.lent.specs.Lent.{old, new};
 ghost use Rattle.kdsort.specs.Cols.{cols};
 ghost use Rattle.kdsort.specs.Shape.{shape};
 ghost use Rattle.kdslots.specs.Slots.{over, when, scanned, slots};
-ghost use Rattle.kdbush.specs.Run.{ran, run, places};
+ghost use Rattle.kdbush.specs.laws.Run.{ran, run};
+ghost use Rattle.kdbush.specs.Run.{places};
 ghost use Rattle.kdbush.specs.Reply.{buildNumber, buildCarried, searchNumber, searchCarried};
 ghost use Rattle.kdbush.specs.Reply.{firstOutside, checked, built, listed, listedColumn, searched, columnAfter};
 

@@ -11,8 +11,8 @@ use lib.ListN.{length, set}
 use lib.Seq.{getD-set-same, getD-set-other}
 use lib.Ieee.{Float, lt}
 use Rattle.kdsort.specs.Cols.{key}
-use Rattle.kdsort.specs.Scans.{up-none, down-none}
-use Rattle.kdsort.specs.Batches.{entry, nextUp, nextDown, Ups, Downs, ups-past, ups-stop, downs-past, downs-stop}
+use Rattle.kdsort.specs.laws.Scans.{up-none, down-none}
+use Rattle.kdsort.specs.laws.Batches.{entry, nextUp, nextDown, Ups, Downs, ups-past, ups-stop, downs-past, downs-stop}
 
 pub byte-most : (b : Bool) → boolByte b ≤ 1
 byte-most true = omega arith

@@ -12,7 +12,7 @@ use lib.Ieee.{Float, lt, eq}
 use borrow.Author.Tests.{lt-ltb, le-ltb}
 use Rattle.kdsort.specs.Cols.{Cols, cols, swapItem, key}
 use Rattle.kdsort.specs.Select.{Cut, cut, passes, placed, settled, parted, sel, selected}
-use Rattle.kdsort.specs.Passes.{Passing}
+use Rattle.kdsort.specs.laws.Passes.{Passing}
 
 -- ---- the selection
 

@@ -5,14 +5,5 @@ pub mod Room
 pub mod Shape
 pub mod Select
 pub mod Sort
-pub mod Worked
 pub mod Tree
-pub mod Swaps
-pub mod Perms
-pub mod Scans
-pub mod Passes
-pub mod Batches
-pub mod Cuts
-pub mod Selects
-pub mod Trees
-pub mod Indexes
+pub mod laws

@@ -10,7 +10,7 @@ ghost use Rattle.kdsort.specs.Shape.{shape};
 ghost use Rattle.kdsort.specs.Select.{cut, parted, selected};
 ghost use Rattle.kdsort.specs.Sort.{sorted, indexed};
 ghost use Rattle.kdsort.specs.Room.{Here, Room};
-ghost use Rattle.kdsort.specs.Batches.{entry, Ups, Downs, Slots, exchanged, Nearer};
+ghost use Rattle.kdsort.specs.laws.Batches.{entry, Ups, Downs, Slots, exchanged, Nearer};
 
 // Exchanges the slots i and j.
 fn swap_item(ids: &mut [u32], coords: &mut [f64], i: usize, j: usize)

@@ -1,5 +1,4 @@
 -- Definitions that contracts cite: Cursor, Reply. All else is laws and theorems about them.
 pub mod Cursor
 pub mod Reply
-pub mod Walk
-pub mod Replies
+pub mod laws

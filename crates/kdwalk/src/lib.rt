@@ -7,8 +7,9 @@ ghost use lib.ListN.{length};
 ghost use Rattle.lent.specs.Lent.{old};
 ghost use Rattle.kdsort.specs.Shape.{shape};
 ghost use Rattle.kdslots.specs.Slots.{over, when, scanned, slots};
-ghost use Rattle.kdslots.specs.Intervals.{below};
-ghost use Rattle.kdwalk.specs.Cursor.{headOf, rest, leafEnd};
+ghost use Rattle.kdslots.specs.laws.Intervals.{below};
+ghost use Rattle.kdwalk.specs.laws.Cursor.{headOf, leafEnd};
+ghost use Rattle.kdwalk.specs.Cursor.{rest};
 ghost use Rattle.kdwalk.specs.Reply.{stepNumber, stepCarried, firstStep, afterStep};
 
 // A step of a walk over the answered slots: the next slot, the end, or a refusal.

@@ -17,18 +17,18 @@ use Rattle.kdwalk.specs.declared.Step.the-variants.{Slot, Done, Box, Spoiled as
 use Rattle.kdpages.specs.declared.Turned.{Turned}
 use Rattle.kdwalk.specs.Reply.{nextStep}
 use Rattle.kdpages.specs.Pages.{tailOf}
-use Rattle.kdslots.specs.All.{AllBelow}
+use Rattle.kdslots.specs.laws.All.{AllBelow}
 use Rattle.kdbush.specs.Run.{filled}
 use Rattle.tables.specs.declared.Entry.{Entry}
 use Rattle.tables.specs.Entries.{entry}
 use Rattle.asking.specs.declared.Ring.{Ring}
 use Rattle.tables.specs.Room.{Columns}
-use Rattle.asking.specs.Columns.{part-getD}
-use Rattle.asking.specs.Filled.{filled-none, filled-next, filled-length}
-use Rattle.asking.specs.Around.{slotsOf, aheadIn, ring-below, ring-next, ring-end, slots-few}
+use Rattle.asking.specs.laws.Columns.{part-getD}
+use Rattle.asking.specs.laws.Filled.{filled-none, filled-next, filled-length}
+use Rattle.asking.specs.laws.Around.{slotsOf, aheadIn, ring-below, ring-next, ring-end, slots-few}
 use Rattle.kids.specs.declared.Kids.the-variants.{All, Spoiled}
-use Rattle.kids.specs.Next.{tableIn, idsIn, kidsIn, cleanIn, kidsReply, Listed, child, none, past, nextIn}
-use Rattle.kids.specs.Next.{next-none, next-past, next-kid, next-other, next-told}
+use Rattle.kids.specs.laws.Next.{tableIn, idsIn, kidsIn, cleanIn, kidsReply, Listed, child, none, past, nextIn}
+use Rattle.kids.specs.laws.Next.{next-none, next-past, next-kid, next-other, next-told}
 
 -- ---- one step of the walk
 

@@ -6,11 +6,11 @@ use tables::Entry;
 ghost use mathlib.Core.Path.{_≡_};
 ghost use Prim.Native.Nat.{_+_, _≤_};
 ghost use Rattle.lent.specs.Lent.{old, new};
-ghost use Rattle.kdslots.specs.All.{AllBelow};
+ghost use Rattle.kdslots.specs.laws.All.{AllBelow};
 ghost use Rattle.tables.specs.Room.{roomOf};
 ghost use Rattle.tables.specs.Lent.{givenColumns, lentColumns};
-ghost use Rattle.asking.specs.Around.{aheadIn};
-ghost use Rattle.kids.specs.Next.{Listed, nextIn, childIn};
+ghost use Rattle.asking.specs.laws.Around.{aheadIn};
+ghost use Rattle.kids.specs.laws.Next.{Listed, nextIn, childIn};
 
 // The next child of a cluster: where the walk stands after it, its place and its entry; or none is left; or a slot that names a place past
 // the table comes before it.

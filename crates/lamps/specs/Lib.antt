@@ -2,9 +2,4 @@
 -- Copies. The theorems are the laws on a build, in Owners, Carries, Climb and Copies. All else is laws, in the order in which they rest
 -- on each other.
 pub mod Owner
-pub mod Gather
-pub mod PlaceIn
-pub mod Owners
-pub mod Carries
-pub mod Climb
-pub mod Copies
+pub mod laws

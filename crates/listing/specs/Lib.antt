@@ -5,13 +5,4 @@ pub mod Digits
 pub mod Values
 pub mod Text
 pub mod Lent
-pub mod Scan
-pub mod Form
-pub mod Coords
-pub mod Reading
-pub mod Lines
-pub mod Points
-pub mod OneInput
-pub mod Heads
-pub mod Whole
-pub mod Replies
+pub mod laws

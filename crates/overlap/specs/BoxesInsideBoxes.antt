@@ -19,7 +19,8 @@ use Rattle.asking.specs.Asked.{Asked, told}
 use Rattle.tables.specs.Room.{Columns}
 use Rattle.boxes.specs.Lists.{boxAsked}
 use Rattle.supercluster.specs.Build.{Lent}
-use Rattle.answers.specs.Stored.{columnsOf, loadedBy}
+use Rattle.answers.specs.Stored.{columnsOf}
+use Rattle.answers.specs.laws.Stored.{loadedBy}
 use Rattle.builds.specs.Given.{Given}
 
 -- ---- a box, and the common part of two

@@ -13,14 +13,14 @@ use lib.Ieee.{Float, nan, inf, fin, binary64, isNan, le, lt, sub, div}
 use lib.Ieee.Scale.{finite}
 use lib.Ieee.Positive.{positive}
 use Rattle.floats.specs.Numbers.{zero as fzero}
-use Rattle.floats.specs.Fraction.{yes-of, no-of, is-true, lt→cross}
-use Rattle.floats.specs.Order.{le-le-trans, le-reflexive, lt→le, lt-not-le, not-lt→le, finite-not-nan}
-use Rattle.floats.specs.Monotone.{sub-mono, div-mono}
+use Rattle.floats.specs.laws.Fraction.{yes-of, no-of, is-true, lt→cross}
+use Rattle.floats.specs.laws.Order.{le-le-trans, le-reflexive, lt→le, lt-not-le, not-lt→le, finite-not-nan}
+use Rattle.floats.specs.laws.Monotone.{sub-mono, div-mono}
 use Rattle.range.specs.declared.DataRange.{DataRange}
 use Rattle.range.specs.Range.{smallerOf, largerOf, normalized, offsetOf, scaleOf, inBounds}
 use Rattle.kdslots.specs.declared.Query.{Query}
 use Rattle.kdslots.specs.declared.Query.the-variants.{Range}
-use Rattle.kdslots.specs.Bounds.{and-both}
+use Rattle.kdslots.specs.laws.Bounds.{and-both}
 use Rattle.kdslots.specs.Query.{passesQ}
 use Rattle.overlap.specs.BoxesInsideBoxes.{Box, common, Fair, Taken, Empty}
 

@@ -10,9 +10,10 @@ use lib.Dec.{eqb}
 use lib.ListN.{getD}
 use lib.Ieee.{Float, nan}
 use Rattle.range.specs.declared.DataRange.{DataRange}
-use Rattle.kdslots.specs.Bounds.{and-both}
-use Rattle.kdslots.specs.Keep.{put, keep, keep-both}
-use Rattle.kdbush.specs.Promise.{passesIn}
+use Rattle.kdslots.specs.laws.Bounds.{and-both}
+use Rattle.kdslots.specs.Keep.{put, keep}
+use Rattle.kdslots.specs.laws.Keep.{keep-both}
+use Rattle.kdbush.specs.laws.Promise.{passesIn}
 use Rattle.asking.specs.Asked.{Asked, told}
 use Rattle.overlap.specs.BoxesInsideBoxes.{Box, common, Taken, Empty, gives, Shared, Overlaps}
 use Rattle.overlap.specs.Common.{boxed, Rising, common-taken, common-passes, empty-passes}

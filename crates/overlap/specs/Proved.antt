@@ -7,15 +7,15 @@ use Prim.Native.Nat.{ℕ}
 use lib.ListN.{length}
 use lib.Ieee.{Float}
 use lib.Ieee.Scale.{finite}
-use Rattle.floats.specs.Fraction.{is-true}
+use Rattle.floats.specs.laws.Fraction.{is-true}
 use Rattle.range.specs.declared.DataRange.{DataRange}
 use Rattle.range.specs.declared.CoordinateSystem.the-variants.{Cartesian}
 use Rattle.range.specs.Range.{converted, systemInBounds}
 use Rattle.kdslots.specs.declared.Query.{Query}
 use Rattle.kdbush.specs.Reply.{found}
-use Rattle.kdbush.specs.Promise.{answered-kept, treeOrder}
+use Rattle.kdbush.specs.laws.Promise.{answered-kept, treeOrder}
 use Rattle.tables.specs.declared.State.{State}
-use Rattle.tables.specs.Bounds.{options-are}
+use Rattle.tables.specs.laws.Bounds.{options-are}
 use Rattle.tables.specs.Entries.{xsOf, ysOf}
 use Rattle.tables.specs.Options.{zoomUsed}
 use Rattle.tables.specs.Sound.{stateOk}
@@ -24,11 +24,11 @@ use Rattle.tables.specs.Room.{indexRoom}
 use Rattle.asking.specs.Columns.{idsAt, coordsAt}
 use Rattle.boxplan.specs.Rule.{planOf, boxOk}
 use Rattle.boxes.specs.Lists.{listedAt, boxAsked}
-use Rattle.boxes.specs.Inside.{Indexed, one-told}
+use Rattle.boxes.specs.laws.Inside.{Indexed, one-told}
 use Rattle.supercluster.specs.Build.{Lent, need}
-use Rattle.supercluster.specs.Load.{Holds}
-use Rattle.answers.specs.Stored.{stateBy, columnsBy, of-load}
-use Rattle.answers.specs.Boxed.{usedBy, between, index-sound, table-indexed}
+use Rattle.supercluster.specs.laws.Load.{Holds}
+use Rattle.answers.specs.laws.Stored.{stateBy, columnsBy, of-load}
+use Rattle.answers.specs.laws.Boxed.{usedBy, between, index-sound, table-indexed}
 use Rattle.builds.specs.Given.{Given, Accepted, points}
 use Rattle.overlap.specs.BoxesInsideBoxes.{Box, Taken, Overlaps, boxAt, BoxesInsideBoxes}
 use Rattle.overlap.specs.Common.{boxed, Rising, rising}

@@ -1,6 +1,5 @@
 -- Demand 3, for a reader of 01: what is said stands in Owners, that it holds of every accepted build in Proved. Pages of leaves, for a
 -- reader of 02: LeafPages.
 pub mod LeafPages
-pub mod Paging
 pub mod Owners
-pub mod Proved
+pub mod laws

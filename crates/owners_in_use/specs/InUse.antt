@@ -9,10 +9,11 @@ use Rattle.tables.specs.State.{stateOf}
 use Rattle.supercluster.specs.declared.LoadReply.{LoadReply}
 use Rattle.supercluster.specs.declared.LoadReply.the-variants.{Done, Options as No·Options, Count, Point, Energy, Tables}
 use Rattle.supercluster.specs.Build.{Lent, loadNumber}
-use Rattle.answers.specs.Stored.{columnsOf, stateBy, loadedBy, of-load}
+use Rattle.answers.specs.Stored.{columnsOf}
+use Rattle.answers.specs.laws.Stored.{stateBy, loadedBy, of-load}
 use Rattle.lamps.specs.Owner.{owner}
 use Rattle.owners.specs.Owners.{Owners}
-use Rattle.owners.specs.Proved.{one-owner}
+use Rattle.owners.specs.laws.Proved.{one-owner}
 use Rattle.listing.specs.Values.{optionsOf}
 use Rattle.listing.specs.Text.{Input, headIs, xsOf, ysOf, energiesOf}
 use Rattle.report.specs.Report.{Lending, left}

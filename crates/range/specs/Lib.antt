@@ -1,2 +1,2 @@
 pub mod Range
-pub mod Replies
+pub mod laws

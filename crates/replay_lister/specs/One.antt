@@ -7,7 +7,7 @@ use native.Mathlib.Omega.{arith}
 use lib.ListN.{length, take, drop}
 use lib.Seq.{take-at}
 use Rattle.zooms.specs.Zooms.{over}
-use Rattle.listing.specs.OneInput.{text-one}
+use Rattle.listing.specs.laws.OneInput.{text-one}
 use Rattle.report.specs.Report.{linesOf, refusedLine, Lending, left, Reports, read, refused}
 use Rattle.vectors.specs.Same.{samePlaces}
 use Rattle.vectors.specs.Equal.{places-equal, places-self}

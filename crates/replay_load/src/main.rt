@@ -31,7 +31,7 @@ ghost use Prim.Native.Nat.{_*_, _≤_};
 ghost use lib.ListN.{length};
 ghost use Rattle.vectors.specs.Tallies.{endingIs};
 ghost use Rattle.lent.specs.Lent.{old, new};
-ghost use Rattle.tables.specs.Rows.{Even};
+ghost use Rattle.tables.specs.laws.Rows.{Even};
 ghost use Rattle.tables.specs.Lent.{given};
 ghost use Rattle.supercluster.specs.Lent.{lentAll};
 ghost use Rattle.replay_load.specs.Same.{sameSetting, sameRange, sameSystem, sameOptions, sameState, loadsTo, zerosIn};

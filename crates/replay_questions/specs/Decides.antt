@@ -7,7 +7,7 @@ use borrow.Author.Tests.{eqb-true, eq-eqb}
 use lib.Dec.{eqb}
 use lib.IntN.{ℤ}
 use lib.ListN.{length}
-use Rattle.kdslots.specs.Bounds.{and-both}
+use Rattle.kdslots.specs.laws.Bounds.{and-both}
 use Rattle.asking.specs.declared.Answer.{Answer}
 use Rattle.asking.specs.Answers.{answerNumber, answerCarried}
 use Rattle.asking.specs.Asked.{Asked, answerOf, columnOf}

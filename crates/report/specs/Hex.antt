@@ -1,10 +1,7 @@
 -- Numbers as hexadecimal digits of a given length, and how they grow by the last digit. Assumes nothing.
 use mathlib.Core.Bool.{cond}
 use mathlib.Core.List.{List, [], _∷_, _++_}
-use mathlib.Core.Path.{_≡_, refl}
-use Prim.Native.Nat.{ℕ, zero, suc, _+_, _-_, _/_, _%_, _<_, _≤_}
-use native.Mathlib.Numerals.{sub-one}
-use native.Mathlib.Omega.{arith}
+use Prim.Native.Nat.{ℕ, zero, suc, _+_, _/_, _%_}
 use lib.Dec.{ltb}
 
 -- a hexadecimal digit
@@ -15,15 +12,3 @@ glyphOf d = cond (ltb d 10) (48 + d) (87 + d)
 unfoldable pub hexOf : ℕ → ℕ → List ℕ
 hexOf zero n = []
 hexOf (suc k) n = hexOf k (n / 16) ++ (glyphOf (n % 16) ∷ [])
-
--- ---- laws
-
-pub hex-none : (k n : ℕ) → k < 1 → hexOf k n ≡ []
-unfolding hexOf
-hex-none zero n h = refl
-hex-none (suc k) n h = let z : ⊥ = omega arith in absurd z
-
-pub hex-more : (k n : ℕ) → 1 ≤ k → hexOf k n ≡ hexOf (k - 1) (n / 16) ++ (glyphOf (n % 16) ∷ [])
-unfolding hexOf
-hex-more zero n h = let z : ⊥ = omega arith in absurd z
-hex-more (suc k) n h = simp sub-one

@@ -3,8 +3,4 @@
 pub mod Hex
 pub mod Lines
 pub mod Report
-pub mod Put
-pub mod Parts
-pub mod Held
-pub mod Built
-pub mod Replies
+pub mod laws

@@ -11,7 +11,8 @@ ghost use lib.ListN.{length, getD};
 ghost use Rattle.lent.specs.Lent.{old, new};
 ghost use Rattle.tables.specs.Lent.{given, lentCols};
 ghost use Rattle.tables.specs.Columns.{part, heldAt};
-ghost use Rattle.tables.specs.Rows.{rows, Even};
+ghost use Rattle.tables.specs.Rows.{rows};
+ghost use Rattle.tables.specs.laws.Rows.{Even};
 ghost use Rattle.listing.specs.Digits.{decimalOf};
 ghost use Rattle.listing.specs.Values.{optionsOf};
 ghost use Rattle.report.specs.Hex.{glyphOf, hexOf};
@@ -20,10 +21,10 @@ ghost use Rattle.listing.specs.Lent.{givenPoints, lentPoints};
 ghost use Rattle.report.specs.Lines.{orDash, bitsOf, placeText, pointText, marksText, endText, lineText, lineRoom};
 ghost use Rattle.report.specs.Lines.{tableText, tablesText, atText, refusalText};
 ghost use Rattle.report.specs.Report.{loadedBy, buildText, lending, Reports};
-ghost use Rattle.report.specs.Put.{Put};
+ghost use Rattle.report.specs.laws.Put.{Put};
 ghost use Rattle.supercluster.specs.Lent.{lentAll};
-ghost use Rattle.supercluster.specs.Held.{heldBy};
-ghost use Rattle.report.specs.Held.{Holding};
+ghost use Rattle.supercluster.specs.laws.Held.{heldBy};
+ghost use Rattle.report.specs.laws.Held.{Holding};
 
 // A byte. The place past it.
 fn put_byte(out: &mut [u8], at: usize, b: u8) -> usize

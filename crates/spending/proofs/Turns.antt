@@ -9,11 +9,12 @@ use lib.ListN.{length, getD}
 use lib.Seq.{set-out}
 use Rattle.kdsort.specs.Shape.{shape, mid}
 use Rattle.kdslots.specs.Slots.{Search, when, scanned, slots}
-use Rattle.kdslots.specs.Intervals.{scanned-suc, slots-leaf, slots-node}
+use Rattle.kdslots.specs.laws.Intervals.{scanned-suc, slots-leaf, slots-node}
 use Rattle.spending.specs.declared.Spent.{Spent}
 use Rattle.spending.specs.Tested.{testing}
-use Rattle.spending.specs.Trials.{Mark, mark, marks, marks-append}
-use Rattle.spending.specs.Spend.{went, due, andThen, spend, spend-append, spend-then, spend-over}
+use Rattle.spending.specs.Trials.{Mark, mark, marks}
+use Rattle.spending.specs.laws.Trials.{marks-append}
+use Rattle.spending.specs.laws.Spend.{went, due, andThen, spend, spend-append, spend-then, spend-over}
 
 module _ (S : Search) (ids : List ℕ) (n : ℕ) where
   -- one test, by what it comes to

@@ -3,6 +3,4 @@
 pub mod Tested
 pub mod Trials
 pub mod Reply
-pub mod Spend
-pub mod Ended
-pub mod Promise
+pub mod laws

@@ -13,11 +13,11 @@ ghost use Rattle.lent.specs.Lent.{old, new};
 ghost use Rattle.kdsort.specs.Shape.{shape};
 ghost use Rattle.kdslots.specs.Slots.{over, when, scanned, slots};
 ghost use Rattle.kdbush.specs.Reply.{indexOk};
-ghost use Rattle.boxplan.specs.Queries.{queriesOf};
+ghost use Rattle.boxplan.specs.laws.Queries.{queriesOf};
 ghost use Rattle.spending.specs.Tested.{testing};
 ghost use Rattle.spending.specs.Trials.{marks, trials};
 ghost use Rattle.spending.specs.Reply.{effortNumber, noEffort, effortCarried, answer, column};
-ghost use Rattle.spending.specs.Spend.{settled, went, spend};
+ghost use Rattle.spending.specs.laws.Spend.{settled, went, spend};
 
 // How many places were found, how many slots were tested, and whether the search stopped with a test still due.
 pub struct Effort {

@@ -2,10 +2,4 @@
 -- true of every build: Right, Held, Replies. All else is laws.
 pub mod Build
 pub mod Lent
-pub mod Over
-pub mod Fill
-pub mod Ready
-pub mod Load
-pub mod Right
-pub mod Held
-pub mod Replies
+pub mod laws

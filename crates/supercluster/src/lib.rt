@@ -13,7 +13,8 @@ ghost use lib.Dec.{leb};
 ghost use lib.ListN.{length, replicate};
 ghost use Rattle.kdbush.specs.Reply.{firstOutside};
 ghost use Rattle.lent.specs.Lent.{old, new};
-ghost use Rattle.tables.specs.Rows.{rows, Even};
+ghost use Rattle.tables.specs.Rows.{rows};
+ghost use Rattle.tables.specs.laws.Rows.{Even};
 ghost use Rattle.tables.specs.Lent.{given, lentCols};
 ghost use Rattle.tables.specs.Options.{optionsOk};
 ghost use Rattle.tables.specs.State.{newState};
@@ -21,8 +22,8 @@ ghost use Rattle.zooms.specs.Zooms.{over};
 ghost use Rattle.supercluster.specs.Build.{convertedAll, finest, written, stateOf, tablesOf, need, firstOver, tripleOk};
 ghost use Rattle.supercluster.specs.Build.{ordered, loadNumber, loadCarried, outcome, loaded};
 ghost use Rattle.supercluster.specs.Lent.{givenAll, lentAll};
-ghost use Rattle.supercluster.specs.Ready.{Accepted, Made};
-ghost use Rattle.supercluster.specs.Load.{Holds};
+ghost use Rattle.supercluster.specs.laws.Ready.{Accepted, Made};
+ghost use Rattle.supercluster.specs.laws.Load.{Holds};
 
 // The largest energy of a point, in watt-hours: 2^40.
 const MOST_ENERGY: u64 = 1099511627776;

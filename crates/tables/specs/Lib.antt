@@ -2,15 +2,13 @@
 -- (its first). All else is laws.
 pub mod Given
 pub mod Options
-pub mod Bounds
 pub mod State
 pub mod Sound
 pub mod Entries
 pub mod Rows
 pub mod Room
-pub mod Roomy
 pub mod Lent
 pub mod Columns
 pub mod Ids
 pub mod Radius
-pub mod Replies
+pub mod laws

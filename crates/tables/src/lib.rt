@@ -13,7 +13,8 @@ ghost use Rattle.tables.specs.Options.{optionsOk, zoomsOk, radiusOk, ext
 ghost use Rattle.tables.specs.State.{newState, withTable, startOf, lenOf};
 ghost use Rattle.tables.specs.Sound.{isTable, packed, stateOk};
 ghost use Rattle.tables.specs.Entries.{entry};
-ghost use Rattle.tables.specs.Rows.{rows, Even};
+ghost use Rattle.tables.specs.Rows.{rows};
+ghost use Rattle.tables.specs.laws.Rows.{Even};
 ghost use Rattle.lent.specs.Lent.{old};
 ghost use Rattle.tables.specs.Room.{indexRoom, roomBy, roomOf};
 ghost use Rattle.tables.specs.Lent.{given, lentCols, lentColumns};

@@ -12,10 +12,10 @@ ghost use Rattle.tables.specs.State.{stateOf};
 ghost use Rattle.tables.specs.Sound.{stateOk};
 ghost use Rattle.tables.specs.Room.{roomOf};
 ghost use Rattle.tables.specs.Lent.{givenColumns, lentColumns};
-ghost use Rattle.tiling.specs.Framed.{IsTile};
-ghost use Rattle.tiling.specs.Runs.{left, run};
+ghost use Rattle.tiling.specs.laws.Framed.{IsTile};
+ghost use Rattle.tiling.specs.laws.Runs.{left, run};
 ghost use Rattle.tiling.specs.Tally.{weightIn};
-ghost use Rattle.tiling.specs.Counting.{runningOf};
+ghost use Rattle.tiling.specs.laws.Counting.{runningOf};
 ghost use Rattle.tiles.specs.Asked.{tableFor, visitsFor, someOf, outcome, tiled};
 ghost use Rattle.tiles.specs.Tallied.{sumOf, tallied};
 

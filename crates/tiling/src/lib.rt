@@ -13,22 +13,23 @@ ghost use lib.ListN.{length, set};
 ghost use lib.Ieee.{le, neg};
 ghost use Rattle.lent.specs.Lent.{old, new};
 ghost use Rattle.floats.specs.Numbers.{one, pow31};
-ghost use Rattle.floats.specs.Unit.{In01};
+ghost use Rattle.floats.specs.laws.Unit.{In01};
 ghost use Rattle.kdslots.specs.Bounds.{coordsOk};
-ghost use Rattle.tables.specs.Bounds.{InBounds};
-ghost use Rattle.tables.specs.Rows.{rows, Even};
+ghost use Rattle.tables.specs.laws.Bounds.{InBounds};
+ghost use Rattle.tables.specs.Rows.{rows};
+ghost use Rattle.tables.specs.laws.Rows.{Even};
 ghost use Rattle.tables.specs.Lent.{given, lentCols};
 ghost use Rattle.tiling.specs.Tile.{isTile, wraps, side, strip, here, east, west, visited, rounded, itemOf};
-ghost use Rattle.tiling.specs.Framed.{Framed, IsTile};
-ghost use Rattle.tiling.specs.Runs.{left, run};
-ghost use Rattle.tiling.specs.Turns.{walked, namedAt};
-ghost use Rattle.tiling.specs.Three.{atEnd};
-ghost use Rattle.tiling.specs.Marks.{marked};
-ghost use Rattle.tiling.specs.Floor.{ends};
+ghost use Rattle.tiling.specs.laws.Framed.{Framed, IsTile};
+ghost use Rattle.tiling.specs.laws.Runs.{left, run};
+ghost use Rattle.tiling.specs.laws.Turns.{walked, namedAt};
+ghost use Rattle.tiling.specs.laws.Three.{atEnd};
+ghost use Rattle.tiling.specs.laws.Marks.{marked};
+ghost use Rattle.tiling.specs.laws.Floor.{ends};
 ghost use Rattle.tiling.specs.Tally.{weightIn, tallyNumber, tallyValue};
-ghost use Rattle.tiling.specs.Home.{edgesOf, weightBy};
-ghost use Rattle.tiling.specs.Counting.{heldOf, placesIn, markOf, marksFor, doubt, added, marking, counted, runningOf};
-ghost use Rattle.tiling.specs.Told.{Blank};
+ghost use Rattle.tiling.specs.laws.Home.{edgesOf, weightBy};
+ghost use Rattle.tiling.specs.laws.Counting.{heldOf, placesIn, markOf, marksFor, doubt, added, marking, counted, runningOf};
+ghost use Rattle.tiling.specs.laws.Told.{Blank};
 
 // One search of a tile: whether the tile has it, what it asks of the index, and what stands for the tile's x and y in the items that it
 // finds.

@@ -8,7 +8,7 @@ use mathlib.Core.Logic.{⊎-elim}
 use mathlib.Core.Path.{_≡_, refl, subst}
 use borrow.Author.Tests.{eq-eqb, ne-eqb}
 use lib.Dec.{eqb}
-use Rattle.floats.specs.Table.{upto}
+use Rattle.floats.specs.laws.Table.{upto}
 
 and-false : (b : Bool) → (b && false) ≡ false
 and-false true = refl

@@ -11,8 +11,8 @@ use lib.Dec.{eqb}
 use lib.IntN.{ℤ, pos, negsuc}
 use lib.ListN.{length, getD}
 use lib.Seq.{ext-getD}
-use Rattle.floats.specs.Table.{upto}
-use Rattle.kdslots.specs.Bounds.{and-both}
+use Rattle.floats.specs.laws.Table.{upto}
+use Rattle.kdslots.specs.laws.Bounds.{and-both}
 use Rattle.vectors.specs.Same.{placeAt, samePlaces, eqLong, longAt, sameLongs}
 
 not-both : _≡_ {A = Bool} false true → ⊥

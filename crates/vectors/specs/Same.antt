@@ -7,7 +7,7 @@ use lib.Dec.{eqb}
 use lib.ListN.{length, getD}
 use lib.IntN.{ℤ, pos, negsuc}
 use lib.Ieee.{Float, nan}
-use Rattle.floats.specs.Table.{upto}
+use Rattle.floats.specs.laws.Table.{upto}
 use Rattle.kdbush.specs.declared.BuildReply.{BuildReply}
 use Rattle.kdbush.specs.declared.BuildReply.the-variants.{Done, Options, Count, Point, Tables}
 use Rattle.vectors.specs.Words.{agreeing}

@@ -13,7 +13,7 @@ use Rattle.asking.specs.declared.Target.the-variants.{NoTree as Target·NoTree,
 use Rattle.tables.specs.Room.{Columns}
 use Rattle.asking.specs.Columns.{tableAt}
 use Rattle.asking.specs.Ids.{onward}
-use Rattle.asking.specs.Reached.{Reached, onward-reached}
+use Rattle.asking.specs.laws.Reached.{Reached, onward-reached}
 use Rattle.kids.specs.Kids.{kidsAt, cleanAt}
 use Rattle.walks.specs.declared.Expansion.{Expansion}
 use Rattle.walks.specs.declared.Expansion.the-variants.{At, NoCluster, Spoiled}

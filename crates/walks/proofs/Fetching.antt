@@ -17,7 +17,7 @@ use Rattle.asking.specs.Columns.{tableAt}
 use Rattle.kids.specs.declared.Kids.{Kids}
 use Rattle.kids.specs.declared.Kids.the-variants.{All, Spoiled as Kids·Spoiled}
 use Rattle.kids.specs.Kids.{kidsAt}
-use Rattle.kids.specs.Next.{tableIn, kids-below}
+use Rattle.kids.specs.laws.Next.{tableIn, kids-below}
 use Rattle.walks.specs.declared.Fetched.the-variants.{Cluster, Nobody, Others, Spoiled}
 use Rattle.walks.specs.Fetch.{sole, fetchedAt}
 use Rattle.walks.proofs.Led.{none-is, Looked, looked-column, looked-spoiled, looked-all}

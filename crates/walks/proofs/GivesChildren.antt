@@ -15,7 +15,7 @@ use Rattle.asking.specs.declared.Target.the-variants.{At}
 use Rattle.asking.specs.Answers.{fitted}
 use Rattle.asking.specs.Asked.{refused, told}
 use Rattle.tables.specs.Room.{Columns}
-use Rattle.asking.specs.Filled.{filled-none, filled-length}
+use Rattle.asking.specs.laws.Filled.{filled-none, filled-length}
 use Rattle.kids.specs.declared.Kids.{Kids}
 use Rattle.kids.specs.declared.Kids.the-variants.{All, Spoiled as Kids·Spoiled}
 use Rattle.kids.specs.Kids.{kidsAt}

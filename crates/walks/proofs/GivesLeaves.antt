@@ -9,7 +9,7 @@ use borrow.Author.Tests.{ne-eqb, le-leb}
 use lib.Dec.{ltb, eqb}
 use lib.ListN.{length}
 use Rattle.kdbush.specs.Run.{filled}
-use Rattle.kdslots.specs.Bounds.{and-both}
+use Rattle.kdslots.specs.laws.Bounds.{and-both}
 use Rattle.tables.specs.declared.State.{State}
 use Rattle.tables.specs.Entries.{Table, entry}
 use Rattle.asking.specs.declared.Answer.{Answer}
@@ -20,7 +20,7 @@ use Rattle.asking.specs.Answers.{fitted}
 use Rattle.asking.specs.Asked.{refused, told, answerOf, columnOf}
 use Rattle.tables.specs.Room.{Columns}
 use Rattle.asking.specs.Columns.{tableAt}
-use Rattle.asking.specs.Filled.{filled-none, filled-length}
+use Rattle.asking.specs.laws.Filled.{filled-none, filled-length}
 use Rattle.kids.specs.Kids.{kidsAt, cleanAt, childless}
 use Rattle.walks.specs.declared.Fetched.{Fetched}
 use Rattle.walks.specs.declared.Fetched.the-variants.{Cluster, Nobody, Others, Spoiled as Fetched·Spoiled}
@@ -30,7 +30,7 @@ use Rattle.walks.specs.declared.Walk.the-variants.{Went, Broke, Childles
 use Rattle.walks.specs.Children.{atTarget}
 use Rattle.walks.specs.Leaves.{broke, walk, listed, leavesAt, leavesOf}
 use Rattle.walks.specs.Fetch.{sole, fetchedAt}
-use Rattle.walks.specs.Column.{childlessOf, Behind, Tells, Walked}
+use Rattle.walks.specs.laws.Column.{childlessOf, Behind, Tells, Walked}
 use Rattle.walks.proofs.Led.{Gives, gives, gives-refused, Led, leads}
 
 -- ---- limit 0

@@ -21,12 +21,12 @@ use Rattle.asking.specs.Asked.{Asked, refused, answerOf, columnOf}
 use Rattle.tables.specs.Room.{Columns, roomOf}
 use Rattle.asking.specs.Columns.{tableAt}
 use Rattle.asking.specs.Ids.{targetOf}
-use Rattle.asking.specs.Reached.{Reached, target-reached}
-use Rattle.asking.specs.Around.{ringOf}
+use Rattle.asking.specs.laws.Reached.{Reached, target-reached}
+use Rattle.asking.specs.laws.Around.{ringOf}
 use Rattle.kids.specs.declared.Kids.{Kids}
 use Rattle.kids.specs.declared.Kids.the-variants.{All, Spoiled}
 use Rattle.kids.specs.Kids.{kidsAt, cleanAt}
-use Rattle.kids.specs.Next.{kidsReply, Listed, listed-around, all-is, spoiled-is}
+use Rattle.kids.specs.laws.Next.{kidsReply, Listed, listed-around, all-is, spoiled-is}
 use Rattle.walks.specs.Children.{atTarget}
 
 pub none-is : (l : List ℕ) → length l ≡ 0 → l ≡ []

@@ -12,14 +12,14 @@ use Rattle.tables.specs.declared.State.{State}
 use Rattle.asking.specs.declared.Target.{Target}
 use Rattle.asking.specs.declared.Target.the-variants.{At, Spoiled as Target·Spoiled, NoTree as Target·NoTree, NoCluster as Target·NoCluster}
 use Rattle.tables.specs.Room.{Columns}
-use Rattle.asking.specs.Filled.{filled-next}
+use Rattle.asking.specs.laws.Filled.{filled-next}
 use Rattle.asking.specs.Ids.{onward}
 use Rattle.walks.specs.declared.Fate.{Fate}
 use Rattle.walks.specs.declared.Fate.the-variants.{Skipped, Entered, Listed}
 use Rattle.walks.specs.declared.Walk.{Walk}
 use Rattle.walks.specs.declared.Walk.the-variants.{Went, Broke}
 use Rattle.walks.specs.Leaves.{Trip, broke, went, Into, enter, listOne, visit, walk}
-use Rattle.walks.specs.Column.{fateOf, Does, Opened, does-same, does-nothing}
+use Rattle.walks.specs.laws.Column.{fateOf, Does, Opened, does-same, does-nothing}
 
 -- a visit of the child e in zoom t's table, with n skipped and k listed, comes to r and leaves out', whatever bounds the definition
 abbrev pub Visited : State → Columns → ℕ → ℕ → ℕ → Entry → ℕ → ℕ → List ℕ → Walk → List ℕ → Type 0

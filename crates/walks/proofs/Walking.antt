@@ -8,22 +8,22 @@ use native.Mathlib.Omega.{arith}
 use borrow.Author.Tests.{eq-eqb, ne-eqb}
 use lib.Dec.{eqb}
 use lib.ListN.{length}
-use Rattle.kdslots.specs.All.{AllBelow}
+use Rattle.kdslots.specs.laws.All.{AllBelow}
 use Rattle.tables.specs.declared.Entry.{Entry}
 use Rattle.tables.specs.declared.State.{State}
 use Rattle.tables.specs.Entries.{entry}
 use Rattle.asking.specs.declared.Ring.{Ring}
 use Rattle.tables.specs.Room.{Columns, roomOf}
 use Rattle.asking.specs.Columns.{tableAt}
-use Rattle.asking.specs.Reached.{Reached}
-use Rattle.asking.specs.Around.{ringOf, slotsOf, ring-below}
+use Rattle.asking.specs.laws.Reached.{Reached}
+use Rattle.asking.specs.laws.Around.{ringOf, slotsOf, ring-below}
 use Rattle.kids.specs.Kids.{kidsAt, cleanAt, childless}
-use Rattle.kids.specs.Next.{tableIn, kidsIn, cleanIn, kids-around, clean-around, Further}
+use Rattle.kids.specs.laws.Next.{tableIn, kidsIn, cleanIn, kids-around, clean-around, Further}
 use Rattle.walks.specs.declared.Sofar.{Sofar}
 use Rattle.walks.specs.declared.Walk.{Walk}
 use Rattle.walks.specs.declared.Walk.the-variants.{Went, Broke, Childless}
 use Rattle.walks.specs.Leaves.{Trip, broke, went, visit, after, steps, walk}
-use Rattle.walks.specs.Column.{tripOf, listedOf, childlessOf, Tells, Does, Walked, does-same, does-nothing}
+use Rattle.walks.specs.laws.Column.{tripOf, listedOf, childlessOf, Tells, Does, Walked, does-same, does-nothing}
 use Rattle.walks.proofs.Led.{none-is}
 use Rattle.walks.proofs.Visiting.{Visited}
 

@@ -4,5 +4,4 @@ pub mod Children
 pub mod Leaves
 pub mod Expansion
 pub mod Fetch
-pub mod Column
-pub mod Replies
+pub mod laws

@@ -15,13 +15,13 @@ ghost use Rattle.asking.specs.declared.Target.the-variants.{At as Target·At};
 ghost use Rattle.asking.specs.Asked.{answerOf, columnOf};
 ghost use Rattle.tables.specs.Room.{roomOf};
 ghost use Rattle.tables.specs.Lent.{givenColumns, lentColumns};
-ghost use Rattle.asking.specs.Reached.{Reached};
+ghost use Rattle.asking.specs.laws.Reached.{Reached};
 ghost use Rattle.walks.specs.Children.{childrenOf};
 ghost use Rattle.walks.specs.Expansion.{expansionNumber, expansionCarried, expand, zoomOf};
 ghost use Rattle.walks.specs.declared.Walk.the-variants.{Went as Walk·Went};
 ghost use Rattle.walks.specs.Leaves.{listOne, leavesAt, leavesOf};
 ghost use Rattle.walks.specs.Fetch.{fetchedAt};
-ghost use Rattle.walks.specs.Column.{fateOf, Does, Opened, Walked};
+ghost use Rattle.walks.specs.laws.Column.{fateOf, Does, Opened, Walked};
 
 // The children of the cluster cid: their places in its table.
 pub fn children(

@@ -7,7 +7,8 @@ use mathlib.Core.List.{[], _∷_}
 use lib.IntN.{pos, negsuc}
 use lib.Ieee.{neg}
 use Rattle.floats.specs.Numbers.{half}
-use Rattle.floats.specs.Away.{away, half-away, minus-half-away}
+use Rattle.floats.specs.Away.{away}
+use Rattle.floats.specs.laws.Away.{half-away, minus-half-away}
 use Rattle.tables.specs.declared.State.{State}
 use Rattle.tables.specs.Ids.{originOf, tableOf}
 use Rattle.asking.specs.Asked.{told}

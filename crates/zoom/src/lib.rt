@@ -11,17 +11,19 @@ ghost use lib.Dec.{T};
 ghost use lib.ListN.{length, getD, take};
 ghost use lib.Ieee.Scale.{finite};
 ghost use Rattle.kdsort.specs.Cols.{key};
-ghost use Rattle.kdslots.specs.All.{All, AllBelow};
-ghost use Rattle.kdbush.specs.Promise.{Promised};
+ghost use Rattle.kdslots.specs.laws.All.{All, AllBelow};
+ghost use Rattle.kdbush.specs.laws.Promise.{Promised};
 ghost use Rattle.lent.specs.Lent.{old, new};
 ghost use Rattle.tables.specs.Entries.{Table, entry};
-ghost use Rattle.tables.specs.Rows.{rows, Even};
+ghost use Rattle.tables.specs.Rows.{rows};
+ghost use Rattle.tables.specs.laws.Rows.{Even};
 ghost use Rattle.tables.specs.Lent.{given, lentCols};
 ghost use Rattle.zoom.specs.Zoom.{numOf, energyOf, adds, more, moreOf, absorbOne, absorb, absorbed};
 ghost use Rattle.zoom.specs.Zoom.{copyOne, copyAll, madeAt, leftAt, enough, visit, scanOne, cluster};
 ghost use Rattle.zoom.specs.Scanned.{Scanned, scanOf, unseenCount, unseenNum, unseenOf};
-ghost use Rattle.zoom.specs.Near.{nearOf, Answered, Placed, Radius};
-ghost use Rattle.zoom.specs.Notes.{Tells, Noted, Owned, Slotted, Same};
+ghost use Rattle.zoom.specs.Near.{nearOf};
+ghost use Rattle.zoom.specs.laws.Near.{Answered, Placed, Radius};
+ghost use Rattle.zoom.specs.laws.Notes.{Tells, Noted, Owned, Slotted, Same};
 
 // The running sums of a cluster: coordinates times nums, and energies.
 struct Sums {

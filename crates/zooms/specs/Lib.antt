@@ -1,10 +1,4 @@
 -- Definitions that contracts cite: Zooms, and of Parts, Step, Running and Progress the records that the crate's functions ask and leave.
 -- All else is laws.
 pub mod Zooms
-pub mod Parts
-pub mod Step
-pub mod Running
-pub mod OwnPlace
-pub mod Zooming
-pub mod Progress
-pub mod Turn
+pub mod laws

@@ -5,23 +5,25 @@ use tables::State;
 ghost use mathlib.Core.Path.{_≡_};
 ghost use Prim.Native.Nat.{suc, _+_, _-_, _*_, _^_, _<_, _≤_};
 ghost use lib.ListN.{length, set};
-ghost use Rattle.kdslots.specs.All.{All};
-ghost use Rattle.kdbush.specs.Promise.{Promised};
+ghost use Rattle.kdslots.specs.laws.All.{All};
+ghost use Rattle.kdbush.specs.laws.Promise.{Promised};
 ghost use Rattle.lent.specs.Lent.{old, new};
-ghost use Rattle.tables.specs.Rows.{rows, Even};
+ghost use Rattle.tables.specs.Rows.{rows};
+ghost use Rattle.tables.specs.laws.Rows.{Even};
 ghost use Rattle.tables.specs.Lent.{given, lentCols};
 ghost use Rattle.tables.specs.Columns.{part};
 ghost use Rattle.zoom.specs.Zoom.{numOf, energyOf, cluster};
 ghost use Rattle.zoom.specs.Scanned.{unseenOf};
-ghost use Rattle.zoom.specs.Near.{nearOf, Placed, Radius};
-ghost use Rattle.zoom.specs.Notes.{Owned, Slotted};
+ghost use Rattle.zoom.specs.Near.{nearOf};
+ghost use Rattle.zoom.specs.laws.Near.{Placed, Radius};
+ghost use Rattle.zoom.specs.laws.Notes.{Owned, Slotted};
 ghost use Rattle.kdbush.specs.Reply.{indexOf};
 ghost use Rattle.zooms.specs.Zooms.{planOf, zoomsOf};
-ghost use Rattle.kdbush.specs.Indexed.{Inside};
-ghost use Rattle.zooms.specs.Parts.{putAt};
-ghost use Rattle.zooms.specs.Step.{Stepped};
-ghost use Rattle.zooms.specs.Running.{Running, Advanced};
-ghost use Rattle.zooms.specs.Progress.{Finished};
+ghost use Rattle.kdbush.specs.laws.Indexed.{Inside};
+ghost use Rattle.zooms.specs.laws.Parts.{putAt};
+ghost use Rattle.zooms.specs.laws.Step.{Stepped};
+ghost use Rattle.zooms.specs.laws.Running.{Running, Advanced};
+ghost use Rattle.zooms.specs.laws.Progress.{Finished};
 
 // Zoom z of the table at `start`, of `len` entries: the next table is made right after it. How many entries that has.
 fn zoom_step(

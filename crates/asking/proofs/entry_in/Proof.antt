@@ -4,10 +4,10 @@ use native.Mathlib.Omega.{arith}
 use lib.ListN.{length}
 use denote.Ref.{now}
 use Rattle.tables.specs.Entries.{Table, entry}
-use Rattle.tables.specs.Columns.{part-long}
+use Rattle.tables.specs.laws.Columns.{part-long}
 use Rattle.tables.specs.Rows.{Cols}
 use Rattle.tables.specs.Lent.{given}
-use Rattle.asking.specs.Columns.{lent-rows, lent-even, lent-part}
+use Rattle.asking.specs.laws.Columns.{lent-rows, lent-even, lent-part}
 use borrow.Author.Needs.{needs}
 use Rattle.asking.proofs.entry_in.Statement.{statement}
 use Rattle.asking.proofs.entry_in.Tie as tie

@@ -8,8 +8,8 @@ use denote.Ref.{now}
 use Rattle.kdwalk.specs.declared.Step.the-variants.{Done}
 use Rattle.kdwalk.specs.Reply.{nextStep}
 use Rattle.kdpages.specs.Pages.{aheadOf, tailOf}
-use Rattle.asking.specs.Columns.{lent-part}
-use Rattle.asking.specs.Around.{queryOf}
+use Rattle.asking.specs.laws.Columns.{lent-part}
+use Rattle.asking.specs.laws.Around.{queryOf}
 use borrow.Author.Needs.{needs}
 use Rattle.asking.proofs.next_in.Statement.{statement}
 use Rattle.asking.proofs.next_in.Tie as tie

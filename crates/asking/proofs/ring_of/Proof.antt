@@ -2,9 +2,9 @@
 use mathlib.Core.Path.{sym, ap, _∙_}
 use native.Mathlib.Omega.{arith}
 use denote.Ref.{now}
-use Rattle.tables.specs.Roomy.{roomy-fewer}
-use Rattle.asking.specs.Reached.{Near, near}
-use Rattle.asking.specs.Around.{ringOf}
+use Rattle.tables.specs.laws.Roomy.{roomy-fewer}
+use Rattle.asking.specs.laws.Reached.{Near, near}
+use Rattle.asking.specs.laws.Around.{ringOf}
 use Rattle.asking.proofs.ring_of.Statement.{statement}
 use Rattle.asking.proofs.ring_of.Tie as tie
 

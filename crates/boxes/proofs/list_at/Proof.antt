@@ -1,7 +1,7 @@
 -- `list_at` meets its contract: what is lent of the columns is the table. Assumes nothing.
 use denote.Ref.{now}
 use Prim.Native.Nat.{_*_}
-use Rattle.asking.specs.Columns.{lent-part}
+use Rattle.asking.specs.laws.Columns.{lent-part}
 use borrow.Author.Needs.{needs}
 use Rattle.boxes.proofs.list_at.Statement.{statement}
 use Rattle.boxes.proofs.list_at.Tie as tie

@@ -10,7 +10,7 @@ use lib.ListN.{length}
 use Rattle.kdbush.specs.Run.{whole}
 use Rattle.kdbush.specs.Reply.{found}
 use Rattle.boxes.specs.declared.Part.the-variants.{All}
-use Rattle.boxes.specs.Joined.{partOf}
+use Rattle.boxes.specs.laws.Joined.{partOf}
 use Rattle.boxes.proofs.Plans.{plan-past, plan-only, plan-second-past, plan-both, counts-fit}
 use borrow.Author.Needs.{needs}
 use Rattle.boxes.proofs.list_plan.Statement.{statement}

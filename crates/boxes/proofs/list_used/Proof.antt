@@ -3,8 +3,8 @@ use mathlib.Core.Path.{ap, _∙_}
 use denote.Ref.{now}
 use lib.ListN.{length}
 use Rattle.asking.specs.Asked.{Asked, answerOf, columnOf}
-use Rattle.boxplan.specs.Queries.{queriesOf}
-use Rattle.boxes.specs.Standing.{used-small, at-used}
+use Rattle.boxplan.specs.laws.Queries.{queriesOf}
+use Rattle.boxes.specs.laws.Standing.{used-small, at-used}
 use Rattle.boxes.proofs.Used.{listed-used}
 use borrow.Author.Needs.{needs}
 use Rattle.boxes.proofs.list_used.Statement.{statement}

@@ -9,7 +9,7 @@ use denote.Ref.{now}
 use Rattle.kdwalk.specs.declared.Step.{Step}
 use Rattle.kdwalk.specs.declared.Step.the-variants.{Slot, Done, Box, Spoiled}
 use Rattle.kdwalk.specs.Reply.{ending, walk}
-use Rattle.kdwalk.specs.Walk.{On, ahead, on-first, on-slot, on-next, on-end, walk-length}
+use Rattle.kdwalk.specs.laws.Walk.{On, ahead, on-first, on-slot, on-next, on-end, walk-length}
 use Rattle.counting.specs.Counted.{endedWith, countedOf}
 use Rattle.counting.proofs.count.Statement.{statement}
 use Rattle.counting.proofs.count.Tie as tie

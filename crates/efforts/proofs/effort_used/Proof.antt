@@ -2,8 +2,8 @@
 use mathlib.Core.Path.{ap, _∙_}
 use denote.Ref.{now}
 use lib.ListN.{length}
-use Rattle.boxplan.specs.Queries.{queriesOf}
-use Rattle.boxes.specs.Standing.{used-small, at-used}
+use Rattle.boxplan.specs.laws.Queries.{queriesOf}
+use Rattle.boxes.specs.laws.Standing.{used-small, at-used}
 use Rattle.efforts.specs.Effort.{EffortAsked, replyOf, columnOf}
 use Rattle.efforts.proofs.Used.{sought-used}
 use borrow.Author.Needs.{needs}

@@ -8,7 +8,8 @@ use lib.Dec.{eqb}
 use lib.ListN.{length}
 use Rattle.kdsort.specs.Cols.{Cols, cols}
 use Rattle.kdbush.specs.declared.Outside.the-variants.{Nothing}
-use Rattle.kdslots.specs.Bounds.{nodeSizeOk, countOk, size-is, count-is, both-true, first-false, second-false}
+use Rattle.kdslots.specs.Bounds.{nodeSizeOk, countOk}
+use Rattle.kdslots.specs.laws.Bounds.{size-is, count-is, both-true, first-false, second-false}
 use Rattle.kdbush.specs.Reply.{firstOutside}
 use Rattle.kdbush.proofs.Replies.{build-options, build-count, build-point, build-tables, build-done}
 use borrow.Author.Needs.{needs}

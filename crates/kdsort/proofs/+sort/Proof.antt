@@ -6,7 +6,7 @@ use native.Mathlib.Omega.{arith}
 use Rattle.kdsort.specs.Cols.{Cols, cols}
 use Rattle.kdsort.specs.Shape.{shape, mid}
 use Rattle.kdsort.specs.Sort.{sorted}
-use Rattle.kdsort.specs.Trees.{sorted-leaf, sorted-node}
+use Rattle.kdsort.specs.laws.Trees.{sorted-leaf, sorted-node}
 use borrow.Fn.Kinds.{In}
 use borrow.Fn.PlainCycle.{Measures, is, falls, and}
 use Rattle.kdsort.proofs.sort.Reads as sort

@@ -8,7 +8,7 @@ use lib.ListN.{length}
 use lib.Ieee.{Float}
 use borrow.Author.Needs.{needs}
 use Rattle.kdsort.specs.Cols.{Cols, cols}
-use Rattle.kdsort.specs.Batches.{entry, Ups, Downs, nearer-same, nearer-cols, batch-slots, batch-nearer}
+use Rattle.kdsort.specs.laws.Batches.{entry, Ups, Downs, nearer-same, nearer-cols, batch-slots, batch-nearer}
 use Rattle.kdsort.proofs.batch.Statement.{statement}
 use Rattle.kdsort.proofs.batch.Tie as tie
 

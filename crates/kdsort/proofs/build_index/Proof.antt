@@ -6,7 +6,7 @@ use lib.ListN.{length, length-set}
 use Rattle.kdsort.specs.Cols.{Cols, cols}
 use Rattle.kdsort.specs.Shape.{shape}
 use Rattle.kdsort.specs.Sort.{filled, indexed, sorted}
-use Rattle.kdsort.specs.Indexes.{filled-more}
+use Rattle.kdsort.specs.laws.Indexes.{filled-more}
 use Rattle.kdsort.proofs.build_index.Statement.{statement}
 use Rattle.kdsort.proofs.build_index.Tie as tie
 

@@ -4,7 +4,7 @@ use Prim.Native.Nat.{_-_, _<_, _≤_}
 use native.Mathlib.Omega.{arith}
 use lib.ListN.{length}
 use Rattle.kdsort.specs.Cols.{cols}
-use Rattle.kdsort.specs.Batches.{entry, exchanged, exchanged-none, exchanged-more}
+use Rattle.kdsort.specs.laws.Batches.{entry, exchanged, exchanged-none, exchanged-more}
 use Rattle.kdsort.proofs.exchange.Statement.{statement}
 use Rattle.kdsort.proofs.exchange.Tie as tie
 

@@ -9,8 +9,8 @@ use native.Mathlib.Omega.{arith}
 use lib.Ieee.{Float, lt}
 use borrow.Author.Tests.{not-true, not-false}
 use Rattle.kdsort.specs.Cols.{Cols, cols, key}
-use Rattle.kdsort.specs.Scans.{up-none, up-more, down-none, down-more, placed-stops}
-use Rattle.kdsort.specs.Passes.{passing-starts}
+use Rattle.kdsort.specs.laws.Scans.{up-none, up-more, down-none, down-more, placed-stops}
+use Rattle.kdsort.specs.laws.Passes.{passing-starts}
 use Rattle.kdsort.proofs.Turns.{parted-then, parted-else, cut-eq, le-more, lt-more}
 use Rattle.kdsort.proofs.partition.Statement.{statement}
 use Rattle.kdsort.proofs.partition.Tie as tie

@@ -7,7 +7,7 @@ use mir.Val.{boolByte}
 use lib.ListN.{length, length-set}
 use lib.Ieee.{lt}
 use Rattle.kdsort.specs.Cols.{key}
-use Rattle.kdsort.specs.Batches.{entry, Downs}
+use Rattle.kdsort.specs.laws.Batches.{entry, Downs}
 use Rattle.kdsort.proofs.Stops.{byte-most, downs-starts, downs-more}
 use Rattle.kdsort.proofs.stops_down.Statement.{statement}
 use Rattle.kdsort.proofs.stops_down.Tie as tie

@@ -7,7 +7,7 @@ use mir.Val.{boolByte}
 use lib.ListN.{length, length-set}
 use lib.Ieee.{lt}
 use Rattle.kdsort.specs.Cols.{key}
-use Rattle.kdsort.specs.Batches.{entry, Ups}
+use Rattle.kdsort.specs.laws.Batches.{entry, Ups}
 use Rattle.kdsort.proofs.Stops.{byte-most, ups-starts, ups-more}
 use Rattle.kdsort.proofs.stops_up.Statement.{statement}
 use Rattle.kdsort.proofs.stops_up.Tie as tie

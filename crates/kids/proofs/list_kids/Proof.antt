@@ -10,10 +10,10 @@ use denote.Ref.{now}
 use Rattle.tables.specs.Rows.{cols}
 use Rattle.asking.specs.declared.Ring.{Ring}
 use Rattle.tables.specs.Room.{Columns, columns}
-use Rattle.tables.specs.Roomy.{each-roomy}
+use Rattle.tables.specs.laws.Roomy.{each-roomy}
 use Rattle.tables.specs.Lent.{givenColumns}
-use Rattle.asking.specs.Around.{aheadIn, ring-begun}
-use Rattle.kids.specs.Next.{index-room, nextIn, child}
+use Rattle.asking.specs.laws.Around.{aheadIn, ring-begun}
+use Rattle.kids.specs.laws.Next.{index-room, nextIn, child}
 use Rattle.kids.proofs.Listing.{ended, Met, met, end-none, met-past, met-kid, met-other}
 use Rattle.kids.proofs.Listing.{Going, going-first, going-length, going-room, going-on, going-by, going-done, going-spoiled}
 use Rattle.kids.proofs.list_kids.Statement.{statement}

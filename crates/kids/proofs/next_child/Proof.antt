@@ -7,14 +7,14 @@ use native.Mathlib.Omega.{arith}
 use borrow.Author.Needs.{needs}
 use lib.ListN.{length, getD}
 use denote.Ref.{now}
-use Rattle.kdslots.specs.All.{AllBelow}
+use Rattle.kdslots.specs.laws.All.{AllBelow}
 use Rattle.tables.specs.Rows.{cols}
 use Rattle.asking.specs.declared.Ring.{Ring}
 use Rattle.tables.specs.Room.{Columns, columns}
-use Rattle.tables.specs.Roomy.{each-roomy}
+use Rattle.tables.specs.laws.Roomy.{each-roomy}
 use Rattle.tables.specs.Lent.{givenColumns}
-use Rattle.asking.specs.Around.{aheadIn}
-use Rattle.kids.specs.Next.{index-room, nextIn}
+use Rattle.asking.specs.laws.Around.{aheadIn}
+use Rattle.kids.specs.laws.Next.{index-room, nextIn}
 use Rattle.kids.proofs.Listing.{ended, Met, met, end-none, met-past, met-kid, met-other}
 use Rattle.kids.proofs.next_child.Statement.{statement}
 use Rattle.kids.proofs.next_child.Tie as tie

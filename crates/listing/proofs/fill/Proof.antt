@@ -4,7 +4,7 @@ use Prim.Native.Nat.{_+_, _≤_}
 use native.Mathlib.Omega.{arith}
 use borrow.Author.Needs.{needs}
 use Rattle.listing.specs.Text.{pointCols}
-use Rattle.listing.specs.Form.{filled, filled-step, filled-end}
+use Rattle.listing.specs.laws.Form.{filled, filled-step, filled-end}
 use Rattle.listing.proofs.fill.Statement.{statement}
 use Rattle.listing.proofs.fill.Tie as tie
 

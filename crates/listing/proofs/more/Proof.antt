@@ -4,7 +4,7 @@ use mathlib.Core.Path.{_≡_, refl, sym, _∙_}
 use native.Mathlib.Omega.{arith}
 use lib.ListN.{length, drop}
 use borrow.Author.Tests.{eq-eqb, ne-eqb, lt-ltb, le-ltb}
-use Rattle.listing.specs.Scan.{moreOf, more-here, more-short}
+use Rattle.listing.specs.laws.Scan.{moreOf, more-here, more-short}
 use Rattle.listing.proofs.more.Statement.{statement}
 use Rattle.listing.proofs.more.Tie as tie
 

@@ -1,7 +1,7 @@
 -- `listing::number` meets its contract: a first digit, and what follows it. Assumes nothing.
 use mathlib.Core.Path.{sym, _∙_}
 use borrow.Author.Tests.{lt-ltb, le-ltb}
-use Rattle.listing.specs.Scan.{numberOf, number-here, number-short}
+use Rattle.listing.specs.laws.Scan.{numberOf, number-here, number-short}
 use borrow.Author.Needs.{needs}
 use Rattle.listing.proofs.number.Statement.{statement}
 use Rattle.listing.proofs.number.Tie as tie

@@ -5,8 +5,8 @@ use borrow.Author.Tests.{lt-ltb, le-ltb, not-true, not-false}
 use Rattle.listing.specs.declared.Parsed.the-variants.{Read, Refused}
 use Rattle.listing.specs.Text.{PointCols}
 use Rattle.listing.specs.Lent.{givenPoints}
-use Rattle.listing.specs.Form.{parsedOf, countIn}
-use Rattle.listing.specs.Whole.{parsing}
+use Rattle.listing.specs.laws.Form.{parsedOf, countIn}
+use Rattle.listing.specs.laws.Whole.{parsing}
 use Rattle.listing.proofs.parse.Statement.{statement}
 use Rattle.listing.proofs.parse.Tie as tie
 

@@ -2,7 +2,7 @@
 use mathlib.Core.Path.{_≡_, refl, sym, _∙_}
 use native.Mathlib.Omega.{arith}
 use borrow.Author.Needs.{needs}
-use Rattle.listing.specs.Form.{pointsOk, ok-step, ok-end}
+use Rattle.listing.specs.laws.Form.{pointsOk, ok-step, ok-end}
 use Rattle.listing.proofs.points_ok.Statement.{statement}
 use Rattle.listing.proofs.points_ok.Tie as tie
 

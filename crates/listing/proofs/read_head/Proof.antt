@@ -2,8 +2,8 @@
 use mathlib.Core.Path.{sym, _∙_, subst}
 use native.Mathlib.Omega.{arith}
 use borrow.Author.Needs.{needs}
-use Rattle.listing.specs.Scan.{valueIn}
-use Rattle.listing.specs.Form.{headOf, each-number, each-bad}
+use Rattle.listing.specs.laws.Scan.{valueIn}
+use Rattle.listing.specs.laws.Form.{headOf, each-number, each-bad}
 use Rattle.listing.proofs.read_head.Statement.{statement}
 use Rattle.listing.proofs.read_head.Tie as tie
 

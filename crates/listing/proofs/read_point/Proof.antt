@@ -1,7 +1,7 @@
 -- `listing::read_point` meets its contract: the lines of x, y and wh, one after the other. Assumes nothing.
 use mathlib.Core.Path.{sym, _∙_}
 use borrow.Author.Needs.{needs}
-use Rattle.listing.specs.Form.{pointOf, each-number, each-bad}
+use Rattle.listing.specs.laws.Form.{pointOf, each-number, each-bad}
 use Rattle.listing.proofs.read_point.Statement.{statement}
 use Rattle.listing.proofs.read_point.Tie as tie
 

@@ -4,7 +4,7 @@ use mathlib.Core.Path.{_≡_, refl, sym, _∙_}
 use native.Mathlib.Omega.{arith}
 use lib.ListN.{length, drop}
 use borrow.Author.Tests.{eq-eqb, ne-eqb}
-use Rattle.listing.specs.Scan.{startsWith, starts-here, starts-short, starts-all}
+use Rattle.listing.specs.laws.Scan.{startsWith, starts-here, starts-short, starts-all}
 use Rattle.listing.proofs.starts.Statement.{statement}
 use Rattle.listing.proofs.starts.Tie as tie
 

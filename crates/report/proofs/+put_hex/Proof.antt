@@ -1,6 +1,6 @@
 -- `report::put_hex` meets its contract: all digits but the last, and then the last. Assumes nothing.
-use Rattle.report.specs.Put.{put-none, put-near, put-more}
-use Rattle.report.specs.Hex.{hex-none, hex-more}
+use Rattle.report.specs.laws.Put.{put-none, put-near, put-more}
+use Rattle.report.specs.laws.Hex.{hex-none, hex-more}
 use borrow.Author.Needs.{needs}
 use native.Mathlib.Omega.{arith}
 use Prim.Native.Nat.{ℕ, _<_}

@@ -7,7 +7,7 @@ use native.Mathlib.Omega.{arith}
 use denote.Ref.{now}
 use lib.ListN.{length, getD, drop, drop-of-length-le}
 use lib.Seq.{drop-cons}
-use Rattle.report.specs.Put.{Storing, storing-start, storing-step, storing-end}
+use Rattle.report.specs.laws.Put.{Storing, storing-start, storing-step, storing-end}
 use Rattle.report.proofs.put_bytes.Statement.{statement}
 use Rattle.report.proofs.put_bytes.Tie as tie
 

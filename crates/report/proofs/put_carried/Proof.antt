@@ -2,7 +2,7 @@
 use native.Mathlib.Omega.{arith}
 use borrow.Author.Needs.{needs}
 use borrow.Author.Tests.{eq-eqb, ne-eqb}
-use Rattle.report.specs.Put.{put-none, put-near, put-more}
+use Rattle.report.specs.laws.Put.{put-none, put-near, put-more}
 use Rattle.report.proofs.put_carried.Statement.{statement}
 use Rattle.report.proofs.put_carried.Tie as tie
 

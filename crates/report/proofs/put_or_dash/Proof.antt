@@ -1,5 +1,5 @@
 -- `report::put_or_dash` meets its contract. Assumes nothing.
-use Rattle.report.specs.Put.{put-near}
+use Rattle.report.specs.laws.Put.{put-near}
 use native.Mathlib.Omega.{arith}
 use borrow.Author.Tests.{eq-eqb, ne-eqb}
 use borrow.Author.Needs.{needs}

@@ -5,11 +5,12 @@ use denote.Ref.{now}
 use lib.ListN.{length, drop}
 use Rattle.tables.specs.Columns.{part}
 use Rattle.tables.specs.Entries.{Table}
-use Rattle.tables.specs.Rows.{Cols, cols, rows, rows-length}
+use Rattle.tables.specs.Rows.{Cols, cols, rows}
+use Rattle.tables.specs.laws.Rows.{rows-length}
 use Rattle.tables.specs.Lent.{given}
 use Rattle.report.specs.Lines.{lineText, lineRoom, tableText}
-use Rattle.report.specs.Put.{Storing, storing-start, storing-step, storing-end}
-use Rattle.report.specs.Parts.{line-next, line-none}
+use Rattle.report.specs.laws.Put.{Storing, storing-start, storing-step, storing-end}
+use Rattle.report.specs.laws.Parts.{line-next, line-none}
 use Rattle.report.proofs.put_table.Statement.{statement}
 use Rattle.report.proofs.put_table.Tie as tie
 

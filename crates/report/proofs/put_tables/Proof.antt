@@ -9,14 +9,15 @@ use denote.Ref.{now}
 use lib.ListN.{length, getD}
 use Rattle.tables.specs.declared.State.{State}
 use Rattle.tables.specs.Entries.{Table}
-use Rattle.tables.specs.Rows.{Cols, cols, rows, rows-length}
+use Rattle.tables.specs.Rows.{Cols, cols, rows}
+use Rattle.tables.specs.laws.Rows.{rows-length}
 use Rattle.tables.specs.Lent.{given}
 use Rattle.zooms.specs.Zooms.{joined}
 use Rattle.report.specs.Lines.{lineRoom, tableText, tablesText}
-use Rattle.report.specs.Put.{Storing, storing-start, storing-step, storing-end}
+use Rattle.report.specs.laws.Put.{Storing, storing-start, storing-step, storing-end}
 use Rattle.tables.specs.Columns.{heldAt}
-use Rattle.supercluster.specs.Held.{held, heldBy}
-use Rattle.report.specs.Held.{Holding, text-step, text-end, held-long}
+use Rattle.supercluster.specs.laws.Held.{held, heldBy}
+use Rattle.report.specs.laws.Held.{Holding, text-step, text-end, held-long}
 use Rattle.report.proofs.put_tables.Statement.{statement}
 use Rattle.report.proofs.put_tables.Tie as tie
 

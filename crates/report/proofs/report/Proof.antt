@@ -14,12 +14,12 @@ use Rattle.listing.specs.declared.Parsed.{Parsed}
 use Rattle.listing.specs.declared.Head.{Head}
 use Rattle.listing.specs.Text.{Place, xOf, yOf, whOf, PointCols, pointCols, putPoints, Parsing, Reads}
 use Rattle.listing.specs.Values.{optionsOf}
-use Rattle.listing.specs.Whole.{Wide, Front, reads-front}
+use Rattle.listing.specs.laws.Whole.{Wide, Front, reads-front}
 use Rattle.zooms.specs.Zooms.{over}
 use Rattle.supercluster.specs.Build.{Lent}
 use Rattle.supercluster.specs.Lent.{givenAll}
 use Rattle.report.specs.Report.{loadedBy, buildText, linesOf, lending, left, read, refused}
-use Rattle.report.specs.Put.{put-over}
+use Rattle.report.specs.laws.Put.{put-over}
 use Rattle.report.proofs.report.Statement.{statement}
 use Rattle.report.proofs.report.Tie as tie
 

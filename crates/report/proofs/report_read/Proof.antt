@@ -12,15 +12,15 @@ use Rattle.tables.specs.declared.Options.{Options}
 use Rattle.tables.specs.Rows.{cols}
 use Rattle.supercluster.specs.Build.{Lent, lent, loadNumber, Outcome}
 use Rattle.supercluster.specs.Lent.{givenAll}
-use Rattle.supercluster.specs.Load.{rowsIn}
+use Rattle.supercluster.specs.laws.Load.{rowsIn}
 use Rattle.listing.specs.Values.{optionsOf}
 use Rattle.listing.specs.Text.{PointCols, frontOf}
 use Rattle.listing.specs.Lent.{givenPoints}
 use Rattle.report.specs.Lines.{refusalText}
 use Rattle.report.specs.Report.{loadedBy, answerRoom, buildText}
-use Rattle.report.specs.Put.{Put, put-near}
-use Rattle.report.specs.Held.{Holding}
-use Rattle.report.specs.Built.{Sized, reply-is, refused-text, Printable, printable}
+use Rattle.report.specs.laws.Put.{Put, put-near}
+use Rattle.report.specs.laws.Held.{Holding}
+use Rattle.report.specs.laws.Built.{Sized, reply-is, refused-text, Printable, printable}
 use Rattle.report.proofs.report_read.Statement.{statement}
 use Rattle.report.proofs.report_read.Tie as tie
 

@@ -13,7 +13,7 @@ use Rattle.kdslots.specs.Slots.{Search, over, when, slots}
 use Rattle.spending.specs.declared.Spent.{Spent}
 use Rattle.spending.specs.Tested.{testing}
 use Rattle.spending.specs.Trials.{marks}
-use Rattle.spending.specs.Spend.{went, spend, spend-sum}
+use Rattle.spending.specs.laws.Spend.{went, spend, spend-sum}
 use Rattle.spending.proofs.Turns.{over-is, part-skipped, part-leaf, part-node}
 use borrow.Fn.Kinds.{In}
 use borrow.Fn.PlainCycle.{Measures, is, falls, and}

@@ -8,7 +8,7 @@ use denote.Ref.{now}
 use Rattle.kdslots.specs.Slots.{over, scanned}
 use Rattle.spending.specs.Tested.{testing}
 use Rattle.spending.specs.Trials.{marks}
-use Rattle.spending.specs.Spend.{spend, spend-sum}
+use Rattle.spending.specs.laws.Spend.{spend, spend-sum}
 use Rattle.spending.proofs.Turns.{over-is, scan-more, scan-done}
 use Rattle.spending.proofs.scan.Statement.{statement}
 use Rattle.spending.proofs.scan.Tie as tie

@@ -10,12 +10,13 @@ use denote.Ref.{now}
 use lib.Dec.{leb}
 use lib.ListN.{length}
 use Rattle.kdslots.specs.Slots.{over, when}
-use Rattle.kdslots.specs.Bounds.{coordsOk, Searchable, coords-is, and-both}
-use Rattle.boxplan.specs.Queries.{queriesOf}
+use Rattle.kdslots.specs.Bounds.{coordsOk}
+use Rattle.kdslots.specs.laws.Bounds.{Searchable, coords-is, and-both}
+use Rattle.boxplan.specs.laws.Queries.{queriesOf}
 use Rattle.spending.specs.Tested.{tests}
 use Rattle.spending.specs.Trials.{Mark, marks, trials}
-use Rattle.spending.specs.Spend.{fresh, settled, went, spend, spend-then, spend-sum}
-use Rattle.spending.specs.Ended.{ends, left-small}
+use Rattle.spending.specs.laws.Spend.{fresh, settled, went, spend, spend-then, spend-sum}
+use Rattle.spending.specs.laws.Ended.{ends, left-small}
 use Rattle.spending.proofs.search.Statement.{statement}
 use Rattle.spending.proofs.search.Tie as tie
 

@@ -2,7 +2,7 @@
 use borrow.Author.Needs.{needs}
 use borrow.Author.Tests.{le-leb, lt-leb}
 use mathlib.Core.Path.{_≡_, sym, _∙_}
-use Rattle.kdslots.specs.Bounds.{yes, no}
+use Rattle.kdslots.specs.laws.Bounds.{yes, no}
 use Rattle.spending.proofs.settle.Statement.{statement}
 use Rattle.spending.proofs.settle.Tie as tie
 

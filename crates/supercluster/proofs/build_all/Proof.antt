@@ -6,13 +6,14 @@ use native.Mathlib.Omega.{arith}
 use lib.ListN.{length, take}
 use lib.Seq.{length-take-le}
 use borrow.Author.Needs.{needs}
-use Rattle.tables.specs.Bounds.{InBounds, options-are}
-use Rattle.tables.specs.Rows.{Cols, cols, rows, Kept, each, even-kept}
+use Rattle.tables.specs.laws.Bounds.{InBounds, options-are}
+use Rattle.tables.specs.Rows.{Cols, cols, rows}
+use Rattle.tables.specs.laws.Rows.{Kept, each, even-kept}
 use Rattle.supercluster.specs.Build.{Lent, lent, need}
 use Rattle.supercluster.specs.Lent.{givenAll}
-use Rattle.supercluster.specs.Over.{cut-long}
-use Rattle.supercluster.specs.Ready.{Accepted, need-few, need-two}
-use Rattle.supercluster.specs.Load.{Holds, EvenIn, fronts, fronts-even, whole}
+use Rattle.supercluster.specs.laws.Over.{cut-long}
+use Rattle.supercluster.specs.laws.Ready.{Accepted, need-few, need-two}
+use Rattle.supercluster.specs.laws.Load.{Holds, EvenIn, fronts, fronts-even, whole}
 use Rattle.supercluster.proofs.build_all.Statement.{statement}
 use Rattle.supercluster.proofs.build_all.Tie as tie
 

@@ -8,17 +8,18 @@ use lib.Seq.{set-set}
 use borrow.Author.Needs.{needs}
 use Rattle.kdsort.specs.Cols.{Cols as Index}
 use Rattle.tables.specs.declared.State.{State}
-use Rattle.tables.specs.Bounds.{InBounds, options-are}
+use Rattle.tables.specs.laws.Bounds.{InBounds, options-are}
 use Rattle.tables.specs.Columns.{part}
-use Rattle.tables.specs.Rows.{Cols, cols, rows, Even, Kept, even-kept, kept-then, rows-length}
+use Rattle.tables.specs.Rows.{Cols, cols, rows}
+use Rattle.tables.specs.laws.Rows.{Even, Kept, even-kept, kept-then, rows-length}
 use Rattle.tables.specs.Lent.{given}
 use Rattle.tables.specs.State.{withTable}
 use Rattle.kdbush.specs.Reply.{indexOf}
 use Rattle.zooms.specs.Zooms.{slotsOf}
-use Rattle.zooms.specs.Parts.{putAt}
-use Rattle.zooms.specs.Zooming.{part-index}
+use Rattle.zooms.specs.laws.Parts.{putAt}
+use Rattle.zooms.specs.laws.Zooming.{part-index}
 use Rattle.supercluster.specs.Build.{need}
-use Rattle.supercluster.specs.Ready.{Accepted, need-some, firstState, first-inside, ready-at, made-at}
+use Rattle.supercluster.specs.laws.Ready.{Accepted, need-some, firstState, first-inside, ready-at, made-at}
 use Rattle.supercluster.proofs.build_in.Statement.{statement}
 use Rattle.supercluster.proofs.build_in.Tie as tie
 

@@ -14,9 +14,9 @@ use Rattle.kdbush.specs.declared.Outside.the-variants.{At, Nothing}
 use Rattle.kdbush.specs.Reply.{firstOutside}
 use Rattle.tables.specs.declared.Options.{Options}
 use Rattle.tables.specs.Options.{optionsOk, tableCount}
-use Rattle.tables.specs.Bounds.{options-are}
+use Rattle.tables.specs.laws.Bounds.{options-are}
 use Rattle.supercluster.specs.Build.{convertedAll, need, tripleOk, firstOver, ordered}
-use Rattle.supercluster.specs.Fill.{pxs, pys}
+use Rattle.supercluster.specs.laws.Fill.{pxs, pys}
 use Rattle.supercluster.proofs.check.Statement.{statement}
 use Rattle.supercluster.proofs.check.Tie as tie
 

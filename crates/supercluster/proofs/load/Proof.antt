@@ -20,8 +20,8 @@ use Rattle.supercluster.specs.Lent.{givenAll}
 use Rattle.supercluster.specs.declared.Loaded.{Loaded}
 use Rattle.supercluster.specs.Build.{Lent, lent, need, roomIn, checked, outcome, refused, byReply, loaded, stateOf, tablesOf, written}
 use Rattle.supercluster.specs.Build.{convertedAll, ordered, tripleOk, firstOver}
-use Rattle.supercluster.specs.Fill.{pxs, pys}
-use Rattle.supercluster.specs.Load.{accepted, holds, by-reply}
+use Rattle.supercluster.specs.laws.Fill.{pxs, pys}
+use Rattle.supercluster.specs.laws.Load.{accepted, holds, by-reply}
 use Rattle.supercluster.proofs.load.Statement.{statement}
 use Rattle.supercluster.proofs.load.Tie as tie
 

@@ -1,7 +1,7 @@
 -- `tables::entry_at` meets its contract: what the columns have at i is row i. Assumes nothing.
 use mathlib.Core.Path.{sym}
 use borrow.Author.Needs.{needs}
-use Rattle.tables.specs.Rows.{rows-entry}
+use Rattle.tables.specs.laws.Rows.{rows-entry}
 use Rattle.tables.proofs.entry_at.Statement.{statement}
 use Rattle.tables.proofs.entry_at.Tie as tie
 

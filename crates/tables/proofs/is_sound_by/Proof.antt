@@ -4,7 +4,7 @@ use mathlib.Core.Bool.{true}
 use borrow.Author.Tests.{le-leb, lt-leb, not-true, not-false}
 use borrow.Author.Needs.{needs}
 use Rattle.tables.specs.Options.{optionsOk}
-use Rattle.tables.specs.Bounds.{InBounds, options-are}
+use Rattle.tables.specs.laws.Bounds.{InBounds, options-are}
 use Rattle.tables.specs.Sound.{stateOk}
 use Rattle.tables.proofs.is_sound_by.Statement.{statement}
 use Rattle.tables.proofs.is_sound_by.Tie as tie

@@ -1,6 +1,6 @@
 -- `tables::put_entry` meets its contract: a store in each column is one row set. Assumes nothing.
 use borrow.Author.Needs.{needs}
-use Rattle.tables.specs.Rows.{rows-set}
+use Rattle.tables.specs.laws.Rows.{rows-set}
 use Rattle.tables.proofs.put_entry.Statement.{statement}
 use Rattle.tables.proofs.put_entry.Tie as tie
 

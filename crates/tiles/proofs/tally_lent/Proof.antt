@@ -11,8 +11,8 @@ use Rattle.tables.specs.Sound.{stateOk}
 use Rattle.tables.specs.Room.{Columns, roomOf}
 use Rattle.tables.specs.Lent.{givenColumns}
 use Rattle.tiling.specs.Tile.{isTile}
-use Rattle.tiling.specs.Framed.{tile-is}
-use Rattle.tiles.specs.Ends.{tally-spoiled, tally-no-tile, tally-summed}
+use Rattle.tiling.specs.laws.Framed.{tile-is}
+use Rattle.tiles.specs.laws.Ends.{tally-spoiled, tally-no-tile, tally-summed}
 use Rattle.tiles.proofs.tally_lent.Statement.{statement}
 use Rattle.tiles.proofs.tally_lent.Tie as tie
 

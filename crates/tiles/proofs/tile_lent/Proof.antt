@@ -18,10 +18,10 @@ use Rattle.tables.specs.Room.{Columns, roomOf}
 use Rattle.tables.specs.Lent.{givenColumns}
 use Rattle.tiling.specs.declared.Ran.{Ran}
 use Rattle.tiling.specs.Tile.{isTile}
-use Rattle.tiling.specs.Framed.{tile-is}
-use Rattle.tiling.specs.Runs.{outLeft, pxLeft, pyLeft}
+use Rattle.tiling.specs.laws.Framed.{tile-is}
+use Rattle.tiling.specs.laws.Runs.{outLeft, pxLeft, pyLeft}
 use Rattle.tiles.specs.Asked.{shortest, outcome, tiled}
-use Rattle.tiles.specs.Ends.{finish, room-fits, ends-spoiled, ends-no-tile, ends-listed}
+use Rattle.tiles.specs.laws.Ends.{finish, room-fits, ends-spoiled, ends-no-tile, ends-listed}
 use Rattle.tiles.proofs.tile_lent.Statement.{statement}
 use Rattle.tiles.proofs.tile_lent.Tie as tie
 

@@ -5,8 +5,8 @@ use Prim.Native.Nat.{ℕ, _≤_}
 use native.Mathlib.Omega.{arith}
 use lib.ListN.{length, length-replicate}
 use denote.Ref.{now}
-use Rattle.kdslots.specs.Bounds.{coords-is}
-use Rattle.tiling.specs.Told.{blank}
+use Rattle.kdslots.specs.laws.Bounds.{coords-is}
+use Rattle.tiling.specs.laws.Told.{blank}
 use Rattle.tiling.proofs.add_all.Statement.{statement}
 use Rattle.tiling.proofs.add_all.Tie as tie
 

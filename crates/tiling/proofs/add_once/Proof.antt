@@ -6,7 +6,7 @@ use native.Mathlib.Omega.{arith}
 use lib.ListN.{getD, length-set}
 use denote.Ref.{now}
 use borrow.Author.Needs.{needs}
-use Rattle.tiling.specs.Marks.{marked, unmarked, mark-is, bit-fits}
+use Rattle.tiling.specs.laws.Marks.{marked, unmarked, mark-is, bit-fits}
 use Rattle.tiling.proofs.add_once.Statement.{statement}
 use Rattle.tiling.proofs.add_once.Tie as tie
 

@@ -8,8 +8,8 @@ use lib.Dec.{ltb}
 use lib.ListN.{length, length-replicate}
 use denote.Ref.{now}
 use borrow.Author.Tests.{ltb-false}
-use Rattle.tiling.specs.Counting.{marksFor}
-use Rattle.tiling.specs.Told.{blank}
+use Rattle.tiling.specs.laws.Counting.{marksFor}
+use Rattle.tiling.specs.laws.Told.{blank}
 use Rattle.tiling.proofs.add_up.Statement.{statement}
 use Rattle.tiling.proofs.add_up.Tie as tie
 

@@ -7,19 +7,20 @@ use native.Mathlib.Omega.{arith}
 use lib.ListN.{length}
 use denote.Ref.{now}
 use borrow.Author.Tests.{not-true, not-false}
-use Rattle.kdslots.specs.Bounds.{coords-is}
+use Rattle.kdslots.specs.laws.Bounds.{coords-is}
 use Rattle.tables.specs.declared.Entry.{Entry}
 use Rattle.tables.specs.Entries.{Table}
-use Rattle.tables.specs.Rows.{Cols, rows, rows-length}
+use Rattle.tables.specs.Rows.{Cols, rows}
+use Rattle.tables.specs.laws.Rows.{rows-length}
 use Rattle.tables.specs.Lent.{given}
 use Rattle.tiling.specs.declared.Running.{Running}
 use Rattle.tiling.specs.Tile.{Visit, here, east, west, visits, visited}
-use Rattle.tiling.specs.Three.{here-whole, east-whole, west-whole, own-range}
+use Rattle.tiling.specs.laws.Three.{here-whole, east-whole, west-whole, own-range}
 use Rattle.tiling.specs.declared.Home.{Home}
 use Rattle.tiling.specs.Tally.{weightIn}
-use Rattle.tiling.specs.Home.{edgesOf, weightBy, weight-home}
-use Rattle.tiling.specs.Counting.{marksHeld, counted, counted-same, placesIn, runningOf}
-use Rattle.tiling.specs.Told.{Blank, counted-is, After, tally-first, tally-second, tally-third}
+use Rattle.tiling.specs.laws.Home.{edgesOf, weightBy, weight-home}
+use Rattle.tiling.specs.laws.Counting.{marksHeld, counted, counted-same, placesIn, runningOf}
+use Rattle.tiling.specs.laws.Told.{Blank, counted-is, After, tally-first, tally-second, tally-third}
 use Rattle.tiling.proofs.add_with.Statement.{statement}
 use Rattle.tiling.proofs.add_with.Tie as tie
 

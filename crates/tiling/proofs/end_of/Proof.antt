@@ -6,7 +6,7 @@ use lib.Ieee.{Float, binary64, ofBits, add, div}
 use borrow.Author.Needs.{needs}
 use borrow.Author.Tests.{eq-eqb, ne-eqb}
 use Rattle.floats.specs.Numbers.{one, two, float}
-use Rattle.tiling.specs.Floor.{ends}
+use Rattle.tiling.specs.laws.Floor.{ends}
 use Rattle.tiling.proofs.end_of.Statement.{statement}
 use Rattle.tiling.proofs.end_of.Tie as tie
 

@@ -8,9 +8,10 @@ use borrow.Author.Tests.{not-true, not-false}
 use Rattle.floats.specs.Unit.{in01}
 use Rattle.tables.specs.declared.Entry.{Entry}
 use Rattle.tables.specs.Entries.{Table, entry}
-use Rattle.tables.specs.Rows.{Cols, rows, rows-length}
+use Rattle.tables.specs.Rows.{Cols, rows}
+use Rattle.tables.specs.laws.Rows.{rows-length}
 use Rattle.tables.specs.Lent.{given}
-use Rattle.tiling.specs.Turns.{named-out, named-x, named-y, named-is}
+use Rattle.tiling.specs.laws.Turns.{named-out, named-x, named-y, named-is}
 use Rattle.tiling.proofs.entry_named.Statement.{statement}
 use Rattle.tiling.proofs.entry_named.Tie as tie
 

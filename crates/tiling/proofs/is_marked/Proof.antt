@@ -5,7 +5,7 @@ use native.Mathlib.Omega.{arith}
 use lib.Pow.{pow-pos}
 use denote.Ref.{now}
 use borrow.Author.Needs.{needs}
-use Rattle.tiling.specs.Marks.{marked-is}
+use Rattle.tiling.specs.laws.Marks.{marked-is}
 use Rattle.tiling.proofs.is_marked.Statement.{statement}
 use Rattle.tiling.proofs.is_marked.Tie as tie
 

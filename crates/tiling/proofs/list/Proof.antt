@@ -8,15 +8,16 @@ use lib.IntN.{ℤ}
 use denote.Ref.{now}
 use borrow.Author.Needs.{needs}
 use borrow.Author.Tests.{not-true}
-use Rattle.kdslots.specs.Bounds.{coords-is}
+use Rattle.kdslots.specs.laws.Bounds.{coords-is}
 use Rattle.tables.specs.Entries.{Table}
-use Rattle.tables.specs.Rows.{Cols, rows, rows-length}
+use Rattle.tables.specs.Rows.{Cols, rows}
+use Rattle.tables.specs.laws.Rows.{rows-length}
 use Rattle.tables.specs.Lent.{given}
 use Rattle.tiling.specs.declared.Ran.{Ran}
 use Rattle.tiling.specs.Tile.{Visit, here, east, west, visits, visited}
-use Rattle.tiling.specs.Runs.{left, outLeft, pxLeft, pyLeft, run}
-use Rattle.tiling.specs.Three.{here-may, east-may, west-may, here-whole, east-whole, west-whole, own-range, listed-few, first-ends}
-use Rattle.tiling.specs.Three.{second-ends, third-ends}
+use Rattle.tiling.specs.laws.Runs.{left, outLeft, pxLeft, pyLeft, run}
+use Rattle.tiling.specs.laws.Three.{here-may, east-may, west-may, here-whole, east-whole, west-whole, own-range, listed-few, first-ends}
+use Rattle.tiling.specs.laws.Three.{second-ends, third-ends}
 use Rattle.tiling.proofs.list.Statement.{statement}
 use Rattle.tiling.proofs.list.Tie as tie
 

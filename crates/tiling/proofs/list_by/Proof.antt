@@ -9,17 +9,17 @@ use denote.Ref.{now}
 use borrow.Author.Needs.{needs}
 use borrow.Author.Tests.{not-true, not-false}
 use Rattle.kdpages.specs.declared.Pages.{Pages}
-use Rattle.kdslots.specs.All.{AllBelow}
+use Rattle.kdslots.specs.laws.All.{AllBelow}
 use Rattle.kdbush.specs.Run.{places}
 use Rattle.kdwalk.specs.Reply.{walk}
-use Rattle.kdwalk.specs.Walk.{walk-length}
+use Rattle.kdwalk.specs.laws.Walk.{walk-length}
 use Rattle.kdpages.specs.Pages.{aheadOf, ahead-begun, next-slot, below-next, walk-below}
 use Rattle.tables.specs.Entries.{Table}
 use Rattle.tables.specs.Rows.{Cols, cols, rows}
 use Rattle.tables.specs.Lent.{given}
 use Rattle.tiling.specs.Tile.{Visit, visitsOf}
-use Rattle.tiling.specs.Runs.{left, run}
-use Rattle.tiling.specs.Turns.{walked, walked-none, walked-made, run-none, named-fine, turn-end, turn-bad, turn-next}
+use Rattle.tiling.specs.laws.Runs.{left, run}
+use Rattle.tiling.specs.laws.Turns.{walked, walked-none, walked-made, run-none, named-fine, turn-end, turn-bad, turn-next}
 use Rattle.tiling.proofs.Ends.{no-more}
 use Rattle.tiling.proofs.list_by.Statement.{statement}
 use Rattle.tiling.proofs.list_by.Tie as tie

@@ -3,7 +3,7 @@ use mathlib.Core.Path.{_∙_}
 use mir.Facts.{toZ-ofZ}
 use borrow.Author.Needs.{needs}
 use Rattle.tiling.specs.Tile.{rounded}
-use Rattle.tiling.specs.Framed.{fits}
+use Rattle.tiling.specs.laws.Framed.{fits}
 use Rattle.tiling.proofs.round_in.Statement.{statement}
 use Rattle.tiling.proofs.round_in.Tie as tie
 

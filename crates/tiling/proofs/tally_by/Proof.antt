@@ -10,19 +10,19 @@ use denote.Ref.{now}
 use borrow.Author.Needs.{needs}
 use borrow.Author.Tests.{not-true, not-false}
 use Rattle.kdpages.specs.declared.Pages.{Pages}
-use Rattle.kdslots.specs.All.{AllBelow}
+use Rattle.kdslots.specs.laws.All.{AllBelow}
 use Rattle.kdbush.specs.Run.{places}
 use Rattle.kdwalk.specs.Reply.{walk}
-use Rattle.kdwalk.specs.Walk.{walk-length}
+use Rattle.kdwalk.specs.laws.Walk.{walk-length}
 use Rattle.kdpages.specs.Pages.{aheadOf, ahead-begun, next-slot, below-next, walk-below}
 use Rattle.tables.specs.Entries.{Table}
 use Rattle.tables.specs.Rows.{Cols, cols, rows}
 use Rattle.tables.specs.Lent.{given}
 use Rattle.tiling.specs.Tile.{Visit}
-use Rattle.tiling.specs.Turns.{walked, walked-none, walked-made}
-use Rattle.tiling.specs.Home.{weightBy}
-use Rattle.tiling.specs.Counting.{Held, heldOf, marksHeld, placesIn, places-of, counted, counted-none, counted-sure, count-end}
-use Rattle.tiling.specs.Counting.{count-stop, count-next}
+use Rattle.tiling.specs.laws.Turns.{walked, walked-none, walked-made}
+use Rattle.tiling.specs.laws.Home.{weightBy}
+use Rattle.tiling.specs.laws.Counting.{Held, heldOf, marksHeld, placesIn, places-of, counted, counted-none, counted-sure, count-end}
+use Rattle.tiling.specs.laws.Counting.{count-stop, count-next}
 use Rattle.tiling.proofs.Ends.{no-more}
 use Rattle.tiling.proofs.tally_by.Statement.{statement}
 use Rattle.tiling.proofs.tally_by.Tie as tie

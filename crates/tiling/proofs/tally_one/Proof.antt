@@ -9,14 +9,15 @@ use denote.Ref.{now}
 use borrow.Author.Needs.{needs}
 use Rattle.tables.specs.declared.Entry.{Entry}
 use Rattle.tables.specs.Entries.{Table, entry}
-use Rattle.tables.specs.Rows.{Cols, rows, rows-length}
+use Rattle.tables.specs.Rows.{Cols, rows}
+use Rattle.tables.specs.laws.Rows.{rows-length}
 use Rattle.tables.specs.Lent.{given}
 use Rattle.tiling.specs.Tile.{listable}
-use Rattle.tiling.specs.Turns.{named-bad, named-at, named-fine}
-use Rattle.tiling.specs.Marks.{marked}
-use Rattle.tiling.specs.Home.{weightBy}
-use Rattle.tiling.specs.Counting.{held, markOf, doubt, added, marking, counted-bad, counted-doubt, counted-one}
-use Rattle.tiling.specs.Told.{mark-below}
+use Rattle.tiling.specs.laws.Turns.{named-bad, named-at, named-fine}
+use Rattle.tiling.specs.laws.Marks.{marked}
+use Rattle.tiling.specs.laws.Home.{weightBy}
+use Rattle.tiling.specs.laws.Counting.{held, markOf, doubt, added, marking, counted-bad, counted-doubt, counted-one}
+use Rattle.tiling.specs.laws.Told.{mark-below}
 use Rattle.tiling.proofs.tally_one.Statement.{statement}
 use Rattle.tiling.proofs.tally_one.Tie as tie
 

@@ -5,7 +5,7 @@ use lib.Ieee.{le, lt}
 use borrow.Author.Tests.{not-true, not-false}
 use Rattle.tables.specs.declared.Entry.{Entry}
 use Rattle.tiling.specs.declared.Home.{Home}
-use Rattle.tiling.specs.Home.{weightBy}
+use Rattle.tiling.specs.laws.Home.{weightBy}
 use Rattle.tiling.proofs.weigh.Statement.{statement}
 use Rattle.tiling.proofs.weigh.Tie as tie
 

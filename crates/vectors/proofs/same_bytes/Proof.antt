@@ -5,7 +5,7 @@ use mathlib.Core.Path.{_≡_, refl, sym}
 use mathlib.Core.Bool.{true}
 use borrow.Author.Tests.{eq-eqb, ne-eqb}
 use lib.ListN.{length}
-use Rattle.floats.specs.Table.{upto}
+use Rattle.floats.specs.laws.Table.{upto}
 use Rattle.vectors.specs.Same.{placeAt, samePlaces}
 use Rattle.vectors.proofs.Same.{upto-more, columns-none, columns-fail, columns-all}
 use Rattle.vectors.proofs.same_bytes.Statement.{statement}

@@ -5,7 +5,7 @@ use mathlib.Core.Path.{_≡_, refl, sym, _∙_}
 use mathlib.Core.Bool.{true}
 use borrow.Author.Tests.{not-true, not-false}
 use lib.ListN.{length}
-use Rattle.floats.specs.Table.{upto}
+use Rattle.floats.specs.laws.Table.{upto}
 use Rattle.vectors.specs.Same.{floatAt, sameFloats}
 use Rattle.vectors.proofs.Same.{upto-more, columns-none, columns-fail, columns-all}
 use borrow.Author.Needs.{needs}

@@ -9,7 +9,7 @@ use lib.ListN.{length, getD}
 use mir.Syntax.{w64}
 use mir.Val.{SFits, ofZ, toZ}
 use mir.Facts.{toZ-ofZ}
-use Rattle.floats.specs.Table.{upto}
+use Rattle.floats.specs.laws.Table.{upto}
 use Rattle.vectors.specs.Same.{eqLong, longAt, sameLongs}
 use Rattle.vectors.specs.Equal.{eq-long, ne-long}
 use Rattle.vectors.proofs.Same.{upto-more, columns-none, columns-fail, columns-all}

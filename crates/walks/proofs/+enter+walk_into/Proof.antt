@@ -14,12 +14,12 @@ use Rattle.tables.specs.declared.Entry.{Entry}
 use Rattle.tables.specs.Rows.{cols}
 use Rattle.asking.specs.declared.Ring.{Ring}
 use Rattle.tables.specs.Room.{Columns, columns, roomOf}
-use Rattle.tables.specs.Roomy.{each-roomy}
+use Rattle.tables.specs.laws.Roomy.{each-roomy}
 use Rattle.tables.specs.Lent.{givenColumns}
-use Rattle.asking.specs.Reached.{near, beside, onward-reached}
-use Rattle.asking.specs.Around.{aheadIn, ring-begun}
-use Rattle.kids.specs.Next.{ring-room, Further, kid-next, kid-done, kid-spoiled}
-use Rattle.walks.specs.Column.{does-nothing}
+use Rattle.asking.specs.laws.Reached.{near, beside, onward-reached}
+use Rattle.asking.specs.laws.Around.{aheadIn, ring-begun}
+use Rattle.kids.specs.laws.Next.{ring-room, Further, kid-next, kid-done, kid-spoiled}
+use Rattle.walks.specs.laws.Column.{does-nothing}
 use Rattle.walks.proofs.Led.{no-place}
 use Rattle.walks.proofs.Visiting.{Visited, visit-by, opened-lost, opened-in}
 use Rattle.walks.proofs.Walking.{Walking, walking-first, walking-spoiled, walking-done, walking-none}

@@ -5,9 +5,9 @@ use Prim.Native.Nat.{ℕ}
 use borrow.Author.Needs.{needs}
 use denote.Ref.{now}
 use Rattle.tables.specs.Room.{Columns}
-use Rattle.tables.specs.Roomy.{each-roomy}
+use Rattle.tables.specs.laws.Roomy.{each-roomy}
 use Rattle.tables.specs.Lent.{givenColumns}
-use Rattle.kids.specs.Next.{ring-room}
+use Rattle.kids.specs.laws.Next.{ring-room}
 use Rattle.walks.proofs.Led.{Led, reached, Looked}
 use Rattle.walks.proofs.GivesChildren.{children-refused, gives-spoiled, gives-none, gives-some}
 use Rattle.walks.proofs.children.Statement.{statement}

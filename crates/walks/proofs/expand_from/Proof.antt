@@ -6,10 +6,10 @@ use Prim.Native.Nat.{_+_, _-_, _≤_}
 use native.Mathlib.Omega.{arith}
 use borrow.Author.Needs.{needs}
 use Rattle.tables.specs.Rows.{cols}
-use Rattle.tables.specs.Sound.{given}
+use Rattle.tables.specs.laws.Sound.{given}
 use Rattle.asking.specs.declared.Target.the-variants.{At as Target·At}
 use Rattle.tables.specs.Room.{columns}
-use Rattle.asking.specs.Reached.{near}
+use Rattle.asking.specs.laws.Reached.{near}
 use Rattle.walks.specs.Expansion.{expand}
 use Rattle.walks.proofs.Climbing.{Climbing, turn-spoiled, turn-nobody, turn-nobody-in, turn-others, turn-top, turn-lost, turn-on}
 use Rattle.walks.proofs.Led.{no-place}

@@ -5,9 +5,9 @@ use native.Mathlib.Omega.{arith}
 use borrow.Author.Needs.{needs}
 use lib.ListN.{getD}
 use Rattle.tables.specs.Room.{Columns, roomOf}
-use Rattle.tables.specs.Roomy.{each-roomy}
+use Rattle.tables.specs.laws.Roomy.{each-roomy}
 use Rattle.tables.specs.Lent.{givenColumns}
-use Rattle.kids.specs.Next.{index-room, ring-room}
+use Rattle.kids.specs.laws.Next.{index-room, ring-room}
 use Rattle.walks.proofs.Led.{Looked}
 use Rattle.walks.proofs.Fetching.{fetch-spoiled, fetch-nobody, fetch-others, fetch-below, fetch-cluster, fetch-lamp}
 use Rattle.walks.proofs.fetch.Statement.{statement}

@@ -5,11 +5,12 @@ use Prim.Native.Nat.{ℕ, _+_, _-_, _^_, _<_}
 use native.Mathlib.Omega.{arith}
 use lib.ListN.{length, getD, drop}
 use borrow.Author.Needs.{needs}
-use Rattle.kdslots.specs.All.{below-at}
+use Rattle.kdslots.specs.laws.All.{below-at}
 use Rattle.tables.specs.Lent.{given}
-use Rattle.tables.specs.Rows.{Cols, cols, rows, Even, withSeen, withParent, even-seen, even-parent}
+use Rattle.tables.specs.Rows.{Cols, cols, rows}
+use Rattle.tables.specs.laws.Rows.{Even, withSeen, withParent, even-seen, even-parent}
 use Rattle.zoom.specs.Zoom.{energyOf, moreOf, Absorbed, absorbed, absorb}
-use Rattle.zoom.specs.Turns.{more-turn, absorb-front, absorb-end, absorb-fits}
+use Rattle.zoom.specs.laws.Turns.{more-turn, absorb-front, absorb-end, absorb-fits}
 use Rattle.zoom.proofs.absorb_near.Statement.{statement}
 use Rattle.zoom.proofs.absorb_near.Tie as tie
 

@@ -6,7 +6,7 @@ use borrow.Author.Needs.{needs}
 use Rattle.tables.specs.Lent.{given}
 use Rattle.tables.specs.Rows.{Cols}
 use Rattle.zoom.specs.Zoom.{energyOf, adds}
-use Rattle.zoom.specs.Turns.{joined-row, passed-row}
+use Rattle.zoom.specs.laws.Turns.{joined-row, passed-row}
 use Rattle.zoom.proofs.absorb_one.Statement.{statement}
 use Rattle.zoom.proofs.absorb_one.Tie as tie
 

@@ -7,17 +7,19 @@ use native.Mathlib.Omega.{arith}
 use lib.ListN.{length, take}
 use lib.Ieee.{Float}
 use borrow.Author.Needs.{needs}
-use Rattle.kdslots.specs.All.{All}
+use Rattle.kdslots.specs.laws.All.{All}
 use Rattle.tables.specs.Entries.{Table}
 use Rattle.tables.specs.Lent.{given}
-use Rattle.tables.specs.Rows.{Cols, cols, rows, Even, Kept, even-kept, kept-even, rows-length}
-use Rattle.zoom.specs.Back.{lastCols, keptCols}
+use Rattle.tables.specs.Rows.{Cols, cols, rows}
+use Rattle.tables.specs.laws.Rows.{Even, Kept, even-kept, kept-even, rows-length}
+use Rattle.zoom.specs.laws.Back.{lastCols, keptCols}
 use Rattle.zoom.specs.Zoom.{numOf, energyOf, Scan}
 use Rattle.zoom.specs.Scanned.{scanOf}
-use Rattle.zoom.specs.Near.{nearOf, Placed}
-use Rattle.zoom.specs.Keeps.{Keeps, kept-all, keep-one}
-use Rattle.zoom.specs.Notes.{Noted, noted-same, kept-noted}
-use Rattle.zoom.specs.Scanning.{Scanning, scanning-start, scanning-step, scanning-end}
+use Rattle.zoom.specs.Near.{nearOf}
+use Rattle.zoom.specs.laws.Near.{Placed}
+use Rattle.zoom.specs.laws.Keeps.{Keeps, kept-all, keep-one}
+use Rattle.zoom.specs.laws.Notes.{Noted, noted-same, kept-noted}
+use Rattle.zoom.specs.laws.Scanning.{Scanning, scanning-start, scanning-step, scanning-end}
 use Rattle.zoom.proofs.cluster.Statement.{statement}
 use Rattle.zoom.proofs.cluster.Tie as tie
 

@@ -5,11 +5,12 @@ use Prim.Native.Nat.{ℕ, _-_, _<_}
 use native.Mathlib.Omega.{arith}
 use lib.ListN.{length, getD}
 use borrow.Author.Needs.{needs}
-use Rattle.kdslots.specs.All.{below-at}
+use Rattle.kdslots.specs.laws.All.{below-at}
 use Rattle.tables.specs.Lent.{given}
-use Rattle.tables.specs.Rows.{Cols, cols, rows, Even, Kept, even-kept, kept-even, rows-length}
-use Rattle.zoom.specs.Back.{lastCols, keptCols}
-use Rattle.zoom.specs.Turns.{Copying, copying-start, copying-step, copying-end}
+use Rattle.tables.specs.Rows.{Cols, cols, rows}
+use Rattle.tables.specs.laws.Rows.{Even, Kept, even-kept, kept-even, rows-length}
+use Rattle.zoom.specs.laws.Back.{lastCols, keptCols}
+use Rattle.zoom.specs.laws.Turns.{Copying, copying-start, copying-step, copying-end}
 use Rattle.zoom.proofs.copy_near.Statement.{statement}
 use Rattle.zoom.proofs.copy_near.Tie as tie
 

@@ -7,11 +7,12 @@ use borrow.Author.Needs.{needs}
 use Rattle.tables.specs.declared.Entry.{Entry}
 use Rattle.tables.specs.Entries.{Table, entry, marked}
 use Rattle.tables.specs.Lent.{given}
-use Rattle.tables.specs.Rows.{Cols, rows, Kept, withSeen, rows-length, rows-mark, even-mark, kept-mark, kept-then}
-use Rattle.zoom.specs.Back.{lastCols, keptCols}
+use Rattle.tables.specs.Rows.{Cols, rows}
+use Rattle.tables.specs.laws.Rows.{Kept, withSeen, rows-length, rows-mark, even-mark, kept-mark, kept-then}
+use Rattle.zoom.specs.laws.Back.{lastCols, keptCols}
 use Rattle.zoom.specs.Zoom.{copyOne}
 use Rattle.zoom.specs.Scanned.{scanOf, Scanned, unseenCount}
-use Rattle.zoom.specs.Turns.{copy-room, copied, skipped}
+use Rattle.zoom.specs.laws.Turns.{copy-room, copied, skipped}
 use Rattle.zoom.proofs.copy_one.Statement.{statement}
 use Rattle.zoom.proofs.copy_one.Tie as tie
 

@@ -3,7 +3,7 @@ use mathlib.Core.Path.{_≡_, refl, _∙_}
 use Prim.Native.Nat.{ℕ, _+_, _-_, _<_, _≤_}
 use native.Mathlib.Omega.{arith}
 use lib.ListN.{length, getD, length-set}
-use Rattle.zoom.specs.Notes.{cleared-more}
+use Rattle.zoom.specs.laws.Notes.{cleared-more}
 use Rattle.zoom.proofs.forget.Statement.{statement}
 use Rattle.zoom.proofs.forget.Tie as tie
 use Rattle.zoom.proofs.forget.Reads as reads

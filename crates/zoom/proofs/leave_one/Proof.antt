@@ -7,10 +7,11 @@ use lib.ListN.{length, set, take}
 use Rattle.tables.specs.declared.Entry.{Entry}
 use Rattle.tables.specs.Entries.{Table, entry}
 use Rattle.tables.specs.Lent.{given}
-use Rattle.tables.specs.Rows.{Cols, rows, Kept, rows-length, even-kept, kept-then}
-use Rattle.zoom.specs.Back.{lastCols, keptCols}
+use Rattle.tables.specs.Rows.{Cols, rows}
+use Rattle.tables.specs.laws.Rows.{Kept, rows-length, even-kept, kept-then}
+use Rattle.zoom.specs.laws.Back.{lastCols, keptCols}
 use Rattle.zoom.specs.Scanned.{unseenCount}
-use Rattle.zoom.specs.Stored.{left-leaves, left-room}
+use Rattle.zoom.specs.laws.Stored.{left-leaves, left-room}
 use Rattle.zoom.proofs.leave_one.Statement.{statement}
 use Rattle.zoom.proofs.leave_one.Tie as tie
 

@@ -5,14 +5,15 @@ use Prim.Native.Nat.{ℕ, _+_, _<_}
 use native.Mathlib.Omega.{arith}
 use lib.ListN.{length, set, length-set}
 use borrow.Author.Needs.{needs}
-use Rattle.kdslots.specs.All.{below-le}
+use Rattle.kdslots.specs.laws.All.{below-le}
 use Rattle.tables.specs.declared.Entry.{Entry}
 use Rattle.tables.specs.Entries.{Table, entry}
 use Rattle.tables.specs.Lent.{given}
-use Rattle.tables.specs.Rows.{Cols, rows, Even, Kept, withSeen, withParent, rows-length, rows-parent, even-seen, even-parent, kept-even}
-use Rattle.tables.specs.Rows.{kept-then}
-use Rattle.zoom.specs.Back.{lastCols, keptCols}
-use Rattle.zoom.specs.Stored.{made-with}
+use Rattle.tables.specs.Rows.{Cols, rows}
+use Rattle.tables.specs.laws.Rows.{Even, Kept, withSeen, withParent, rows-length, rows-parent, even-seen, even-parent, kept-even}
+use Rattle.tables.specs.laws.Rows.{kept-then}
+use Rattle.zoom.specs.laws.Back.{lastCols, keptCols}
+use Rattle.zoom.specs.laws.Stored.{made-with}
 use mathlib.Core.List.{List}
 use Rattle.zoom.specs.Scanned.{scanOf, Scanned}
 use Rattle.zoom.specs.Zoom.{energyOf, Absorbed, absorbed, absorb, started, centre, madeAt}

@@ -7,7 +7,7 @@ use lib.ListN.{length, length-set}
 use denote.Ref.{now}
 use Rattle.kdslots.specs.declared.Query.the-variants.{Within}
 use Rattle.zoom.specs.Near.{nearOf}
-use Rattle.zoom.specs.Notes.{list-one, list-two}
+use Rattle.zoom.specs.laws.Notes.{list-one, list-two}
 use borrow.Author.Needs.{needs}
 use Rattle.zoom.proofs.neighbours.Statement.{statement}
 use Rattle.zoom.proofs.neighbours.Tie as tie

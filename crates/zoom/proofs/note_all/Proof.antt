@@ -9,7 +9,7 @@ use denote.Ref.{now}
 use borrow.Author.Needs.{needs}
 use Rattle.tables.specs.Entries.{Table}
 use Rattle.zoom.specs.Near.{nearOf}
-use Rattle.zoom.specs.Notes.{Noted, Slotted, owned-in, noted-none, noted-slot}
+use Rattle.zoom.specs.laws.Notes.{Noted, Slotted, owned-in, noted-none, noted-slot}
 use Rattle.zoom.proofs.note_all.Statement.{statement}
 use Rattle.zoom.proofs.note_all.Tie as tie
 use Rattle.zoom.proofs.note_all.Reads as reads

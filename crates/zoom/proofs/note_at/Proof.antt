@@ -9,12 +9,12 @@ use lib.ListN.{length, getD}
 use lib.Ieee.{Float, nan}
 use denote.Ref.{now}
 use Rattle.kdslots.specs.declared.Query.the-variants.{Within}
-use Rattle.kdslots.specs.Bounds.{Searchable, coords-is}
-use Rattle.kdslots.specs.Members.{In}
+use Rattle.kdslots.specs.laws.Bounds.{Searchable, coords-is}
+use Rattle.kdslots.specs.laws.Members.{In}
 use Rattle.kdslots.specs.Slots.{answers}
-use Rattle.kdbush.specs.Run.{places-length}
+use Rattle.kdbush.specs.laws.Run.{places-length}
 use Rattle.zoom.specs.Near.{nearOf}
-use Rattle.zoom.specs.Notes.{tells-nothing, tells-alone, told-at}
+use Rattle.zoom.specs.laws.Notes.{tells-nothing, tells-alone, told-at}
 use borrow.Author.Needs.{needs}
 use Rattle.zoom.proofs.note_at.Statement.{statement}
 use Rattle.zoom.proofs.note_at.Tie as tie

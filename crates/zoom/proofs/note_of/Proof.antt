@@ -1,5 +1,5 @@
 -- `zoom::note_of` meets its contract. Assumes nothing.
-use Rattle.zoom.specs.Notes.{tells-nothing, tells-before, tells-behind}
+use Rattle.zoom.specs.laws.Notes.{tells-nothing, tells-before, tells-behind}
 use borrow.Author.Needs.{needs}
 use Rattle.zoom.proofs.note_of.Statement.{statement}
 use Rattle.zoom.proofs.note_of.Tie as tie

@@ -6,7 +6,7 @@ use Prim.Native.Nat.{ℕ}
 use lib.ListN.{getD}
 use denote.Ref.{now}
 use Rattle.kdslots.specs.declared.Query.the-variants.{Within}
-use Rattle.zoom.specs.Notes.{few-found, tells-nothing}
+use Rattle.zoom.specs.laws.Notes.{few-found, tells-nothing}
 use borrow.Author.Needs.{needs}
 use Rattle.zoom.proofs.note_two.Statement.{statement}
 use Rattle.zoom.proofs.note_two.Tie as tie

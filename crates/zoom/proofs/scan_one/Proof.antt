@@ -10,18 +10,20 @@ use lib.Ieee.{Float}
 use borrow.Author.Needs.{needs}
 use Rattle.kdslots.specs.declared.Query.{Query}
 use Rattle.kdslots.specs.declared.Query.the-variants.{Within}
-use Rattle.kdslots.specs.All.{AllBelow}
-use Rattle.kdslots.specs.Members.{Distinct}
+use Rattle.kdslots.specs.laws.All.{AllBelow}
+use Rattle.kdslots.specs.laws.Members.{Distinct}
 use Rattle.tables.specs.declared.Entry.{Entry}
 use Rattle.tables.specs.Entries.{Table, entry, none, marked}
 use Rattle.tables.specs.Lent.{given}
-use Rattle.tables.specs.Rows.{Cols, rows, Kept, withSeen, rows-length, rows-mark, even-mark, kept-mark, kept-then}
-use Rattle.zoom.specs.Back.{lastCols, keptCols}
+use Rattle.tables.specs.Rows.{Cols, rows}
+use Rattle.tables.specs.laws.Rows.{Kept, withSeen, rows-length, rows-mark, even-mark, kept-mark, kept-then}
+use Rattle.zoom.specs.laws.Back.{lastCols, keptCols}
 use Rattle.zoom.specs.Zoom.{numOf, energyOf}
-use Rattle.zoom.specs.Keeps.{all-at}
-use Rattle.zoom.specs.Near.{nearOf, Placed}
-use Rattle.zoom.specs.Notes.{Tells, noted-at}
-use Rattle.zoom.specs.Visit.{marked-room, marked-fits, scanned, passed}
+use Rattle.zoom.specs.laws.Keeps.{all-at}
+use Rattle.zoom.specs.Near.{nearOf}
+use Rattle.zoom.specs.laws.Near.{Placed}
+use Rattle.zoom.specs.laws.Notes.{Tells, noted-at}
+use Rattle.zoom.specs.laws.Visit.{marked-room, marked-fits, scanned, passed}
 use Rattle.zoom.proofs.scan_one.Statement.{statement}
 use Rattle.zoom.proofs.scan_one.Tie as tie
 

@@ -11,9 +11,10 @@ use Rattle.kdbush.specs.declared.SearchReply.{SearchReply}
 use Rattle.kdbush.specs.declared.SearchReply.the-variants.{Found, Box, NoRoom, Spoiled}
 use Rattle.kdslots.specs.declared.Query.the-variants.{Within}
 use Rattle.kdbush.specs.Reply.{searchNumber, searchCarried}
-use Rattle.kdbush.specs.Promise.{promised-searched, promised-column}
-use Rattle.zoom.specs.Near.{nearOf, query-fine, answered}
-use Rattle.zoom.specs.Notes.{same-past}
+use Rattle.kdbush.specs.laws.Promise.{promised-searched, promised-column}
+use Rattle.zoom.specs.Near.{nearOf}
+use Rattle.zoom.specs.laws.Near.{query-fine, answered}
+use Rattle.zoom.specs.laws.Notes.{same-past}
 use Rattle.zoom.proofs.search_near.Statement.{statement}
 use Rattle.zoom.proofs.search_near.Tie as tie
 

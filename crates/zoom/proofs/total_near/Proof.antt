@@ -5,13 +5,13 @@ use Prim.Native.Nat.{ℕ, _+_, _-_, _<_}
 use native.Mathlib.Omega.{arith}
 use lib.ListN.{length, getD, drop}
 use borrow.Author.Needs.{needs}
-use Rattle.kdslots.specs.All.{below-at}
+use Rattle.kdslots.specs.laws.All.{below-at}
 use Rattle.tables.specs.declared.Entry.{Entry}
 use Rattle.tables.specs.Entries.{Table, entry}
 use Rattle.tables.specs.Lent.{given}
 use Rattle.tables.specs.Rows.{cols, rows}
 use Rattle.zoom.specs.Zoom.{numOf, adds, more}
-use Rattle.zoom.specs.Turns.{more-turn, more-end}
+use Rattle.zoom.specs.laws.Turns.{more-turn, more-end}
 use Rattle.zoom.proofs.total_near.Statement.{statement}
 use Rattle.zoom.proofs.total_near.Tie as tie
 

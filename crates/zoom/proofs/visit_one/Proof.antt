@@ -7,16 +7,17 @@ use native.Mathlib.Omega.{arith}
 use lib.ListN.{length, take}
 use lib.Seq.{getD-take}
 use borrow.Author.Needs.{needs}
-use Rattle.kdslots.specs.All.{below-le}
+use Rattle.kdslots.specs.laws.All.{below-le}
 use Rattle.tables.specs.declared.Entry.{Entry}
 use Rattle.tables.specs.Entries.{Table, entry, none}
 use Rattle.tables.specs.Lent.{given}
-use Rattle.tables.specs.Rows.{Cols, rows, Kept, rows-length}
-use Rattle.zoom.specs.Back.{lastCols, keptCols}
+use Rattle.tables.specs.Rows.{Cols, rows}
+use Rattle.tables.specs.laws.Rows.{Kept, rows-length}
+use Rattle.zoom.specs.laws.Back.{lastCols, keptCols}
 use Rattle.zoom.specs.Scanned.{scanOf}
 use Rattle.zoom.specs.Zoom.{numOf, more, enough}
-use Rattle.zoom.specs.Steps.{totalOf, made-by, left-by}
-use Rattle.zoom.specs.Unseen.{more-take}
+use Rattle.zoom.specs.laws.Steps.{totalOf, made-by, left-by}
+use Rattle.zoom.specs.laws.Unseen.{more-take}
 use Rattle.zoom.proofs.visit_one.Statement.{statement}
 use Rattle.zoom.proofs.visit_one.Tie as tie
 

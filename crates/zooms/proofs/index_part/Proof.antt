@@ -9,9 +9,10 @@ use denote.Ref.{now}
 use borrow.Author.Needs.{needs}
 use Rattle.kdsort.specs.Cols.{Cols, cols}
 use Rattle.kdbush.specs.Reply.{built}
-use Rattle.tables.specs.Columns.{part, part-long}
+use Rattle.tables.specs.Columns.{part}
+use Rattle.tables.specs.laws.Columns.{part-long}
 use Rattle.kdbush.specs.Reply.{indexOf}
-use Rattle.kdbush.specs.Indexed.{Indexable, built-is}
+use Rattle.kdbush.specs.laws.Indexed.{Indexable, built-is}
 use Rattle.zooms.proofs.index_part.Statement.{statement}
 use Rattle.zooms.proofs.index_part.Tie as tie
 

@@ -5,14 +5,15 @@ use native.Mathlib.Omega.{arith}
 use lib.ListN.{length, drop, take}
 use borrow.Author.Needs.{needs}
 use Rattle.tables.specs.Entries.{Table}
-use Rattle.tables.specs.Rows.{Cols, cols, rows, Even, Kept, even-kept}
+use Rattle.tables.specs.Rows.{Cols, cols, rows}
+use Rattle.tables.specs.laws.Rows.{Even, Kept, even-kept}
 use Rattle.tables.specs.Lent.{given}
 use Rattle.zooms.specs.Zooms.{Plan, planOf}
-use Rattle.zoom.specs.Near.{Radius}
-use Rattle.zooms.specs.Running.{Running, cur-promised}
-use Rattle.zooms.specs.OwnPlace.{cur-slotted, cur-owned}
-use Rattle.zooms.specs.Zooming.{Zoomed, z-few, step-room, step-light, step-watts, step-radius, step-placed, made-some, made-few}
-use Rattle.zooms.specs.Zooming.{made-body, scanned, inside-made, advanced}
+use Rattle.zoom.specs.laws.Near.{Radius}
+use Rattle.zooms.specs.laws.Running.{Running, cur-promised}
+use Rattle.zooms.specs.laws.OwnPlace.{cur-slotted, cur-owned}
+use Rattle.zooms.specs.laws.Zooming.{Zoomed, z-few, step-room, step-light, step-watts, step-radius, step-placed, made-some, made-few}
+use Rattle.zooms.specs.laws.Zooming.{made-body, scanned, inside-made, advanced}
 use Rattle.zooms.proofs.one_zoom.Statement.{statement}
 use Rattle.zooms.proofs.one_zoom.Tie as tie
 

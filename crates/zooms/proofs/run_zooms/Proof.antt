@@ -8,12 +8,13 @@ use borrow.Author.Needs.{needs}
 use Rattle.tables.specs.declared.State.{State}
 use Rattle.tables.specs.Columns.{part}
 use Rattle.tables.specs.Entries.{Table}
-use Rattle.tables.specs.Rows.{Cols, cols, rows, Even, Kept, even-kept, kept-even, rows-length}
+use Rattle.tables.specs.Rows.{Cols, cols, rows}
+use Rattle.tables.specs.laws.Rows.{Even, Kept, even-kept, kept-even, rows-length}
 use Rattle.tables.specs.Lent.{given}
 use Rattle.zooms.specs.Zooms.{Plan, planOf, zoomsOf}
-use Rattle.zooms.specs.Running.{Running}
-use Rattle.zooms.specs.Progress.{wholeOf, Progress}
-use Rattle.zooms.specs.Turn.{turn-ready, turn-running, turn-progress, turn-start, turn-end}
+use Rattle.zooms.specs.laws.Running.{Running}
+use Rattle.zooms.specs.laws.Progress.{wholeOf, Progress}
+use Rattle.zooms.specs.laws.Turn.{turn-ready, turn-running, turn-progress, turn-start, turn-end}
 use Rattle.zooms.proofs.run_zooms.Statement.{statement}
 use Rattle.zooms.proofs.run_zooms.Tie as tie
 

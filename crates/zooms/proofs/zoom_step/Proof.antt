@@ -5,10 +5,11 @@ use Prim.Native.Nat.{ℕ, suc, _+_, _-_, _*_, _^_, _<_, _≤_}
 use native.Mathlib.Omega.{arith}
 use lib.ListN.{length, drop, take}
 use borrow.Author.Needs.{needs}
-use Rattle.tables.specs.Rows.{Cols, cols, rows, Kept, each, each2}
+use Rattle.tables.specs.Rows.{Cols, cols, rows, each2}
+use Rattle.tables.specs.laws.Rows.{Kept, each}
 use Rattle.tables.specs.Lent.{given}
-use Rattle.tables.specs.Columns.{from, back, from-length, rows-from, even-from}
-use Rattle.zooms.specs.Step.{stepped, kept-back}
+use Rattle.tables.specs.laws.Columns.{from, back, from-length, rows-from, even-from}
+use Rattle.zooms.specs.laws.Step.{stepped, kept-back}
 use Rattle.zooms.proofs.zoom_step.Statement.{statement}
 use Rattle.zooms.proofs.zoom_step.Tie as tie
 

@@ -12,9 +12,9 @@ use borrow.Author.Tests.{not-false}
 use Rattle.kdsort.specs.Cols.{Cols, cols, swapItem, key}
 use Rattle.kdsort.specs.Room.{Here}
 use Rattle.kdsort.specs.Select.{Cut, cut, passes, placed}
-use Rattle.kdsort.specs.Swaps.{length-swapIds, length-swapCo}
-use Rattle.kdsort.specs.Scans.{Up, Down, before-stop, after-stop, length-placed-ids, length-placed-co}
-use Rattle.kdsort.specs.Passes.{passing-ends, Scanning, scanning-turn, scanning-cols}
+use Rattle.kdsort.specs.laws.Swaps.{length-swapIds, length-swapCo}
+use Rattle.kdsort.specs.laws.Scans.{Up, Down, before-stop, after-stop, length-placed-ids, length-placed-co}
+use Rattle.kdsort.specs.laws.Passes.{passing-ends, Scanning, scanning-turn, scanning-cols}
 use Rattle.kdsort.proofs.Turns.{Low, Pass, placed-then, placed-else, cols-eq}
 use Rattle.kdsort.proofs.partition.Tie as tie
 

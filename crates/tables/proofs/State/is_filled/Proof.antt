@@ -12,7 +12,8 @@ use borrow.Author.Tests.{ne-eqb, eq-eqb, not-true, not-false}
 use borrow.Author.Needs.{needs}
 use Rattle.tables.specs.Options.{tableCount}
 use Rattle.tables.specs.State.{startOf, lenOf}
-use Rattle.tables.specs.Sound.{isTable, tableOk, packed, packed-next, packed-last, table-is}
+use Rattle.tables.specs.Sound.{isTable, tableOk, packed}
+use Rattle.tables.specs.laws.Sound.{packed-next, packed-last, table-is}
 use Rattle.tables.proofs.State.is_filled.Statement.{statement}
 use Rattle.tables.proofs.State.is_filled.Tie as tie
 

@@ -1,0 +1,11 @@
+pub mod Stored
+pub mod Children
+pub mod Clusters
+pub mod Page
+pub mod Walks
+pub mod Leaves
+pub mod Boxed
+pub mod Tiled
+pub mod Sums
+pub mod Homes
+pub mod Unspoiled

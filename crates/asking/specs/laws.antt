@@ -1,0 +1,5 @@
+pub mod Filled
+pub mod Columns
+pub mod Reached
+pub mod Around
+pub mod Replies

@@ -1,0 +1,9 @@
+pub mod Sums
+pub mod Counts
+pub mod Sweeps
+pub mod Run
+pub mod Walks
+pub mod Literal
+pub mod Once
+pub mod OneZoom
+pub mod Fits

@@ -1,0 +1,5 @@
+pub mod Run
+pub mod Built
+pub mod Promise
+pub mod Indexed
+pub mod Replies

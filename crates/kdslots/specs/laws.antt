@@ -1,0 +1,10 @@
+pub mod Bounds
+pub mod Intervals
+pub mod All
+pub mod Members
+pub mod Sound
+pub mod Keep
+pub mod Order
+pub mod Reaches
+pub mod Complete
+pub mod Corner

@@ -1,0 +1,11 @@
+pub mod Shape
+pub mod Worked
+pub mod Swaps
+pub mod Perms
+pub mod Scans
+pub mod Passes
+pub mod Batches
+pub mod Cuts
+pub mod Selects
+pub mod Trees
+pub mod Indexes

@@ -1,0 +1,3 @@
+pub mod Cursor
+pub mod Walk
+pub mod Replies

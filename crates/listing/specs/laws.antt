@@ -1,0 +1,11 @@
+pub mod Digits
+pub mod Scan
+pub mod Form
+pub mod Coords
+pub mod Reading
+pub mod Lines
+pub mod Points
+pub mod OneInput
+pub mod Heads
+pub mod Whole
+pub mod Replies

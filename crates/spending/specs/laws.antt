@@ -1,0 +1,5 @@
+pub mod Tested
+pub mod Trials
+pub mod Spend
+pub mod Ended
+pub mod Promise

@@ -1,0 +1,4 @@
+pub mod Used
+pub mod Ends
+pub mod Built
+pub mod Replies

@@ -1,0 +1,14 @@
+pub mod Framed
+pub mod Finite
+pub mod Runs
+pub mod Turns
+pub mod Three
+pub mod Inside
+pub mod Lists
+pub mod Marks
+pub mod Floor
+pub mod Distinct
+pub mod Counting
+pub mod Told
+pub mod Home
+pub mod Replies
