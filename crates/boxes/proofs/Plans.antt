@@ -11,7 +11,7 @@ use Rattle.kdbush.specs.Run.{sound, whole, filled}
 use Rattle.kdslots.specs.Bounds.{coordsOk}
 use Rattle.kdslots.specs.laws.Bounds.{and-both, coords-is}
 use Rattle.kdbush.specs.Reply.{found, indexOk}
-use Rattle.tables.specs.laws.Columns.{from, back}
+use Rattle.tables.specs.laws.Columns.{fromPart, back}
 use Rattle.asking.specs.declared.Answer.{Answer}
 use Rattle.asking.specs.declared.Answer.the-variants.{Spoiled}
 use Rattle.asking.specs.Answers.{fitted}
@@ -60,11 +60,11 @@ module _ (p : Plan) (size n : ℕ) (ids : List ℕ) (co : List Float) (out : Lis
           rw f (g ∙ rw (v .1, same-room) (w .0), left ∙ w .1)
 
       -- what the second search leaves in its part, from s on
-      module _ (f : p .two ≡ true) (s : ℕ) (g : s ≡ min k (length o)) (x : List ℕ) (h : x ≡ filled (sound n two) (from s o)) where
+      module _ (f : p .two ≡ true) (s : ℕ) (g : s ≡ min k (length o)) (x : List ℕ) (h : x ≡ filled (sound n two) (fromPart s o)) where
         begins : s ≡ min (length one) (length out)
         begins = g ∙ rw (part-all (whole n one) (length one) k e .1, same-room)
 
-        put : back s o x ≡ back s (filled (sound n one) out) (filled (sound n two) (from s (filled (sound n one) out)))
+        put : back s o x ≡ back s (filled (sound n one) out) (filled (sound n two) (fromPart s (filled (sound n one) out)))
         put = rw (h, left)
 
         pub plan-second-past : Past ≡ partOf (whole n two) (length two) → Leaves Spoiled (back s o x)

@@ -10,39 +10,39 @@ use Rattle.tables.specs.laws.Bounds.{options-are}
 use Rattle.tables.specs.declared.Entry.{Entry}
 use Rattle.tables.specs.Entries.{entry}
 use Rattle.tables.specs.Ids.{tableOf}
-use Rattle.builds.specs.Given.{Given, Accepted, points, minZ, maxZ, lampsIn}
-use Rattle.builds.specs.Came.{came, tableAt, down}
+use Rattle.builds.specs.Given.{Given, AcceptedBuild, points, minZ, maxZ, lampsIn}
+use Rattle.builds.specs.Came.{came, tableOfZoom, down}
 use Rattle.builds.specs.GroupsOfBuild.{groupsBy}
 use Rattle.builds.specs.Identities.{Known, came-known, identities, ids-distinct, id-table-suc}
 use Rattle.builds.specs.Places.{Arose}
-use Rattle.builds.specs.Same.{plain, Same, idOf, arose-by, table-same}
+use Rattle.builds.specs.Same.{plainEntry, SameBuild, idOf, arose-by, table-same}
 
 -- where the cluster of an entry e was made: the place in the table before that of its origin, and the entry there is e
 pub record Born (G : Given) (e : Entry) : Type 0 where
   pub place : ℕ
-  pub there : place < length (tableAt G (tableOf (points G) (e .id) - 1))
-  pub same : Same (entry (tableAt G (tableOf (points G) (e .id) - 1)) place) e
+  pub there : place < length (tableOfZoom G (tableOf (points G) (e .id) - 1))
+  pub same : SameBuild (entry (tableOfZoom G (tableOf (points G) (e .id) - 1)) place) e
 
 -- the entry b is a copy of a
-born-same : (G : Given) (a b : Entry) → Same a b → Born G a → Born G b
+born-same : (G : Given) (a b : Entry) → SameBuild a b → Born G a → Born G b
 born-same G a b s w =
     record {
       place = w .place;
-      there = subst (λ (i : ℕ). w .place < length (tableAt G (tableOf (points G) i - 1))) (ap idOf s) (w .there);
-      same = subst (λ (i : ℕ). Same (entry (tableAt G (tableOf (points G) i - 1)) (w .place)) a) (ap idOf s) (w .same) ∙ s;
+      there = subst (λ (i : ℕ). w .place < length (tableOfZoom G (tableOf (points G) i - 1))) (ap idOf s) (w .there);
+      same = subst (λ (i : ℕ). SameBuild (entry (tableOfZoom G (tableOf (points G) i - 1)) (w .place)) a) (ap idOf s) (w .same) ∙ s;
     }
 
 -- e is made in table z, at j
-born-here : (G : Given) (z j : ℕ) (e : Entry) → tableOf (points G) (e .id) - 1 ≡ z → j < length (tableAt G z) →
-    Same (entry (tableAt G z) j) e → Born G e
+born-here : (G : Given) (z j : ℕ) (e : Entry) → tableOf (points G) (e .id) - 1 ≡ z → j < length (tableOfZoom G z) →
+    SameBuild (entry (tableOfZoom G z) j) e → Born G e
 born-here G z j e q h s =
     record {
       place = j;
-      there = subst (λ (v : ℕ). j < length (tableAt G v)) (sym q) h;
-      same = subst (λ (v : ℕ). Same (entry (tableAt G v) j) e) (sym q) s;
+      there = subst (λ (v : ℕ). j < length (tableOfZoom G v)) (sym q) h;
+      same = subst (λ (v : ℕ). SameBuild (entry (tableOfZoom G v) j) e) (sym q) s;
     }
 
-module _ (G : Given) (a : Accepted G) where
+module _ (G : Given) (a : AcceptedBuild G) where
   -- no cluster is in the finest table
   none-finest : (i : ℕ) → i < length (came G (maxZ G + 1)) → points G ≤ entry (came G (maxZ G + 1)) i .id → ⊥
   none-finest i h b =
@@ -57,9 +57,9 @@ module _ (G : Given) (a : Accepted G) where
       (j : ℕ) → j < length (came G z) → points G ≤ entry (came G z) j .id → Born G (entry (came G z) j)
   born-step z h l ih j k b = by (arose-by G a z h (omega arith) j k)
     where
-      by : Arose (points G) z (came G (suc z)) (tableAt G (suc z)) (came G z) (groupsBy G z) j → Born G (entry (came G z) j)
+      by : Arose (points G) z (came G (suc z)) (tableOfZoom G (suc z)) (came G z) (groupsBy G z) j → Born G (entry (came G z) j)
       by (inl (i, s)) =
-          let m : Same (entry (came G z) j) (entry (came G (suc z)) i) = ap plain (s .copy) in
+          let m : SameBuild (entry (came G z) j) (entry (came G (suc z)) i) = ap plainEntry (s .copy) in
           let e = ap idOf m in
           born-same G (entry (came G (suc z)) i) (entry (came G z) j) (sym m) (ih i (s .place) (omega arith))
       by (inr (i, s)) =
@@ -77,30 +77,30 @@ module _ (G : Given) (a : Accepted G) where
       (λ i h b. absurd (none-finest i h b)) born-step
 
   -- each cluster of each table stands in the table in which it was made
-  pub born : (z : ℕ) → minZ G ≤ z → z ≤ maxZ G + 1 → (i : ℕ) → i < length (tableAt G z) → points G ≤ entry (tableAt G z) i .id →
-      Born G (entry (tableAt G z) i)
+  pub born : (z : ℕ) → minZ G ≤ z → z ≤ maxZ G + 1 → (i : ℕ) → i < length (tableOfZoom G z) → points G ≤ entry (tableOfZoom G z) i .id →
+      Born G (entry (tableOfZoom G z) i)
   born z h l i k b =
       let s = table-same G a z h l in
       let w = s .long in
       let q : i < length (came G z) = omega arith in
       let e = ap idOf (s .each i q) in
-      born-same G (entry (came G z) i) (entry (tableAt G z) i) (sym (s .each i q)) (came-born z h l i q (omega arith))
+      born-same G (entry (came G z) i) (entry (tableOfZoom G z) i) (sym (s .each i q)) (came-born z h l i q (omega arith))
 
   -- an id determines the entry
-  pub one-entry : (z w : ℕ) → minZ G ≤ z → z ≤ maxZ G + 1 → minZ G ≤ w → w ≤ maxZ G + 1 → (i j : ℕ) → i < length (tableAt G z) →
-      j < length (tableAt G w) →
-      entry (tableAt G z) i .id ≡ entry (tableAt G w) j .id → Same (entry (tableAt G z) i) (entry (tableAt G w) j)
+  pub one-entry : (z w : ℕ) → minZ G ≤ z → z ≤ maxZ G + 1 → minZ G ≤ w → w ≤ maxZ G + 1 → (i j : ℕ) → i < length (tableOfZoom G z) →
+      j < length (tableOfZoom G w) →
+      entry (tableOfZoom G z) i .id ≡ entry (tableOfZoom G w) j .id → SameBuild (entry (tableOfZoom G z) i) (entry (tableOfZoom G w) j)
   one-entry z w h k m n i j p q e = by (identities G a z h k i p) (identities G a w m n j q)
     where
       A : Entry
-      A = entry (tableAt G z) i
+      A = entry (tableOfZoom G z) i
 
       B : Entry
-      B = entry (tableAt G w) j
+      B = entry (tableOfZoom G w) j
 
-      by : Known G z (entry (tableAt G z) i) → Known G w (entry (tableAt G w) j) → Same (entry (tableAt G z) i) (entry (tableAt G w) j)
+      by : Known G z (entry (tableOfZoom G z) i) → Known G w (entry (tableOfZoom G w) j) → SameBuild (entry (tableOfZoom G z) i) (entry (tableOfZoom G w) j)
       by (inl u) (inl v) =
-          subst (λ (k : ℕ). Same A (entry (lampsIn G) k)) e (u .same) ∙ sym (v .same)
+          subst (λ (k : ℕ). SameBuild A (entry (lampsIn G) k)) e (u .same) ∙ sym (v .same)
       by (inl u) (inr v) = absurd (let b = u .below in let c = v .above in omega arith)
       by (inr u) (inl v) = absurd (let b = u .above in let c = v .below in omega arith)
       by (inr u) (inr v) = meet (born z h k i p (u .above)) (born w m n j q (v .above))
@@ -108,14 +108,14 @@ module _ (G : Given) (a : Accepted G) where
           W : ℕ
           W = tableOf (points G) (A .id) - 1
 
-          meet : Born G A → Born G B → Same A B
+          meet : Born G A → Born G B → SameBuild A B
           meet s t =
               let r : tableOf (points G) (B .id) - 1 ≡ W = ap (λ (v : ℕ). tableOf (points G) v - 1) (sym e) in
               let Q = t .place in
-              let at : Q < length (tableAt G W) = subst (λ (v : ℕ). Q < length (tableAt G v)) r (t .there) in
-              let is : Same (entry (tableAt G W) Q) B = subst (λ (v : ℕ). Same (entry (tableAt G v) Q) B) r (t .same) in
+              let at : Q < length (tableOfZoom G W) = subst (λ (v : ℕ). Q < length (tableOfZoom G v)) r (t .there) in
+              let is : SameBuild (entry (tableOfZoom G W) Q) B = subst (λ (v : ℕ). SameBuild (entry (tableOfZoom G v) Q) B) r (t .same) in
               let b = u .table-from in
               let c = u .table-to in
               let one : s .place ≡ Q = ids-distinct G a W (omega arith) (omega arith) (s .place) Q (s .there) at
               (ap idOf (s .same) ∙ e ∙ sym (ap idOf is)) in
-              sym (s .same) ∙ subst (λ (v : ℕ). Same (entry (tableAt G W) v) B) (sym one) is
+              sym (s .same) ∙ subst (λ (v : ℕ). SameBuild (entry (tableOfZoom G W) v) B) (sym one) is

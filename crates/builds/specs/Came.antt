@@ -8,9 +8,9 @@ use native.Mathlib.Omega.{arith}
 use native.Mathlib.Nat.{add-suc}
 use lib.ListN.{getD}
 use Rattle.tables.specs.Entries.{Table}
-use Rattle.zooms.specs.Zooms.{Plan, zoomed, run, zoomsOf}
+use Rattle.zooms.specs.Zooms.{Plan, zoomed, runZooms, zoomsOf}
 use Rattle.supercluster.specs.Build.{tablesOf}
-use Rattle.builds.specs.Given.{Given, minZ, maxZ, plan, tablesBy, lampsIn}
+use Rattle.builds.specs.Given.{Given, minZ, maxZ, plan, tablesOfBuild, lampsIn}
 
 -- the table that comes after j zooms, the first of them top - 1
 unfoldable pub comes : Plan → ℕ → Table → ℕ → Table
@@ -22,10 +22,10 @@ unfoldable pub came : Given → ℕ → Table
 came G z = comes (plan G) (maxZ G + 1) (lampsIn G) (maxZ G + 1 - z)
 
 -- table z of a build
-unfoldable pub tableAt : Given → ℕ → Table
-tableAt G z = getD (tablesBy G) (maxZ G + 1 - z) []
+unfoldable pub tableOfZoom : Given → ℕ → Table
+tableOfZoom G z = getD (tablesOfBuild G) (maxZ G + 1 - z) []
 
--- ---- what `run` makes
+-- ---- what `runZooms` makes
 
 -- the first zoom taken out
 comes-shift : (p : Plan) (top : ℕ) (t : Table) (j : ℕ) → comes p (suc top) t (suc j) ≡ comes p top (zoomed p top t .next) j
@@ -36,8 +36,8 @@ comes-shift p top t (suc j) =
     ap₂ (λ (z : ℕ) (q : Table). zoomed p z q .next) e (comes-shift p top t j)
 
 run-at : (p : Plan) (k : ℕ) (t : Table) (j : ℕ) → j < k →
-    getD (run p k t) j [] ≡ zoomed p (p .options .«min_zoom» + k - suc j) (comes p (p .options .«min_zoom» + k) t j) .table
-unfolding run comes
+    getD (runZooms p k t) j [] ≡ zoomed p (p .options .«min_zoom» + k - suc j) (comes p (p .options .«min_zoom» + k) t j) .table
+unfolding runZooms comes
 run-at p zero t j h = absurd (omega arith)
 run-at p (suc k) t zero h = let e : p .options .«min_zoom» + k ≡ p .options .«min_zoom» + suc k - 1 = omega arith in ap (λ (z : ℕ). zoomed p z t .table) e
 run-at p (suc k) t (suc j) h =
@@ -46,8 +46,8 @@ run-at p (suc k) t (suc j) h =
     run-at p k (zoomed p (m + k) t .next) j (omega arith)
     ∙ ap₂ (λ (z : ℕ) (q : Table). zoomed p z q .table) e (sym (comes-shift p (m + k) t j) ∙ ap (λ (w : ℕ). comes p w t (suc j)) (sym (add-suc m k)))
 
-run-last : (p : Plan) (k : ℕ) (t : Table) → getD (run p k t) k [] ≡ comes p (p .options .«min_zoom» + k) t k
-unfolding run comes
+run-last : (p : Plan) (k : ℕ) (t : Table) → getD (runZooms p k t) k [] ≡ comes p (p .options .«min_zoom» + k) t k
+unfolding runZooms comes
 run-last p zero t = refl
 run-last p (suc k) t =
     let m = p .options .«min_zoom» in
@@ -79,8 +79,8 @@ module _ (G : Given) where
     top-is = omega arith
 
     -- table z + 1 of the build is what the zoom z left of it
-    pub table-left : (z : ℕ) → minZ G ≤ z → z ≤ maxZ G → tableAt G (suc z) ≡ zoomed (plan G) z (came G (suc z)) .table
-    unfolding tableAt tablesOf came
+    pub table-left : (z : ℕ) → minZ G ≤ z → z ≤ maxZ G → tableOfZoom G (suc z) ≡ zoomed (plan G) z (came G (suc z)) .table
+    unfolding tableOfZoom tablesOf came
     table-left z h k =
         let p = plan G in
         let F = lampsIn G in
@@ -90,8 +90,8 @@ module _ (G : Given) where
         ∙ ap₂ (λ (v : ℕ) (q : Table). zoomed p v q .table) e (ap (λ (v : ℕ). comes p v F j) top-is)
 
     -- the last table of the build is as it came
-    pub table-last : tableAt G (minZ G) ≡ came G (minZ G)
-    unfolding tableAt tablesOf came
+    pub table-last : tableOfZoom G (minZ G) ≡ came G (minZ G)
+    unfolding tableOfZoom tablesOf came
     table-last =
         let p = plan G in
         let F = lampsIn G in

@@ -6,7 +6,7 @@ use Prim.Native.Nat.{ℕ, zero, suc, _+_}
 use lib.ListN.{length, length-map}
 use lib.Ieee.{Float}
 use Rattle.range.specs.declared.Point.{Point}
-use Rattle.kdsort.specs.Cols.{Cols}
+use Rattle.kdsort.specs.Cols.{IndexCols}
 use Rattle.tables.specs.declared.Entry.{Entry}
 use Rattle.tables.specs.declared.Options.{Options}
 use Rattle.tables.specs.Entries.{Table, xsOf, ysOf}
@@ -15,7 +15,7 @@ use Rattle.zoom.specs.laws.Bare.{bare, bares, bareS, cluster-bare}
 use Rattle.zoom.specs.Near.{nearOf}
 use Rattle.zoom.specs.Zoom.{Scan, cluster}
 use Rattle.kdbush.specs.Reply.{indexOf}
-use Rattle.zooms.specs.Zooms.{Plan, planOf, slotsOf, nearIn, zoomed, run, zoomsOf}
+use Rattle.zooms.specs.Zooms.{Plan, zoomPlan, indexOfTable, nearIn, zoomed, runZooms, zoomsOf}
 use Rattle.supercluster.specs.Build.{convertedAll, lamp, finest, tablesOf}
 
 -- what has no energy is as it was
@@ -25,11 +25,11 @@ field-bare {A} f g (e ∷ t) = ap₂ (λ (a : A) (l : List A). a ∷ l) (g e) (f
 
 -- so the index, and what it answers
 near-bare : (size : ℕ) (r : Float) (t : Table) → nearIn size r (bares t) ≡ nearIn size r t
-unfolding slotsOf
+unfolding indexOfTable
 near-bare size r t =
     let x : xsOf (bares t) ≡ xsOf t = field-bare (λ e. e .x) (λ e. refl) t in
     let y : ysOf (bares t) ≡ ysOf t = field-bare (λ e. e .y) (λ e. refl) t in
-    ap₂ (λ (n : ℕ) (k : Cols). nearOf size n (k .ids) (k .co) r) (length-map t bare) (ap₂ (indexOf size) x y)
+    ap₂ (λ (n : ℕ) (k : IndexCols). nearOf size n (k .ids) (k .co) r) (length-map t bare) (ap₂ (indexOf size) x y)
 
 -- ---- zoom by zoom
 
@@ -40,14 +40,14 @@ zoomed-bare p z t =
     (near-bare (p .options .«node_size») (radiusAt (p .options .radius) (p .options .extent) z) t)
     ∙ cluster-bare (p .count) (p .options .«min_points») z near t
 
-run-bare : (p : Plan) (k : ℕ) (t : Table) → run p k (bares t) ≡ map bares (run p k t)
-unfolding run
+run-bare : (p : Plan) (k : ℕ) (t : Table) → runZooms p k (bares t) ≡ map bares (runZooms p k t)
+unfolding runZooms
 run-bare p zero t = refl
 run-bare p (suc k) t =
     let z = p .options .«min_zoom» + k in
     let s = zoomed-bare p z t in
     ap₂ (λ (a : Table) (l : List Table). a ∷ l) (ap (λ (q : Scan). q .table) s)
-    (ap (λ (q : Scan). run p k (q .next)) s ∙ run-bare p k (zoomed p z t .next))
+    (ap (λ (q : Scan). runZooms p k (q .next)) s ∙ run-bare p k (zoomed p z t .next))
 
 finest-bare : (ps : List Point) (ws : List ℕ) (i : ℕ) → bares (finest ps ws i) ≡ finest ps [] i
 unfolding finest
@@ -60,8 +60,8 @@ tables-bare : (o : Options) (xs ys : List Float) (ws : List ℕ) → map bares (
 unfolding tablesOf
 tables-bare o xs ys ws =
     let ps = convertedAll (o .«coordinate_system») xs ys in
-    let p = planOf o (length xs) in
-    sym (run-bare p (zoomsOf o) (finest ps ws 0)) ∙ ap (run p (zoomsOf o)) (finest-bare ps ws 0)
+    let p = zoomPlan o (length xs) in
+    sym (run-bare p (zoomsOf o) (finest ps ws 0)) ∙ ap (runZooms p (zoomsOf o)) (finest-bare ps ws 0)
 
 -- the same tables, without their energies
 pub same-but-energy : (o : Options) (xs ys : List Float) (ws vs : List ℕ)

@@ -11,7 +11,7 @@ use Rattle.tables.specs.declared.Options.{Options}
 use Rattle.tables.specs.Entries.{Table, entry}
 use Rattle.zoom.specs.laws.Lamps.{sumOf}
 use Rattle.zoom.specs.Zoom.{energyOf}
-use Rattle.zooms.specs.Zooms.{Plan, planOf}
+use Rattle.zooms.specs.Zooms.{Plan, zoomPlan}
 use Rattle.supercluster.specs.Build.{lamp, tablesOf}
 use Rattle.supercluster.specs.laws.Fill.{lamps, lamps-length, lamps-at}
 use Rattle.supercluster.specs.laws.Ready.{Accepted as Accepts}
@@ -23,12 +23,12 @@ pub record Given : Type 0 where
   pub ys : List Float
   pub energies : List ℕ
 
-abbrev pub given : Options → List Float → List Float → List ℕ → Given
-given o xs ys ws = record { options = o; xs = xs; ys = ys; energies = ws }
+abbrev pub givenBuild : Options → List Float → List Float → List ℕ → Given
+givenBuild o xs ys ws = record { options = o; xs = xs; ys = ys; energies = ws }
 
 -- the build is accepted
-abbrev pub Accepted : Given → Type 0
-Accepted G = Accepts (G .options) (G .xs) (G .ys) (G .energies)
+abbrev pub AcceptedBuild : Given → Type 0
+AcceptedBuild G = Accepts (G .options) (G .xs) (G .ys) (G .energies)
 
 -- how many points there are
 abbrev pub points : Given → ℕ
@@ -42,11 +42,11 @@ abbrev pub maxZ : Given → ℕ
 maxZ G = G .options .«max_zoom»
 
 abbrev pub plan : Given → Plan
-plan G = planOf (G .options) (points G)
+plan G = zoomPlan (G .options) (points G)
 
 -- every table, the finest first
-abbrev pub tablesBy : Given → List Table
-tablesBy G = tablesOf (G .options) (G .xs) (G .ys) (G .energies)
+abbrev pub tablesOfBuild : Given → List Table
+tablesOfBuild G = tablesOf (G .options) (G .xs) (G .ys) (G .energies)
 
 -- the points as entries, in order
 abbrev pub lampsIn : Given → Table
@@ -63,7 +63,7 @@ energyAt G k = getD (G .energies) k 0
 abbrev pub lampOf : Given → ℕ → Entry
 lampOf G k = lamp (converted (G .options .«coordinate_system») (record { x = getD (G .xs) k nan; y = getD (G .ys) k nan })) (energyAt G k) k
 
-module _ (G : Given) (a : Accepted G) where
+module _ (G : Given) (a : AcceptedBuild G) where
   pub lampsIn-length : length (lampsIn G) ≡ points G
   lampsIn-length = lamps-length (G .options .«coordinate_system») (G .xs) (G .ys) (G .energies) (a .same)
 

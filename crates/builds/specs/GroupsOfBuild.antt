@@ -19,8 +19,8 @@ use Rattle.zooms.specs.laws.Running.{Able}
 use Rattle.supercluster.specs.Build.{convertedAll}
 use Rattle.supercluster.specs.laws.Fill.{lamps, finest-fine, finest-total}
 use Rattle.supercluster.specs.laws.Ready.{able}
-use Rattle.builds.specs.Given.{Given, Accepted, points, minZ, maxZ, plan, lampsIn, lampsIn-length, lampsIn-at}
-use Rattle.builds.specs.Came.{came, came-first, came-next, tableAt, table-left, down}
+use Rattle.builds.specs.Given.{Given, AcceptedBuild, points, minZ, maxZ, plan, lampsIn, lampsIn-length, lampsIn-at}
+use Rattle.builds.specs.Came.{came, came-first, came-next, tableOfZoom, table-left, down}
 use Rattle.builds.specs.Steps.{Coming, Grouped, Lone, nearAt, groupsOn, zoom-grouped, coming-next}
 
 -- the places that the zoom z answers around each place of table z + 1
@@ -35,7 +35,7 @@ groupsBy G z = groupsOn (plan G) z (came G (suc z))
 pub record Zoom (G : Given) (z : ℕ) : Type 0 where
   pub own : (i : ℕ) → i < length (came G (suc z)) → In i (nearBy G z i)
   pub once : (i : ℕ) → Distinct (nearBy G z i)
-  pub groups : OneZoom (points G) (G .options .«min_points») z (nearBy G z) (came G (suc z)) (tableAt G (suc z)) (groupsBy G z)
+  pub groups : OneZoom (points G) (G .options .«min_points») z (nearBy G z) (came G (suc z)) (tableOfZoom G (suc z)) (groupsBy G z)
   pub next : came G z ≡ map entryOf (groupsBy G z)
 
 -- each zoom from the table t on, k zooms being left: what it is, and then those of the next table
@@ -51,7 +51,7 @@ run-grouped p a (suc k) t h c =
     let d : Coming p (suc (p .options .«min_zoom» + k)) t = rw (add-suc (p .options .«min_zoom») k) at c in
     (zoom-grouped p a z t (omega arith) d, run-grouped p a k (zoomed p z t .next) (omega arith) (coming-next p a z t (omega arith) d))
 
-module _ (G : Given) (a : Accepted G) where
+module _ (G : Given) (a : AcceptedBuild G) where
   low : minZ G ≤ maxZ G
   low = options-are (G .options) (a .options) .zooms
 

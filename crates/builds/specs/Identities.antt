@@ -16,17 +16,17 @@ use Rattle.zoom.specs.laws.Sound.{Next}
 use Rattle.zoom.specs.Zoom.{numOf}
 use Rattle.groups.specs.Sums.{count}
 use Rattle.groups.specs.Groups.{from}
-use Rattle.builds.specs.Given.{Given, Accepted, points, minZ, maxZ, lampsIn, lampsIn-length, lampsIn-at}
-use Rattle.builds.specs.Came.{came, came-first, tableAt, down}
+use Rattle.builds.specs.Given.{Given, AcceptedBuild, points, minZ, maxZ, lampsIn, lampsIn-length, lampsIn-at}
+use Rattle.builds.specs.Came.{came, came-first, tableOfZoom, down}
 use Rattle.builds.specs.GroupsOfBuild.{groupsBy, nearBy, groups-of-build, came-coming}
 use Rattle.builds.specs.Places.{Arose, groupAt, sole}
-use Rattle.builds.specs.Same.{plain, Same, idOf, arose-by, table-same}
+use Rattle.builds.specs.Same.{plainEntry, SameBuild, idOf, arose-by, table-same}
 
 -- a lamp: its id is its point's number, and it has that point's place and num
 pub record Lamp (G : Given) (e : Entry) : Type 0 where
   pub below : e .id < points G
   pub num : e .num ≡ 1
-  pub same : Same e (entry (lampsIn G) (e .id))
+  pub same : SameBuild e (entry (lampsIn G) (e .id))
 
 -- a cluster's id and num, in table z: the id names a place of a finer table, whose entry is under the cluster
 pub record Cluster (G : Given) (z id num : ℕ) : Type 0 where
@@ -34,8 +34,8 @@ pub record Cluster (G : Given) (z id num : ℕ) : Type 0 where
   pub many : 2 ≤ num
   pub table-from : suc z ≤ tableOf (points G) id
   pub table-to : tableOf (points G) id ≤ maxZ G + 1
-  pub origin : originOf (points G) id < length (tableAt G (tableOf (points G) id))
-  pub origin-parent : entry (tableAt G (tableOf (points G) id)) (originOf (points G) id) .parent ≡ id
+  pub origin : originOf (points G) id < length (tableOfZoom G (tableOf (points G) id))
+  pub origin-parent : entry (tableOfZoom G (tableOf (points G) id)) (originOf (points G) id) .parent ≡ id
   pub decodes : id ≡ clusterId (points G) (tableOf (points G) id - 1) (originOf (points G) id)
 
 -- what an entry of table z is
@@ -51,17 +51,17 @@ id-whole n id h k = omega arith
 -- ---- laws over one entry
 
 module _ (G : Given) where
-  lamp-same : (a b : Entry) → Same a b → Lamp G b → Lamp G a
+  lamp-same : (a b : Entry) → SameBuild a b → Lamp G b → Lamp G a
   lamp-same a b s l =
       let i = ap idOf s in
       let w = l .below in
       record {
         below = omega arith;
         num = ap numOf s ∙ l .num;
-        same = subst (λ (k : ℕ). Same a (entry (lampsIn G) k)) (sym i) (s ∙ l .same);
+        same = subst (λ (k : ℕ). SameBuild a (entry (lampsIn G) k)) (sym i) (s ∙ l .same);
       }
 
-  cluster-same : (z w : ℕ) (a b : Entry) → w ≤ z → Same a b → Cluster G z (b .id) (b .num) → Cluster G w (a .id) (a .num)
+  cluster-same : (z w : ℕ) (a b : Entry) → w ≤ z → SameBuild a b → Cluster G z (b .id) (b .num) → Cluster G w (a .id) (a .num)
   cluster-same z w a b h s c =
       subst (λ (i : ℕ). Cluster G w i (a .num)) (sym (ap idOf s))
       (subst (λ (n : ℕ). Cluster G w (b .id) n) (sym (ap numOf s))
@@ -69,13 +69,13 @@ module _ (G : Given) where
       record { above = c .above; many = c .many; table-from = omega arith; table-to = c .table-to; origin = c .origin; origin-parent = c .origin-parent; decodes = c .decodes }))
 
   -- what an entry is, it is in each coarser table that it is copied to
-  pub known-same : (z w : ℕ) (a b : Entry) → w ≤ z → Same a b → Known G z b → Known G w a
+  pub known-same : (z w : ℕ) (a b : Entry) → w ≤ z → SameBuild a b → Known G z b → Known G w a
   known-same z w a b h s (inl l) = inl (lamp-same a b s l)
   known-same z w a b h s (inr c) = inr (cluster-same z w a b h s c)
 
   -- a cluster that is made
-  made-known : (z i num : ℕ) → z ≤ 30 → z ≤ maxZ G → i < length (tableAt G (suc z)) →
-      entry (tableAt G (suc z)) i .parent ≡ clusterId (points G) z i → 2 ≤ num →
+  made-known : (z i num : ℕ) → z ≤ 30 → z ≤ maxZ G → i < length (tableOfZoom G (suc z)) →
+      entry (tableOfZoom G (suc z)) i .parent ≡ clusterId (points G) z i → 2 ≤ num →
       Cluster G z (clusterId (points G) z i) num
   made-known z i num h k l p m =
       let n = points G in
@@ -86,17 +86,17 @@ module _ (G : Given) where
         many = m;
         table-from = omega arith;
         table-to = omega arith;
-        origin = subst (λ (w : ℕ). originOf n (clusterId n z i) < length (tableAt G w)) (sym et)
-            (subst (λ (v : ℕ). v < length (tableAt G (suc z))) (sym eo) l);
+        origin = subst (λ (w : ℕ). originOf n (clusterId n z i) < length (tableOfZoom G w)) (sym et)
+            (subst (λ (v : ℕ). v < length (tableOfZoom G (suc z))) (sym eo) l);
         origin-parent =
-            subst (λ (w : ℕ). entry (tableAt G w) (originOf n (clusterId n z i)) .parent ≡ clusterId n z i) (sym et)
-            (subst (λ (v : ℕ). entry (tableAt G (suc z)) v .parent ≡ clusterId n z i) (sym eo) p);
+            subst (λ (w : ℕ). entry (tableOfZoom G w) (originOf n (clusterId n z i)) .parent ≡ clusterId n z i) (sym et)
+            (subst (λ (v : ℕ). entry (tableOfZoom G (suc z)) v .parent ≡ clusterId n z i) (sym eo) p);
         decodes = id-whole n (clusterId n z i) (id-from n z i) (omega arith);
       }
 
 -- ---- of a build
 
-module _ (G : Given) (a : Accepted G) where
+module _ (G : Given) (a : AcceptedBuild G) where
   high : maxZ G ≤ 30
   high = options-are (G .options) (a .options) .zoom-to
 
@@ -111,7 +111,7 @@ module _ (G : Given) (a : Accepted G) where
       record {
         below = omega arith;
         num = ap (λ (e : Entry). e .num) (lampsIn-at G a i (omega arith));
-        same = subst (λ (k : ℕ). Same (entry (lampsIn G) i) (entry (lampsIn G) k)) (sym e) refl;
+        same = subst (λ (k : ℕ). SameBuild (entry (lampsIn G) i) (entry (lampsIn G) k)) (sym e) refl;
       }
 
   -- ---- each table as it came
@@ -121,8 +121,8 @@ module _ (G : Given) (a : Accepted G) where
       Known G z (entry (came G z) j)
   known-step z h l ih j k = by (arose-by G a z h (omega arith) j k)
     where
-      by : Arose (points G) z (came G (suc z)) (tableAt G (suc z)) (came G z) (groupsBy G z) j → Known G z (entry (came G z) j)
-      by (inl (i, s)) = known-same G (suc z) z _ _ (omega arith) (ap plain (s .copy)) (ih i (s .place))
+      by : Arose (points G) z (came G (suc z)) (tableOfZoom G (suc z)) (came G z) (groupsBy G z) j → Known G z (entry (came G z) j)
+      by (inl (i, s)) = known-same G (suc z) z _ _ (omega arith) (ap plainEntry (s .copy)) (ih i (s .place))
       by (inr (i, s)) =
           let t = high in
           let w = table-same G a (suc z) (omega arith) (omega arith) .long in
@@ -159,7 +159,7 @@ module _ (G : Given) (a : Accepted G) where
       0 < count k (from (groupAt (groupsBy G z) i)) → 0 < count m (from (groupAt (groupsBy G z) j)) → i ≡ j
   alone z h l i j p q k m e u v =
       let g = groups-of-build G a z h l in
-      sole (points G) (G .options .«min_points») z (nearBy G z) (came G (suc z)) (tableAt G (suc z)) (came G z) (groupsBy G z) (g .groups)
+      sole (points G) (G .options .«min_points») z (nearBy G z) (came G (suc z)) (tableOfZoom G (suc z)) (came G z) (groupsBy G z) (g .groups)
       (g .next) k i j p q
       u (subst (λ (w : ℕ). 0 < count w (from (groupAt (groupsBy G z) j))) (sym e) v)
 
@@ -175,8 +175,8 @@ module _ (G : Given) (a : Accepted G) where
     where
       step : (z : ℕ) → minZ G ≤ z → z ≤ maxZ G → Apart (came G (suc z)) →
           (i j : ℕ) → i < length (came G z) → j < length (came G z) → entry (came G z) i .id ≡ entry (came G z) j .id →
-          Arose (points G) z (came G (suc z)) (tableAt G (suc z)) (came G z) (groupsBy G z) i →
-          Arose (points G) z (came G (suc z)) (tableAt G (suc z)) (came G z) (groupsBy G z) j → i ≡ j
+          Arose (points G) z (came G (suc z)) (tableOfZoom G (suc z)) (came G z) (groupsBy G z) i →
+          Arose (points G) z (came G (suc z)) (tableOfZoom G (suc z)) (came G z) (groupsBy G z) j → i ≡ j
       step z h l ih i j p q e (inl (k, s)) (inl (m, t)) =
           alone z h l i j p q k m (ih k m (s .place) (t .place) (ap (λ (v : Entry). v .id) (sym (s .copy)) ∙ e ∙ ap (λ (v : Entry). v .id) (t .copy))) (s .has) (t .has)
       step z h l ih i j p q e (inl (k, s)) (inr (m, t)) = absurd (not-new z m k h l (s .place) (ap (λ (v : Entry). v .id) (sym (s .copy)) ∙ e ∙ t .id))
@@ -186,7 +186,7 @@ module _ (G : Given) (a : Accepted G) where
   -- ---- each table of the build
 
   -- each entry is a lamp or a cluster
-  pub identities : (z : ℕ) → minZ G ≤ z → z ≤ maxZ G + 1 → (i : ℕ) → i < length (tableAt G z) → Known G z (entry (tableAt G z) i)
+  pub identities : (z : ℕ) → minZ G ≤ z → z ≤ maxZ G + 1 → (i : ℕ) → i < length (tableOfZoom G z) → Known G z (entry (tableOfZoom G z) i)
   identities z h l i k =
       let s = table-same G a z h l in
       let w = s .long in
@@ -194,7 +194,7 @@ module _ (G : Given) (a : Accepted G) where
       known-same G z z _ _ (omega arith) (s .each i q) (came-known z h l i q)
 
   -- entries at two places have different ids
-  pub ids-distinct : (z : ℕ) → minZ G ≤ z → z ≤ maxZ G + 1 → Apart (tableAt G z)
+  pub ids-distinct : (z : ℕ) → minZ G ≤ z → z ≤ maxZ G + 1 → Apart (tableOfZoom G z)
   ids-distinct z h l i j p q e =
       let s = table-same G a z h l in
       let w = s .long in

@@ -13,11 +13,11 @@ use Rattle.tables.specs.Entries.{Table, entry, unset}
 use Rattle.tables.specs.Ids.{clusterId}
 use Rattle.tables.specs.laws.Ids.{id-small}
 use Rattle.zoom.specs.laws.Keeps.{all-at}
-use Rattle.builds.specs.Given.{Given, Accepted, points, minZ, maxZ, plan}
-use Rattle.builds.specs.Came.{came, tableAt, table-last}
+use Rattle.builds.specs.Given.{Given, AcceptedBuild, points, minZ, maxZ, plan}
+use Rattle.builds.specs.Came.{came, tableOfZoom, table-last}
 use Rattle.builds.specs.GroupsOfBuild.{groupsBy, came-coming}
-use Rattle.builds.specs.Places.{Went}
-use Rattle.builds.specs.Same.{plain, Same, idOf, Alike, went-by, table-same}
+use Rattle.builds.specs.Places.{WentOn}
+use Rattle.builds.specs.Same.{plainEntry, SameBuild, idOf, Alike, went-by, table-same}
 use Rattle.builds.specs.Steps.{Coming, Lone}
 
 -- T is table z + 1 and U table z, of a build of n points
@@ -27,7 +27,7 @@ pub record Alone (T U : Table) (i : ℕ) : Type 0 where
   pub parent : entry T i .parent ≡ unset
   pub place : ℕ
   pub there : place < length U
-  pub same : Same (entry U place) (entry T i)
+  pub same : SameBuild (entry U place) (entry T i)
 
 -- its parent is the cluster made at the place `origin` of T, whose parent it is too, and U has this cluster. The id is not the unset parent
 pub record Under (n z : ℕ) (T U : Table) (i : ℕ) : Type 0 where
@@ -40,16 +40,16 @@ pub record Under (n z : ℕ) (T U : Table) (i : ℕ) : Type 0 where
   pub there : place < length U
   pub id : entry U place .id ≡ clusterId n z origin
 
-module _ (G : Given) (a : Accepted G) where
+module _ (G : Given) (a : AcceptedBuild G) where
   -- table z + 1
-  pub parents : (z : ℕ) → minZ G ≤ z → z ≤ maxZ G → (i : ℕ) → i < length (tableAt G (suc z)) →
-      Alone (tableAt G (suc z)) (tableAt G z) i ⊎ Under (points G) z (tableAt G (suc z)) (tableAt G z) i
+  pub parents : (z : ℕ) → minZ G ≤ z → z ≤ maxZ G → (i : ℕ) → i < length (tableOfZoom G (suc z)) →
+      Alone (tableOfZoom G (suc z)) (tableOfZoom G z) i ⊎ Under (points G) z (tableOfZoom G (suc z)) (tableOfZoom G z) i
   parents z h l i k = by (went-by G a z h l i here)
     where
-      fine : Alike (tableAt G (suc z)) (came G (suc z))
+      fine : Alike (tableOfZoom G (suc z)) (came G (suc z))
       fine = table-same G a (suc z) (omega arith) (omega arith)
 
-      next : Alike (tableAt G z) (came G z)
+      next : Alike (tableOfZoom G z) (came G z)
       next = table-same G a z h (omega arith)
 
       here : i < length (came G (suc z))
@@ -58,8 +58,8 @@ module _ (G : Given) (a : Accepted G) where
       c : Coming (plan G) (suc z) (came G (suc z))
       c = came-coming G a (suc z) (omega arith) (omega arith)
 
-      by : Went (points G) z (came G (suc z)) (tableAt G (suc z)) (came G z) (groupsBy G z) i →
-          Alone (tableAt G (suc z)) (tableAt G z) i ⊎ Under (points G) z (tableAt G (suc z)) (tableAt G z) i
+      by : WentOn (points G) z (came G (suc z)) (tableOfZoom G (suc z)) (came G z) (groupsBy G z) i →
+          Alone (tableOfZoom G (suc z)) (tableOfZoom G z) i ⊎ Under (points G) z (tableOfZoom G (suc z)) (tableOfZoom G z) i
       by (inl (j, s)) =
           let w = next .long in
           let p = s .to in
@@ -67,7 +67,7 @@ module _ (G : Given) (a : Accepted G) where
             parent = ap (λ (e : Entry). e .parent) (s .finer) ∙ all-at Lone (came G (suc z)) i (c .lone) here;
             place = j;
             there = omega arith;
-            same = next .each j p ∙ ap plain (s .copy) ∙ sym (fine .each i here);
+            same = next .each j p ∙ ap plainEntry (s .copy) ∙ sym (fine .each i here);
           })
       by (inr (x, j, s)) =
           let w = next .long in
@@ -89,7 +89,7 @@ module _ (G : Given) (a : Accepted G) where
           })
 
   -- the last table
-  pub parents-last : (i : ℕ) → i < length (tableAt G (minZ G)) → entry (tableAt G (minZ G)) i .parent ≡ unset
+  pub parents-last : (i : ℕ) → i < length (tableOfZoom G (minZ G)) → entry (tableOfZoom G (minZ G)) i .parent ≡ unset
   parents-last i k =
       let m = minZ G in
       let w = options-are (G .options) (a .options) .zooms in

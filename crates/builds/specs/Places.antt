@@ -12,11 +12,11 @@ use Rattle.kdslots.specs.laws.All.{all-getD}
 use Rattle.tables.specs.declared.Entry.{Entry}
 use Rattle.tables.specs.Entries.{Table, entry, none, never, unset, marked}
 use Rattle.tables.specs.Ids.{clusterId}
-use Rattle.groups.specs.Sums.{one, count}
+use Rattle.groups.specs.Sums.{oneIf, count}
 use Rattle.groups.specs.laws.Sums.{hit, below, count-head, sum-append}
-use Rattle.groups.specs.Groups.{Group, copied, joined, entryOf, from, froms, took}
+use Rattle.groups.specs.Groups.{Group, copied, joinedGroup, entryOf, from, froms, took}
 use Rattle.groups.specs.laws.Literal.{next-entry}
-use Rattle.groups.specs.laws.OneZoom.{Copied, Joined, Fits, OneZoom}
+use Rattle.groups.specs.laws.OneZoom.{Copied, Joined, FitsZoom, OneZoom}
 
 -- the group at j
 abbrev pub groupAt : List Group → ℕ → Group
@@ -31,22 +31,22 @@ find k (g ∷ gs) h = ⊎-elim (λ a. (0, omega arith, a)) (λ a. later a (find 
   where
     later : count k (from g) ≤ 0 → (0 < count k (froms gs) → (j : ℕ) × (j < length gs) × (0 < count k (from (groupAt gs j)))) →
         (j : ℕ) × (j < length (g ∷ gs)) × (0 < count k (from (groupAt (g ∷ gs) j)))
-    later a ih = let s = sum-append (λ x. one (eqb k x)) (from g) (froms gs) in let w = ih (omega arith) in (suc (w .0), (let l = w .1 in omega arith), w .2)
+    later a ih = let s = sum-append (λ x. oneIf (eqb k x)) (from g) (froms gs) in let w = ih (omega arith) in (suc (w .0), (let l = w .1 in omega arith), w .2)
 
 -- what is in one of them is in the groups
 inside : (k : ℕ) (gs : List Group) (j : ℕ) → j < length gs → count k (from (groupAt gs j)) ≤ count k (froms gs)
 inside k [] j h = absurd (omega arith)
-inside k (g ∷ gs) zero h = let s = sum-append (λ x. one (eqb k x)) (from g) (froms gs) in omega arith
-inside k (g ∷ gs) (suc j) h = let s = sum-append (λ x. one (eqb k x)) (from g) (froms gs) in let w = inside k gs j (omega arith) in omega arith
+inside k (g ∷ gs) zero h = let s = sum-append (λ x. oneIf (eqb k x)) (from g) (froms gs) in omega arith
+inside k (g ∷ gs) (suc j) h = let s = sum-append (λ x. oneIf (eqb k x)) (from g) (froms gs) in let w = inside k gs j (omega arith) in omega arith
 
 -- and where it is in the groups once, in no other
 sole-at : (k : ℕ) (gs : List Group) → count k (froms gs) ≤ 1 → (a b : ℕ) → a < length gs → b < length gs → 0 < count k (from (groupAt gs a)) → 0 < count k (from (groupAt gs b)) → a ≡ b
 sole-at k [] c a b h l p q = absurd (omega arith)
 sole-at k (g ∷ gs) c zero zero h l p q = refl
-sole-at k (g ∷ gs) c zero (suc b) h l p q = absurd (let s = sum-append (λ x. one (eqb k x)) (from g) (froms gs) in let w = inside k gs b (omega arith) in omega arith)
-sole-at k (g ∷ gs) c (suc a) zero h l p q = absurd (let s = sum-append (λ x. one (eqb k x)) (from g) (froms gs) in let w = inside k gs a (omega arith) in omega arith)
+sole-at k (g ∷ gs) c zero (suc b) h l p q = absurd (let s = sum-append (λ x. oneIf (eqb k x)) (from g) (froms gs) in let w = inside k gs b (omega arith) in omega arith)
+sole-at k (g ∷ gs) c (suc a) zero h l p q = absurd (let s = sum-append (λ x. oneIf (eqb k x)) (from g) (froms gs) in let w = inside k gs a (omega arith) in omega arith)
 sole-at k (g ∷ gs) c (suc a) (suc b) h l p q =
-    let s = sum-append (λ x. one (eqb k x)) (from g) (froms gs) in
+    let s = sum-append (λ x. oneIf (eqb k x)) (from g) (froms gs) in
     ap suc (sole-at k gs (omega arith) a b (omega arith) (omega arith) p q)
 
 -- ---- one zoom z of a build of n points: T came to it, T' is what it left of T, U is the next table, the entries of the groups gs
@@ -67,17 +67,17 @@ module _ (n z : ℕ) (T T' U : Table) (gs : List Group) where
     pub id : entry U j .id ≡ clusterId n z i
 
   -- where the place k goes
-  abbrev pub Went : ℕ → Type 0
-  Went k = ((j : ℕ) × Stays k j) ⊎ ((i : ℕ) × (j : ℕ) × Goes k i j)
+  abbrev pub WentOn : ℕ → Type 0
+  WentOn k = ((j : ℕ) × Stays k j) ⊎ ((i : ℕ) × (j : ℕ) × Goes k i j)
 
   -- the place j of the next table is the copy of the place k
-  pub record Kept (j k : ℕ) : Type 0 where
+  pub record KeptPlace (j k : ℕ) : Type 0 where
     pub place : k < length T
     pub has : 0 < count k (from (groupAt gs j))
     pub copy : entry U j ≡ marked z (entry T k)
 
   -- it is the cluster made at the place i
-  pub record Made (j i : ℕ) : Type 0 where
+  pub record MadePlace (j i : ℕ) : Type 0 where
     pub place : i < length T
     pub has : 0 < count i (from (groupAt gs j))
     pub id : entry U j .id ≡ clusterId n z i
@@ -88,7 +88,7 @@ module _ (n z : ℕ) (T T' U : Table) (gs : List Group) where
 
   -- where the place j of the next table is from
   abbrev pub Arose : ℕ → Type 0
-  Arose j = ((k : ℕ) × Kept j k) ⊎ ((i : ℕ) × Made j i)
+  Arose j = ((k : ℕ) × KeptPlace j k) ⊎ ((i : ℕ) × MadePlace j i)
 
 module _ (n least z : ℕ) (near : ℕ → List ℕ) (T T' U : Table) (gs : List Group) (Z : OneZoom n least z near T T' gs) (u : U ≡ map entryOf gs) where
   at-most-once : (k : ℕ) → count k (froms gs) ≤ 1
@@ -101,8 +101,8 @@ module _ (n least z : ℕ) (near : ℕ → List ℕ) (T T' U : Table) (gs : List
   pub sole : (k a b : ℕ) → a < length U → b < length U → 0 < count k (from (groupAt gs a)) → 0 < count k (from (groupAt gs b)) → a ≡ b
   sole k a b h l = let w = long in sole-at k gs (at-most-once k) a b (omega arith) (omega arith)
 
-  fit-at : (j : ℕ) → j < length U → Fits n least z near T T' (groupAt gs j)
-  fit-at j h = all-getD (Fits n least z near T T') gs j (copied 0 none) (Z .fit) (let w = long in omega arith)
+  fit-at : (j : ℕ) → j < length U → FitsZoom n least z near T T' (groupAt gs j)
+  fit-at j h = all-getD (FitsZoom n least z near T T') gs j (copied 0 none) (Z .fit) (let w = long in omega arith)
 
   is-entry : (j : ℕ) → j < length U → entry U j ≡ entryOf (groupAt gs j)
   is-entry j h = ap (λ (q : Table). entry q j) u ∙ next-entry gs (copied 0 none) j (let w = long in omega arith)
@@ -110,12 +110,12 @@ module _ (n least z : ℕ) (near : ℕ → List ℕ) (T T' U : Table) (gs : List
   self : (k x : ℕ) → 0 < count k (x ∷ []) → x ≡ k
   self k x h = ⊎-elim (λ e. sym (e .0)) (λ e. absurd (let w = e .1 in omega arith)) (hit k x)
 
-  pub went : (k : ℕ) → k < length T → Went n z T T' U gs k
+  pub went : (k : ℕ) → k < length T → WentOn n z T T' U gs k
   went k h = let w = find k gs (let a = Z .once k h in omega arith) in by (w .0) (let a = w .1 in let b = long in omega arith) (w .2) (groupAt gs (w .0)) refl
     where
-      by : (j : ℕ) → j < length U → 0 < count k (from (groupAt gs j)) → (g : Group) → groupAt gs j ≡ g → Went n z T T' U gs k
+      by : (j : ℕ) → j < length U → 0 < count k (from (groupAt gs j)) → (g : Group) → groupAt gs j ≡ g → WentOn n z T T' U gs k
       by j l c (copied x e) q =
-          let f : Copied n least z near T T' x e = subst (λ (g : Group). Fits n least z near T T' g) q (fit-at j l) in
+          let f : Copied n least z near T T' x e = subst (λ (g : Group). FitsZoom n least z near T T' g) q (fit-at j l) in
           let s : x ≡ k = self k x (subst (λ (g : Group). 0 < count k (from g)) q c) in
           let m = is-entry j l ∙ ap entryOf q ∙ f .same in
           inl (
@@ -126,8 +126,8 @@ module _ (n least z : ℕ) (near : ℕ → List ℕ) (T T' U : Table) (gs : List
               copy = m ∙ ap (λ (y : ℕ). marked z (entry T y)) s;
             },
           )
-      by j l c (joined i ks e) q =
-          let f : Joined n least z near T T' i ks e = subst (λ (g : Group). Fits n least z near T T' g) q (fit-at j l) in
+      by j l c (joinedGroup i ks e) q =
+          let f : Joined n least z near T T' i ks e = subst (λ (g : Group). FitsZoom n least z near T T' g) q (fit-at j l) in
           let s : 0 < count k ks = subst (λ (g : Group). 0 < count k (from g)) q c in
           inr (
             i,
@@ -146,11 +146,11 @@ module _ (n least z : ℕ) (near : ℕ → List ℕ) (T T' U : Table) (gs : List
     where
       by : (g : Group) → groupAt gs j ≡ g → Arose n z T T' U gs j
       by (copied k e) q =
-          let f : Copied n least z near T T' k e = subst (λ (g : Group). Fits n least z near T T' g) q (fit-at j l) in
+          let f : Copied n least z near T T' k e = subst (λ (g : Group). FitsZoom n least z near T T' g) q (fit-at j l) in
           let h : 0 < count k (k ∷ []) = count-head k [] in
           inl (k, record { place = f .place; has = subst (λ (g : Group). 0 < count k (from g)) (sym q) h; copy = is-entry j l ∙ ap entryOf q ∙ f .same })
-      by (joined i ks e) q =
-          let f : Joined n least z near T T' i ks e = subst (λ (g : Group). Fits n least z near T T' g) q (fit-at j l) in
+      by (joinedGroup i ks e) q =
+          let f : Joined n least z near T T' i ks e = subst (λ (g : Group). FitsZoom n least z near T T' g) q (fit-at j l) in
           let m : entry U j ≡ e = is-entry j l ∙ ap entryOf q in
           let h : 0 < count i ks = let w = f .has in omega arith in
           inr (

@@ -5,12 +5,12 @@ use Prim.Native.Nat.{ℕ, _+_, _-_, _≤_}
 use native.Mathlib.Omega.{arith}
 use Rattle.kdslots.specs.laws.All.{all-getD}
 use Rattle.supercluster.specs.laws.Right.{Right, tables-right, tables-count}
-use Rattle.builds.specs.Given.{Given, Accepted, points, minZ, maxZ, tablesBy, energyIn}
-use Rattle.builds.specs.Came.{tableAt}
+use Rattle.builds.specs.Given.{Given, AcceptedBuild, points, minZ, maxZ, tablesOfBuild, energyIn}
+use Rattle.builds.specs.Came.{tableOfZoom}
 
-pub right-at : (G : Given) → Accepted G → (z : ℕ) → minZ G ≤ z → z ≤ maxZ G + 1 → Right (points G) (energyIn G) (tableAt G z)
-unfolding tableAt
+pub right-at : (G : Given) → AcceptedBuild G → (z : ℕ) → minZ G ≤ z → z ≤ maxZ G + 1 → Right (points G) (energyIn G) (tableOfZoom G z)
+unfolding tableOfZoom
 right-at G a z h k =
     let l = tables-count (G .options) (G .xs) (G .ys) (G .energies) in
-    all-getD (Right (points G) (energyIn G)) (tablesBy G) (maxZ G + 1 - z) []
+    all-getD (Right (points G) (energyIn G)) (tablesOfBuild G) (maxZ G + 1 - z) []
     (tables-right (G .options) (G .xs) (G .ys) (G .energies) a) (omega arith)

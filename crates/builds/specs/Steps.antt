@@ -18,12 +18,12 @@ use Rattle.tables.specs.Entries.{Table, entry, unset, unseen}
 use Rattle.tables.specs.Radius.{radiusAt}
 use Rattle.tables.specs.laws.Radius.{radius-fine}
 use Rattle.zoom.specs.laws.Keeps.{all-at}
-use Rattle.zoom.specs.laws.Lamps.{total}
+use Rattle.zoom.specs.laws.Lamps.{lampTotal}
 use Rattle.zoom.specs.laws.Sound.{Body, Next, Sound, cluster-sound}
 use Rattle.zoom.specs.Zoom.{Scan}
-use Rattle.groups.specs.Groups.{Group, copied, joined, entryOf, around, groupsOf}
+use Rattle.groups.specs.Groups.{Group, copied, joinedGroup, entryOf, around, groupsOf}
 use Rattle.groups.specs.laws.Literal.{cluster-groups}
-use Rattle.groups.specs.laws.OneZoom.{Copied, Joined, Fits, OneZoom}
+use Rattle.groups.specs.laws.OneZoom.{Copied, Joined, FitsZoom, OneZoom}
 use Rattle.groups.specs.laws.Fits.{one-zoom}
 use Rattle.zooms.specs.Zooms.{Plan, nearIn, zoomed}
 use Rattle.zooms.specs.laws.Running.{Able, total-some, slots-promised}
@@ -44,7 +44,7 @@ Lone e = e .parent ≡ unset
 -- table z as it comes: seen by no zoom below z
 pub record Coming (p : Plan) (z : ℕ) (t : Table) : Type 0 where
   pub fine : All (Next z) t
-  pub lamps : total t ≡ p .count
+  pub lamps : lampTotal t ≡ p .count
   pub few : length t ≤ p .count
   pub lone : All Lone t
 
@@ -60,11 +60,11 @@ pub record Grouped (p : Plan) (z : ℕ) (t : Table) : Type 0 where
 
 module _ (n least z : ℕ) (near : ℕ → List ℕ) (T T' : Table) (P : Entry → Type 0) (keeps : (k : ℕ) (e : Entry) → Copied n least z near T T' k e → P e)
     (gets : (i : ℕ) (ks : List ℕ) (e : Entry) → Joined n least z near T T' i ks e → P e) where
-  pub all-next : (gs : List Group) → All (Fits n least z near T T') gs → All P (map entryOf gs)
+  pub all-next : (gs : List Group) → All (FitsZoom n least z near T T') gs → All P (map entryOf gs)
   unfolding All
   all-next [] w = tt
   all-next (copied k e ∷ gs) w = (keeps k e (w .0), all-next gs (w .1))
-  all-next (joined i ks e ∷ gs) w = (gets i ks e (w .0), all-next gs (w .1))
+  all-next (joinedGroup i ks e ∷ gs) w = (gets i ks e (w .0), all-next gs (w .1))
 
 -- ---- one zoom
 
@@ -90,7 +90,7 @@ module _ (p : Plan) (a : Able p) (z : ℕ) (t : Table) (hz : z ≤ 30) (c : Comi
 
   sound : Sound z t (zoomed p z t)
   sound =
-      let few : total t ≤ 1048576 = omega (arith, c .lamps, a .few) in
+      let few : lampTotal t ≤ 1048576 = omega (arith, c .lamps, a .few) in
       cluster-sound (p .count) (p .options .«min_points») z (nearAt p z t) once t (c .fine) (le-trans few (lit≤ tt)) (omega arith)
 
   -- the zoom is one zoom of the groups

@@ -19,20 +19,20 @@ use Rattle.tables.specs.Room.{indexRoom}
 use Rattle.boxplan.specs.Rule.{planOf, boxOk}
 use Rattle.boxes.specs.Lists.{walked, boxAsked}
 use Rattle.boxes.specs.laws.Joined.{first-past}
-use Rattle.supercluster.specs.Build.{Lent, need}
+use Rattle.supercluster.specs.Build.{BuildColumns, need}
 use Rattle.supercluster.specs.laws.Load.{Holds}
 use Rattle.answers.specs.laws.Stored.{stateBy, columnsBy, of-load}
 use Rattle.answers.specs.laws.Boxed.{fits-somehow, index-sound, box-told}
 use Rattle.spending.specs.declared.Effort.{Effort}
 use Rattle.spending.specs.declared.EffortReply.the-variants.{Found, Box, NoRoom, Spoiled}
 use Rattle.spending.specs.Trials.{Mark, hits, items}
-use Rattle.spending.specs.Reply.{effortNumber, effortOf, fitted, answer}
+use Rattle.spending.specs.Reply.{effortNumber, effortOf, effortFitted, answer}
 use Rattle.spending.specs.laws.Promise.{items-of-all}
-use Rattle.efforts.specs.Effort.{EffortAsked, replyOf, effortAsked}
+use Rattle.efforts.specs.Effort.{EffortAsked, effortReplyOf, effortAsked}
 use Rattle.efforts.specs.StatedEffort.{testsOf}
 use Rattle.efforts.specs.laws.Proved.{testsAt, unlimited-box}
-use Rattle.builds.specs.Given.{Given, Accepted, points}
-use Rattle.effort_answers.specs.OfBuild.{Answered, effortAt, EffortOfBuild}
+use Rattle.builds.specs.Given.{Given, AcceptedBuild, points}
+use Rattle.effort_answers.specs.OfBuild.{EffortAnswered, effortAt, EffortOfBuild}
 
 -- ---- of any tests, where all that they find is walked to its end
 
@@ -48,11 +48,11 @@ module _ (n : ℕ) (ms : List Mark) (l : List ℕ) (e : walked n (hits ms) ≡ t
           (sym (first-past n (items a ms) (w .0) [] f .0 ∙ ap (λ (x : List ℕ). answerOf (walked n x) 0) (sym (w .1))
           ∙ ap (λ (x : Asked). answerOf x 0) e)))
 
-  told-whole : (a room : ℕ) → answer n ms a room ≡ fitted (effortOf a ms) room
-  told-whole a room = yes (whole n (items a ms)) (fitted (effortOf a ms) room) Spoiled (items-whole a)
+  told-whole : (a room : ℕ) → answer n ms a room ≡ effortFitted (effortOf a ms) room
+  told-whole a room = yes (whole n (items a ms)) (effortFitted (effortOf a ms) room) Spoiled (items-whole a)
 
 -- what fits or not is not 11
-not-spoiled : (e : Effort) (room : ℕ) → fitted e room ≡ Spoiled → ⊥
+not-spoiled : (e : Effort) (room : ℕ) → effortFitted e room ≡ Spoiled → ⊥
 not-spoiled e room = go (leb (e .items) room)
   where
     go : (b : Bool) → cond b (Found e) (NoRoom e) ≡ Spoiled → ⊥
@@ -70,8 +70,8 @@ module _ (st : State) (ids : List ℕ) (co : List Float) (zoom : ℕ) (west leas
 
   taken : boxOk (st .options .«coordinate_system») west least east greatest ≡ true → (l : List ℕ)
       → boxAsked st ids co zoom west least east greatest ≡ told true l
-      → (a room : ℕ) → replyOf (effortAsked st ids co zoom west least east greatest) a room
-      ≡ fitted (effortOf a (testsOf (effortAsked st ids co zoom west least east greatest))) room
+      → (a room : ℕ) → effortReplyOf (effortAsked st ids co zoom west least east greatest) a room
+      ≡ effortFitted (effortOf a (testsOf (effortAsked st ids co zoom west least east greatest))) room
   unfolding effortAsked boxAsked
   taken f l g a room =
       let qs = planOf (st .options .«coordinate_system») west least east greatest in
@@ -80,7 +80,7 @@ module _ (st : State) (ids : List ℕ) (co : List Float) (zoom : ℕ) (west leas
 
   answered : (boxOk (st .options .«coordinate_system») west least east greatest ≡ true
       → (l : List ℕ) × (boxAsked st ids co zoom west least east greatest ≡ told true l))
-      → Answered (st .options .«coordinate_system») west least east greatest (effortAsked st ids co zoom west least east greatest)
+      → EffortAnswered (st .options .«coordinate_system») west least east greatest (effortAsked st ids co zoom west least east greatest)
   answered t =
       record {
         taken = λ f a room. let x = t f in taken f (x .0) (x .1) a room;
@@ -89,18 +89,18 @@ module _ (st : State) (ids : List ℕ) (co : List Float) (zoom : ℕ) (west leas
       }
     where
       by : (a room : ℕ) (b : Bool) → boxOk (st .options .«coordinate_system») west least east greatest ≡ b
-          → replyOf (effortAsked st ids co zoom west least east greatest) a room ≡ Spoiled → ⊥
+          → effortReplyOf (effortAsked st ids co zoom west least east greatest) a room ≡ Spoiled → ⊥
       by a room true f h =
           let x = t f in
           not-spoiled (effortOf a (testsOf (effortAsked st ids co zoom west least east greatest))) room
           (sym (taken f (x .0) (x .1) a room) ∙ h)
-      by a room false f h = let z = sym (ap (λ (q : EffortAsked). replyOf q a room) (refused-box f)) ∙ h in omega (arith, ap effortNumber z)
+      by a room false f h = let z = sym (ap (λ (q : EffortAsked). effortReplyOf q a room) (refused-box f)) ∙ h in omega (arith, ap effortNumber z)
 
 -- ---- of every build that `load` accepts
 
-module _ (G : Given) (acc : Accepted G) (l : Lent) (h : Holds (need (G .options) (points G)) l) (zoom : ℕ)
+module _ (G : Given) (acc : AcceptedBuild G) (l : BuildColumns) (h : Holds (need (G .options) (points G)) l) (zoom : ℕ)
     (west least east greatest : Float) where
-  build-answered : Answered (G .options .«coordinate_system») west least east greatest
+  build-answered : EffortAnswered (G .options .«coordinate_system») west least east greatest
       (effortAt (stateBy G) (columnsBy G l) zoom west least east greatest)
   build-answered =
       answered (stateBy G) (columnsBy G l .ids) (columnsBy G l .coords) zoom west least east greatest (index-sound G acc l h)
@@ -108,5 +108,5 @@ module _ (G : Given) (acc : Accepted G) (l : Lent) (h : Holds (need (G .options)
 
 pub effort-of-build : EffortOfBuild
 effort-of-build G l d zoom west least east greatest =
-    of-load (λ st c. Answered (G .options .«coordinate_system») west least east greatest (effortAt st c zoom west least east greatest)) G l
+    of-load (λ st c. EffortAnswered (G .options .«coordinate_system») west least east greatest (effortAt st c zoom west least east greatest)) G l
     (λ a h. build-answered G a l h zoom west least east greatest) d

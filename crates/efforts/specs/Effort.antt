@@ -23,14 +23,14 @@ abbrev pub EffortAsked : Type 0
 EffortAsked = AskedFor EffortReply ℕ Mark
 
 -- the reply, for an allowance and a column of so many
-abbrev pub replyOf : EffortAsked → ℕ → ℕ → EffortReply
-replyOf (refused r) a room = r
-replyOf (told n ms) a room = answer n ms a room
+abbrev pub effortReplyOf : EffortAsked → ℕ → ℕ → EffortReply
+effortReplyOf (refused r) a room = r
+effortReplyOf (told n ms) a room = answer n ms a room
 
 -- the column afterwards
-abbrev pub columnOf : EffortAsked → ℕ → List ℕ → List ℕ
-columnOf (refused r) a out = out
-columnOf (told n ms) a out = column n ms a out
+abbrev pub effortColumnOf : EffortAsked → ℕ → List ℕ → List ℕ
+effortColumnOf (refused r) a out = out
+effortColumnOf (told n ms) a out = column n ms a out
 
 -- the tests of queries in the table of zoom z
 abbrev pub soughtAt : State → List ℕ → List Float → ℕ → List Query → EffortAsked

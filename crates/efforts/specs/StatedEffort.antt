@@ -18,7 +18,7 @@ use Rattle.spending.specs.declared.EffortReply.{EffortReply}
 use Rattle.spending.specs.declared.EffortReply.the-variants.{Found, Box, NoRoom, Spoiled}
 use Rattle.spending.specs.Trials.{Mark, items}
 use Rattle.spending.specs.Reply.{effortNumber, effortCarried}
-use Rattle.efforts.specs.Effort.{EffortAsked, replyOf, columnOf, effortAsked}
+use Rattle.efforts.specs.Effort.{EffortAsked, effortReplyOf, effortColumnOf, effortAsked}
 
 -- the tests of the definition of the search, over both halves of a box across the date line
 abbrev pub testsOf : EffortAsked → List Mark
@@ -26,9 +26,9 @@ testsOf (refused r) = []
 testsOf (told n ms) = ms
 
 -- what an allowance lists: the places that its tests find, before the first that is past the table
-abbrev pub listOf : EffortAsked → ℕ → List ℕ
-listOf (refused r) a = []
-listOf (told n ms) a = sound n (items a ms)
+abbrev pub effortList : EffortAsked → ℕ → List ℕ
+effortList (refused r) a = []
+effortList (told n ms) a = sound n (items a ms)
 
 -- a reply without its effort
 abbrev pub plain : EffortReply → Answer
@@ -45,18 +45,18 @@ Carries r = (effortNumber r ≡ 0) ⊎ (effortNumber r ≡ 10)
 pub record Stated (x : EffortAsked) (box : Asked) (count : ℕ) : Type 0 where
   -- it carries how many places are listed and how many slots were tested, as many as the allowance or all that the definition of the
   -- search tests
-  pub items : (a room : ℕ) → Carries (replyOf x a room) → effortCarried (replyOf x a room) .items ≡ length (listOf x a)
-  pub tested : (a room : ℕ) → Carries (replyOf x a room) → effortCarried (replyOf x a room) .tested ≡ min a (length (testsOf x))
+  pub items : (a room : ℕ) → Carries (effortReplyOf x a room) → effortCarried (effortReplyOf x a room) .items ≡ length (effortList x a)
+  pub tested : (a room : ℕ) → Carries (effortReplyOf x a room) → effortCarried (effortReplyOf x a room) .tested ≡ min a (length (testsOf x))
   -- and whether it stopped with a test still due, which an allowance of just so many does not
-  pub stopped : (a room : ℕ) → Carries (replyOf x a room) → effortCarried (replyOf x a room) .stopped ≡ true → a < length (testsOf x)
-  pub not-stopped : (a room : ℕ) → Carries (replyOf x a room) → effortCarried (replyOf x a room) .stopped ≡ false → length (testsOf x) ≤ a
+  pub stopped : (a room : ℕ) → Carries (effortReplyOf x a room) → effortCarried (effortReplyOf x a room) .stopped ≡ true → a < length (testsOf x)
+  pub not-stopped : (a room : ℕ) → Carries (effortReplyOf x a room) → effortCarried (effortReplyOf x a room) .stopped ≡ false → length (testsOf x) ≤ a
   -- a larger allowance never alters items already given
-  pub kept : (a b : ℕ) → a ≤ b → (more : List ℕ) × (listOf x b ≡ listOf x a ++ more)
+  pub kept : (a b : ℕ) → a ≤ b → (more : List ℕ) × (effortList x b ≡ effortList x a ++ more)
   -- a list is a beginning of the full list, which the box without an effort lists
-  pub begins : (a : ℕ) (ok : Bool) (l : List ℕ) → box ≡ told ok l → (more : List ℕ) × (l ≡ listOf x a ++ more)
+  pub begins : (a : ℕ) (ok : Bool) (l : List ℕ) → box ≡ told ok l → (more : List ℕ) × (l ≡ effortList x a ++ more)
   -- where no test is still due, the reply is that of the box, and so is the column
   pub full : (a : ℕ) → length (testsOf x) ≤ a → (out : List ℕ)
-      → (plain (replyOf x a (length out)) ≡ answerOf box (length out)) × (columnOf x a out ≡ boxColumn box out)
+      → (plain (effortReplyOf x a (length out)) ≡ answerOf box (length out)) × (effortColumnOf x a out ≡ boxColumn box out)
   -- there are at most two tests for each lamp
   pub most : length (testsOf x) ≤ 2 * count
 

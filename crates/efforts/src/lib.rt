@@ -17,7 +17,7 @@ ghost use Rattle.tables.specs.Room.{indexRoom};
 ghost use Rattle.boxplan.specs.laws.Queries.{queriesOf};
 ghost use Rattle.spending.specs.Trials.{trials};
 ghost use Rattle.spending.specs.Reply.{answer, column};
-ghost use Rattle.efforts.specs.Effort.{replyOf, columnOf, soughtAt, effortAsked};
+ghost use Rattle.efforts.specs.Effort.{effortReplyOf, effortColumnOf, soughtAt, effortAsked};
 
 // Lists what a plan finds within so many tests in a table of n entries that starts at a place of the columns.
 fn effort_at(
@@ -63,7 +63,7 @@ fn effort_used(
     requires { ⌜ stateOk s (indexRoom (now ids) (now coords)) ≡ true ⌝ }
     ensures { λ r.
         let a = soughtAt s (old ids) (old coords) (zoomUsed (s .options) zoom) (queriesOf p) in
-        ⌜ (r ≡ replyOf a allowance (length (old out))) × (new out ≡ columnOf a allowance (old out)) ⌝ }
+        ⌜ (r ≡ effortReplyOf a allowance (length (old out))) × (new out ≡ effortColumnOf a allowance (old out)) ⌝ }
 {
     let o = s.options;
     let z = o.zoom_used(zoom) as usize;
@@ -96,7 +96,7 @@ pub fn effort_box(
 ) -> EffortReply
     ensures { λ r.
         let a = effortAsked s (old ids) (old coords) zoom west «least_y» east «greatest_y» in
-        ⌜ (r ≡ replyOf a allowance (length (old out))) × (new out ≡ columnOf a allowance (old out)) ⌝ }
+        ⌜ (r ≡ effortReplyOf a allowance (length (old out))) × (new out ≡ effortColumnOf a allowance (old out)) ⌝ }
 {
     if !s.is_sound(tables::index_room(ids, coords)) {
         return EffortReply::Spoiled;

@@ -9,14 +9,14 @@ use tables::Options;
 use tables::State;
 ghost use mathlib.Core.Path.{_≡_};
 ghost use lib.ListN.{length};
-ghost use Rattle.kdbush.specs.Reply.{buildNumber, buildCarried, built, checked, searchNumber, searchCarried, searched, columnAfter};
+ghost use Rattle.kdbush.specs.Reply.{buildNumber, buildCarried, built, indexChecked, searchNumber, searchCarried, searched, columnAfter};
 ghost use Rattle.kdwalk.specs.Reply.{stepNumber, stepCarried, firstStep, afterStep};
-ghost use Rattle.exports.specs.Given.{given};
-ghost use Rattle.exports.specs.Told.{said, zoomSaid, tallySaid, told, toldOf, effortTold, effortToldOf, tileTold, tileOf};
+ghost use Rattle.exports.specs.Given.{givenOptions};
+ghost use Rattle.exports.specs.Told.{said, zoomSaid, tallySaid, toldC, toldOf, effortTold, effortToldOf, tileTold, tileOf};
 ghost use Rattle.exports.specs.Laid.{replied, repliedOf, laid, laidOf};
 ghost use Rattle.supercluster.specs.Build.{loaded};
 ghost use Rattle.supercluster.specs.Lent.{lentAll};
-ghost use Rattle.kdsort.specs.Cols.{cols};
+ghost use Rattle.kdsort.specs.Cols.{indexCols};
 ghost use Rattle.tables.specs.State.{stateOf};
 ghost use Rattle.tables.specs.Lent.{lentColumns};
 ghost use Rattle.lent.specs.Lent.{old, new};
@@ -37,9 +37,9 @@ pub extern "C" fn kdbush_build(
     coords: &mut [f64],
     carried: &mut usize,
 ) -> u32
-    ensures { λ r. ⌜ r ≡ buildNumber (checked «node_size» (old xs) (old ys) (cols (old ids) (old coords))) ⌝ }
-    ensures { λ _. ⌜ new carried ≡ buildCarried (checked «node_size» (old xs) (old ys) (cols (old ids) (old coords))) ⌝ }
-    ensures { λ _. ⌜ cols (new ids) (new coords) ≡ built «node_size» (old xs) (old ys) (cols (old ids) (old coords)) ⌝ }
+    ensures { λ r. ⌜ r ≡ buildNumber (indexChecked «node_size» (old xs) (old ys) (indexCols (old ids) (old coords))) ⌝ }
+    ensures { λ _. ⌜ new carried ≡ buildCarried (indexChecked «node_size» (old xs) (old ys) (indexCols (old ids) (old coords))) ⌝ }
+    ensures { λ _. ⌜ indexCols (new ids) (new coords) ≡ built «node_size» (old xs) (old ys) (indexCols (old ids) (old coords)) ⌝ }
 {
     let r = kdbush::build(node_size, xs, ys, ids, coords);
     *carried = r.carried();
@@ -213,7 +213,7 @@ fn options(
     longitude_strips_only: bool,
 ) -> Options
     ensures { λ r.
-        ⌜ r ≡ given «min_zoom» «max_zoom» «min_points» radius extent «node_size» cartesian «min_x» «min_y» «max_x» «max_y»
+        ⌜ r ≡ givenOptions «min_zoom» «max_zoom» «min_points» radius extent «node_size» cartesian «min_x» «min_y» «max_x» «max_y»
         «offset_given» offset «scale_given» scale «longitude_strips_only» ⌝ }
 {
     let range = DataRange {
@@ -309,7 +309,7 @@ pub extern "C" fn supercluster_load(
     carried: &mut usize,
 ) -> u32
     ensures { λ r.
-        let o = given «min_zoom» «max_zoom» «min_points» radius extent «node_size» cartesian «min_x» «min_y» «max_x» «max_y»
+        let o = givenOptions «min_zoom» «max_zoom» «min_points» radius extent «node_size» cartesian «min_x» «min_y» «max_x» «max_y»
         «offset_given» offset «scale_given» scale «longitude_strips_only» in
         let l = lentAll x y seen id parent num energy ids coords near in
         ⌜ laid (replied r (new carried) (new starts) (new lens)) (l .exit)
@@ -386,10 +386,10 @@ pub extern "C" fn supercluster_box(
     carried: &mut usize,
 ) -> u32
     ensures { λ r.
-        let o = given «min_zoom» «max_zoom» «min_points» radius extent «node_size» cartesian «min_x» «min_y» «max_x» «max_y»
+        let o = givenOptions «min_zoom» «max_zoom» «min_points» radius extent «node_size» cartesian «min_x» «min_y» «max_x» «max_y»
         «offset_given» offset «scale_given» scale «longitude_strips_only» in
         let s = stateOf o count (old starts) (old lens) in
-        ⌜ told r (new carried) (new out) ≡ toldOf (boxAsked s (old ids) (old coords) zoom west «least_y» east «greatest_y») (old out) ⌝ }
+        ⌜ toldC r (new carried) (new out) ≡ toldOf (boxAsked s (old ids) (old coords) zoom west «least_y» east «greatest_y») (old out) ⌝ }
 {
     let o = options(
         min_zoom,
@@ -452,7 +452,7 @@ pub extern "C" fn supercluster_box_effort(
     carried: &mut usize,
 ) -> u32
     ensures { λ r.
-        let o = given «min_zoom» «max_zoom» «min_points» radius extent «node_size» cartesian «min_x» «min_y» «max_x» «max_y»
+        let o = givenOptions «min_zoom» «max_zoom» «min_points» radius extent «node_size» cartesian «min_x» «min_y» «max_x» «max_y»
         «offset_given» offset «scale_given» scale «longitude_strips_only» in
         let s = stateOf o count (old starts) (old lens) in
         ⌜ effortTold r (new carried) (new tested) (new stopped) (new out)
@@ -528,10 +528,10 @@ pub extern "C" fn supercluster_ring(
     carried: &mut usize,
 ) -> u32
     ensures { λ r.
-        let o = given «min_zoom» «max_zoom» «min_points» radius extent «node_size» cartesian «min_x» «min_y» «max_x» «max_y»
+        let o = givenOptions «min_zoom» «max_zoom» «min_points» radius extent «node_size» cartesian «min_x» «min_y» «max_x» «max_y»
         «offset_given» offset «scale_given» scale «longitude_strips_only» in
         let s = stateOf o count (old starts) (old lens) in
-        ⌜ told r (new carried) (new out) ≡ toldOf (ringAsked s (old ids) (old coords) zoom «ring_x» «ring_y» «ring_radius») (old out) ⌝ }
+        ⌜ toldC r (new carried) (new out) ≡ toldOf (ringAsked s (old ids) (old coords) zoom «ring_x» «ring_y» «ring_radius») (old out) ⌝ }
 {
     let o = options(
         min_zoom,
@@ -593,11 +593,11 @@ pub extern "C" fn supercluster_children(
     carried: &mut usize,
 ) -> u32
     ensures { λ r.
-        let o = given «min_zoom» «max_zoom» «min_points» radius extent «node_size» cartesian «min_x» «min_y» «max_x» «max_y»
+        let o = givenOptions «min_zoom» «max_zoom» «min_points» radius extent «node_size» cartesian «min_x» «min_y» «max_x» «max_y»
         «offset_given» offset «scale_given» scale «longitude_strips_only» in
         let s = stateOf o count (old starts) (old lens) in
         let c = lentColumns x y seen id parent num energy ids coords in
-        ⌜ told r (new carried) (new out) ≡ toldOf (childrenOf s c cid) (old out) ⌝ }
+        ⌜ toldC r (new carried) (new out) ≡ toldOf (childrenOf s c cid) (old out) ⌝ }
 {
     let o = options(
         min_zoom,
@@ -674,11 +674,11 @@ pub extern "C" fn supercluster_leaves(
     carried: &mut usize,
 ) -> u32
     ensures { λ r.
-        let o = given «min_zoom» «max_zoom» «min_points» radius extent «node_size» cartesian «min_x» «min_y» «max_x» «max_y»
+        let o = givenOptions «min_zoom» «max_zoom» «min_points» radius extent «node_size» cartesian «min_x» «min_y» «max_x» «max_y»
         «offset_given» offset «scale_given» scale «longitude_strips_only» in
         let s = stateOf o count (old starts) (old lens) in
         let c = lentColumns x y seen id parent num energy ids coords in
-        ⌜ told r (new carried) (new out) ≡ toldOf (leavesOf s c cid limit skip) (old out) ⌝ }
+        ⌜ toldC r (new carried) (new out) ≡ toldOf (leavesOf s c cid limit skip) (old out) ⌝ }
 {
     let o = options(
         min_zoom,
@@ -754,7 +754,7 @@ pub extern "C" fn supercluster_expansion_zoom(
     carried: &mut usize,
 ) -> u32
     ensures { λ r.
-        let o = given «min_zoom» «max_zoom» «min_points» radius extent «node_size» cartesian «min_x» «min_y» «max_x» «max_y»
+        let o = givenOptions «min_zoom» «max_zoom» «min_points» radius extent «node_size» cartesian «min_x» «min_y» «max_x» «max_y»
         «offset_given» offset «scale_given» scale «longitude_strips_only» in
         let s = stateOf o count (old starts) (old lens) in
         let c = lentColumns x y seen id parent num energy ids coords in
@@ -824,7 +824,7 @@ pub extern "C" fn supercluster_tile(
     carried: &mut usize,
 ) -> u32
     ensures { λ r.
-        let o = given «min_zoom» «max_zoom» «min_points» radius extent «node_size» cartesian «min_x» «min_y» «max_x» «max_y»
+        let o = givenOptions «min_zoom» «max_zoom» «min_points» radius extent «node_size» cartesian «min_x» «min_y» «max_x» «max_y»
         «offset_given» offset «scale_given» scale «longitude_strips_only» in
         let s = stateOf o count (old starts) (old lens) in
         let c = lentColumns x y seen id parent num energy ids coords in
@@ -911,7 +911,7 @@ pub extern "C" fn supercluster_tally(
     carried: &mut usize,
 ) -> u32
     ensures { λ r.
-        let o = given «min_zoom» «max_zoom» «min_points» radius extent «node_size» cartesian «min_x» «min_y» «max_x» «max_y»
+        let o = givenOptions «min_zoom» «max_zoom» «min_points» radius extent «node_size» cartesian «min_x» «min_y» «max_x» «max_y»
         «offset_given» offset «scale_given» scale «longitude_strips_only» in
         let s = stateOf o count (old starts) (old lens) in
         let c = lentColumns x y seen id parent num energy ids coords in

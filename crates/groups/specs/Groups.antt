@@ -21,17 +21,17 @@ use Rattle.groups.specs.Sums.{sum, range}
 -- answers
 pub data Group : Type 0 where
   copied : ℕ → Entry → Group
-  joined : ℕ → List ℕ → Entry → Group
+  joinedGroup : ℕ → List ℕ → Entry → Group
 
 -- the entry
 abbrev pub entryOf : Group → Entry
 entryOf (copied k e) = e
-entryOf (joined i ks e) = e
+entryOf (joinedGroup i ks e) = e
 
 -- the places that it stands for
 abbrev pub from : Group → List ℕ
 from (copied k e) = k ∷ []
-from (joined i ks e) = ks
+from (joinedGroup i ks e) = ks
 
 -- the places of all the groups, in order
 abbrev pub froms : List Group → List ℕ
@@ -68,9 +68,9 @@ sweep z f [] d = d
 sweep z f (k ∷ ks) d = sweep z f ks (change (unseenAt z d k) f d k)
 
 -- a sum of coordinates times nums, gone on with over ks
-unfoldable pub weighed : (Entry → Float) → Table → Float → List ℕ → Float
-weighed c d w [] = w
-weighed c d w (k ∷ ks) = weighed c d (add binary64 w (mul binary64 (c (entry d k)) (float (entry d k .num)))) ks
+unfoldable pub weighedSum : (Entry → Float) → Table → Float → List ℕ → Float
+weighedSum c d w [] = w
+weighedSum c d w (k ∷ ks) = weighedSum c d (add binary64 w (mul binary64 (c (entry d k)) (float (entry d k .num)))) ks
 
 -- the list without i
 abbrev pub without : ℕ → List ℕ → List ℕ
@@ -78,7 +78,7 @@ without i ks = keep (λ k. not (eqb k i)) ks
 
 -- the mean of the coordinates of i and then of ks, each times its num, over t
 abbrev pub meanOf : (Entry → Float) → Table → ℕ → List ℕ → ℕ → Float
-meanOf c d i ks t = div binary64 (weighed c d (mul binary64 (c (entry d i)) (float (entry d i .num))) ks) (float t)
+meanOf c d i ks t = div binary64 (weighedSum c d (mul binary64 (c (entry d i)) (float (entry d i .num))) ks) (float t)
 
 -- ---- one place
 
@@ -95,38 +95,38 @@ abbrev pub sumAt : (Entry → ℕ) → ℕ → (ℕ → List ℕ) → Table → 
 sumAt f z near d i = f (entry d i) + sum (λ k. f (entry d k)) (others z near d i)
 
 -- the total of their nums
-abbrev pub total : ℕ → (ℕ → List ℕ) → Table → ℕ → ℕ
-total z near d i = sumAt numOf z near d i
+abbrev pub groupTotal : ℕ → (ℕ → List ℕ) → Table → ℕ → ℕ
+groupTotal z near d i = sumAt numOf z near d i
 
 -- a cluster is made
 abbrev pub joins : ℕ → ℕ → (ℕ → List ℕ) → Table → ℕ → Bool
-joins least z near d i = enough (entry d i .num) (total z near d i) least
+joins least z near d i = enough (entry d i .num) (groupTotal z near d i) least
 
 -- the coordinates times nums, from i on over the others
 abbrev pub weighedAt : ℕ → (ℕ → List ℕ) → Table → ℕ → (Entry → Float) → Float
-weighedAt z near d i c = weighed c d (mul binary64 (c (entry d i)) (float (entry d i .num))) (others z near d i)
+weighedAt z near d i c = weighedSum c d (mul binary64 (c (entry d i)) (float (entry d i .num))) (others z near d i)
 
 -- the cluster's entry
 abbrev pub centreAt : ℕ → ℕ → (ℕ → List ℕ) → Table → ℕ → Entry
 centreAt n z near d i =
     centre (absorbed d (weighedAt z near d i (λ e. e .x)) (weighedAt z near d i (λ e. e .y)) (sumAt energyOf z near d i))
-    (clusterId n z i) (total z near d i)
+    (clusterId n z i) (groupTotal z near d i)
 
 -- the groups that it gives: one cluster, or a copy of it and of each other
 abbrev pub groupsAt : ℕ → ℕ → (ℕ → List ℕ) → Bool → Table → ℕ → List Group
-groupsAt n z near true d i = joined i (members z near d i) (centreAt n z near d i) ∷ []
+groupsAt n z near true d i = joinedGroup i (members z near d i) (centreAt n z near d i) ∷ []
 groupsAt n z near false d i = map (λ k. copied k (marked z (entry d k))) (i ∷ others z near d i)
 
 -- the table afterwards
-abbrev pub after : ℕ → ℕ → (ℕ → List ℕ) → Bool → Table → ℕ → Table
-after n z near b d i = sweep z (turn b z (clusterId n z i)) (i ∷ near i) d
+abbrev pub afterGroup : ℕ → ℕ → (ℕ → List ℕ) → Bool → Table → ℕ → Table
+afterGroup n z near b d i = sweep z (turn b z (clusterId n z i)) (i ∷ near i) d
 
 -- ---- the places in turn
 
 module _ (n least z : ℕ) (near : ℕ → List ℕ) where
   -- the groups of i, where b says whether they are joined, and then those of the rest
   abbrev pub acting : Bool → Table → ℕ → (Table → Table × List Group) → Table × List Group
-  acting b d i go = let r = go (after n z near b d i) in (r .0, groupsAt n z near b d i ++ r .1)
+  acting b d i go = let r = go (afterGroup n z near b d i) in (r .0, groupsAt n z near b d i ++ r .1)
 
   -- the place i, where b says whether it is unseen, and then the rest
   abbrev pub turning : Bool → Table → ℕ → (Table → Table × List Group) → Table × List Group

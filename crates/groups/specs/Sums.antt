@@ -11,8 +11,8 @@ gate true n = n
 gate false n = 0
 
 -- 1 where a test is true
-abbrev pub one : Bool → ℕ
-one b = gate b 1
+abbrev pub oneIf : Bool → ℕ
+oneIf b = gate b 1
 
 -- ---- sums
 
@@ -23,7 +23,7 @@ sum f (x ∷ xs) = f x + sum f xs
 
 -- how often k is in the list
 abbrev pub count : ℕ → List ℕ → ℕ
-count k xs = sum (λ x. one (eqb k x)) xs
+count k xs = sum (λ x. oneIf (eqb k x)) xs
 
 -- ---- the places from one on
 

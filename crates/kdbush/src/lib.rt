@@ -6,13 +6,13 @@ ghost use mathlib.Core.List.{[], _∷_};
 ghost use Prim.Native.Nat.{_+_, _-_, _*_, _^_, _≤_, _<_};
 ghost use lib.ListN.{length};
 ghost use Rattle.lent.specs.Lent.{old, new};
-ghost use Rattle.kdsort.specs.Cols.{cols};
+ghost use Rattle.kdsort.specs.Cols.{indexCols};
 ghost use Rattle.kdsort.specs.Shape.{shape};
 ghost use Rattle.kdslots.specs.Slots.{over, when, scanned, slots};
 ghost use Rattle.kdbush.specs.laws.Run.{ran, run};
 ghost use Rattle.kdbush.specs.Run.{places};
 ghost use Rattle.kdbush.specs.Reply.{buildNumber, buildCarried, searchNumber, searchCarried};
-ghost use Rattle.kdbush.specs.Reply.{firstOutside, checked, built, listed, listedColumn, searched, columnAfter};
+ghost use Rattle.kdbush.specs.Reply.{firstOutside, indexChecked, built, listed, listedColumn, searched, columnAfter};
 
 // The reply of a build, in 01's words: done, or a refusal. `Point` carries the first point outside [0,1].
 pub enum BuildReply {
@@ -221,8 +221,8 @@ pub fn build(
     ids: &mut [u32],
     coords: &mut [f64],
 ) -> BuildReply
-    ensures { λ r. ⌜ r ≡ checked «node_size» (old xs) (old ys) (cols (old ids) (old coords)) ⌝ }
-    ensures { λ _. ⌜ cols (new ids) (new coords) ≡ built «node_size» (old xs) (old ys) (cols (old ids) (old coords)) ⌝ }
+    ensures { λ r. ⌜ r ≡ indexChecked «node_size» (old xs) (old ys) (indexCols (old ids) (old coords)) ⌝ }
+    ensures { λ _. ⌜ indexCols (new ids) (new coords) ≡ built «node_size» (old xs) (old ys) (indexCols (old ids) (old coords)) ⌝ }
 {
     if !kdslots::node_size_ok(node_size) {
         return BuildReply::Options;

@@ -27,7 +27,7 @@ use Rattle.asking.specs.laws.Columns.{part-getD}
 use Rattle.asking.specs.laws.Filled.{filled-none, filled-next, filled-length}
 use Rattle.asking.specs.laws.Around.{slotsOf, aheadIn, ring-below, ring-next, ring-end, slots-few}
 use Rattle.kids.specs.declared.Kids.the-variants.{All, Spoiled}
-use Rattle.kids.specs.laws.Next.{tableIn, idsIn, kidsIn, cleanIn, kidsReply, Listed, child, none, past, nextIn}
+use Rattle.kids.specs.laws.Next.{tableIn, idsIn, kidsIn, cleanIn, kidsReply, Listed, child, noChild, past, nextIn}
 use Rattle.kids.specs.laws.Next.{next-none, next-past, next-kid, next-other, next-told}
 
 -- ---- one step of the walk
@@ -62,7 +62,7 @@ module _ (g : Ring) (c : Columns) (page : List ℕ) (at : Pages) (t : Turned) (p
 -- ---- the search for the next child
 
 module _ (g : Ring) (c : Columns) (id : ℕ) where
-  pub end-none : (l : List ℕ) → l ≡ [] → nextIn g c id l ≡ none
+  pub end-none : (l : List ℕ) → l ≡ [] → nextIn g c id l ≡ noChild
   end-none l e = ap (nextIn g c id) e ∙ next-none (tableIn g c) (idsIn g c) (g .len) id
 
   module _ (l : List ℕ) (i : ℕ) (l' : List ℕ) (p : ℕ) (m : Met g c l i l' p) where
@@ -146,8 +146,8 @@ module _ (g : Ring) (c : Columns) (id : ℕ) (out₀ : List ℕ) where
         let d = sym (append-nil (w .done)) ∙ ap (λ (m : List ℕ). w .done ++ m) (sym (h .0)) ∙ w .kids in
         (simp (sym (sym (h .1) ∙ w .clean), sym (w .count ∙ ap length d)), w .column ∙ ap (λ (m : List ℕ). filled m out₀) d)
 
-    pub going-done : nextIn g c id l ≡ none → Listed g c id out₀ (All k) out
-    going-done e = ends true (next-told g c id l none e)
+    pub going-done : nextIn g c id l ≡ noChild → Listed g c id out₀ (All k) out
+    going-done e = ends true (next-told g c id l noChild e)
 
     pub going-spoiled : nextIn g c id l ≡ past → Listed g c id out₀ Spoiled out
     going-spoiled e = ends false (next-told g c id l past e)

@@ -13,13 +13,13 @@ use Rattle.groups.specs.Sums.{count}
 use Rattle.groups.specs.Groups.{Group, from, around}
 use Rattle.zooms.specs.Zooms.{nearIn}
 use Rattle.builds.specs.Given.{Given, points, maxZ}
-use Rattle.builds.specs.Came.{tableAt}
+use Rattle.builds.specs.Came.{tableOfZoom}
 use Rattle.builds.specs.GroupsOfBuild.{groupsBy}
 use Rattle.builds.specs.Places.{groupAt}
 
 -- the id under which an entry is found in the table of the next smaller zoom: its parent, or its own id where the parent is unset
-abbrev pub up : Entry → ℕ
-up e = cond (eqb (e .parent) unset) (e .id) (e .parent)
+abbrev pub ownerUp : Entry → ℕ
+ownerUp e = cond (eqb (e .parent) unset) (e .id) (e .parent)
 
 -- the place in the next table of the group that has the place k
 abbrev pub placeIn : List Group → ℕ → ℕ
@@ -52,10 +52,10 @@ lampsOf G z j = lampsAt G (maxZ G + 1 - z) j
 -- the places answered around the place i of table t of a build, at the radius of the zoom below it
 abbrev pub answersAt : Given → ℕ → ℕ → List ℕ
 answersAt G t =
-    around (nearIn (G .options .«node_size») (radiusAt (G .options .radius) (G .options .extent) (t - 1)) (tableAt G t)) (tableAt G t)
+    around (nearIn (G .options .«node_size») (radiusAt (G .options .radius) (G .options .extent) (t - 1)) (tableOfZoom G t)) (tableOfZoom G t)
 
 -- the members of the cluster id: of those answered around its origin, in the table that the id names, those whose parent it is
 abbrev pub membersOf : Given → ℕ → List ℕ
 membersOf G id =
     let t = tableOf (points G) id in
-    keep (λ k. eqb (entry (tableAt G t) k .parent) id) (answersAt G t (originOf (points G) id))
+    keep (λ k. eqb (entry (tableOfZoom G t) k .parent) id) (answersAt G t (originOf (points G) id))

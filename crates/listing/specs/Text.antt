@@ -140,14 +140,14 @@ yOf p = coordOf (p .y)
 abbrev pub whOf : Place → ℕ
 whOf p = p .wh
 
-abbrev pub xsOf : Input → List Float
-xsOf i = map xOf (i .points)
+abbrev pub givenXs : Input → List Float
+givenXs i = map xOf (i .points)
 
-abbrev pub ysOf : Input → List Float
-ysOf i = map yOf (i .points)
+abbrev pub givenYs : Input → List Float
+givenYs i = map yOf (i .points)
 
-abbrev pub energiesOf : Input → List ℕ
-energiesOf i = map whOf (i .points)
+abbrev pub givenEnergies : Input → List ℕ
+givenEnergies i = map whOf (i .points)
 
 -- the columns that points are read into
 pub record PointCols : Type 0 where
@@ -160,7 +160,7 @@ pointCols xs ys energies = record { xs = xs; ys = ys; energies = energies }
 
 -- those of an input
 abbrev pub pointsOf : Input → PointCols
-pointsOf i = pointCols (xsOf i) (ysOf i) (energiesOf i)
+pointsOf i = pointCols (givenXs i) (givenYs i) (givenEnergies i)
 
 -- the first n of each, and that each holds n
 abbrev pub frontOf : ℕ → PointCols → PointCols

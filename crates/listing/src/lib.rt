@@ -9,8 +9,8 @@ ghost use mathlib.Core.Path.{_≡_};
 ghost use Prim.Native.Nat.{_<_, _≤_};
 ghost use lib.ListN.{drop};
 ghost use Rattle.lent.specs.Lent.{old};
-ghost use Rattle.listing.specs.laws.Scan.{startsWith, moreOf, numberOf, lineOf, valueIn};
-ghost use Rattle.listing.specs.laws.Form.{headOf, countIn, pointOf, pointsOk, filled};
+ghost use Rattle.listing.specs.laws.Scan.{startsWith, moreText, numberOf, lineOf, valueIn};
+ghost use Rattle.listing.specs.laws.Form.{headOfText, countIn, pointOf, pointsOk, filledForm};
 ghost use Rattle.listing.specs.Values.{coordOf, optionsOf};
 ghost use Rattle.listing.specs.Text.{Parsing};
 ghost use Rattle.listing.specs.Lent.{lentPoints};
@@ -83,7 +83,7 @@ fn starts(s: &[u8], at: usize, key: &[u8]) -> bool
 // The rest of a number whose first digit is read, up to its line's end: no digit after a 0, at most seven digits.
 fn more(s: &[u8], from: usize, first: u32) -> Value
     requires { ⌜ first < 10 ⌝ }
-    ensures { λ r. ⌜ r ≡ moreOf first from (drop from (old s)) ⌝ }
+    ensures { λ r. ⌜ r ≡ moreText first from (drop from (old s)) ⌝ }
 {
     let mut at = from;
     let mut v = first;
@@ -155,7 +155,7 @@ fn line(s: &[u8], from: Cursor, key: &[u8], max: u32) -> Value
 
 // The first seven lines.
 fn read_head(s: &[u8]) -> Parsed
-    ensures { λ r. ⌜ (r ≡ headOf (old s)) × countIn r ⌝ }
+    ensures { λ r. ⌜ (r ≡ headOfText (old s)) × countIn r ⌝ }
 {
     let Value::Number { v: a, next: c1 } = line(s, Cursor { at: 0 }, b"min_zoom=", 255) else {
         return Parsed::Refused;
@@ -245,7 +245,7 @@ fn fill(
     energies: &mut [u64; 1152],
 )
     requires { ⌜ n ≤ 1152 ⌝ }
-    ensures { λ _. let c = lentPoints xs ys energies in ⌜ c .exit ≡ filled n (old s) (from .at) 0 (c .entry) ⌝ }
+    ensures { λ _. let c = lentPoints xs ys energies in ⌜ c .exit ≡ filledForm n (old s) (from .at) 0 (c .entry) ⌝ }
 {
     let mut at = from.at;
     let mut left = n;

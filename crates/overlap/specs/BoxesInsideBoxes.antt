@@ -18,9 +18,9 @@ use Rattle.tables.specs.declared.State.{State}
 use Rattle.asking.specs.Asked.{Asked, told}
 use Rattle.tables.specs.Room.{Columns}
 use Rattle.boxes.specs.Lists.{boxAsked}
-use Rattle.supercluster.specs.Build.{Lent}
+use Rattle.supercluster.specs.Build.{BuildColumns}
 use Rattle.answers.specs.Stored.{columnsOf}
-use Rattle.answers.specs.laws.Stored.{loadedBy}
+use Rattle.answers.specs.laws.Stored.{loadedOf}
 use Rattle.builds.specs.Given.{Given}
 
 -- ---- a box, and the common part of two
@@ -45,15 +45,15 @@ common a b =
 -- ---- the conditions
 
 -- a number of a corner that is spoken of: it is finite, and it normalises to a finite number
-abbrev pub Fair : DataRange → Float → Type 0
-Fair d v = T (finite v) × T (finite (normalized d v))
+abbrev pub FairCorners : DataRange → Float → Type 0
+FairCorners d v = T (finite v) × T (finite (normalized d v))
 
 -- a box that is spoken of: all its four numbers are such. Nothing else is asked of a box: its least numbers may exceed its greatest
 pub record Taken (d : DataRange) (a : Box) : Type 0 where
-  pub west : Fair d (a .west)
-  pub least : Fair d (a .least)
-  pub east : Fair d (a .east)
-  pub greatest : Fair d (a .greatest)
+  pub west : FairCorners d (a .west)
+  pub least : FairCorners d (a .least)
+  pub east : FairCorners d (a .east)
+  pub greatest : FairCorners d (a .greatest)
 
 -- a box that is still empty after normalising: its greatest x is then below its least x, or its greatest y below its least y
 abbrev pub Empty : DataRange → Box → Type 0
@@ -103,6 +103,6 @@ boxAt s c zoom a = boxAsked s (c .ids) (c .coords) zoom (a .west) (a .least) (a 
 -- zoom, built or not
 abbrev pub BoxesInsideBoxes : Type 0
 BoxesInsideBoxes =
-    (G : Given) (l : Lent) → loadedBy G l .reply .reply ≡ Done
+    (G : Given) (l : BuildColumns) → loadedOf G l .reply .reply ≡ Done
     → (d : DataRange) → G .options .«coordinate_system» ≡ Cartesian d → (zoom : ℕ)
-    → Overlaps d (boxAt (loadedBy G l .reply .state) (columnsOf (loadedBy G l .columns)) zoom)
+    → Overlaps d (boxAt (loadedOf G l .reply .state) (columnsOf (loadedOf G l .columns)) zoom)

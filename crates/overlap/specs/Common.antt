@@ -22,7 +22,7 @@ use Rattle.kdslots.specs.declared.Query.{Query}
 use Rattle.kdslots.specs.declared.Query.the-variants.{Range}
 use Rattle.kdslots.specs.laws.Bounds.{and-both}
 use Rattle.kdslots.specs.Query.{passesQ}
-use Rattle.overlap.specs.BoxesInsideBoxes.{Box, common, Fair, Taken, Empty}
+use Rattle.overlap.specs.BoxesInsideBoxes.{Box, common, FairCorners, Taken, Empty}
 
 -- the search of a box: its corners, normalised
 abbrev pub boxed : DataRange → Box → Query
@@ -79,7 +79,7 @@ quotient-of (inf s) (fin t m e) h = absurd (unfold div in h)
 quotient-of (fin s m e) y h = tt
 
 -- the normalised number never falls as the number grows
-pub normalized-mono : (d : DataRange) → Rising d → (u v : Float) → Fair d u → Fair d v → T (le u v)
+pub normalized-mono : (d : DataRange) → Rising d → (u v : Float) → FairCorners d u → FairCorners d v → T (le u v)
     → T (le (normalized d u) (normalized d v))
 unfolding normalized
 normalized-mono d r u v k l h =
@@ -129,26 +129,26 @@ common-taken d a b p q =
       greatest = smaller (a .greatest) (b .greatest) (p .greatest) (q .greatest);
     }
   where
-    either : (t : Bool) (u v : Float) → Fair d u → Fair d v → Fair d (cond t u v)
+    either : (t : Bool) (u v : Float) → FairCorners d u → FairCorners d v → FairCorners d (cond t u v)
     either true u v k l = k
     either false u v k l = l
 
-    larger : (u v : Float) → Fair d u → Fair d v → Fair d (largerOf u v)
+    larger : (u v : Float) → FairCorners d u → FairCorners d v → FairCorners d (largerOf u v)
     larger u v k l = either (isNan u) v (cond (lt u v) v u) l (either (lt u v) v u l k)
 
-    smaller : (u v : Float) → Fair d u → Fair d v → Fair d (smallerOf u v)
+    smaller : (u v : Float) → FairCorners d u → FairCorners d v → FairCorners d (smallerOf u v)
     smaller u v k l = either (isNan u) v (cond (lt v u) v u) l (either (lt v u) v u l k)
 
 module _ (d : DataRange) (r : Rising d) (a b : Box) (p : Taken d a) (q : Taken d b) where
   abbrev g : Float → Float
   g = normalized d
 
-  larger-is : (u v : Float) → Fair d u → Fair d v → (x : Float) → le (g (largerOf u v)) x ≡ (le (g u) x && le (g v) x)
+  larger-is : (u v : Float) → FairCorners d u → FairCorners d v → (x : Float) → le (g (largerOf u v)) x ≡ (le (g u) x && le (g v) x)
   larger-is u v k l x =
       larger-le (normalized d) u v (finite-not-nan u (k .0)) (finite-not-nan v (l .0))
       (normalized-mono d r u v k l) (normalized-mono d r v u l k) x
 
-  smaller-is : (u v : Float) → Fair d u → Fair d v → (x : Float) → le x (g (smallerOf u v)) ≡ (le x (g u) && le x (g v))
+  smaller-is : (u v : Float) → FairCorners d u → FairCorners d v → (x : Float) → le x (g (smallerOf u v)) ≡ (le x (g u) && le x (g v))
   smaller-is u v k l x =
       le-smaller (normalized d) u v (finite-not-nan u (k .0)) (finite-not-nan v (l .0))
       (normalized-mono d r u v k l) (normalized-mono d r v u l k) x

@@ -25,11 +25,11 @@ use Rattle.asking.specs.Columns.{idsAt, coordsAt}
 use Rattle.boxplan.specs.Rule.{planOf, boxOk}
 use Rattle.boxes.specs.Lists.{listedAt, boxAsked}
 use Rattle.boxes.specs.laws.Inside.{Indexed, one-told}
-use Rattle.supercluster.specs.Build.{Lent, need}
+use Rattle.supercluster.specs.Build.{BuildColumns, need}
 use Rattle.supercluster.specs.laws.Load.{Holds}
 use Rattle.answers.specs.laws.Stored.{stateBy, columnsBy, of-load}
 use Rattle.answers.specs.laws.Boxed.{usedBy, between, index-sound, table-indexed}
-use Rattle.builds.specs.Given.{Given, Accepted, points}
+use Rattle.builds.specs.Given.{Given, AcceptedBuild, points}
 use Rattle.overlap.specs.BoxesInsideBoxes.{Box, Taken, Overlaps, boxAt, BoxesInsideBoxes}
 use Rattle.overlap.specs.Common.{boxed, Rising, rising}
 use Rattle.overlap.specs.Cut.{listOf, overlaps}
@@ -74,7 +74,7 @@ module _ (st : State) (ids : List ℕ) (co : List Float) (zoom : ℕ) (xs ys : L
 
 -- ---- of a build that is accepted, in columns that hold it
 
-module _ (G : Given) (acc : Accepted G) (l : Lent) (h : Holds (need (G .options) (points G)) l)
+module _ (G : Given) (acc : AcceptedBuild G) (l : BuildColumns) (h : Holds (need (G .options) (points G)) l)
     (d : DataRange) (c : G .options .«coordinate_system» ≡ Cartesian d) (zoom : ℕ) where
   range-rising : Rising d
   unfolding systemInBounds

@@ -23,8 +23,8 @@ ghost use lib.ListN.{length};
 ghost use Rattle.lent.specs.Lent.{old, new};
 ghost use Rattle.vectors.specs.Tallies.{endingIs};
 ghost use Rattle.kdbush.specs.Reply.{searched, columnAfter};
-ghost use Rattle.replay_index.specs.Read.{queryOf};
-ghost use Rattle.replay_index.specs.Same.{buildsTo, foundIs, listsTo, slotOf, overIs, walksTo, functionOf};
+ghost use Rattle.replay_index.specs.Read.{queryRead};
+ghost use Rattle.replay_index.specs.Same.{buildsTo, foundIs, indexListsTo, slotOf, overIs, walksTo, functionOf};
 
 // A query, or words that are none.
 enum Asked {
@@ -51,7 +51,7 @@ fn read_slots(n: usize, ids: &mut [u32], coords: &mut [f64]) -> bool
 
 // The query of a kind, 0 or 1, and its numbers.
 fn query_of(kind: usize, a: u64, b: u64, c: u64, d: u64) -> Query
-    ensures { λ r. ⌜ r ≡ queryOf kind a b c d ⌝ }
+    ensures { λ r. ⌜ r ≡ queryRead kind a b c d ⌝ }
 {
     let x = vectors::float_of(a);
     let y = vectors::float_of(b);
@@ -189,7 +189,7 @@ fn lists(
     want: &[u32],
     out: &mut [u32],
 ) -> bool
-    ensures { λ r. ⌜ r ≡ listsTo q «node_size» n (old ids) (old coords) m (old want) (old out) ⌝ }
+    ensures { λ r. ⌜ r ≡ indexListsTo q «node_size» n (old ids) (old coords) m (old want) (old out) ⌝ }
 {
     if !is_found(ask(q, node_size, n, ids, coords, out), m) {
         return false;

@@ -9,7 +9,7 @@ use Rattle.report.specs.Report.{linesOf, refusedLine}
 -- l is what is printed for the text s: the lines of the input that s is the writing of, or the refusal 12 where there is none
 pub data Prints (s l : List ℕ) : Type 0 where
   lines : (i : Input) → Valid i → s ≡ text i → l ≡ linesOf i → Prints s l
-  none : ((i : Input) → Valid i → s ≡ text i → ⊥) → l ≡ refusedLine → Prints s l
+  noText : ((i : Input) → Valid i → s ≡ text i → ⊥) → l ≡ refusedLine → Prints s l
 
 abbrev pub printsIs : List ℕ → List ℕ → Bool → Type 0
 printsIs s want true = Prints s want

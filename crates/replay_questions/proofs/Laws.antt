@@ -14,7 +14,7 @@ use Rattle.walks.specs.declared.Expansion.{Expansion}
 use Rattle.walks.specs.Expansion.{expansionNumber, expansionCarried}
 use Rattle.tiling.specs.declared.Tally.{Tally}
 use Rattle.tiling.specs.Tally.{tallyNumber, tallyValue}
-use Rattle.tiles.specs.Asked.{Outcome, outcome}
+use Rattle.tiles.specs.Asked.{TileOutcome, tileOutcome}
 use Rattle.vectors.specs.Chain.{_and_}
 use Rattle.vectors.specs.Same.{samePlaces}
 use Rattle.replay_questions.specs.declared.Listing.{Listing}
@@ -54,7 +54,7 @@ module _ (reply : Reply) (n k : ℕ) (r : Bool) (h : r ≡ sameReply reply n k) 
     lists-told want a out got q g e p = listed (answerOf a (length out)) g and (p ∙ ap (samePlaces want) e)
 
     -- a tile left these columns
-    pub tile-told : (want : List ℕ) (wx wy : List ℤ) (places : List ℕ) (xs ys : List ℤ) (o : Outcome) (q : Bool)
-        → outcome w places xs ys ≡ o → q ≡ sameTile want wx wy places xs ys → (r && q) ≡ tilesTo reply want wx wy o
+    pub tile-told : (want : List ℕ) (wx wy : List ℤ) (places : List ℕ) (xs ys : List ℤ) (o : TileOutcome) (q : Bool)
+        → tileOutcome w places xs ys ≡ o → q ≡ sameTile want wx wy places xs ys → (r && q) ≡ tilesTo reply want wx wy o
     unfolding tilesTo
     tile-told want wx wy places xs ys o q e p = (answered and p) ∙ ap (tilesTo reply want wx wy) e

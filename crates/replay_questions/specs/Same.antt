@@ -17,7 +17,7 @@ use Rattle.walks.specs.Leaves.{leavesOf}
 use Rattle.walks.specs.Expansion.{expansionNumber, expansionCarried}
 use Rattle.tiling.specs.declared.Tally.{Tally}
 use Rattle.tiling.specs.Tally.{tallyNumber, tallyValue}
-use Rattle.tiles.specs.Asked.{Outcome}
+use Rattle.tiles.specs.Asked.{TileOutcome}
 use Rattle.vectors.specs.declared.Question.{Question}
 use Rattle.vectors.specs.declared.Question.the-variants.{Box as Question·Box, Ring as Question·Ring, Children as Question·Children}
 use Rattle.vectors.specs.declared.Question.the-variants.{Leaves as Question·Leaves}
@@ -60,6 +60,6 @@ sumsTo reply t = sameReply reply (tallyNumber t) (tallyValue t)
 unfoldable pub sameTile : List ℕ → List ℤ → List ℤ → List ℕ → List ℤ → List ℤ → Bool
 sameTile want wx wy places xs ys = samePlaces want places && sameLongs wx xs && sameLongs wy ys
 
-unfoldable pub tilesTo : Reply → List ℕ → List ℤ → List ℤ → Outcome → Bool
+unfoldable pub tilesTo : Reply → List ℕ → List ℤ → List ℤ → TileOutcome → Bool
 tilesTo reply want wx wy o =
     sameReply reply (answerNumber (o .answer)) (answerCarried (o .answer)) && sameTile want wx wy (o .places) (o .xs) (o .ys)

@@ -11,11 +11,11 @@ use Rattle.vectors.specs.declared.Verdict.{Verdict}
 use Rattle.vectors.specs.declared.Verdict.the-variants.{Agrees, Differs}
 
 -- the point (v, v) under longitude/latitude
-abbrev pub placed : Float → Point
-placed v = converted LatLng (record { x = v; y = v })
+abbrev pub placedField : Float → Point
+placedField v = converted LatLng (record { x = v; y = v })
 
 unfoldable pub convertsTo : Float → Float → Bool
-convertsTo v longitude = agreeing (placed v .x) longitude && agreeing (placed v .y) v
+convertsTo v longitude = agreeing (placedField v .x) longitude && agreeing (placedField v .y) v
 
 -- the first function in this order whose answer does not agree with the case's
 unfoldable pub verdictOf : Case → Verdict

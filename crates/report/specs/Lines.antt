@@ -24,8 +24,8 @@ abbrev pub placeText : ℕ → ℕ → List ℕ
 placeText zoom place = ((decimalOf 10 zoom ++ bytes " ") ++ decimalOf 10 place) ++ bytes " "
 
 -- 16 hexadecimal digits of the bits of x, and of y
-abbrev pub pointText : Float → Float → List ℕ
-pointText x y = ((hexOf 16 (bitsOf x) ++ bytes " ") ++ hexOf 16 (bitsOf y)) ++ bytes " "
+abbrev pub centreText : Float → Float → List ℕ
+centreText x y = ((hexOf 16 (bitsOf x) ++ bytes " ") ++ hexOf 16 (bitsOf y)) ++ bytes " "
 
 -- seen and id
 abbrev pub marksText : ℕ → ℕ → List ℕ
@@ -39,7 +39,7 @@ endText parent num energy =
 -- the line of an entry
 abbrev pub lineText : ℕ → ℕ → Entry → List ℕ
 lineText zoom place e =
-    ((placeText zoom place ++ pointText (e .x) (e .y)) ++ marksText (e .seen) (e .id)) ++ endText (e .parent) (e .num) (e .energy)
+    ((placeText zoom place ++ centreText (e .x) (e .y)) ++ marksText (e .seen) (e .id)) ++ endText (e .parent) (e .num) (e .energy)
 
 -- how many bytes it takes at the most
 abbrev pub lineRoom : ℕ

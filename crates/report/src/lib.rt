@@ -18,7 +18,7 @@ ghost use Rattle.listing.specs.Values.{optionsOf};
 ghost use Rattle.report.specs.Hex.{glyphOf, hexOf};
 ghost use Rattle.listing.specs.Text.{frontOf, Fits};
 ghost use Rattle.listing.specs.Lent.{givenPoints, lentPoints};
-ghost use Rattle.report.specs.Lines.{orDash, bitsOf, placeText, pointText, marksText, endText, lineText, lineRoom};
+ghost use Rattle.report.specs.Lines.{orDash, bitsOf, placeText, centreText, marksText, endText, lineText, lineRoom};
 ghost use Rattle.report.specs.Lines.{tableText, tablesText, atText, refusalText};
 ghost use Rattle.report.specs.Report.{loadedBy, buildText, lending, Reports};
 ghost use Rattle.report.specs.laws.Put.{Put};
@@ -124,7 +124,7 @@ fn put_place(out: &mut [u8], at: usize, zoom: usize, place: usize) -> usize
 // The bits of x and of y.
 fn put_point(out: &mut [u8], at: usize, x: f64, y: f64) -> usize
     requires { ⌜ at + 34 ≤ length (now out) ⌝ }
-    ensures { λ r. ⌜ Put (old out) (new out) at (pointText x y) 34 r ⌝ }
+    ensures { λ r. ⌜ Put (old out) (new out) at (centreText x y) 34 r ⌝ }
 {
     let a = put_hex(out, at, bits(x), 16);
     let b = put_byte(out, a, 32);

@@ -36,12 +36,12 @@ abbrev pub effortOf : ℕ → List Mark → Effort
 effortOf a ms = record { items = length (items a ms); tested = min a (length ms); stopped = ltb a (length ms) }
 
 -- 10 where the places found before the stop are more than the column holds
-abbrev pub fitted : Effort → ℕ → EffortReply
-fitted e room = cond (leb (e .items) room) (Found e) (NoRoom e)
+abbrev pub effortFitted : Effort → ℕ → EffortReply
+effortFitted e room = cond (leb (e .items) room) (Found e) (NoRoom e)
 
 -- 11 where one of them is past the table, and otherwise by the room
 abbrev pub answer : ℕ → List Mark → ℕ → ℕ → EffortReply
-answer n ms a room = cond (whole n (items a ms)) (fitted (effortOf a ms) room) Spoiled
+answer n ms a room = cond (whole n (items a ms)) (effortFitted (effortOf a ms) room) Spoiled
 
 -- the places before the first that is past the table, as many as fit, and then the old contents
 abbrev pub column : ℕ → List Mark → ℕ → List ℕ → List ℕ

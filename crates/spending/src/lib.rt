@@ -17,7 +17,7 @@ ghost use Rattle.boxplan.specs.laws.Queries.{queriesOf};
 ghost use Rattle.spending.specs.Tested.{testing};
 ghost use Rattle.spending.specs.Trials.{marks, trials};
 ghost use Rattle.spending.specs.Reply.{effortNumber, noEffort, effortCarried, answer, column};
-ghost use Rattle.spending.specs.laws.Spend.{settled, went, spend};
+ghost use Rattle.spending.specs.laws.Spend.{settledTests, wentTests, spend};
 
 // How many places were found, how many slots were tested, and whether the search stopped with a test still due.
 pub struct Effort {
@@ -98,7 +98,7 @@ fn put(
     out: &mut [u32],
 ) -> Spent
     requires { ⌜ (2 * i + 1 < length (now coords)) × (i < length (now ids)) × (s .found + s .left < 2 ^ 64) ⌝ }
-    ensures { λ r. ⌜ went r (new out) ≡ spend n (marks (over q (old coords)) (old ids) (i ∷ [])) s (old out) ⌝ }
+    ensures { λ r. ⌜ wentTests r (new out) ≡ spend n (marks (over q (old coords)) (old ids) (i ∷ [])) s (old out) ⌝ }
 {
     if s.over {
         return s;
@@ -161,7 +161,7 @@ fn scan(
     requires { ⌜ (2 * hi ≤ length (now coords)) × (hi ≤ length (now ids)) × (s .found + s .left < 2 ^ 64) ⌝ }
     ensures { λ r.
         let t = over q (old coords) in
-        ⌜ went r (new out) ≡ spend n (marks t (old ids) (scanned (testing t) lo (hi - lo))) s (old out) ⌝ }
+        ⌜ wentTests r (new out) ≡ spend n (marks t (old ids) (scanned (testing t) lo (hi - lo))) s (old out) ⌝ }
 {
     let mut k = s;
     let mut i = lo;
@@ -193,7 +193,7 @@ fn part(
     requires { ⌜ (2 * hi ≤ length (now coords)) × (hi ≤ length (now ids)) × (lo ≤ hi) × (axis < 2) × (s .found + s .left < 2 ^ 64) ⌝ }
     ensures { λ r.
         let t = over q (old coords) in
-        ⌜ went r (new out) ≡ spend n (marks t (old ids) (when go (slots (testing t) axis (shape most lo hi)))) s (old out) ⌝ }
+        ⌜ wentTests r (new out) ≡ spend n (marks t (old ids) (when go (slots (testing t) axis (shape most lo hi)))) s (old out) ⌝ }
 {
     if !go {
         return s;
@@ -216,7 +216,7 @@ fn part(
 // The reply by how far a search came that was allowed so many tests.
 fn settle(s: Spent, allowance: usize, room: usize) -> EffortReply
     requires { ⌜ s .left ≤ allowance ⌝ }
-    ensures { λ r. ⌜ r ≡ settled s allowance room ⌝ }
+    ensures { λ r. ⌜ r ≡ settledTests s allowance room ⌝ }
 {
     if s.spoiled {
         return EffortReply::Spoiled;

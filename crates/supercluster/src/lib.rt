@@ -18,8 +18,8 @@ ghost use Rattle.tables.specs.laws.Rows.{Even};
 ghost use Rattle.tables.specs.Lent.{given, lentCols};
 ghost use Rattle.tables.specs.Options.{optionsOk};
 ghost use Rattle.tables.specs.State.{newState};
-ghost use Rattle.zooms.specs.Zooms.{over};
-ghost use Rattle.supercluster.specs.Build.{convertedAll, finest, written, stateOf, tablesOf, need, firstOver, tripleOk};
+ghost use Rattle.zooms.specs.Zooms.{laidOver};
+ghost use Rattle.supercluster.specs.Build.{convertedAll, finest, written, builtState, tablesOf, need, firstOver, tripleOk};
 ghost use Rattle.supercluster.specs.Build.{ordered, loadNumber, loadCarried, outcome, loaded};
 ghost use Rattle.supercluster.specs.Lent.{givenAll, lentAll};
 ghost use Rattle.supercluster.specs.laws.Ready.{Accepted, Made};
@@ -93,7 +93,7 @@ fn fill(
         × (length (now energies) ≡ length (now xs)) ⌝ }
     ensures { λ _.
         let t = lentCols x y seen id parent num energy in
-        ⌜ rows (t .exit) ≡ over (finest (convertedAll c (old xs) (old ys)) (old energies) 0) (rows (t .entry)) ⌝ }
+        ⌜ rows (t .exit) ≡ laidOver (finest (convertedAll c (old xs) (old ys)) (old energies) 0) (rows (t .entry)) ⌝ }
 {
     let mut place = 0;
     while place < xs.len() {
@@ -203,7 +203,7 @@ fn build_all(
         let l = lentAll x y seen id parent num energy ids coords near in
         let n = length (old xs) in
         let ts = tablesOf o (old xs) (old ys) (old energies) in
-        ⌜ (s ≡ stateOf o n ts) × (l .exit ≡ written (o .«node_size») n ts (l .entry)) ⌝ }
+        ⌜ (s ≡ builtState o n ts) × (l .exit ≡ written (o .«node_size») n ts (l .entry)) ⌝ }
 {
     let n = xs.len();
     let w = n + n;

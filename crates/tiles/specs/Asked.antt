@@ -16,7 +16,7 @@ use Rattle.asking.specs.Asked.{AskedFor, refused, told}
 use Rattle.tables.specs.Room.{Columns, roomOf}
 use Rattle.asking.specs.Columns.{tableAt, idsAt, coordsAt}
 use Rattle.tiling.specs.declared.Item.{Item}
-use Rattle.tiling.specs.Tile.{Visit, isTile, visited, listed, whole, items}
+use Rattle.tiling.specs.Tile.{Visit, isTile, visited, tileListed, wholeTile, tileItems}
 
 -- the table of the zoom used, and what the tile finds there
 abbrev pub tableFor : State → Columns → ℕ → Table
@@ -28,49 +28,49 @@ visitsFor s c z x y =
     visited (s .options) z x y (tableFor s c z) (idsAt s (c .ids) u) (coordsAt s (c .coords) u)
 
 -- a question that lists items of a tile; whether the walk went to its end is whether everything that was found could be listed
-abbrev pub Asked : Type 0
-Asked = AskedFor Answer Bool Item
+abbrev pub TileAsked : Type 0
+TileAsked = AskedFor Answer Bool Item
 
 -- the refusals in 01's order: the state over the nine columns (11), no such tile (7)
-unfoldable pub asked : State → Columns → ℕ → ℕ → ℕ → Asked
-asked s c z x y =
+unfoldable pub tileAsked : State → Columns → ℕ → ℕ → ℕ → TileAsked
+tileAsked s c z x y =
     cond (not (stateOk s (roomOf c))) (refused Spoiled)
     (cond (not (isTile z x y)) (refused Tile)
-    (told (whole (tableFor s c z) (visitsFor s c z x y)) (items (tableFor s c z) (listed (tableFor s c z) (visitsFor s c z x y)))))
+    (told (wholeTile (tableFor s c z) (visitsFor s c z x y)) (tileItems (tableFor s c z) (tileListed (tableFor s c z) (visitsFor s c z x y)))))
 
 -- the answer, where the shortest column holds so many: what was found and cannot be listed (11), nothing listed (8), too many (10)
 abbrev pub someOf : ℕ → ℕ → Answer
 someOf zero room = EmptyTile
 someOf (suc k) room = fitted (suc k) room
 
-abbrev pub answerOf : Asked → ℕ → Answer
-answerOf (refused a) room = a
-answerOf (told true l) room = someOf (length l) room
-answerOf (told false l) room = Spoiled
+abbrev pub tileAnswerOf : TileAsked → ℕ → Answer
+tileAnswerOf (refused a) room = a
+tileAnswerOf (told true l) room = someOf (length l) room
+tileAnswerOf (told false l) room = Spoiled
 
 -- how many items the shortest of the three columns holds
 abbrev pub shortest : List ℕ → List ℤ → List ℤ → ℕ
 shortest places xs ys = min (length places) (min (length xs) (length ys))
 
 -- a column afterwards: the first items, as many as there is room for, and then the old contents
-abbrev pub columnOf : {A : Type 0} → (Item → A) → Asked → ℕ → List A → List A
-columnOf f (refused a) room out = out
-columnOf f (told b l) room out = filled (take room (map f l)) out
+abbrev pub tileColumnOf : {A : Type 0} → (Item → A) → TileAsked → ℕ → List A → List A
+tileColumnOf f (refused a) room out = out
+tileColumnOf f (told b l) room out = filled (take room (map f l)) out
 
 -- the answer, and what it leaves in the three columns: places in the table, and places in the tile
-pub record Outcome : Type 0 where
+pub record TileOutcome : Type 0 where
   pub answer : Answer
   pub places : List ℕ
   pub xs : List ℤ
   pub ys : List ℤ
 
-abbrev pub outcome : Answer → List ℕ → List ℤ → List ℤ → Outcome
-outcome a places xs ys = record { answer = a; places = places; xs = xs; ys = ys }
+abbrev pub tileOutcome : Answer → List ℕ → List ℤ → List ℤ → TileOutcome
+tileOutcome a places xs ys = record { answer = a; places = places; xs = xs; ys = ys }
 
-abbrev pub outcomeOf : Asked → List ℕ → List ℤ → List ℤ → Outcome
+abbrev pub outcomeOf : TileAsked → List ℕ → List ℤ → List ℤ → TileOutcome
 outcomeOf a places xs ys =
     let room = shortest places xs ys in
-    outcome (answerOf a room) (columnOf (λ i. i .place) a room places) (columnOf (λ i. i .x) a room xs) (columnOf (λ i. i .y) a room ys)
+    tileOutcome (tileAnswerOf a room) (tileColumnOf (λ i. i .place) a room places) (tileColumnOf (λ i. i .x) a room xs) (tileColumnOf (λ i. i .y) a room ys)
 
-abbrev pub tiled : State → Columns → ℕ → ℕ → ℕ → List ℕ → List ℤ → List ℤ → Outcome
-tiled s c z x y places xs ys = outcomeOf (asked s c z x y) places xs ys
+abbrev pub tiled : State → Columns → ℕ → ℕ → ℕ → List ℕ → List ℤ → List ℤ → TileOutcome
+tiled s c z x y places xs ys = outcomeOf (tileAsked s c z x y) places xs ys

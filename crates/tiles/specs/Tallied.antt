@@ -6,14 +6,14 @@ use Rattle.tables.specs.Sound.{stateOk}
 use Rattle.tables.specs.Room.{Columns, roomOf}
 use Rattle.tiling.specs.declared.Tally.{Tally}
 use Rattle.tiling.specs.declared.Tally.the-variants.{Sum, Tile, Spoiled}
-use Rattle.tiling.specs.Tile.{isTile, whole}
+use Rattle.tiling.specs.Tile.{isTile, wholeTile}
 use Rattle.tiling.specs.Tally.{weightIn, tallyOf}
 use Rattle.tiles.specs.Asked.{tableFor, visitsFor}
 
 -- this sum, and whether everything that was found could be listed: what cannot is 01's 11. A sum over no entry is 0.
-abbrev pub sumOf : Bool → ℕ → Tally
-sumOf true sum = Sum sum
-sumOf false sum = Spoiled
+abbrev pub tallySum : Bool → ℕ → Tally
+tallySum true sum = Sum sum
+tallySum false sum = Spoiled
 
 -- the refusals in 01's order: the state over the nine columns (11), no such tile (7); otherwise, over the distinct entries listed, the
 -- sum of num of those whose centre the tile holds
@@ -21,4 +21,4 @@ unfoldable pub tallied : State → Columns → ℕ → ℕ → ℕ → Tally
 tallied s c z x y =
     cond (not (stateOk s (roomOf c))) Spoiled
     (cond (not (isTile z x y)) Tile
-    (sumOf (whole (tableFor s c z) (visitsFor s c z x y)) (tallyOf (weightIn z x y) (tableFor s c z) (visitsFor s c z x y))))
+    (tallySum (wholeTile (tableFor s c z) (visitsFor s c z x y)) (tallyOf (weightIn z x y) (tableFor s c z) (visitsFor s c z x y))))

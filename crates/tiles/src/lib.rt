@@ -13,11 +13,11 @@ ghost use Rattle.tables.specs.Sound.{stateOk};
 ghost use Rattle.tables.specs.Room.{roomOf};
 ghost use Rattle.tables.specs.Lent.{givenColumns, lentColumns};
 ghost use Rattle.tiling.specs.laws.Framed.{IsTile};
-ghost use Rattle.tiling.specs.laws.Runs.{left, run};
+ghost use Rattle.tiling.specs.laws.Runs.{leftRuns, runTile};
 ghost use Rattle.tiling.specs.Tally.{weightIn};
 ghost use Rattle.tiling.specs.laws.Counting.{runningOf};
-ghost use Rattle.tiles.specs.Asked.{tableFor, visitsFor, someOf, outcome, tiled};
-ghost use Rattle.tiles.specs.Tallied.{sumOf, tallied};
+ghost use Rattle.tiles.specs.Asked.{tableFor, visitsFor, someOf, tileOutcome, tiled};
+ghost use Rattle.tiles.specs.Tallied.{tallySum, tallied};
 
 fn wide(x: u8) -> u32
     ensures { λ r. ⌜ r ≡ x ⌝ }
@@ -66,7 +66,7 @@ fn list_used(
     requires { ⌜ (now starts ≡ s .starts) × (now lens ≡ s .lens) ⌝ }
     ensures { λ r.
         let c = lentColumns x y seen id parent num energy ids coords in
-        ⌜ left r (new out) (new px) (new py) ≡ run (tableFor s c z) 0 (visitsFor s c z tx ty) (old out) (old px) (old py) ⌝ }
+        ⌜ leftRuns r (new out) (new px) (new py) ≡ runTile (tableFor s c z) 0 (visitsFor s c z tx ty) (old out) (old px) (old py) ⌝ }
 {
     let o = s.options;
     let u = index(o.zoom_used(z));
@@ -120,7 +120,7 @@ pub fn tile_lent(
     ensures { λ r.
         let s = stateOf options count (old starts) (old lens) in
         let c = lentColumns x y seen id parent num energy ids coords in
-        ⌜ outcome r (new places) (new px) (new py) ≡ tiled s c z tx ty (old places) (old px) (old py) ⌝ }
+        ⌜ tileOutcome r (new places) (new px) (new py) ≡ tiled s c z tx ty (old places) (old px) (old py) ⌝ }
 {
     let s = State {
         options,
@@ -186,7 +186,7 @@ pub fn tile(
 ) -> Answer
     ensures { λ r.
         let c = lentColumns x y seen id parent num energy ids coords in
-        ⌜ outcome r (new places) (new px) (new py) ≡ tiled s c z tx ty (old places) (old px) (old py) ⌝ }
+        ⌜ tileOutcome r (new places) (new px) (new py) ≡ tiled s c z tx ty (old places) (old px) (old py) ⌝ }
 {
     let starts = s.starts;
     let lens = s.lens;
@@ -262,7 +262,7 @@ fn tally_used(
 
 // The answer of a tally that went to its end.
 fn sum_of(r: Running) -> Tally
-    ensures { λ a. ⌜ a ≡ sumOf (r .whole) (r .sum) ⌝ }
+    ensures { λ a. ⌜ a ≡ tallySum (r .whole) (r .sum) ⌝ }
 {
     if !r.whole {
         return Tally::Spoiled;

@@ -9,7 +9,7 @@ use Rattle.tables.specs.Entries.{Table, entry}
 use Rattle.tiling.specs.declared.Tally.{Tally}
 use Rattle.tiling.specs.declared.Tally.the-variants.{Sum, Tile as No·Tile, Spoiled}
 use Rattle.tiling.specs.Floor.{homeOf}
-use Rattle.tiling.specs.Tile.{Visit, listed}
+use Rattle.tiling.specs.Tile.{Visit, tileListed}
 
 -- 01's number of an answer; 0 where there is no refusal
 abbrev pub tallyNumber : Tally → ℕ
@@ -48,4 +48,4 @@ total w t (p ∷ ps) = w (entry t p) + total w t ps
 
 -- the sum of w over the distinct entries listed
 unfoldable pub tallyOf : (Entry → ℕ) → Table → List Visit → ℕ
-tallyOf w t vs = total w t (distinct [] (map (λ v. v .place) (listed t vs)))
+tallyOf w t vs = total w t (distinct [] (map (λ v. v .place) (tileListed t vs)))

@@ -70,12 +70,12 @@ unfoldable pub wraps : Options → Bool
 wraps o = cond (o .«longitude_strips_only») (goesRound (o .«coordinate_system»)) true
 
 -- for x = 0 the strip 1 - p / z2 to 1, x replaced by z2
-unfoldable pub east : Options → ℕ → ℕ → ℕ → Search
-east o z x y = strip o z y (wraps o && eqb x 0) (sub binary64 one (edge o z)) one (side z)
+unfoldable pub eastStrip : Options → ℕ → ℕ → ℕ → Search
+eastStrip o z x y = strip o z y (wraps o && eqb x 0) (sub binary64 one (edge o z)) one (side z)
 
 -- for x = z2 - 1 the strip 0 to p / z2, x replaced by -1
-unfoldable pub west : Options → ℕ → ℕ → ℕ → Search
-west o z x y = strip o z y (wraps o && eqb (x + 1) (2 ^ z)) zero (edge o z) (neg one)
+unfoldable pub westStrip : Options → ℕ → ℕ → ℕ → Search
+westStrip o z x y = strip o z y (wraps o && eqb (x + 1) (2 ^ z)) zero (edge o z) (neg one)
 
 -- ---- what they find
 
@@ -93,7 +93,7 @@ visits g t ids co = visitsOf g (when (g .made) (found (g .query) (g .«node_size
 
 -- by the three searches, one after the other
 unfoldable pub visited : Options → ℕ → ℕ → ℕ → Table → List ℕ → List Float → List Visit
-visited o z x y t ids co = visits (here o z x y) t ids co ++ (visits (east o z x y) t ids co ++ visits (west o z x y) t ids co)
+visited o z x y t ids co = visits (here o z x y) t ids co ++ (visits (eastStrip o z x y) t ids co ++ visits (westStrip o z x y) t ids co)
 
 -- ---- what is listed
 
@@ -102,14 +102,14 @@ abbrev pub listable : Table → ℕ → Bool
 listable t p = ltb p (length t) && (in01 (entry t p .x) && in01 (entry t p .y))
 
 -- those before the first that cannot be listed
-unfoldable pub listed : Table → List Visit → List Visit
-listed t [] = []
-listed t (v ∷ vs) = elim (listable t (v .place)) [ true ↦ v ∷ listed t vs | false ↦ [] ]
+unfoldable pub tileListed : Table → List Visit → List Visit
+tileListed t [] = []
+tileListed t (v ∷ vs) = elim (listable t (v .place)) [ true ↦ v ∷ tileListed t vs | false ↦ [] ]
 
 -- whether each can be listed
-unfoldable pub whole : Table → List Visit → Bool
-whole t [] = true
-whole t (v ∷ vs) = elim (listable t (v .place)) [ true ↦ whole t vs | false ↦ false ]
+unfoldable pub wholeTile : Table → List Visit → Bool
+wholeTile t [] = true
+wholeTile t (v ∷ vs) = elim (listable t (v .place)) [ true ↦ wholeTile t vs | false ↦ false ]
 
 -- extent * (c * z2 - v), rounded to the nearest whole number, halves away from zero
 unfoldable pub rounded : Search → Float → Float → ℤ
@@ -122,5 +122,5 @@ itemOf g p e = record { place = p; x = rounded g (e .x) (g .x); y = rounded g (e
 abbrev pub itemAt : Table → Visit → Item
 itemAt t v = itemOf (v .by) (v .place) (entry t (v .place))
 
-abbrev pub items : Table → List Visit → List Item
-items t vs = map (itemAt t) vs
+abbrev pub tileItems : Table → List Visit → List Item
+tileItems t vs = map (itemAt t) vs

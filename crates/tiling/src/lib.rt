@@ -19,16 +19,16 @@ ghost use Rattle.tables.specs.laws.Bounds.{InBounds};
 ghost use Rattle.tables.specs.Rows.{rows};
 ghost use Rattle.tables.specs.laws.Rows.{Even};
 ghost use Rattle.tables.specs.Lent.{given, lentCols};
-ghost use Rattle.tiling.specs.Tile.{isTile, wraps, side, strip, here, east, west, visited, rounded, itemOf};
+ghost use Rattle.tiling.specs.Tile.{isTile, wraps, side, strip, here, eastStrip, westStrip, visited, rounded, itemOf};
 ghost use Rattle.tiling.specs.laws.Framed.{Framed, IsTile};
-ghost use Rattle.tiling.specs.laws.Runs.{left, run};
-ghost use Rattle.tiling.specs.laws.Turns.{walked, namedAt};
+ghost use Rattle.tiling.specs.laws.Runs.{leftRuns, runTile};
+ghost use Rattle.tiling.specs.laws.Turns.{walkedTurns, namedAt};
 ghost use Rattle.tiling.specs.laws.Three.{atEnd};
-ghost use Rattle.tiling.specs.laws.Marks.{marked};
+ghost use Rattle.tiling.specs.laws.Marks.{markedPlaces};
 ghost use Rattle.tiling.specs.laws.Floor.{ends};
 ghost use Rattle.tiling.specs.Tally.{weightIn, tallyNumber, tallyValue};
 ghost use Rattle.tiling.specs.laws.Home.{edgesOf, weightBy};
-ghost use Rattle.tiling.specs.laws.Counting.{heldOf, placesIn, markOf, marksFor, doubt, added, marking, counted, runningOf};
+ghost use Rattle.tiling.specs.laws.Counting.{heldMarksOf, placesIn, markOf, marksFor, doubt, added, markingPlace, counted, runningOf};
 ghost use Rattle.tiling.specs.laws.Told.{Blank};
 
 // One search of a tile: whether the tile has it, what it asks of the index, and what stands for the tile's x and y in the items that it
@@ -195,7 +195,7 @@ fn has_west(o: Options, z: u32, x: u32) -> bool
 // The strip at the east end, for the first tile of a row.
 fn search_east(o: Options, z: u32, x: u32, y: u32) -> Search
     requires { ⌜ z < 32 ⌝ }
-    ensures { λ r. ⌜ r ≡ east o z x y ⌝ }
+    ensures { λ r. ⌜ r ≡ eastStrip o z x y ⌝ }
 {
     let z2 = floats::power(z);
     let e = o.radius / o.extent / z2;
@@ -206,7 +206,7 @@ fn search_east(o: Options, z: u32, x: u32, y: u32) -> Search
 // The strip at the west end, for the last tile of a row.
 fn search_west(o: Options, z: u32, x: u32, y: u32) -> Search
     requires { ⌜ z < 32 ⌝ }
-    ensures { λ r. ⌜ r ≡ west o z x y ⌝ }
+    ensures { λ r. ⌜ r ≡ westStrip o z x y ⌝ }
 {
     let z2 = floats::power(z);
     let e = o.radius / o.extent / z2;
@@ -323,8 +323,8 @@ fn list_by(
     requires { ⌜ (length (now x) ≤ length (now ids)) × (at + length (now x) < 2 ^ 64) ⌝ }
     ensures { λ r.
         let c = lentCols x y seen id parent num energy .entry in
-        let vs = walked g (length (c .x)) (old ids) (old coords) in
-        ⌜ left r (new out) (new px) (new py) ≡ run (rows c) at vs (old out) (old px) (old py) ⌝ }
+        let vs = walkedTurns g (length (c .x)) (old ids) (old coords) in
+        ⌜ leftRuns r (new out) (new px) (new py) ≡ runTile (rows c) at vs (old out) (old px) (old py) ⌝ }
 {
     if !g.made {
         return Ran::All(at);
@@ -376,7 +376,7 @@ pub fn list(
     ensures { λ r.
         let t = rows (lentCols x y seen id parent num energy .entry) in
         let vs = visited o z tx ty t (old ids) (old coords) in
-        ⌜ left r (new out) (new px) (new py) ≡ run t 0 vs (old out) (old px) (old py) ⌝ }
+        ⌜ leftRuns r (new out) (new px) (new py) ≡ runTile t 0 vs (old out) (old px) (old py) ⌝ }
 {
     let g = search_here(o, z, tx, ty);
     let Ran::All(a) = list_by(
@@ -449,7 +449,7 @@ fn bit(j: usize) -> u8
 // Whether the mark q is there.
 fn is_marked(marks: &[u8], q: usize) -> bool
     requires { ⌜ q < 8 * length (now marks) ⌝ }
-    ensures { λ r. ⌜ r ≡ marked (old marks) q ⌝ }
+    ensures { λ r. ⌜ r ≡ markedPlaces (old marks) q ⌝ }
 {
     let b = bit(q % 8);
     marks[q / 8] / b % 2 == 1
@@ -458,7 +458,7 @@ fn is_marked(marks: &[u8], q: usize) -> bool
 // Adds num to the sum, if the mark q is not there, and sets it.
 fn add_once(marks: &mut [u8], q: usize, num: u32, sum: u64) -> u64
     requires { ⌜ (q < 8 * length (now marks)) × (sum + 4294967295 < 2 ^ 64) ⌝ }
-    ensures { λ r. ⌜ (r ≡ added num q sum (old marks)) × (new marks ≡ marking q (old marks)) × (r ≤ sum + 4294967295) ⌝ }
+    ensures { λ r. ⌜ (r ≡ added num q sum (old marks)) × (new marks ≡ markingPlace q (old marks)) × (r ≤ sum + 4294967295) ⌝ }
 {
     if is_marked(marks, q) {
         return sum;
@@ -472,8 +472,8 @@ fn add_once(marks: &mut [u8], q: usize, num: u32, sum: u64) -> u64
 
 // The edges of a tile, between which it holds an entry's centre: the first of a pair is in, the second is not.
 pub struct Home {
-    pub west: f64,
-    pub east: f64,
+    pub westStrip: f64,
+    pub eastStrip: f64,
     pub least_y: f64,
     pub greatest_y: f64,
 }
@@ -495,11 +495,11 @@ fn home_of(z: u32, x: u32, y: u32) -> Home
     ensures { λ r. ⌜ r ≡ edgesOf z x y ⌝ }
 {
     let z2 = floats::power(z);
-    let east = end_of(z, z2, x);
+    let eastStrip = end_of(z, z2, x);
     let greatest_y = end_of(z, z2, y);
     Home {
-        west: x as f64 / z2,
-        east,
+        westStrip: x as f64 / z2,
+        eastStrip,
         least_y: y as f64 / z2,
         greatest_y,
     }
@@ -576,7 +576,7 @@ fn tally_one(
     requires { ⌜ (r .count < 4194304) × (r .sum ≤ r .count * 4294967295) ⌝ }
     ensures { λ a.
         let t = rows (lentCols x y seen id parent num energy .entry) in
-        ⌜ (heldOf a (new marks) ≡ counted few (weightBy h) t (r .count) (r .sum) (p ∷ []) (old marks))
+        ⌜ (heldMarksOf a (new marks) ≡ counted few (weightBy h) t (r .count) (r .sum) (p ∷ []) (old marks))
         × (a .count ≤ r .count + 1) × (a .sum ≤ a .count * 4294967295) ⌝ }
 {
     let Named::At(e) = entry_named(x, y, seen, id, parent, num, energy, p) else {
@@ -629,8 +629,8 @@ fn tally_by(
     requires { ⌜ (r .count + length (now x) ≤ 4194304) × (r .sum ≤ r .count * 4294967295) ⌝ }
     ensures { λ a.
         let c = lentCols x y seen id parent num energy .entry in
-        let ps = placesIn (walked g (length (c .x)) (old ids) (old coords)) in
-        ⌜ (heldOf a (new marks) ≡ counted few (weightBy h) (rows c) (r .count) (r .sum) ps (old marks))
+        let ps = placesIn (walkedTurns g (length (c .x)) (old ids) (old coords)) in
+        ⌜ (heldMarksOf a (new marks) ≡ counted few (weightBy h) (rows c) (r .count) (r .sum) ps (old marks))
         × (a .count ≤ r .count + length (c .x)) × (a .sum ≤ a .count * 4294967295) ⌝ }
 {
     let mut a = Running {

@@ -35,18 +35,18 @@ abbrev pub firstIs : ℕ → ℕ → First → Type 0
 firstIs cases differences Nothing = differences ≡ 0
 firstIs cases differences (At k f) = (0 < differences) × (0 < k) × (k ≤ cases)
 
-pub record Sound (t : Tally) : Type 0 where
+pub record SoundTally (t : Tally) : Type 0 where
   pub most : t .differences ≤ t .cases
   pub told : firstIs (t .cases) (t .differences) (t .first)
 
 -- a replay that went to the end has a tally that is right, and one that broke off names a case
 abbrev pub endingIs : Ending → Type 0
-endingIs (Finished t) = Sound t
+endingIs (Finished t) = SoundTally t
 endingIs (Malformed k) = 0 < k
 endingIs TooMany = Unit {0}
 
 -- the tally of no case
-pub sound-none : Sound (record { cases = 0; differences = 0; first = Nothing })
+pub sound-none : SoundTally (record { cases = 0; differences = 0; first = Nothing })
 sound-none = record { most = omega arith; told = refl }
 
 -- what is first stays first with one more case, and with one more difference
@@ -59,9 +59,9 @@ first-differs : (cases differences : ℕ) (t : First) (f : Function) → firstIs
 first-differs cases differences Nothing f p = omega arith
 first-differs cases differences (At k g) f p = (omega arith, p .1, omega arith)
 
-module _ (t : Tally) (p : Sound t) where
-  pub sound-agreed : Sound (withAgreed t)
+module _ (t : Tally) (p : SoundTally t) where
+  pub sound-agreed : SoundTally (withAgreed t)
   sound-agreed = record { most = omega (arith, p .most); told = first-kept (t .cases) (t .differences) (t .first) (p .told) }
 
-  pub sound-differed : (f : Function) → Sound (withDiffered t f)
+  pub sound-differed : (f : Function) → SoundTally (withDiffered t f)
   sound-differed f = record { most = omega (arith, p .most); told = first-differs (t .cases) (t .differences) (t .first) f (p .told) }

@@ -28,9 +28,9 @@ use Rattle.walks.specs.declared.Sofar.{Sofar}
 use Rattle.walks.specs.declared.Walk.{Walk}
 use Rattle.walks.specs.declared.Walk.the-variants.{Went, Broke, Childless}
 use Rattle.walks.specs.Children.{atTarget}
-use Rattle.walks.specs.Leaves.{broke, walk, listed, leavesAt, leavesOf}
+use Rattle.walks.specs.Leaves.{broke, leafWalk, leavesListed, leavesAt, leavesOf}
 use Rattle.walks.specs.Fetch.{sole, fetchedAt}
-use Rattle.walks.specs.laws.Column.{childlessOf, Behind, Tells, Walked}
+use Rattle.walks.specs.laws.Column.{childlessOf, Behind, TellsColumn, Walked}
 use Rattle.walks.proofs.Led.{Gives, gives, gives-refused, Led, leads}
 
 -- ---- limit 0
@@ -79,8 +79,8 @@ none-written s c id offset z o out = of (childless s c id z o) (cleanAt s c z o)
 
 -- a walk into a cluster with no children lists nothing
 walk-none : (s : State) (c : Columns) (limit offset f id t o n : ℕ) (l : List ℕ) → childless s c id t o ≡ true
-    → walk s c limit offset (suc f) id t o n l ≡ broke l
-unfolding walk
+    → leafWalk s c limit offset (suc f) id t o n l ≡ broke l
+unfolding leafWalk
 walk-none s c limit offset f id t o n l h = simp (and-both (cleanAt s c t o) (eqb (length (kidsAt s c id t o)) 0) h .1)
 
 module _ {s : State} {c : Columns} {id cap : ℕ} {t : Target} (q : Led s c id cap t) (limit offset : ℕ) where
@@ -105,14 +105,14 @@ module _ {s : State} {c : Columns} {id cap : ℕ} {t : Target} (q : Led s c id c
   module _ (z o : ℕ) (d : t ≡ At z o) (m : limit ≡ 0 → ⊥) (r : Walk) (out out' : List ℕ)
       (w : Walked s c limit offset id z o 0 0 out r out') where
     -- a cluster that has children is answered by the walk
-    went-in : childless s c id z o ≡ false → leavesOf s c id limit offset ≡ listed (walk s c limit offset 32 id z o 0 [])
+    went-in : childless s c id z o ≡ false → leavesOf s c id limit offset ≡ leavesListed (leafWalk s c limit offset 32 id z o 0 [])
     unfolding leavesAt
     went-in b = there z o d ∙ simp (b, ne-eqb limit 0 m)
 
-    tells : (x : Walk) → r ≡ x → Tells out out' x (walk s c limit offset 32 id z o 0 [])
+    tells : (x : Walk) → r ≡ x → TellsColumn out out' x (leafWalk s c limit offset 32 id z o 0 [])
     tells x v =
         let b : Behind out [] 0 out = record { count = refl; left = sym (filled-none out) } in
-        subst (λ (y : Walk). Tells out out' y (walk s c limit offset 32 id z o 0 [])) v (w .trip 32 (omega arith) out [] b)
+        subst (λ (y : Walk). TellsColumn out out' y (leafWalk s c limit offset 32 id z o 0 [])) v (w .trip 32 (omega arith) out [] b)
 
     empty : (x : Walk) → r ≡ x → childless s c id z o ≡ childlessOf x
     empty x v = sym (ap childlessOf (sym v) ∙ w .empty)
@@ -121,7 +121,7 @@ module _ {s : State} {c : Columns} {id cap : ℕ} {t : Target} (q : Led s c id c
     gives-broke n v =
         let b = tells (Broke n) v in
         gives (leavesOf s c id limit offset) (told false (b .lamps)) Spoiled out out'
-        (went-in (empty (Broke n) v) ∙ ap listed (b .trip)) (refl, b .behind .left)
+        (went-in (empty (Broke n) v) ∙ ap leavesListed (b .trip)) (refl, b .behind .left)
 
     pub gives-childless : (n : ℕ) → r ≡ Childless n → Gives (leavesOf s c id limit offset) NoCluster out out'
     unfolding leavesAt
@@ -139,5 +139,5 @@ module _ {s : State} {c : Columns} {id cap : ℕ} {t : Target} (q : Led s c id c
         let b = tells (Went so) v in
         let y : length out' ≡ length out = ap length (b .behind .left) ∙ filled-length (b .lamps) out in
         gives (leavesOf s c id limit offset) (told true (b .lamps)) a out out'
-        (went-in (empty (Went so) v) ∙ ap listed (b .trip))
+        (went-in (empty (Went so) v) ∙ ap leavesListed (b .trip))
         (u ∙ ap (λ (x : ℕ). fitted x (length out')) (b .behind .count) ∙ ap (fitted (length (b .lamps))) y, b .behind .left)

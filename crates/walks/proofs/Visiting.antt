@@ -18,13 +18,13 @@ use Rattle.walks.specs.declared.Fate.{Fate}
 use Rattle.walks.specs.declared.Fate.the-variants.{Skipped, Entered, Listed}
 use Rattle.walks.specs.declared.Walk.{Walk}
 use Rattle.walks.specs.declared.Walk.the-variants.{Went, Broke}
-use Rattle.walks.specs.Leaves.{Trip, broke, went, Into, enter, listOne, visit, walk}
+use Rattle.walks.specs.Leaves.{Trip, broke, went, Into, enter, listOne, visitChild, leafWalk}
 use Rattle.walks.specs.laws.Column.{fateOf, Does, Opened, does-same, does-nothing}
 
 -- a visit of the child e in zoom t's table, with n skipped and k listed, comes to r and leaves out', whatever bounds the definition
 abbrev pub Visited : State → Columns → ℕ → ℕ → ℕ → Entry → ℕ → ℕ → List ℕ → Walk → List ℕ → Type 0
 Visited s c limit offset t e n k out r out' =
-    (f : ℕ) → 32 ≤ f + 1 + t → Does k out r out' (visit s c limit offset (walk s c limit offset f) t e n)
+    (f : ℕ) → 32 ≤ f + 1 + t → Does k out r out' (visitChild s c limit offset (leafWalk s c limit offset f) t e n)
 
 -- the child e in zoom t's table, with n skipped, by its fate
 abbrev pub byFate : State → Fate → Into → ℕ → Entry → ℕ → List ℕ → Trip
@@ -33,8 +33,8 @@ byFate s Entered into t e n l = enter into (onward s t (e .id)) (e .id) n l
 byFate s Listed into t e n l = listOne (s .count) (e .id) n l
 
 visit-fate : (s : State) (c : Columns) (limit offset : ℕ) (into : Into) (t : ℕ) (e : Entry) (n : ℕ) (l : List ℕ)
-    → byFate s (fateOf offset n (e .num)) into t e n l ≡ visit s c limit offset into t e n l
-unfolding visit
+    → byFate s (fateOf offset n (e .num)) into t e n l ≡ visitChild s c limit offset into t e n l
+unfolding visitChild
 visit-fate s c limit offset into t e n l = of (ltb 1 (e .num)) (leb (n + e .num) offset) (ltb n offset)
   where
     of : (a b d : Bool)
@@ -50,13 +50,13 @@ module _ (s : State) (c : Columns) (limit offset t : ℕ) (e : Entry) (n k : ℕ
   where
     -- by its fate; the walk and the column go by other names where the ways meet
     pub visit-by : (x : Fate) → F ≡ x → (r : Walk) (out' : List ℕ)
-        → ((f : ℕ) → 32 ≤ f + 1 + t → Does k out r out' (byFate s x (walk s c limit offset f) t e n))
+        → ((f : ℕ) → 32 ≤ f + 1 + t → Does k out r out' (byFate s x (leafWalk s c limit offset f) t e n))
         → (r₁ : Walk) (out₁ : List ℕ) → out₁ ≡ out' → r₁ ≡ r → Visited s c limit offset t e n k out r₁ out₁
     visit-by x d r out' w r₁ out₁ i j f h =
-        let into = walk s c limit offset f in
-        subst (λ (o : List ℕ). Does k out r₁ o (visit s c limit offset into t e n)) (sym i)
-        (subst (λ (y : Walk). Does k out y out' (visit s c limit offset into t e n)) (sym j)
-        (does-same k out r out' (byFate s x into t e n) (visit s c limit offset into t e n)
+        let into = leafWalk s c limit offset f in
+        subst (λ (o : List ℕ). Does k out r₁ o (visitChild s c limit offset into t e n)) (sym i)
+        (subst (λ (y : Walk). Does k out y out' (visitChild s c limit offset into t e n)) (sym j)
+        (does-same k out r out' (byFate s x into t e n) (visitChild s c limit offset into t e n)
         (λ l. ap (λ (y : Fate). byFate s y into t e n l) (sym d ∙ q) ∙ visit-fate s c limit offset into t e n l) (w f h)))
 
 -- ---- a lamp
@@ -94,13 +94,13 @@ enter-lost into Target·NoCluster id n l h = refl
 module _ (s : State) (c : Columns) (limit offset t id n k : ℕ) (out : List ℕ) (g : Target) (x : g ≡ onward s t id) where
   pub opened-lost : ((u o : ℕ) → g ≡ At u o → ⊥) → Opened s c limit offset t id n k out (Broke k) out
   opened-lost l f h =
-      let into = walk s c limit offset f in
+      let into = leafWalk s c limit offset f in
       does-same k out (Broke k) out broke (enter into (onward s t id) id n)
       (λ m. enter-lost into g id n m l ∙ ap (λ (y : Target). enter into y id n m) x) (does-nothing k out (Broke k) refl)
 
   pub opened-in : (u o : ℕ) → g ≡ At u o → t < u → (r : Walk) (out' : List ℕ)
-      → ((f : ℕ) → 32 ≤ f + u → Does k out r out' (walk s c limit offset f id u o n)) → Opened s c limit offset t id n k out r out'
+      → ((f : ℕ) → 32 ≤ f + u → Does k out r out' (leafWalk s c limit offset f id u o n)) → Opened s c limit offset t id n k out r out'
   opened-in u o y l r out' w f h =
-      let into = walk s c limit offset f in
+      let into = leafWalk s c limit offset f in
       does-same k out r out' (into id u o n) (enter into (onward s t id) id n)
       (λ m. ap (λ (z : Target). enter into z id n m) (sym y ∙ x)) (w f (omega arith))

@@ -22,8 +22,8 @@ use Rattle.kids.specs.laws.Next.{tableIn, kidsIn, cleanIn, kids-around, clean-a
 use Rattle.walks.specs.declared.Sofar.{Sofar}
 use Rattle.walks.specs.declared.Walk.{Walk}
 use Rattle.walks.specs.declared.Walk.the-variants.{Went, Broke, Childless}
-use Rattle.walks.specs.Leaves.{Trip, broke, went, visit, after, steps, walk}
-use Rattle.walks.specs.laws.Column.{tripOf, listedOf, childlessOf, Tells, Does, Walked, does-same, does-nothing}
+use Rattle.walks.specs.Leaves.{Trip, broke, went, visitChild, after, steps, leafWalk}
+use Rattle.walks.specs.laws.Column.{tripOf, listedOf, childlessOf, TellsColumn, Does, Walked, does-same, does-nothing}
 use Rattle.walks.proofs.Led.{none-is}
 use Rattle.walks.proofs.Visiting.{Visited}
 
@@ -37,7 +37,7 @@ module _ (s : State) (c : Columns) (limit offset id t o : ℕ) (was : Sofar) (ou
 
   -- the walk of the level over children ks, with n skipped and the lamps l listed
   abbrev S : ℕ → List ℕ → ℕ → List ℕ → Trip
-  S f ks n l = steps s c limit offset (walk s c limit offset f) t (cleanAt s c t o) (map (entry (tableAt s c t)) ks) n l
+  S f ks n l = steps s c limit offset (leafWalk s c limit offset f) t (cleanAt s c t o) (map (entry (tableAt s c t)) ks) n l
 
   -- the children among slots that are ahead
   abbrev kidsAhead : List ℕ → List ℕ
@@ -73,13 +73,13 @@ module _ (s : State) (c : Columns) (limit offset id t o : ℕ) (was : Sofar) (ou
         }
 
   -- the walk into a cluster that has children, or whose search is not clean, is that over its children
-  some : (length K ≡ 0 → ⊥) → (f : ℕ) (l : List ℕ) → S f K (was .skipped) l ≡ walk s c limit offset (suc f) id t o (was .skipped) l
-  unfolding walk
+  some : (length K ≡ 0 → ⊥) → (f : ℕ) (l : List ℕ) → S f K (was .skipped) l ≡ leafWalk s c limit offset (suc f) id t o (was .skipped) l
+  unfolding leafWalk
   some h f l = sym (simp (ne-eqb (length K) 0 h))
 
   spoiled : cleanAt s c t o ≡ false → (f : ℕ) (l : List ℕ)
-      → S f K (was .skipped) l ≡ walk s c limit offset (suc f) id t o (was .skipped) l
-  unfolding walk steps
+      → S f K (was .skipped) l ≡ leafWalk s c limit offset (suc f) id t o (was .skipped) l
+  unfolding leafWalk steps
   spoiled b f l = go K
     where
       go : (ks : List ℕ) → S f ks (was .skipped) l ≡ cond (eqb (length ks) 0) (broke l) (S f ks (was .skipped) l)
@@ -87,11 +87,11 @@ module _ (s : State) (c : Columns) (limit offset id t o : ℕ) (was : Sofar) (ou
       go (p ∷ ks) = sym (simp (ne-eqb (length (p ∷ ks)) 0 (λ i. omega arith)))
 
   ends : t < 32 → (r : Walk) (out : List ℕ) → ((f : ℕ) → 32 ≤ f + 1 + t → Does (was .listed) out₀ r out (S f K (was .skipped)))
-      → ((f : ℕ) (l : List ℕ) → S f K (was .skipped) l ≡ walk s c limit offset (suc f) id t o (was .skipped) l)
+      → ((f : ℕ) (l : List ℕ) → S f K (was .skipped) l ≡ leafWalk s c limit offset (suc f) id t o (was .skipped) l)
       → childlessOf r ≡ childless s c id t o → Ended r out
   ends l r out q w e = record { trip = go; empty = e }
     where
-      go : (f : ℕ) → 32 ≤ f + t → Does (was .listed) out₀ r out (walk s c limit offset f id t o (was .skipped))
+      go : (f : ℕ) → 32 ≤ f + t → Does (was .listed) out₀ r out (leafWalk s c limit offset f id t o (was .skipped))
       go zero h = absurd (omega arith)
       go (suc f) h = does-same (was .listed) out₀ r out (S f K (was .skipped)) _ (w f) (q f (omega arith))
 
@@ -128,7 +128,7 @@ module _ (s : State) (c : Columns) (limit offset id t o : ℕ) (was : Sofar) (ou
           ends l (Went so) out done (some m) (peopled m)
 
       pub walking-none : any ≡ false → Ended (Childless (so .listed)) out
-      unfolding walk steps
+      unfolding leafWalk steps
       walking-none a =
           let k : kidsAhead ah ≡ K = rw a at (w .met) in
           let m : length K ≡ 0 = ap length (sym k ∙ h .0) in
@@ -139,13 +139,13 @@ module _ (s : State) (c : Columns) (limit offset id t o : ℕ) (was : Sofar) (ou
           none e m = ap (λ (ks : List ℕ). S 32 ks (was .skipped) m) e ∙ simp ok
 
           go : length K ≡ 0 → (f : ℕ) → 32 ≤ f + t
-              → Does (was .listed) out₀ (Childless (so .listed)) out (walk s c limit offset f id t o (was .skipped))
+              → Does (was .listed) out₀ (Childless (so .listed)) out (leafWalk s c limit offset f id t o (was .skipped))
           go m zero i base x b = absurd (omega arith)
           go m (suc f) i base x b =
               let d = done 32 (omega arith) base x b in
               let e : went (was .skipped) x ≡ went (so .skipped) (d .lamps) = sym (none (none-is K m) x) ∙ d .trip in
               let y : x ≡ d .lamps = cc in
-              let u : walk s c limit offset (suc f) id t o (was .skipped) x ≡ broke x = simp (eq-eqb (length K) 0 m) in
+              let u : leafWalk s c limit offset (suc f) id t o (was .skipped) x ≡ broke x = simp (eq-eqb (length K) 0 m) in
               record { lamps = d .lamps; trip = u ∙ ap broke y; behind = d .behind }
 
     -- at the child p, whose visit comes to r and leaves out'
@@ -159,7 +159,7 @@ module _ (s : State) (c : Columns) (limit offset id t o : ℕ) (was : Sofar) (ou
       full = met-some any (w .met)
 
       abbrev Vis : ℕ → List ℕ → Trip
-      Vis f m = visit s c limit offset (walk s c limit offset f) t e (so .skipped) m
+      Vis f m = visitChild s c limit offset (leafWalk s c limit offset f) t e (so .skipped) m
 
       -- what is ahead, where the visit is told
       step : (f : ℕ) (m : List ℕ) (x : Trip) → Vis f m ≡ x
@@ -168,7 +168,7 @@ module _ (s : State) (c : Columns) (limit offset id t o : ℕ) (was : Sofar) (ou
       step f m x d =
           let i : e ≡ entry (tableAt s c t) p = z .found ∙ ap (λ (y : Ring). entry (tableIn y c) p) eg in
           ap (λ (ks : List ℕ). S f ks (so .skipped) m) (z .kids)
-          ∙ ap (λ (y : Entry). after s c limit offset (visit s c limit offset (walk s c limit offset f) t y (so .skipped) m)
+          ∙ ap (λ (y : Entry). after s c limit offset (visitChild s c limit offset (leafWalk s c limit offset f) t y (so .skipped) m)
           (λ n q. S f (kidsAhead to) n q)) (sym i)
           ∙ ap (λ (y : Trip). after s c limit offset y (λ n q. S f (kidsAhead to) n q)) d
 
@@ -178,7 +178,7 @@ module _ (s : State) (c : Columns) (limit offset id t o : ℕ) (was : Sofar) (ou
         where
           goes : (f : ℕ) → 32 ≤ f + 1 + t → Does (so .listed) out (Broke k) out' (S f (kidsAhead ah) (so .skipped))
           goes f h base m y =
-              let q : Tells base out' x (Vis f m) = subst (λ (u : Walk). Tells base out' u (Vis f m)) d (v f h base m y) in
+              let q : TellsColumn base out' x (Vis f m) = subst (λ (u : Walk). TellsColumn base out' u (Vis f m)) d (v f h base m y) in
               record {
                 lamps = q .lamps;
                 trip = step f m _ (q .trip ∙ b (q .lamps));
@@ -187,7 +187,7 @@ module _ (s : State) (c : Columns) (limit offset id t o : ℕ) (was : Sofar) (ou
 
       module _ (so' : Sofar) (d : r ≡ Went so') where
         tells : (f : ℕ) → 32 ≤ f + 1 + t → Does (so .listed) out (Went so') out' (Vis f)
-        tells f h base m y = subst (λ (u : Walk). Tells base out' u (Vis f m)) d (v f h base m y)
+        tells f h base m y = subst (λ (u : Walk). TellsColumn base out' u (Vis f m)) d (v f h base m y)
 
         pub walking-stop : so' .listed ≡ limit → Ended (Went so') out'
         walking-stop y = ends l (Went so') out' (λ f h. w .whole f h (Went so') out' (goes f h)) (some full) (peopled full)
@@ -213,5 +213,5 @@ module _ (s : State) (c : Columns) (limit offset id t o : ℕ) (was : Sofar) (ou
             goes f h u out₁ x base m b =
                 let q = tells f h base m b in
                 let n : length (q .lamps) ≡ limit → ⊥ = λ j. y (q .behind .count ∙ j) in
-                subst (λ (a : Trip). Tells base out₁ u a) (sym (step f m _ (q .trip) ∙ simp (ne-eqb (length (q .lamps)) limit n)))
+                subst (λ (a : Trip). TellsColumn base out₁ u a) (sym (step f m _ (q .trip) ∙ simp (ne-eqb (length (q .lamps)) limit n)))
                 (x base (q .lamps) (q .behind))

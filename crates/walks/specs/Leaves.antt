@@ -41,8 +41,8 @@ listOne N id n l = cond (ltb (length l) N) (went n (l ++ (id ∷ []))) (broke l)
 module _ (s : State) (c : Columns) (limit offset : ℕ) where
   -- the child e in zoom t's table: a cluster with skipped + num <= offset is skipped whole, otherwise entered; a lamp is skipped while
   -- skipped < offset, otherwise listed
-  unfoldable pub visit : Into → ℕ → Entry → ℕ → List ℕ → Trip
-  visit into t e n l =
+  unfoldable pub visitChild : Into → ℕ → Entry → ℕ → List ℕ → Trip
+  visitChild into t e n l =
       cond (ltb 1 (e .num))
       (cond (leb (n + e .num) offset) (went (n + e .num) l) (enter into (onward s t (e .id)) (e .id) n l))
       (cond (ltb n offset) (went (n + 1) l) (listOne (s .count) (e .id) n l))
@@ -55,27 +55,27 @@ module _ (s : State) (c : Columns) (limit offset : ℕ) where
   -- the children one after the other; where the search was not clean, a slot that names a place past the table comes after them
   unfoldable pub steps : Into → ℕ → Bool → List Entry → ℕ → List ℕ → Trip
   steps into t clean [] n l = cond clean (went n l) (broke l)
-  steps into t clean (e ∷ es) n l = after (visit into t e n l) (λ m r. steps into t clean es m r)
+  steps into t clean (e ∷ es) n l = after (visitChild into t e n l) (λ m r. steps into t clean es m r)
 
   -- a walk into a cluster with no children breaks. It goes on into larger tables only, of which there are fewer than 32: f bounds how
   -- often
-  unfoldable pub walk : ℕ → Into
-  walk zero id t o n l = broke l
-  walk (suc f) id t o n l =
+  unfoldable pub leafWalk : ℕ → Into
+  leafWalk zero id t o n l = broke l
+  leafWalk (suc f) id t o n l =
       cond (eqb (length (kidsAt s c id t o)) 0) (broke l)
-      (steps (walk f) t (cleanAt s c t o) (map (entry (tableAt s c t)) (kidsAt s c id t o)) n l)
+      (steps (leafWalk f) t (cleanAt s c t o) (map (entry (tableAt s c t)) (kidsAt s c id t o)) n l)
 
 -- the lamps that a walk lists; one that broke did not go to its end
-abbrev pub listed : Trip → Asked
-listed (broke l) = told false l
-listed (went n l) = told true l
+abbrev pub leavesListed : Trip → Asked
+leavesListed (broke l) = told false l
+leavesListed (went n l) = told true l
 
 -- the lamps of the cluster id: at most limit of them, after the first offset; the cluster that is asked for with no children is 01's 6.
 -- Limit 0 lists nothing: the whole search for the children is all that is looked at, and a slot that names a place past the table is met.
 unfoldable pub leavesAt : State → Columns → ℕ → ℕ → ℕ → ℕ → ℕ → Asked
 leavesAt s c id limit offset t o =
     cond (childless s c id t o) (refused NoCluster)
-    (cond (eqb limit 0) (told (cleanAt s c t o) []) (listed (walk s c limit offset 32 id t o 0 [])))
+    (cond (eqb limit 0) (told (cleanAt s c t o) []) (leavesListed (leafWalk s c limit offset 32 id t o 0 [])))
 
 -- the question: the lamps of the cluster where the id leads
 unfoldable pub leavesOf : State → Columns → ℕ → ℕ → ℕ → Asked

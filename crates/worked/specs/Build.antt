@@ -10,16 +10,16 @@ use lib.ListN.{drop, replicate}
 use lib.Ieee.{add, sub, mul, div, ofBits, le, lt, eq}
 use Rattle.range.specs.Range.{offsetOf, scaleOf, normalized, inBounds, systemInBounds, converted}
 use Rattle.kdsort.specs.Shape.{shape, split}
-use Rattle.kdsort.specs.Sort.{filled, sorted, indexed}
+use Rattle.kdsort.specs.Sort.{filledSlots, sorted, indexed}
 use Rattle.kdbush.specs.Reply.{firstOutside}
 use Rattle.tables.specs.declared.State.{State}
 use Rattle.tables.specs.Options.{optionsOk}
 use Rattle.tables.specs.Sound.{packed, stateOk}
 use Rattle.tables.specs.Entries.{Table, never, unset}
 use Rattle.kdbush.specs.Reply.{indexOf}
-use Rattle.zooms.specs.Zooms.{slotsOf, joined, joinedIds, joinedCo, starts, lens}
+use Rattle.zooms.specs.Zooms.{indexOfTable, joined, joinedIds, joinedCo, starts, lens}
 use Rattle.supercluster.specs.declared.LoadReply.the-variants.{Done, Tables}
-use Rattle.supercluster.specs.Build.{convertedAll, Lent, firstOver, written, stateOf, roomy, checked, Outcome, outcome, byReply, loaded}
+use Rattle.supercluster.specs.Build.{convertedAll, BuildColumns, firstOver, written, builtState, roomy, checked, Outcome, outcome, byReply, loaded}
 use Rattle.tables.specs.Room.{Columns, columns, roomOf}
 use Rattle.worked.specs.Tables.{b, at, options, xs, ys, ws, shown, tables-are}
 use Rattle.answers.specs.Stored.{columnsOf}
@@ -27,15 +27,15 @@ use Rattle.answers.specs.Stored.{columnsOf}
 -- ---- the build, and what a question is lent of it
 
 -- what `load` replies and leaves of 01's four lamps, in these columns
-abbrev pub built : Lent → Outcome
-built l = loaded (options 64) xs ys ws l
+abbrev pub workedBuilt : BuildColumns → Outcome
+workedBuilt l = loaded (options 64) xs ys ws l
 
 -- its state
-abbrev pub stateIn : Lent → State
-stateIn l = built l .reply .state
+abbrev pub stateIn : BuildColumns → State
+stateIn l = workedBuilt l .reply .state
 
-abbrev pub columnsIn : Lent → Columns
-columnsIn l = columnsOf (built l .columns)
+abbrev pub columnsIn : BuildColumns → Columns
+columnsIn l = columnsOf (workedBuilt l .columns)
 
 -- ---- what they are
 
@@ -44,8 +44,8 @@ unfoldable pub state : State
 state = record { options = options 64; count = 4; starts = 6 ∷ 4 ∷ 0 ∷ replicate 29 0; lens = 1 ∷ 2 ∷ 4 ∷ replicate 29 0 }
 
 -- the seven entries that 01 prints, column by column; the slots of each index name the places in order; past these the old contents
-unfoldable pub after : Lent → Lent
-after l =
+unfoldable pub afterBuild : BuildColumns → BuildColumns
+afterBuild l =
     let h = b 0x3fe0000000000000 in
     let p = b 0x3fd0000000000000 in
     let q = b 0x3fd4000000000000 in
@@ -69,30 +69,30 @@ after l =
     }
 
 -- and as a question is lent them
-abbrev pub held : Lent → Columns
-held l = columnsOf (after l)
+abbrev pub workedHeld : BuildColumns → Columns
+workedHeld l = columnsOf (afterBuild l)
 
 -- columns of 12 entries are long enough
-pub accepted : (l : Lent) → roomy 12 l ≡ true → checked (options 64) xs ys ws l ≡ Done
+pub accepted : (l : BuildColumns) → roomy 12 l ≡ true → checked (options 64) xs ys ws l ≡ Done
 unfolding checked optionsOk systemInBounds inBounds firstOutside convertedAll converted normalized offsetOf scaleOf add sub mul div
     ofBits le lt options xs ys ws b firstOver
 accepted l h = ap (λ (c : Bool). cond c Done Tables) h
 
 -- the tables that 01 prints, packed in the columns, each with its index
-state-of-shown : stateOf (options 64) 4 shown ≡ state
+state-of-shown : builtState (options 64) 4 shown ≡ state
 unfolding starts lens shown state options
 state-of-shown = refl
 
-written-shown : (l : Lent) → written 64 4 shown l ≡ after l
-unfolding written joined joinedIds joinedCo slotsOf indexOf indexed sorted filled shape split shown at after ofBits b
+written-shown : (l : BuildColumns) → written 64 4 shown l ≡ afterBuild l
+unfolding written joined joinedIds joinedCo indexOfTable indexOf indexed sorted filledSlots shape split shown at afterBuild ofBits b
 written-shown l = refl
 
 -- the build is accepted, and leaves just these
-pub built-is : (l : Lent) → roomy 12 l ≡ true → built l ≡ outcome (record { reply = Done; state = state }) (after l)
+pub built-is : (l : BuildColumns) → roomy 12 l ≡ true → workedBuilt l ≡ outcome (record { reply = Done; state = state }) (afterBuild l)
 unfolding loaded options xs
 built-is l h =
     ap (byReply (options 64) xs ys ws l) (accepted l h)
-    ∙ ap (λ (ts : List Table). outcome (record { reply = Done; state = stateOf (options 64) 4 ts }) (written 64 4 ts l)) tables-are
+    ∙ ap (λ (ts : List Table). outcome (record { reply = Done; state = builtState (options 64) 4 ts }) (written 64 4 ts l)) tables-are
     ∙ (λ i. outcome (record { reply = Done; state = state-of-shown i }) (written-shown l i))
 
 -- ---- the state is sound over them
@@ -104,13 +104,13 @@ both n c d h k = omega arith
 halved : (n : ℕ) → 14 ≤ n → 7 ≤ n / 2
 halved n h = omega arith
 
-room-is : (l : Lent) → 7 ≤ roomOf (held l)
-unfolding after
+room-is : (l : BuildColumns) → 7 ≤ roomOf (workedHeld l)
+unfolding afterBuild
 room-is l =
     both 7 _ _
     (both 7 _ _ (both 7 _ _ (omega arith) (omega arith)) (both 7 _ _ (omega arith) (omega arith)))
     (both 7 _ _ (both 7 _ _ (omega arith) (omega arith)) (both 7 _ _ (omega arith) (both 7 _ _ (omega arith) (halved _ (omega arith)))))
 
-pub sound : (l : Lent) → stateOk state (roomOf (held l)) ≡ true
+pub sound : (l : BuildColumns) → stateOk state (roomOf (workedHeld l)) ≡ true
 unfolding stateOk packed optionsOk systemInBounds inBounds offsetOf scaleOf ofBits le lt eq sub state options b
-sound l = le-leb 7 (roomOf (held l)) (room-is l)
+sound l = le-leb 7 (roomOf (workedHeld l)) (room-is l)

@@ -14,7 +14,7 @@ use Rattle.range.specs.Range.{offsetOf, scaleOf, normalized, inBounds, systemIn
 use Rattle.kdsort.specs.Cols.{swapCo, swapIds}
 use Rattle.kdsort.specs.Shape.{shape, split}
 use Rattle.kdsort.specs.Select.{up, down, passes, parted, sel, selected}
-use Rattle.kdsort.specs.Sort.{filled, sorted, indexed}
+use Rattle.kdsort.specs.Sort.{filledSlots, sorted, indexed}
 use Rattle.kdslots.specs.Slots.{scanned, slots}
 use Rattle.kdbush.specs.Run.{places}
 use Rattle.kdbush.specs.Reply.{firstOutside}
@@ -26,17 +26,17 @@ use Rattle.tables.specs.Rows.{rows}
 use Rattle.tables.specs.Sound.{packed, stateOk}
 use Rattle.zoom.specs.Zoom.{moreOf, absorbOne, absorb, copyOne, copyAll, visit, scanOne, scanFrom, cluster}
 use Rattle.kdbush.specs.Reply.{indexOf}
-use Rattle.zooms.specs.Zooms.{slotsOf, run, joined, joinedIds, joinedCo, starts, lens}
+use Rattle.zooms.specs.Zooms.{indexOfTable, runZooms, joined, joinedIds, joinedCo, starts, lens}
 use Rattle.supercluster.specs.declared.LoadReply.the-variants.{Done, Tables}
-use Rattle.supercluster.specs.Build.{convertedAll, finest, tablesOf, Lent, written, roomy, firstOver, checked, loadNumber, Outcome, loaded}
+use Rattle.supercluster.specs.Build.{convertedAll, finest, tablesOf, BuildColumns, written, roomy, firstOver, checked, loadNumber, Outcome, loaded}
 use Rattle.asking.specs.declared.Answer.the-variants.{NoRoom}
 use Rattle.tiling.specs.declared.Tally.the-variants.{Sum}
 use Rattle.tiling.specs.Floor.{homeOf}
-use Rattle.tiling.specs.Tile.{here, wraps, east, west, visited, listed, whole, rounded}
+use Rattle.tiling.specs.Tile.{here, wraps, eastStrip, westStrip, visited, tileListed, wholeTile, rounded}
 use Rattle.tiling.specs.Tally.{member, distinct, total, tallyOf}
 use Rattle.tiles.specs.Tallied.{tallied}
 use Rattle.asking.specs.Asked.{told}
-use Rattle.tiles.specs.Asked.{Asked, asked, outcome, outcomeOf, tiled}
+use Rattle.tiles.specs.Asked.{TileAsked, tileAsked, tileOutcome, outcomeOf, tiled}
 use Rattle.worked.specs.Tables.{b, options, xs, ys, ws, zeros}
 use Rattle.answers.specs.Stored.{columnsOf}
 
@@ -59,16 +59,16 @@ with z k =
     }
 
 -- 32 tables of four lamps
-pub zoom-30 : (l : Lent) → roomy 128 l ≡ true → checked (with 30 2) xs ys ws l ≡ Done
+pub zoom-30 : (l : BuildColumns) → roomy 128 l ≡ true → checked (with 30 2) xs ys ws l ≡ Done
 unfolding checked optionsOk systemInBounds inBounds firstOutside convertedAll converted normalized offsetOf scaleOf add sub mul div
     ofBits le lt with options xs ys ws b firstOver
 zoom-30 l h = ap (λ (c : Bool). cond c Done Tables) h
 
-pub zoom-31 : (l : Lent) → loadNumber (checked (with 31 2) xs ys ws l) ≡ 1
+pub zoom-31 : (l : BuildColumns) → loadNumber (checked (with 31 2) xs ys ws l) ≡ 1
 unfolding checked optionsOk systemInBounds inBounds offsetOf scaleOf sub ofBits le lt with options b
 zoom-31 l = refl
 
-pub size-0 : (l : Lent) → loadNumber (checked (options 0) xs ys ws l) ≡ 1
+pub size-0 : (l : BuildColumns) → loadNumber (checked (options 0) xs ys ws l) ≡ 1
 unfolding checked optionsOk systemInBounds inBounds offsetOf scaleOf sub ofBits le lt options b
 size-0 l = refl
 
@@ -76,8 +76,8 @@ size-0 l = refl
 
 pub single : (map idsOf (tablesOf (with 1 3) xs ys ws) ≡ replicate 3 (0 ∷ 1 ∷ 2 ∷ 3 ∷ []))
     × (map numsOf (tablesOf (with 1 3) xs ys ws) ≡ replicate 3 (replicate 4 1))
-unfolding tablesOf run convertedAll finest slotsOf indexOf radiusAt cluster scanFrom scanOne visit copyAll copyOne absorb absorbOne
-    moreOf converted normalized offsetOf scaleOf filled sorted indexed selected sel parted passes up down swapCo swapIds add sub mul div
+unfolding tablesOf runZooms convertedAll finest indexOfTable indexOf radiusAt cluster scanFrom scanOne visit copyAll copyOne absorb absorbOne
+    moreOf converted normalized offsetOf scaleOf filledSlots sorted indexed selected sel parted passes up down swapCo swapIds add sub mul div
     ofInt ofBits le lt eq shape split scanned slots places with options xs ys ws b
 single = (refl, refl)
 
@@ -87,26 +87,26 @@ abbrev pub lone : Outcome
 lone = loaded (options 64) (one ∷ []) (half ∷ []) (9 ∷ []) (zeros 3)
 
 -- at (512,256), and again at (0,256)
-pub tile-of-lone : asked (lone .reply .state) (columnsOf (lone .columns)) 0 0 0
+pub tile-of-lone : tileAsked (lone .reply .state) (columnsOf (lone .columns)) 0 0 0
     ≡ told true (record { place = 0; x = pos 512; y = pos 256 } ∷ record { place = 0; x = pos 0; y = pos 256 } ∷ [])
-unfolding loaded checked firstOver zeros written joined joinedIds joinedCo starts lens tablesOf run convertedAll finest slotsOf indexOf
-    radiusAt cluster scanFrom scanOne visit copyAll copyOne absorb absorbOne moreOf converted normalized offsetOf scaleOf filled sorted
-    indexed selected sel parted passes up down swapCo swapIds firstOutside asked stateOk packed optionsOk systemInBounds inBounds
-    visited here wraps east west listed whole rounded away neg add sub mul div ofInt ofBits le lt eq shape split scanned slots places
+unfolding loaded checked firstOver zeros written joined joinedIds joinedCo starts lens tablesOf runZooms convertedAll finest indexOfTable indexOf
+    radiusAt cluster scanFrom scanOne visit copyAll copyOne absorb absorbOne moreOf converted normalized offsetOf scaleOf filledSlots sorted
+    indexed selected sel parted passes up down swapCo swapIds firstOutside tileAsked stateOk packed optionsOk systemInBounds inBounds
+    visited here wraps eastStrip westStrip tileListed wholeTile rounded away neg add sub mul div ofInt ofBits le lt eq shape split scanned slots places
     rows options b
 tile-of-lone = refl
 
 -- the shortest column has room for one of the two
 pub lone-no-room : tiled (lone .reply .state) (columnsOf (lone .columns)) 0 0 0 (9 ∷ 9 ∷ []) (pos 9 ∷ []) (pos 9 ∷ pos 9 ∷ [])
-    ≡ outcome (NoRoom 2) (0 ∷ 9 ∷ []) (pos 512 ∷ []) (pos 256 ∷ pos 9 ∷ [])
-lone-no-room = ap (λ (a : Asked). outcomeOf a (9 ∷ 9 ∷ []) (pos 9 ∷ []) (pos 9 ∷ pos 9 ∷ [])) tile-of-lone
+    ≡ tileOutcome (NoRoom 2) (0 ∷ 9 ∷ []) (pos 512 ∷ []) (pos 256 ∷ pos 9 ∷ [])
+lone-no-room = ap (λ (a : TileAsked). outcomeOf a (9 ∷ 9 ∷ []) (pos 9 ∷ []) (pos 9 ∷ pos 9 ∷ [])) tile-of-lone
 
 -- listed twice, and counted once
 pub tally-of-lone : tallied (lone .reply .state) (columnsOf (lone .columns)) 0 0 0 ≡ Sum 1
-unfolding loaded checked firstOver zeros written joined joinedIds joinedCo starts lens tablesOf run convertedAll finest slotsOf indexOf
-    radiusAt cluster scanFrom scanOne visit copyAll copyOne absorb absorbOne moreOf converted normalized offsetOf scaleOf filled sorted
+unfolding loaded checked firstOver zeros written joined joinedIds joinedCo starts lens tablesOf runZooms convertedAll finest indexOfTable indexOf
+    radiusAt cluster scanFrom scanOne visit copyAll copyOne absorb absorbOne moreOf converted normalized offsetOf scaleOf filledSlots sorted
     indexed selected sel parted passes up down swapCo swapIds firstOutside tallied tallyOf total distinct member homeOf stateOk packed
-    optionsOk systemInBounds inBounds visited here wraps east west listed whole rounded away neg add sub mul div ofInt ofBits le lt eq
+    optionsOk systemInBounds inBounds visited here wraps eastStrip westStrip tileListed wholeTile rounded away neg add sub mul div ofInt ofBits le lt eq
     shape split scanned slots places rows options b
 tally-of-lone = refl
 
@@ -125,33 +125,33 @@ onPlan o =
       «longitude_strips_only» = true;
     }
 
-abbrev pub planned : Outcome
-planned = loaded (onPlan (options 64)) (one ∷ []) (half ∷ []) (9 ∷ []) (zeros 3)
+abbrev pub workedPlanned : Outcome
+workedPlanned = loaded (onPlan (options 64)) (one ∷ []) (half ∷ []) (9 ∷ []) (zeros 3)
 
-pub tile-of-planned : asked (planned .reply .state) (columnsOf (planned .columns)) 0 0 0
+pub tile-of-planned : tileAsked (workedPlanned .reply .state) (columnsOf (workedPlanned .columns)) 0 0 0
     ≡ told true (record { place = 0; x = pos 512; y = pos 256 } ∷ [])
-unfolding onPlan loaded checked firstOver zeros written joined joinedIds joinedCo starts lens tablesOf run convertedAll finest slotsOf
-    indexOf radiusAt cluster scanFrom scanOne visit copyAll copyOne absorb absorbOne moreOf converted normalized offsetOf scaleOf filled
-    sorted indexed selected sel parted passes up down swapCo swapIds firstOutside asked stateOk packed optionsOk systemInBounds inBounds
-    visited here wraps east west listed whole rounded away neg add sub mul div ofInt ofBits le lt eq shape split scanned slots places
+unfolding onPlan loaded checked firstOver zeros written joined joinedIds joinedCo starts lens tablesOf runZooms convertedAll finest indexOfTable
+    indexOf radiusAt cluster scanFrom scanOne visit copyAll copyOne absorb absorbOne moreOf converted normalized offsetOf scaleOf filledSlots
+    sorted indexed selected sel parted passes up down swapCo swapIds firstOutside tileAsked stateOk packed optionsOk systemInBounds inBounds
+    visited here wraps eastStrip westStrip tileListed wholeTile rounded away neg add sub mul div ofInt ofBits le lt eq shape split scanned slots places
     rows options b
 tile-of-planned = refl
 
 -- ---- lamps at (0, 0.5) and (1, 0.5): each is listed in the tile, and once more by the other strip
 
-abbrev pub two : Outcome
-two = loaded (options 64) (zero ∷ one ∷ []) (half ∷ half ∷ []) (9 ∷ 9 ∷ []) (zeros 6)
+abbrev pub twoLamps : Outcome
+twoLamps = loaded (options 64) (zero ∷ one ∷ []) (half ∷ half ∷ []) (9 ∷ 9 ∷ []) (zeros 6)
 
-pub tile-of-two : asked (two .reply .state) (columnsOf (two .columns)) 0 0 0
+pub tile-of-two : tileAsked (twoLamps .reply .state) (columnsOf (twoLamps .columns)) 0 0 0
     ≡ told true
     (record { place = 0; x = pos 0; y = pos 256 }
     ∷ record { place = 1; x = pos 512; y = pos 256 }
     ∷ record { place = 1; x = pos 0; y = pos 256 }
     ∷ record { place = 0; x = pos 512; y = pos 256 }
     ∷ [])
-unfolding loaded checked firstOver zeros written joined joinedIds joinedCo starts lens tablesOf run convertedAll finest slotsOf indexOf
-    radiusAt cluster scanFrom scanOne visit copyAll copyOne absorb absorbOne moreOf converted normalized offsetOf scaleOf filled sorted
-    indexed selected sel parted passes up down swapCo swapIds firstOutside asked stateOk packed optionsOk systemInBounds inBounds
-    visited here wraps east west listed whole rounded away neg add sub mul div ofInt ofBits le lt eq shape split scanned slots places
+unfolding loaded checked firstOver zeros written joined joinedIds joinedCo starts lens tablesOf runZooms convertedAll finest indexOfTable indexOf
+    radiusAt cluster scanFrom scanOne visit copyAll copyOne absorb absorbOne moreOf converted normalized offsetOf scaleOf filledSlots sorted
+    indexed selected sel parted passes up down swapCo swapIds firstOutside tileAsked stateOk packed optionsOk systemInBounds inBounds
+    visited here wraps eastStrip westStrip tileListed wholeTile rounded away neg add sub mul div ofInt ofBits le lt eq shape split scanned slots places
     rows options b
 tile-of-two = refl

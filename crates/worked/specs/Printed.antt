@@ -5,17 +5,17 @@ use mathlib.Core.Path.{_≡_, refl, ap, _∙_}
 use Prim.Native.Nat.{ℕ}
 use lib.Ieee.{div, ofInt, ofBits, toBits, isNan}
 use Rattle.supercluster.specs.declared.LoadReply.the-variants.{Done}
-use Rattle.supercluster.specs.Build.{Lent, checked, loaded}
+use Rattle.supercluster.specs.Build.{BuildColumns, checked, loaded}
 use Rattle.listing.specs.declared.Parsed.the-variants.{Refused}
 use Rattle.listing.specs.Bytes.{bytes}
 use Rattle.listing.specs.Digits.{decimalOf}
-use Rattle.listing.specs.Text.{Place, Input, line, pointsText, text, headIs, xsOf, ysOf, energiesOf, pointCols, parsedNumber}
+use Rattle.listing.specs.Text.{Place, Input, line, pointsText, text, headIs, givenXs, givenYs, givenEnergies, pointCols, parsedNumber}
 use Rattle.listing.specs.Values.{optionsOf}
 use Rattle.report.specs.Hex.{hexOf}
 use Rattle.report.specs.Lines.{tableText, tablesText, refusalText}
-use Rattle.report.specs.Report.{columns, answerText, buildText, linesOf}
+use Rattle.report.specs.Report.{listerColumns, answerText, buildText, linesOf}
 use Rattle.worked.specs.Tables.{b, at, options, xs, ys, ws, shown, tables-are}
-use Rattle.worked.specs.Build.{built, accepted}
+use Rattle.worked.specs.Build.{workedBuilt, accepted}
 
 abbrev place : ℕ → ℕ → ℕ → Place
 place x y w = record { x = x; y = y; wh = w }
@@ -69,24 +69,24 @@ options-are : optionsOf (headIs example) ≡ options 64
 unfolding example options b ofInt ofBits
 options-are = refl
 
-xs-are : xsOf example ≡ xs
+xs-are : givenXs example ≡ xs
 unfolding example xs b ofInt ofBits div
 xs-are = refl
 
-ys-are : ysOf example ≡ ys
+ys-are : givenYs example ≡ ys
 unfolding example ys b ofInt ofBits div
 ys-are = refl
 
-ws-are : energiesOf example ≡ ws
+ws-are : givenEnergies example ≡ ws
 unfolding example ws
 ws-are = refl
 
-reply-is : checked (options 64) xs ys ws columns ≡ Done
-unfolding columns
-reply-is = accepted columns refl
+reply-is : checked (options 64) xs ys ws listerColumns ≡ Done
+unfolding listerColumns
+reply-is = accepted listerColumns refl
 
 -- so the build that the lister makes of it, in any columns, is the worked build
-pub example-built : (l : Lent) → loaded (optionsOf (headIs example)) (xsOf example) (ysOf example) (energiesOf example) l ≡ built l
+pub example-built : (l : BuildColumns) → loaded (optionsOf (headIs example)) (givenXs example) (givenYs example) (givenEnergies example) l ≡ workedBuilt l
 example-built l i = loaded (options-are i) (xs-are i) (ys-are i) (ws-are i) l
 
 shown-text : tablesText 2 shown ≡ sevenLines

@@ -13,7 +13,7 @@ use Rattle.range.specs.Range.{offsetOf, scaleOf, normalized, inBounds, systemIn
 use Rattle.kdsort.specs.Cols.{swapCo, swapIds}
 use Rattle.kdsort.specs.Shape.{shape, split}
 use Rattle.kdsort.specs.Select.{up, down, passes, parted, sel, selected}
-use Rattle.kdsort.specs.Sort.{filled, sorted, indexed}
+use Rattle.kdsort.specs.Sort.{filledSlots, sorted, indexed}
 use Rattle.kdslots.specs.Slots.{scanned, slots}
 use Rattle.kdbush.specs.Run.{places}
 use Rattle.kdbush.specs.Reply.{firstOutside}
@@ -25,9 +25,9 @@ use Rattle.tables.specs.Radius.{radiusAt}
 use Rattle.tables.specs.Rows.{cols}
 use Rattle.zoom.specs.Zoom.{moreOf, absorbOne, absorb, copyOne, copyAll, visit, scanOne, scanFrom, cluster}
 use Rattle.kdbush.specs.Reply.{indexOf}
-use Rattle.zooms.specs.Zooms.{slotsOf, run, starts}
+use Rattle.zooms.specs.Zooms.{indexOfTable, runZooms, starts}
 use Rattle.supercluster.specs.declared.LoadReply.the-variants.{Tables}
-use Rattle.supercluster.specs.Build.{convertedAll, finest, tablesOf, Lent, lent, firstOver, checked, loaded}
+use Rattle.supercluster.specs.Build.{convertedAll, finest, tablesOf, BuildColumns, buildColumns, firstOver, checked, loaded}
 
 -- a float by its bits, as 01 prints it
 unfoldable pub b : ℕ → Float
@@ -75,15 +75,15 @@ shown =
     ∷ []
 
 pub tables-are : tablesOf (options 64) xs ys ws ≡ shown
-unfolding tablesOf run convertedAll finest slotsOf indexOf radiusAt cluster scanFrom scanOne visit copyAll copyOne absorb absorbOne
-    moreOf converted normalized offsetOf scaleOf add sub mul div ofInt ofBits le lt eq filled sorted indexed selected sel parted passes
+unfolding tablesOf runZooms convertedAll finest indexOfTable indexOf radiusAt cluster scanFrom scanOne visit copyAll copyOne absorb absorbOne
+    moreOf converted normalized offsetOf scaleOf add sub mul div ofInt ofBits le lt eq filledSlots sorted indexed selected sel parted passes
     up down swapCo swapIds shape split scanned slots places options xs ys ws shown b at
 tables-are = refl
 
 -- and at node size 1
 pub split-are : tablesOf (options 1) xs ys ws ≡ shown
-unfolding tablesOf run convertedAll finest slotsOf indexOf radiusAt cluster scanFrom scanOne visit copyAll copyOne absorb absorbOne
-    moreOf converted normalized offsetOf scaleOf add sub mul div ofInt ofBits le lt eq filled sorted indexed selected sel parted passes
+unfolding tablesOf runZooms convertedAll finest indexOfTable indexOf radiusAt cluster scanFrom scanOne visit copyAll copyOne absorb absorbOne
+    moreOf converted normalized offsetOf scaleOf add sub mul div ofInt ofBits le lt eq filledSlots sorted indexed selected sel parted passes
     up down swapCo swapIds shape split scanned slots places options xs ys ws shown b at
 split-are = refl
 
@@ -93,11 +93,11 @@ unfolding starts shown
 starts-are = refl
 
 -- zeroed columns of n entries
-unfoldable pub zeros : ℕ → Lent
+unfoldable pub zeros : ℕ → BuildColumns
 zeros n =
     let f = replicate n zero in
     let z = replicate {A = ℕ} n 0 in
-    lent (cols f f z z z z z) z (replicate (n + n) zero) z
+    buildColumns (cols f f z z z z z) z (replicate (n + n) zero) z
 
 -- columns of 12 entries are long enough (Build), and one less is refused 4
 pub too-short : loaded (options 64) xs ys ws (zeros 11) .reply .reply ≡ Tables

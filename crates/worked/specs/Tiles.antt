@@ -13,38 +13,38 @@ use Rattle.tables.specs.Rows.{rows}
 use Rattle.asking.specs.declared.Answer.the-variants.{Listed, Tile, Spoiled}
 use Rattle.tiling.specs.declared.Tally.the-variants.{Sum, Spoiled as Tally·Spoiled}
 use Rattle.tiling.specs.Floor.{homeOf}
-use Rattle.tiling.specs.Tile.{here, wraps, east, west, visited, listed, whole, rounded}
+use Rattle.tiling.specs.Tile.{here, wraps, eastStrip, westStrip, visited, tileListed, wholeTile, rounded}
 use Rattle.tiling.specs.Tally.{member, distinct, total, tallyOf}
 use Rattle.tiles.specs.Tallied.{tallied}
 use Rattle.asking.specs.Asked.{refused, told}
-use Rattle.tiles.specs.Asked.{Asked, asked, outcome, outcomeOf, tiled}
-use Rattle.supercluster.specs.Build.{Lent}
+use Rattle.tiles.specs.Asked.{TileAsked, tileAsked, tileOutcome, outcomeOf, tiled}
+use Rattle.supercluster.specs.Build.{BuildColumns}
 use Rattle.worked.specs.Tables.{b, options}
-use Rattle.worked.specs.Build.{state, after, held, sound}
+use Rattle.worked.specs.Build.{state, afterBuild, workedHeld, sound}
 
-module _ (l : Lent) where
+module _ (l : BuildColumns) where
   -- the state being sound
-  asks : Asked → Bool → Asked
+  asks : TileAsked → Bool → TileAsked
   asks a s = cond (not s) (refused Spoiled) a
 
   -- entry 0 at (176,256)
-  pub tile-000 : asked state (held l) 0 0 0 ≡ told true (record { place = 0; x = pos 176; y = pos 256 } ∷ [])
-  unfolding asked visited here wraps east west listed whole rounded away neg add sub mul div ofInt ofBits le lt eq shape split scanned
-      slots places rows options state after b asks
+  pub tile-000 : tileAsked state (workedHeld l) 0 0 0 ≡ told true (record { place = 0; x = pos 176; y = pos 256 } ∷ [])
+  unfolding tileAsked visited here wraps eastStrip westStrip tileListed wholeTile rounded away neg add sub mul div ofInt ofBits le lt eq shape split scanned
+      slots places rows options state afterBuild b asks
   tile-000 = ap (asks (told true (record { place = 0; x = pos 176; y = pos 256 } ∷ []))) (sound l)
 
   -- in columns of two: the first item, and then what stood there
-  pub tile-columns : tiled state (held l) 0 0 0 (9 ∷ 9 ∷ []) (pos 9 ∷ pos 9 ∷ []) (pos 9 ∷ pos 9 ∷ [])
-      ≡ outcome (Listed 1) (0 ∷ 9 ∷ []) (pos 176 ∷ pos 9 ∷ []) (pos 256 ∷ pos 9 ∷ [])
-  tile-columns = ap (λ (a : Asked). outcomeOf a (9 ∷ 9 ∷ []) (pos 9 ∷ pos 9 ∷ []) (pos 9 ∷ pos 9 ∷ [])) tile-000
+  pub tile-columns : tiled state (workedHeld l) 0 0 0 (9 ∷ 9 ∷ []) (pos 9 ∷ pos 9 ∷ []) (pos 9 ∷ pos 9 ∷ [])
+      ≡ tileOutcome (Listed 1) (0 ∷ 9 ∷ []) (pos 176 ∷ pos 9 ∷ []) (pos 256 ∷ pos 9 ∷ [])
+  tile-columns = ap (λ (a : TileAsked). outcomeOf a (9 ∷ 9 ∷ []) (pos 9 ∷ pos 9 ∷ []) (pos 9 ∷ pos 9 ∷ [])) tile-000
 
   -- there is one tile at zoom 0
-  pub no-tile : asked state (held l) 0 1 0 ≡ refused Tile
-  unfolding asked asks
+  pub no-tile : tileAsked state (workedHeld l) 0 1 0 ≡ refused Tile
+  unfolding tileAsked asks
   no-tile = ap (asks (refused Tile)) (sound l)
 
   -- its four lamps
-  pub tally-000 : tallied state (held l) 0 0 0 ≡ Sum 4
-  unfolding tallied tallyOf total distinct member homeOf visited here wraps east west listed whole rounded away neg add sub mul div
-      ofInt ofBits le lt eq shape split scanned slots places rows options state after b
+  pub tally-000 : tallied state (workedHeld l) 0 0 0 ≡ Sum 4
+  unfolding tallied tallyOf total distinct member homeOf visited here wraps eastStrip westStrip tileListed wholeTile rounded away neg add sub mul div
+      ofInt ofBits le lt eq shape split scanned slots places rows options state afterBuild b
   tally-000 = ap (λ (s : Bool). cond (not s) Tally·Spoiled (Sum 4)) (sound l)

@@ -17,14 +17,14 @@ use Rattle.walks.specs.declared.Expansion.the-variants.{At}
 use Rattle.walks.specs.Children.{childrenOf}
 use Rattle.walks.specs.Expansion.{zoomOf}
 use Rattle.walks.specs.Leaves.{leavesOf}
-use Rattle.tiles.specs.Asked.{asked}
+use Rattle.tiles.specs.Asked.{tileAsked}
 use Rattle.supercluster.specs.declared.LoadReply.the-variants.{Done}
-use Rattle.supercluster.specs.Build.{Lent, roomy, Outcome, loaded}
-use Rattle.listing.specs.Text.{text, headIs, xsOf, ysOf, energiesOf}
+use Rattle.supercluster.specs.Build.{BuildColumns, roomy, Outcome, loaded}
+use Rattle.listing.specs.Text.{text, headIs, givenXs, givenYs, givenEnergies}
 use Rattle.listing.specs.Values.{optionsOf}
-use Rattle.report.specs.Report.{columns as zeros, linesOf}
+use Rattle.report.specs.Report.{listerColumns as zeros, linesOf}
 use Rattle.answers.specs.Stored.{columnsOf}
-use Rattle.worked.specs.Build.{built, stateIn, columnsIn, state, held, built-is}
+use Rattle.worked.specs.Build.{workedBuilt, stateIn, columnsIn, state, workedHeld, built-is}
 use Rattle.worked.specs.Walks.{Refused, children-5, leaves-10-0, leaves-3-1, leaves-0-0, leaves-0-1, zoom-5, zoom-6, refused-3}
 use Rattle.worked.specs.Walks.{refused-4, refused-7, refused-134}
 use Rattle.worked.specs.Tiles.{tile-000}
@@ -55,13 +55,13 @@ pub record Worked (s : State) (c : Columns) : Type 0 where
   pub id-7 : Refused s c 7 5
   pub id-134 : Refused s c 134 6
   -- tile (0,0,0) lists entry 0 at (176,256)
-  pub tile : asked s c 0 0 0 ≡ told true (record { place = 0; x = pos 176; y = pos 256 } ∷ [])
+  pub tile : tileAsked s c 0 0 0 ≡ told true (record { place = 0; x = pos 176; y = pos 256 } ∷ [])
   -- 0.5 rounds to 1, -0.5 to -1
   pub half-up : away half ≡ pos 1
   pub half-down : away (neg half) ≡ negsuc 0
 
 -- over the state and the columns that Build shows
-table : (l : Lent) → Worked state (held l)
+table : (l : BuildColumns) → Worked state (workedHeld l)
 unfolding neg state
 table l =
     record {
@@ -86,13 +86,13 @@ table l =
     }
 
 -- and those are what `load` replies and leaves
-pub worked : (l : Lent) → roomy 12 l ≡ true → (built l .reply .reply ≡ Done) × Worked (stateIn l) (columnsIn l)
+pub worked : (l : BuildColumns) → roomy 12 l ≡ true → (workedBuilt l .reply .reply ≡ Done) × Worked (stateIn l) (columnsIn l)
 worked l h = subst (λ (o : Outcome). (o .reply .reply ≡ Done) × Worked (o .reply .state) (columnsOf (o .columns))) (sym (built-is l h)) (refl, table l)
 
 -- so of the lister's example, in the lister's columns of 1,152 zeros
-abbrev pub listed : Outcome
-listed = loaded (optionsOf (headIs example)) (xsOf example) (ysOf example) (energiesOf example) zeros
+abbrev pub workedListed : Outcome
+workedListed = loaded (optionsOf (headIs example)) (givenXs example) (givenYs example) (givenEnergies example) zeros
 
-pub worked-in-lister : Worked (listed .reply .state) (columnsOf (listed .columns))
+pub worked-in-lister : Worked (workedListed .reply .state) (columnsOf (workedListed .columns))
 unfolding zeros
 worked-in-lister = subst (λ (o : Outcome). Worked (o .reply .state) (columnsOf (o .columns))) (sym (example-built zeros)) (worked zeros refl .1)

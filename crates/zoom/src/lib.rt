@@ -23,7 +23,7 @@ ghost use Rattle.zoom.specs.Zoom.{copyOne, copyAll, madeAt, leftAt, enou
 ghost use Rattle.zoom.specs.Scanned.{Scanned, scanOf, unseenCount, unseenNum, unseenOf};
 ghost use Rattle.zoom.specs.Near.{nearOf};
 ghost use Rattle.zoom.specs.laws.Near.{Answered, Placed, Radius};
-ghost use Rattle.zoom.specs.laws.Notes.{Tells, Noted, Owned, Slotted, Same};
+ghost use Rattle.zoom.specs.laws.Notes.{Tells, Noted, OwnNote, Slotted, Same};
 
 // The running sums of a cluster: coordinates times nums, and energies.
 struct Sums {
@@ -389,7 +389,7 @@ struct Note {
 // it is more than two.
 fn note_at(ids: &[u32], coords: &[f64], node_size: usize, r: f64, len: usize, s: usize) -> Note
     requires { ⌜ Promised «node_size» len (now ids) (now coords) × (s < len) × (len ≤ 1048576) ⌝ }
-    requires { ⌜ Owned len (nearOf «node_size» len (now ids) (now coords) r) (now ids) (now coords) ⌝ }
+    requires { ⌜ OwnNote len (nearOf «node_size» len (now ids) (now coords) r) (now ids) (now coords) ⌝ }
     ensures { λ n.
         let around = nearOf «node_size» len (old ids) (old coords) r in
         ⌜ Tells (getD (old ids) s 0) (n .note) (around (key 0 (old coords) s) (key 1 (old coords) s)) ⌝ }
@@ -438,7 +438,7 @@ fn note_all(
 )
     requires { ⌜ Promised «node_size» len (now ids) (now coords) × (notes + len ≤ length (now near)) × (notes ≤ 1048576)
         × (len ≤ 1048576) ⌝ }
-    requires { ⌜ Owned len (nearOf «node_size» len (now ids) (now coords) r) (now ids) (now coords) ⌝ }
+    requires { ⌜ OwnNote len (nearOf «node_size» len (now ids) (now coords) r) (now ids) (now coords) ⌝ }
     ensures { λ _.
         let around = nearOf «node_size» len (old ids) (old coords) r in
         ⌜ ((t : Table) → Slotted len (old ids) (old coords) t → Noted notes len around (new near) t) ⌝ }
@@ -604,7 +604,7 @@ pub fn cluster(
         let t = take len (rows c) in
         let around = nearOf «node_size» len (now ids) (now coords) r in
         ⌜ Even c × Promised «node_size» len (now ids) (now coords) × Radius r × (n + len ≤ length (now near)) × (len + len ≤ length (c .x))
-        × All Placed t × Slotted len (now ids) (now coords) t × Owned len around (now ids) (now coords)
+        × All Placed t × Slotted len (now ids) (now coords) t × OwnNote len around (now ids) (now coords)
         × (len ≤ n) × (n ≤ 1048576) × (z ≤ 30) × (unseenNum z t < 2 ^ 32) × (unseenOf energyOf z t < 2 ^ 64) ⌝ }
     ensures { λ d.
         let c = lentCols x y seen id parent num energy in

@@ -4,7 +4,7 @@ use mathlib.Core.List.{List, [], _∷_, _++_}
 use Prim.Native.Nat.{ℕ, zero, suc, _+_, _-_}
 use lib.ListN.{length, set, drop}
 use lib.Ieee.{Float}
-use Rattle.kdsort.specs.Cols.{Cols}
+use Rattle.kdsort.specs.Cols.{IndexCols}
 use Rattle.kdbush.specs.Reply.{indexOf}
 use Rattle.tables.specs.declared.Options.{Options}
 use Rattle.tables.specs.Entries.{Table, xsOf, ysOf}
@@ -15,20 +15,20 @@ use Rattle.zoom.specs.Near.{nearOf}
 -- ---- the tables
 
 -- the index of a table
-unfoldable pub slotsOf : ℕ → Table → Cols
-slotsOf size t = indexOf size (xsOf t) (ysOf t)
+unfoldable pub indexOfTable : ℕ → Table → IndexCols
+indexOfTable size t = indexOf size (xsOf t) (ysOf t)
 
 -- what `within` answers of it
 abbrev pub nearIn : ℕ → Float → Table → Float → Float → List ℕ
-nearIn size r t = nearOf size (length t) (slotsOf size t .ids) (slotsOf size t .co) r
+nearIn size r t = nearOf size (length t) (indexOfTable size t .ids) (indexOfTable size t .co) r
 
 -- what a build goes by: the options, and the number of points
 pub record Plan : Type 0 where
   pub options : Options
   pub count : ℕ
 
-abbrev pub planOf : Options → ℕ → Plan
-planOf o n = record { options = o; count = n }
+abbrev pub zoomPlan : Options → ℕ → Plan
+zoomPlan o n = record { options = o; count = n }
 
 -- zoom z on the table t: t, marked, and the next table
 abbrev pub zoomed : Plan → ℕ → Table → Scan
@@ -37,9 +37,9 @@ zoomed p z t =
     cluster (p .count) (p .options .«min_points») z (nearIn (p .options .«node_size») r t) t
 
 -- the tables from t down to that of min_zoom, k zooms being left
-unfoldable pub run : Plan → ℕ → Table → List Table
-run p zero t = t ∷ []
-run p (suc k) t = zoomed p (p .options .«min_zoom» + k) t .table ∷ run p k (zoomed p (p .options .«min_zoom» + k) t .next)
+unfoldable pub runZooms : Plan → ℕ → Table → List Table
+runZooms p zero t = t ∷ []
+runZooms p (suc k) t = zoomed p (p .options .«min_zoom» + k) t .table ∷ runZooms p k (zoomed p (p .options .«min_zoom» + k) t .next)
 
 -- how many zooms there are
 abbrev pub zoomsOf : Options → ℕ
@@ -54,15 +54,15 @@ joined (t ∷ ts) = t ++ joined ts
 
 unfoldable pub joinedIds : ℕ → List Table → List ℕ
 joinedIds size [] = []
-joinedIds size (t ∷ ts) = slotsOf size t .ids ++ joinedIds size ts
+joinedIds size (t ∷ ts) = indexOfTable size t .ids ++ joinedIds size ts
 
 unfoldable pub joinedCo : ℕ → List Table → List Float
 joinedCo size [] = []
-joinedCo size (t ∷ ts) = slotsOf size t .co ++ joinedCo size ts
+joinedCo size (t ∷ ts) = indexOfTable size t .co ++ joinedCo size ts
 
 -- a column that holds l, and past it what it held
-abbrev pub over : {A : Type 0} → List A → List A → List A
-over l d = l ++ drop (length l) d
+abbrev pub laidOver : {A : Type 0} → List A → List A → List A
+laidOver l d = l ++ drop (length l) d
 
 -- starts and lengths, from the table of zoom z on, which starts at `at`
 unfoldable pub starts : ℕ → ℕ → List Table → List ℕ → List ℕ

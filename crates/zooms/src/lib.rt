@@ -16,9 +16,9 @@ ghost use Rattle.zoom.specs.Zoom.{numOf, energyOf, cluster};
 ghost use Rattle.zoom.specs.Scanned.{unseenOf};
 ghost use Rattle.zoom.specs.Near.{nearOf};
 ghost use Rattle.zoom.specs.laws.Near.{Placed, Radius};
-ghost use Rattle.zoom.specs.laws.Notes.{Owned, Slotted};
+ghost use Rattle.zoom.specs.laws.Notes.{OwnNote, Slotted};
 ghost use Rattle.kdbush.specs.Reply.{indexOf};
-ghost use Rattle.zooms.specs.Zooms.{planOf, zoomsOf};
+ghost use Rattle.zooms.specs.Zooms.{zoomPlan, zoomsOf};
 ghost use Rattle.kdbush.specs.laws.Indexed.{Inside};
 ghost use Rattle.zooms.specs.laws.Parts.{putAt};
 ghost use Rattle.zooms.specs.laws.Step.{Stepped};
@@ -52,7 +52,7 @@ fn zoom_step(
         × (start + len ≤ length (now ids)) × ((start + len) * 2 ≤ length (now coords)) × (n + len ≤ length (now near))
         × (start + len + len ≤ length (c .x))
         × (unseenOf numOf z t < 2 ^ 32) × (start ≤ 67108864) × (len ≤ n) × (n ≤ 1048576) × (z ≤ 30)
-        × Slotted len slots co t × Owned len (nearOf (o .«node_size») len slots co r) slots co
+        × Slotted len slots co t × OwnNote len (nearOf (o .«node_size») len slots co r) slots co
         × (unseenOf energyOf z t < 2 ^ 64) ⌝ }
     ensures { λ d.
         let c = lentCols x y seen id parent num energy in
@@ -134,10 +134,10 @@ fn one_zoom(
 ) -> usize
     requires { let c = given x y seen id parent num energy in
         ⌜ Even c × (n + n ≤ length (now near)) × (o .«min_zoom» ≤ z)
-        × Running (planOf o n) (length (c .x)) (suc (z - o .«min_zoom»)) start len (rows c) (now ids) (now coords) ⌝ }
+        × Running (zoomPlan o n) (length (c .x)) (suc (z - o .«min_zoom»)) start len (rows c) (now ids) (now coords) ⌝ }
     ensures { λ d.
         let c = lentCols x y seen id parent num energy in
-        ⌜ Advanced (planOf o n) z start len d (rows (c .entry)) (rows (c .exit)) (old ids) (new ids) (old coords) (new coords) ⌝ }
+        ⌜ Advanced (zoomPlan o n) z start len d (rows (c .entry)) (rows (c .exit)) (old ids) (new ids) (old coords) (new coords) ⌝ }
 {
     let r = tables::radius_at(o.radius, o.extent, z);
     let d = zoom_step(
@@ -181,12 +181,12 @@ pub fn run_zooms(
 ) -> State
     requires { let c = given x y seen id parent num energy in
         ⌜ Even c × (n + n ≤ length (now near)) × (s .options .«min_zoom» ≤ s .options .«max_zoom» + 1)
-        × Running (planOf (s .options) n) (length (c .x)) (zoomsOf (s .options)) 0 n (rows c) (now ids) (now coords)
+        × Running (zoomPlan (s .options) n) (length (c .x)) (zoomsOf (s .options)) 0 n (rows c) (now ids) (now coords)
         × (set (s .starts) (s .options .«max_zoom» + 1) 0 ≡ s .starts) × (set (s .lens) (s .options .«max_zoom» + 1) n ≡ s .lens) ⌝ }
     ensures { λ r.
         let c = lentCols x y seen id parent num energy in
         let t = rows (c .entry) in
-        ⌜ Finished (planOf (s .options) n) (zoomsOf (s .options)) s r (part 0 n t) t (rows (c .exit))
+        ⌜ Finished (zoomPlan (s .options) n) (zoomsOf (s .options)) s r (part 0 n t) t (rows (c .exit))
         (old ids) (new ids) (old coords) (new coords) ⌝ }
 {
     let o = s.options;

@@ -19,7 +19,7 @@ use Rattle.range.specs.declared.CoordinateSystem.{CoordinateSystem}
 use Rattle.range.specs.declared.CoordinateSystem.the-variants.{LatLng, Cartesian}
 use Rattle.range.specs.declared.DataRange.{DataRange}
 use Rattle.range.specs.Range.{normalized, mercatorX, converted}
-use Rattle.kdsort.specs.Cols.{cols}
+use Rattle.kdsort.specs.Cols.{indexCols}
 use Rattle.kdsort.specs.Cols.{blank}
 use Rattle.kdsort.specs.Tree.{Index}
 use Rattle.kdslots.specs.declared.Query.{Query}
@@ -45,12 +45,12 @@ use Rattle.asking.specs.Columns.{idsAt, coordsAt}
 use Rattle.boxes.specs.laws.Inside.{Indexed, Passes, Exactly, cartesian-box, longitude-box, split-box, ring-exactly}
 use Rattle.boxes.specs.Lists.{boxAsked, ringAsked}
 use Rattle.boxplan.specs.Rule.{halfCircle, newWest, newEast, splits, boxOk}
-use Rattle.zooms.specs.Zooms.{slotsOf}
+use Rattle.zooms.specs.Zooms.{indexOfTable}
 use Rattle.zooms.specs.laws.Running.{table-inside}
-use Rattle.supercluster.specs.Build.{Lent, need}
+use Rattle.supercluster.specs.Build.{BuildColumns, need}
 use Rattle.supercluster.specs.laws.Load.{Holds}
-use Rattle.builds.specs.Given.{Given, Accepted, points, minZ, maxZ}
-use Rattle.builds.specs.Came.{tableAt as built}
+use Rattle.builds.specs.Given.{Given, AcceptedBuild, points, minZ, maxZ}
+use Rattle.builds.specs.Came.{tableOfZoom as built}
 use Rattle.kdbush.specs.laws.Indexed.{index-of}
 use Rattle.builds.specs.RightAt.{right-at}
 use Rattle.answers.specs.laws.Stored.{stateBy, columnsBy, long-is, state-sound, ids-are, coords-are}
@@ -89,13 +89,13 @@ pub record Boxes (west least east greatest : Float) (t : Table) (l : List ℕ) :
   pub unit : (p : ℕ) → In p l → In01 (entry t p .x) × In01 (entry t p .y)
 
 -- the entry passes the distance test: the rounded squared distance is at most radius * radius
-abbrev pub Near : Float → Float → Float → Entry → Type 0
-Near x y r a = T (le (sqDist (a .x) (a .y) x y) (mul binary64 r r))
+abbrev pub NearBox : Float → Float → Float → Entry → Type 0
+NearBox x y r a = T (le (sqDist (a .x) (a .y) x y) (mul binary64 r r))
 
 -- the list has each entry of the table that passes the distance test, once, and no other; and each of them has x and y in [0,1]
 pub record Rings (x y r : Float) (t : Table) (l : List ℕ) : Type 0 where
-  pub inside : (p : ℕ) → In p l → (p < length t) × Near x y r (entry t p)
-  pub every : (p : ℕ) → p < length t → Near x y r (entry t p) → In p l
+  pub inside : (p : ℕ) → In p l → (p < length t) × NearBox x y r (entry t p)
+  pub every : (p : ℕ) → p < length t → NearBox x y r (entry t p) → In p l
   pub single : Distinct l
   pub unit : (p : ℕ) → In p l → In01 (entry t p .x) × In01 (entry t p .y)
 
@@ -164,11 +164,11 @@ rings-of x y r t m l h a =
 -- ---- the questions of a build
 
 -- a box and a ring, asked of the state that a build replies and the columns that it leaves
-abbrev pub boxBy : Given → Lent → ℕ → Float → Float → Float → Float → Asked
+abbrev pub boxBy : Given → BuildColumns → ℕ → Float → Float → Float → Float → Asked
 boxBy G l zoom west least east greatest =
     boxAsked (stateBy G) (columnsBy G l .ids) (columnsBy G l .coords) zoom west least east greatest
 
-abbrev pub ringBy : Given → Lent → ℕ → Float → Float → Float → Asked
+abbrev pub ringBy : Given → BuildColumns → ℕ → Float → Float → Float → Asked
 ringBy G l zoom x y radius = ringAsked (stateBy G) (columnsBy G l .ids) (columnsBy G l .coords) zoom x y radius
 
 -- the table of the zoom used
@@ -185,7 +185,7 @@ fits-somehow k room = go (leb k room)
 
 -- ---- of a build that is accepted
 
-module _ (G : Given) (a : Accepted G) where
+module _ (G : Given) (a : AcceptedBuild G) where
   abbrev size : ℕ
   size = G .options .«node_size»
 
@@ -197,8 +197,8 @@ module _ (G : Given) (a : Accepted G) where
   pub slots-index : (z : ℕ) → minZ G ≤ z → z ≤ maxZ G + 1
       →
       Index (G .options .«node_size») (xsOf (built G z)) (ysOf (built G z)) (blank (length (xsOf (built G z))))
-      (slotsOf (G .options .«node_size») (built G z))
-  unfolding slotsOf
+      (indexOfTable (G .options .«node_size») (built G z))
+  unfolding indexOfTable
   slots-index z h k =
       let t = built G z in
       let R = right-at G a z h k in
@@ -206,7 +206,7 @@ module _ (G : Given) (a : Accepted G) where
       index-of size (xsOf t) (ysOf t) (options-are (G .options) (a .options) .size-from) some (table-inside t (R .unit))
 
   -- in columns that hold it
-  module _ (l : Lent) (r : Holds (need (G .options) (points G)) l) where
+  module _ (l : BuildColumns) (r : Holds (need (G .options) (points G)) l) where
     -- the state passes the check over the two columns of the index
     pub index-sound : stateOk (stateBy G) (indexRoom (columnsBy G l .ids) (columnsBy G l .coords)) ≡ true
     index-sound =
@@ -219,8 +219,8 @@ module _ (G : Given) (a : Accepted G) where
         → Indexed (stateBy G) (columnsBy G l .ids) (columnsBy G l .coords) z (xsOf (built G z)) (ysOf (built G z))
     table-indexed z h k =
         let t = built G z in
-        let e : slotsOf size t ≡ cols (idsAt (stateBy G) (columnsBy G l .ids) z) (coordsAt (stateBy G) (columnsBy G l .coords) z) =
-        ap₂ cols (sym (ids-are G a l r z h k)) (sym (coords-are G a l r z h k)) in
+        let e : indexOfTable size t ≡ indexCols (idsAt (stateBy G) (columnsBy G l .ids) z) (coordsAt (stateBy G) (columnsBy G l .coords) z) =
+        ap₂ indexCols (sym (ids-are G a l r z h k)) (sym (coords-are G a l r z h k)) in
         record {
           long = length-map t (λ e. e .x) ∙ sym (long-is G a z h k);
           unit = table-inside t (right-at G a z h k .unit);

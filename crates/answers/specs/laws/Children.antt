@@ -23,18 +23,18 @@ use Rattle.tables.specs.State.{lenOf}
 use Rattle.tables.specs.Room.{Columns}
 use Rattle.asking.specs.Columns.{idsAt, coordsAt}
 use Rattle.kids.specs.Kids.{kidsOf, placesAround, kidsAt, cleanAt}
-use Rattle.zooms.specs.Zooms.{slotsOf}
+use Rattle.zooms.specs.Zooms.{indexOfTable}
 use Rattle.zooms.specs.laws.Running.{slots-promised}
-use Rattle.supercluster.specs.Build.{Lent, need}
+use Rattle.supercluster.specs.Build.{BuildColumns, need}
 use Rattle.supercluster.specs.laws.Load.{Holds}
 use Rattle.supercluster.specs.laws.Right.{Right}
-use Rattle.builds.specs.Given.{Given, Accepted, points, minZ, maxZ, energyIn}
-use Rattle.builds.specs.Came.{tableAt as built}
+use Rattle.builds.specs.Given.{Given, AcceptedBuild, points, minZ, maxZ, energyIn}
+use Rattle.builds.specs.Came.{tableOfZoom as built}
 use Rattle.builds.specs.RightAt.{right-at}
 use Rattle.lamps.specs.Owner.{answersAt}
 use Rattle.answers.specs.laws.Stored.{stateBy, columnsBy, long-is, table-is, ids-are, coords-are}
 
-module _ (G : Given) (a : Accepted G) (l : Lent) (r : Holds (need (G .options) (points G)) l) where
+module _ (G : Given) (a : AcceptedBuild G) (l : BuildColumns) (r : Holds (need (G .options) (points G)) l) where
   abbrev S : State
   S = stateBy G
 
@@ -49,7 +49,7 @@ module _ (G : Given) (a : Accepted G) (l : Lent) (r : Holds (need (G .options) (
     r-t : Right (points G) (energyIn G) (built G t)
     r-t = right-at G a t (omega arith) k
 
-    promised : Promised size (length (built G t)) (slotsOf size (built G t) .ids) (slotsOf size (built G t) .co)
+    promised : Promised size (length (built G t)) (indexOfTable size (built G t) .ids) (indexOfTable size (built G t) .co)
     promised =
         let b = options-are (G .options) (a .options) in
         slots-promised size (built G t) (b .size-from) (b .size-to) (r-t .some) (omega (arith, r-t .few, a .few)) (r-t .unit)
@@ -64,7 +64,7 @@ module _ (G : Given) (a : Accepted G) (l : Lent) (r : Holds (need (G .options) (
         ap (λ (v : Table). found (Q v) size (lenOf S t) (idsAt S (C .ids) t) (coordsAt S (C .coords) t))
         (table-is G a l r t (omega arith) k)
         ∙ ap (λ (v : List ℕ). found (Q (built G t)) size (lenOf S t) v (coordsAt S (C .coords) t)) (ids-are G a l r t (omega arith) k)
-        ∙ ap₂ (λ (n : ℕ) (v : List Float). found (Q (built G t)) size n (slotsOf size (built G t) .ids) v)
+        ∙ ap₂ (λ (n : ℕ) (v : List Float). found (Q (built G t)) size n (indexOfTable size (built G t) .ids) v)
         (long-is G a t (omega arith) k) (coords-are G a l r t (omega arith) k)
 
     pub around-below : AllBelow (length (built G t)) (answersAt G t i)

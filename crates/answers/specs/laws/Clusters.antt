@@ -14,8 +14,8 @@ use Rattle.tables.specs.declared.State.{State}
 use Rattle.tables.specs.Entries.{entry}
 use Rattle.tables.specs.Ids.{originOf, tableOf}
 use Rattle.tables.specs.State.{lenOf}
-use Rattle.groups.specs.Groups.{Group, joined, entryOf}
-use Rattle.groups.specs.laws.OneZoom.{Joined, Fits}
+use Rattle.groups.specs.Groups.{Group, joinedGroup, entryOf}
+use Rattle.groups.specs.laws.OneZoom.{Joined, FitsZoom}
 use Rattle.groups.specs.Sums.{count}
 use Rattle.groups.specs.laws.Sums.{Hit, hit}
 use Rattle.asking.specs.Asked.{told}
@@ -28,10 +28,10 @@ use Rattle.kids.specs.Kids.{kidsAt, cleanAt, childless}
 use Rattle.walks.specs.Children.{atTarget, childrenAt, childrenOf}
 use Rattle.walks.specs.Expansion.{fetched, expand, zoomAt, zoomOf}
 use Rattle.walks.specs.declared.Expansion.the-variants.{At as Expands·At}
-use Rattle.supercluster.specs.Build.{Lent, need}
+use Rattle.supercluster.specs.Build.{BuildColumns, need}
 use Rattle.supercluster.specs.laws.Load.{Holds}
-use Rattle.builds.specs.Given.{Given, Accepted, points, minZ, maxZ}
-use Rattle.builds.specs.Came.{came, tableAt as built}
+use Rattle.builds.specs.Given.{Given, AcceptedBuild, points, minZ, maxZ}
+use Rattle.builds.specs.Came.{came, tableOfZoom as built}
 use Rattle.builds.specs.GroupsOfBuild.{groupsBy, nearBy}
 use Rattle.builds.specs.Identities.{Known, Cluster, identities}
 use Rattle.builds.specs.Places.{groupAt}
@@ -42,7 +42,7 @@ use Rattle.lamps.specs.laws.Copies.{Clustered, clustered, members-are}
 use Rattle.answers.specs.laws.Stored.{stateBy, columnsBy, state-sound, long-is}
 use Rattle.answers.specs.laws.Children.{clean, kids-at}
 
-module _ (G : Given) (a : Accepted G) (l : Lent) (r : Holds (need (G .options) (points G)) l) where
+module _ (G : Given) (a : AcceptedBuild G) (l : BuildColumns) (r : Holds (need (G .options) (points G)) l) where
   abbrev S : State
   S = stateBy G
 
@@ -176,7 +176,7 @@ module _ (G : Given) (a : Accepted G) (l : Lent) (r : Holds (need (G .options) (
 
   -- the children of a cluster that a zoom made are its group, in the order of the answers
   pub children-group : (z : ℕ) → minZ G ≤ z → z ≤ maxZ G → (j i : ℕ) (ks : List ℕ) (e : Entry) → j < length (built G z) →
-      groupAt (groupsBy G z) j ≡ joined i ks e
+      groupAt (groupsBy G z) j ≡ joinedGroup i ks e
       → childrenOf (stateBy G) (columnsBy G l) (e .id) ≡ told true ks
   children-group z h k j i ks e q p =
       let d : entry (built G z) j .id ≡ e .id = group-id G a z h k j q ∙ ap (λ (g : Group). entryOf g .id) p in
@@ -185,10 +185,10 @@ module _ (G : Given) (a : Accepted G) (l : Lent) (r : Holds (need (G .options) (
       ∙ ap (told true) (members-are G a z h k j i ks e q p)
     where
       made-above : (z : ℕ) → minZ G ≤ z → z ≤ maxZ G → (j i : ℕ) (ks : List ℕ) (e : Entry) → j < length (built G z) →
-          groupAt (groupsBy G z) j ≡ joined i ks e → points G ≤ e .id
+          groupAt (groupsBy G z) j ≡ joinedGroup i ks e → points G ≤ e .id
       made-above z h k j i ks e q p =
           let w : Joined (points G) (G .options .«min_points») z (nearBy G z) (came G (suc z)) (built G (suc z)) i ks e =
-          subst (λ (g : Group). Fits (points G) (G .options .«min_points») z (nearBy G z) (came G (suc z)) (built G (suc z)) g) p
+          subst (λ (g : Group). FitsZoom (points G) (G .options .«min_points») z (nearBy G z) (came G (suc z)) (built G (suc z)) g) p
           (group-fits G a z h k j q) in
           let m = w .made-id in
           omega arith

@@ -27,9 +27,9 @@ use Rattle.tiling.specs.Tally.{tallyNumber, tallyValue, atHome, weightIn, membe
 use Rattle.tiling.specs.laws.Distinct.{distinct-once, distinct-all}
 use Rattle.tiling.specs.Tile.{isTile, here, itemOf}
 use Rattle.asking.specs.Asked.{told}
-use Rattle.supercluster.specs.Build.{Lent, need}
+use Rattle.supercluster.specs.Build.{BuildColumns, need}
 use Rattle.supercluster.specs.laws.Load.{Holds}
-use Rattle.builds.specs.Given.{Given, Accepted, points}
+use Rattle.builds.specs.Given.{Given, AcceptedBuild, points}
 use Rattle.builds.specs.RightAt.{right-at}
 use Rattle.answers.specs.laws.Boxed.{usedBy, between}
 use Rattle.answers.specs.laws.Tiled.{tileBy, tallyBy, tile-every, tally-told}
@@ -99,7 +99,7 @@ told-same e = cc
 
 -- ---- of a build that is accepted
 
-module _ (G : Given) (a : Accepted G) (l : Lent) (r : Holds (need (G .options) (points G)) l) (z : ℕ) where
+module _ (G : Given) (a : AcceptedBuild G) (l : BuildColumns) (r : Holds (need (G .options) (points G)) l) (z : ℕ) where
   placed : (p : ℕ) → p < length (usedBy G z) → In01 (entry (usedBy G z) p .x) × In01 (entry (usedBy G z) p .y)
   placed p h =
       let k = between G a z in

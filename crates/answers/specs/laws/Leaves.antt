@@ -12,16 +12,16 @@ use lib.Seq.{take-nil}
 use Rattle.tables.specs.declared.State.{State}
 use Rattle.tables.specs.Entries.{entry}
 use Rattle.tables.specs.Ids.{originOf, tableOf}
-use Rattle.groups.specs.Sums.{one, sum, range}
+use Rattle.groups.specs.Sums.{oneIf, sum, range}
 use Rattle.asking.specs.Asked.{told}
 use Rattle.tables.specs.Room.{Columns}
 use Rattle.asking.specs.declared.Target.{Target}
 use Rattle.walks.specs.Children.{atTarget}
-use Rattle.walks.specs.Leaves.{Trip, went, walk, listed, leavesAt, leavesOf}
-use Rattle.supercluster.specs.Build.{Lent, need}
+use Rattle.walks.specs.Leaves.{Trip, went, leafWalk, leavesListed, leavesAt, leavesOf}
+use Rattle.supercluster.specs.Build.{BuildColumns, need}
 use Rattle.supercluster.specs.laws.Load.{Holds}
-use Rattle.builds.specs.Given.{Given, Accepted, points, minZ, maxZ}
-use Rattle.builds.specs.Came.{tableAt as built}
+use Rattle.builds.specs.Given.{Given, AcceptedBuild, points, minZ, maxZ}
+use Rattle.builds.specs.Came.{tableOfZoom as built}
 use Rattle.lamps.specs.Owner.{lampsOf, owner}
 use Rattle.lamps.specs.laws.Carries.{lamps-long, num-owned}
 use Rattle.answers.specs.laws.Stored.{stateBy, columnsBy}
@@ -77,15 +77,15 @@ module _ (limit offset : ℕ) where
 
 -- ---- the leaves of a cluster
 
-pub ones-few : (p : ℕ → Bool) (lo n : ℕ) → sum (λ k. one (p k)) (range lo n) ≤ n
+pub ones-few : (p : ℕ → Bool) (lo n : ℕ) → sum (λ k. oneIf (p k)) (range lo n) ≤ n
 ones-few p lo zero = omega arith
 ones-few p lo (suc n) = let a = ones-few p (suc lo) n in let b = few (p lo) in omega arith
   where
-    few : (b : Bool) → one b ≤ 1
+    few : (b : Bool) → oneIf b ≤ 1
     few true = omega arith
     few false = omega arith
 
-module _ (G : Given) (a : Accepted G) (l : Lent) (r : Holds (need (G .options) (points G)) l)
+module _ (G : Given) (a : AcceptedBuild G) (l : BuildColumns) (r : Holds (need (G .options) (points G)) l)
     (z j : ℕ) (h : minZ G ≤ z) (k : z ≤ maxZ G + 1) (q : j < length (built G z)) (b : points G ≤ entry (built G z) j .id) where
   abbrev S : State
   S = stateBy G
@@ -112,9 +112,9 @@ module _ (G : Given) (a : Accepted G) (l : Lent) (r : Holds (need (G .options) (
 
   module _ (limit offset : ℕ) where
     abbrev walked : Trip
-    walked = walk (stateBy G) (columnsBy G l) limit offset 32 Id (tableOf (points G) Id) (originOf (points G) Id) 0 []
+    walked = leafWalk (stateBy G) (columnsBy G l) limit offset 32 Id (tableOf (points G) Id) (originOf (points G) Id) 0 []
 
-    leaves-by : (limit ≡ 0 → ⊥) → leavesOf (stateBy G) (columnsBy G l) (entry (built G z) j .id) limit offset ≡ listed walked
+    leaves-by : (limit ≡ 0 → ⊥) → leavesOf (stateBy G) (columnsBy G l) (entry (built G z) j .id) limit offset ≡ leavesListed walked
     unfolding leavesOf leavesAt
     leaves-by m =
         ap (λ (t : Target). atTarget t (λ u i. leavesAt S C Id limit offset u i)) (target-is G a l r z j h k q b)
@@ -134,7 +134,7 @@ module _ (G : Given) (a : Accepted G) (l : Lent) (r : Holds (need (G .options) (
       (record { few = m; most = omega arith; begun = λ v. absurd (omega arith) }) few in
       let e : limit - 0 ≡ limit = omega arith in
       let d : offset - 0 ≡ offset = omega arith in
-      leaves-by limit offset (λ n. omega arith) ∙ ap listed w ∙ ap (told true) (ap₂ (λ (x y : ℕ). take x (drop y Ls)) e d)
+      leaves-by limit offset (λ n. omega arith) ∙ ap leavesListed w ∙ ap (told true) (ap₂ (λ (x y : ℕ). take x (drop y Ls)) e d)
 
   -- every limit: after the first `offset`, up to the limit
   pub leaves-page : (limit offset : ℕ) →

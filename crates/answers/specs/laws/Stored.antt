@@ -22,28 +22,28 @@ use Rattle.zoom.specs.laws.Keeps.{cluster-long}
 use Rattle.groups.specs.laws.Sums.{below}
 use Rattle.tables.specs.Room.{Columns, columns, roomOf}
 use Rattle.asking.specs.Columns.{tableAt, idsAt, coordsAt}
-use Rattle.zooms.specs.Zooms.{Plan, run, slotsOf, zoomsOf, joined, joinedIds, joinedCo, over}
+use Rattle.zooms.specs.Zooms.{Plan, runZooms, indexOfTable, zoomsOf, joined, joinedIds, joinedCo, laidOver}
 use Rattle.zooms.specs.laws.Running.{slots-ids, slots-co}
 use Rattle.supercluster.specs.declared.LoadReply.the-variants.{Done}
-use Rattle.supercluster.specs.Build.{tablesOf, stateOf, Lent, Outcome, written, need, checked, byReply, loaded}
-use Rattle.supercluster.specs.laws.Held.{Laid, held, built-laid, built-held}
+use Rattle.supercluster.specs.Build.{tablesOf, builtState, BuildColumns, Outcome, written, need, checked, byReply, loaded}
+use Rattle.supercluster.specs.laws.Held.{LaidOut, held, built-laid, built-held}
 use Rattle.supercluster.specs.laws.Load.{Holds, accepted, holds, replies, rowsIn}
 use Rattle.supercluster.specs.laws.Over.{over-length}
 use Rattle.supercluster.specs.laws.Right.{Right, tables-right, tables-count, tables-room}
-use Rattle.builds.specs.Given.{Given, Accepted, points, minZ, maxZ, plan, tablesBy, lampsIn, energyIn, lampsIn-length}
-use Rattle.builds.specs.Came.{tableAt as built}
+use Rattle.builds.specs.Given.{Given, AcceptedBuild, points, minZ, maxZ, plan, tablesOfBuild, lampsIn, energyIn, lampsIn-length}
+use Rattle.builds.specs.Came.{tableOfZoom as built}
 use Rattle.answers.specs.Stored.{columnsOf}
 
 -- the state that a build replies, and the columns that it leaves
 abbrev pub stateBy : Given → State
-stateBy G = stateOf (G .options) (points G) (tablesBy G)
+stateBy G = builtState (G .options) (points G) (tablesOfBuild G)
 
-abbrev pub columnsBy : Given → Lent → Columns
-columnsBy G l = columnsOf (written (G .options .«node_size») (points G) (tablesBy G) l)
+abbrev pub columnsBy : Given → BuildColumns → Columns
+columnsBy G l = columnsOf (written (G .options .«node_size») (points G) (tablesOfBuild G) l)
 
 -- what `load` replies and leaves
-abbrev pub loadedBy : Given → Lent → Outcome
-loadedBy G l = loaded (G .options) (G .xs) (G .ys) (G .energies) l
+abbrev pub loadedOf : Given → BuildColumns → Outcome
+loadedOf G l = loaded (G .options) (G .xs) (G .ys) (G .energies) l
 
 -- ---- tables that are recorded one after the other
 
@@ -52,15 +52,15 @@ pieces : {A : Type 0} → (Table → List A) → List Table → List A
 pieces g [] = []
 pieces g (t ∷ ts) = g t ++ pieces g ts
 
-ids-pieces : (size : ℕ) (ts : List Table) → joinedIds size ts ≡ pieces (λ t. slotsOf size t .ids) ts
+ids-pieces : (size : ℕ) (ts : List Table) → joinedIds size ts ≡ pieces (λ t. indexOfTable size t .ids) ts
 unfolding joinedIds pieces
 ids-pieces size [] = refl
-ids-pieces size (t ∷ ts) = ap (λ (q : List ℕ). slotsOf size t .ids ++ q) (ids-pieces size ts)
+ids-pieces size (t ∷ ts) = ap (λ (q : List ℕ). indexOfTable size t .ids ++ q) (ids-pieces size ts)
 
-co-pieces : (size : ℕ) (ts : List Table) → joinedCo size ts ≡ pieces (λ t. slotsOf size t .co) ts
+co-pieces : (size : ℕ) (ts : List Table) → joinedCo size ts ≡ pieces (λ t. indexOfTable size t .co) ts
 unfolding joinedCo pieces
 co-pieces size [] = refl
-co-pieces size (t ∷ ts) = ap (λ (q : List Float). slotsOf size t .co ++ q) (co-pieces size ts)
+co-pieces size (t ∷ ts) = ap (λ (q : List Float). indexOfTable size t .co ++ q) (co-pieces size ts)
 
 module _ (ss ll : List ℕ) (low : ℕ) where
   shift : (t : Table) (ts : List Table) (k : ℕ) → k < length ts → getD ts (length ts - 1 - k) [] ≡ getD (t ∷ ts) (length (t ∷ ts) - 1 - k) []
@@ -72,8 +72,8 @@ module _ (ss ll : List ℕ) (low : ℕ) where
   first t ts = let e : length (t ∷ ts) - 1 - length ts ≡ 0 = omega arith in ap (λ (i : ℕ). getD (t ∷ ts) i []) e
 
   -- the length of each
-  laid-long : (ts : List Table) (at : ℕ) → Laid ss ll low at ts → (k : ℕ) → k < length ts → getD ll (low + k) 0 ≡ length (getD ts (length ts - 1 - k) [])
-  unfolding Laid
+  laid-long : (ts : List Table) (at : ℕ) → LaidOut ss ll low at ts → (k : ℕ) → k < length ts → getD ll (low + k) 0 ≡ length (getD ts (length ts - 1 - k) [])
+  unfolding LaidOut
   laid-long [] at d k h = absurd (omega arith)
   laid-long (t ∷ ts) at d k h = ⊎-elim (λ l. laid-long ts (at + length t) (d .2) k l ∙ ap length (shift t ts k l)) here (below k (length ts))
     where
@@ -84,9 +84,9 @@ module _ (ss ll : List ℕ) (low : ℕ) where
 
   -- a column that holds a piece g of each, of m times its length
   module _ {A : Type 0} (g : Table → List A) (m : ℕ → ℕ) (madd : (a b : ℕ) → m (a + b) ≡ m a + m b) where
-    laid-piece : (ts : List Table) (at : ℕ) (C rest : List A) → Laid ss ll low at ts → All (λ t. length (g t) ≡ m (length t)) ts → drop (m at) C ≡ pieces g ts ++ rest
+    laid-piece : (ts : List Table) (at : ℕ) (C rest : List A) → LaidOut ss ll low at ts → All (λ t. length (g t) ≡ m (length t)) ts → drop (m at) C ≡ pieces g ts ++ rest
         → (k : ℕ) → k < length ts → part (m (getD ss (low + k) 0)) (m (getD ll (low + k) 0)) C ≡ g (getD ts (length ts - 1 - k) [])
-    unfolding Laid All pieces
+    unfolding LaidOut All pieces
     laid-piece [] at C rest d w e k h = absurd (omega arith)
     laid-piece (t ∷ ts) at C rest d w e k h = ⊎-elim (λ l. laid-piece ts (at + length t) C rest (d .2) (w .1) after k l ∙ ap g (shift t ts k l)) here (below k (length ts))
       where
@@ -119,9 +119,9 @@ held-at ss ll t low (suc k) (suc i) h =
 
 -- ---- the check of the state
 
-laid-packed : (s : State) (cap e : ℕ) (ts : List Table) (at : ℕ) → Laid (s .starts) (s .lens) (s .options .«min_zoom») at ts
+laid-packed : (s : State) (cap e : ℕ) (ts : List Table) (at : ℕ) → LaidOut (s .starts) (s .lens) (s .options .«min_zoom») at ts
     → All (Right (s .count) e) ts → at + length (joined ts) ≤ cap → packed s cap (length ts) at ≡ true
-unfolding Laid All joined packed
+unfolding LaidOut All joined packed
 laid-packed s cap e [] at d w h = le-leb at cap (omega arith)
 laid-packed s cap e (t ∷ ts) at d w h =
     let z = s .options .«min_zoom» + length ts in
@@ -140,12 +140,12 @@ both m a b p q = omega arith
 half : (m h : ℕ) → m * 2 ≤ h → m ≤ h / 2
 half m h p = omega arith
 
-module _ (G : Given) (a : Accepted G) where
+module _ (G : Given) (a : AcceptedBuild G) where
   abbrev S : State
   S = stateBy G
 
   abbrev Ts : List Table
-  Ts = tablesBy G
+  Ts = tablesOfBuild G
 
   abbrev size : ℕ
   size = G .options .«node_size»
@@ -157,13 +157,13 @@ module _ (G : Given) (a : Accepted G) where
   how-many : length Ts ≡ suc (zoomsOf (G .options))
   how-many = tables-count (G .options) (G .xs) (G .ys) (G .energies)
 
-  recorded : Laid (S .starts) (S .lens) (minZ G) 0 Ts
+  recorded : LaidOut (S .starts) (S .lens) (minZ G) 0 Ts
   recorded = built-laid (G .options) (G .xs) (G .ys) (G .energies) a
 
   -- the index of each table is as long as the table
   record Slots (t : Table) : Type 0 where
-    ids : length (slotsOf (G .options .«node_size») t .ids) ≡ length t
-    co : length (slotsOf (G .options .«node_size») t .co) ≡ 2 * length t
+    ids : length (indexOfTable (G .options .«node_size») t .ids) ≡ length t
+    co : length (indexOfTable (G .options .«node_size») t .co) ≡ 2 * length t
 
   slots-long : All Slots Ts
   slots-long =
@@ -178,17 +178,17 @@ module _ (G : Given) (a : Accepted G) where
   unfolding All joinedIds joined
   ids-joined [] w = refl
   ids-joined (t ∷ ts) w =
-      omega (arith, length-append (slotsOf size t .ids) (joinedIds size ts), length-append t (joined ts), w .0 .ids, ids-joined ts (w .1))
+      omega (arith, length-append (indexOfTable size t .ids) (joinedIds size ts), length-append t (joined ts), w .0 .ids, ids-joined ts (w .1))
 
   co-joined : (ts : List Table) → All Slots ts → length (joinedCo size ts) ≡ 2 * length (joined ts)
   unfolding All joinedCo joined
   co-joined [] w = refl
   co-joined (t ∷ ts) w =
-      omega (arith, length-append (slotsOf size t .co) (joinedCo size ts), length-append t (joined ts), w .0 .co, co-joined ts (w .1))
+      omega (arith, length-append (indexOfTable size t .co) (joinedCo size ts), length-append t (joined ts), w .0 .co, co-joined ts (w .1))
 
   -- the first table has the N lamps
-  first-long : (p : Plan) (k : ℕ) (t : Table) → length (getD (run p k t) 0 []) ≡ length t
-  unfolding run
+  first-long : (p : Plan) (k : ℕ) (t : Table) → length (getD (runZooms p k t) 0 []) ≡ length t
+  unfolding runZooms
   first-long p zero t = refl
   first-long p (suc k) t = cluster-long (p .count) (p .options .«min_points») (p .options .«min_zoom» + k) _ t
 
@@ -219,7 +219,7 @@ module _ (G : Given) (a : Accepted G) where
       ∙ ap length (which z h k)
 
   -- in columns that hold the build
-  module _ (l : Lent) (r : Holds (need (G .options) (points G)) l) where
+  module _ (l : BuildColumns) (r : Holds (need (G .options) (points G)) l) where
     abbrev C : Columns
     C = columnsBy G l
 
@@ -228,7 +228,7 @@ module _ (G : Given) (a : Accepted G) where
 
     -- a column of the tables, over one that holds them
     wide : {A : Type 0} (f : Entry → A) (d : List A) → need (G .options) (points G) ≤ length d
-        → need (G .options) (points G) ≤ length (over (map f (joined Ts)) d)
+        → need (G .options) (points G) ≤ length (laidOver (map f (joined Ts)) d)
     wide f d h = omega (arith, over-length (map f (joined Ts)) d (omega (arith, fits, length-map (joined Ts) f, h)), h)
 
     room : need (G .options) (points G) ≤ roomOf (columnsBy G l)
@@ -269,41 +269,41 @@ module _ (G : Given) (a : Accepted G) where
         ∙ ap (λ (ts : List Table). getD ts i []) (built-held (G .options) (G .xs) (G .ys) (G .energies) a l) ∙ of
       where
         R : Table
-        R = rowsIn (written (G .options .«node_size») (points G) (tablesBy G) l)
+        R = rowsIn (written (G .options .«node_size») (points G) (tablesOfBuild G) l)
 
-        of : getD (tablesBy G) (maxZ G + 1 - z) [] ≡ built G z
+        of : getD (tablesOfBuild G) (maxZ G + 1 - z) [] ≡ built G z
         of = unfold built in refl
 
     -- and its index
     pub ids-are : (z : ℕ) → minZ G ≤ z → z ≤ maxZ G + 1 →
-        idsAt (stateBy G) (columnsBy G l .ids) z ≡ slotsOf (G .options .«node_size») (built G z) .ids
+        idsAt (stateBy G) (columnsBy G l .ids) z ≡ indexOfTable (G .options .«node_size») (built G z) .ids
     unfolding written
     ids-are z h k =
         let p = place z h k in
         let rest = drop (length (joinedIds size Ts)) (l .ids) in
         ap (idsAt S (C .ids)) (sym (p .1))
-        ∙ laid-piece (S .starts) (S .lens) (minZ G) (λ t. slotsOf size t .ids) (λ n. n) (λ a b. refl) Ts 0 (C .ids) rest recorded
-        (all-map Slots (λ t. length (slotsOf size t .ids) ≡ length t) (λ t w. w .ids) Ts slots-long)
+        ∙ laid-piece (S .starts) (S .lens) (minZ G) (λ t. indexOfTable size t .ids) (λ n. n) (λ a b. refl) Ts 0 (C .ids) rest recorded
+        (all-map Slots (λ t. length (indexOfTable size t .ids) ≡ length t) (λ t w. w .ids) Ts slots-long)
         (ap (λ (q : List ℕ). q ++ rest) (ids-pieces size Ts)) (z - minZ G) (p .0)
-        ∙ ap (λ (t : Table). slotsOf size t .ids) (which z h k)
+        ∙ ap (λ (t : Table). indexOfTable size t .ids) (which z h k)
 
     pub coords-are : (z : ℕ) → minZ G ≤ z → z ≤ maxZ G + 1 →
-        coordsAt (stateBy G) (columnsBy G l .coords) z ≡ slotsOf (G .options .«node_size») (built G z) .co
+        coordsAt (stateBy G) (columnsBy G l .coords) z ≡ indexOfTable (G .options .«node_size») (built G z) .co
     unfolding written
     coords-are z h k =
         let p = place z h k in
         let rest = drop (length (joinedCo size Ts)) (l .coords) in
         ap (coordsAt S (C .coords)) (sym (p .1))
-        ∙ laid-piece (S .starts) (S .lens) (minZ G) (λ t. slotsOf size t .co) (λ n. 2 * n) (λ a b. omega arith) Ts 0 (C .coords) rest
+        ∙ laid-piece (S .starts) (S .lens) (minZ G) (λ t. indexOfTable size t .co) (λ n. 2 * n) (λ a b. omega arith) Ts 0 (C .coords) rest
         recorded
-        (all-map Slots (λ t. length (slotsOf size t .co) ≡ 2 * length t) (λ t w. w .co) Ts slots-long)
+        (all-map Slots (λ t. length (indexOfTable size t .co) ≡ 2 * length t) (λ t w. w .co) Ts slots-long)
         (ap (λ (q : List Float). q ++ rest) (co-pieces size Ts)) (z - minZ G) (p .0)
-        ∙ ap (λ (t : Table). slotsOf size t .co) (which z h k)
+        ∙ ap (λ (t : Table). indexOfTable size t .co) (which z h k)
 
 -- what holds of every build that is accepted, in columns that hold it, holds of what `load` replies and leaves where it refuses nothing
-pub of-load : (P : State → Columns → Type 0) (G : Given) (l : Lent)
-    → (Accepted G → Holds (need (G .options) (points G)) l → P (stateBy G) (columnsBy G l))
-    → loadedBy G l .reply .reply ≡ Done → P (loadedBy G l .reply .state) (columnsOf (loadedBy G l .columns))
+pub of-load : (P : State → Columns → Type 0) (G : Given) (l : BuildColumns)
+    → (AcceptedBuild G → Holds (need (G .options) (points G)) l → P (stateBy G) (columnsBy G l))
+    → loadedOf G l .reply .reply ≡ Done → P (loadedOf G l .reply .state) (columnsOf (loadedOf G l .columns))
 unfolding loaded
 of-load P G l f e =
     let o = G .options in

@@ -17,7 +17,7 @@ use Rattle.floats.specs.laws.Unit.{In01}
 use Rattle.range.specs.declared.DataRange.{DataRange}
 use Rattle.range.specs.declared.CoordinateSystem.{CoordinateSystem}
 use Rattle.range.specs.declared.CoordinateSystem.the-variants.{LatLng, Cartesian}
-use Rattle.kdsort.specs.Cols.{Cols}
+use Rattle.kdsort.specs.Cols.{IndexCols}
 use Rattle.kdsort.specs.Cols.{blank}
 use Rattle.kdsort.specs.Tree.{Index}
 use Rattle.kdslots.specs.declared.Query.the-variants.{Range}
@@ -47,16 +47,16 @@ use Rattle.tiling.specs.laws.Framed.{tile-is}
 use Rattle.tiling.specs.laws.Inside.{InTile, inside-passes}
 use Rattle.tiling.specs.laws.Lists.{Lists, tile-whole, listed-whole}
 use Rattle.tiling.specs.Tally.{tallyNumber, weightIn, distinct, total, tallyOf}
-use Rattle.tiling.specs.Tile.{Visit, isTile, edge, least, greatest, here, goesRound, wraps, east, west, visitsOf, visited, listed, whole}
-use Rattle.tiling.specs.Tile.{itemOf, itemAt, items}
-use Rattle.tiles.specs.Asked.{Asked, asked, answerOf, someOf}
+use Rattle.tiling.specs.Tile.{Visit, isTile, edge, least, greatest, here, goesRound, wraps, eastStrip, westStrip, visitsOf, visited, tileListed, wholeTile}
+use Rattle.tiling.specs.Tile.{itemOf, itemAt, tileItems}
+use Rattle.tiles.specs.Asked.{TileAsked, tileAsked, tileAnswerOf, someOf}
 use Rattle.tiles.specs.laws.Ends.{asked-is}
-use Rattle.tiles.specs.Tallied.{sumOf, tallied}
-use Rattle.zooms.specs.Zooms.{slotsOf}
+use Rattle.tiles.specs.Tallied.{tallySum, tallied}
+use Rattle.zooms.specs.Zooms.{indexOfTable}
 use Rattle.zooms.specs.laws.Running.{table-inside}
-use Rattle.supercluster.specs.Build.{Lent, need}
+use Rattle.supercluster.specs.Build.{BuildColumns, need}
 use Rattle.supercluster.specs.laws.Load.{Holds}
-use Rattle.builds.specs.Given.{Given, Accepted, points}
+use Rattle.builds.specs.Given.{Given, AcceptedBuild, points}
 use Rattle.builds.specs.RightAt.{right-at}
 use Rattle.answers.specs.laws.Stored.{stateBy, columnsBy, state-sound, table-is, ids-are, coords-are}
 use Rattle.answers.specs.laws.Boxed.{Lies, Boxes, lies, boxes-of, usedBy, slots-index, between, fits-somehow}
@@ -64,10 +64,10 @@ use Rattle.answers.specs.laws.Boxed.{Lies, Boxes, lies, boxes-of, usedBy
 -- ---- what is said
 
 -- a tile and its tally, asked of the state that a build replies and the columns that it leaves
-abbrev pub tileBy : Given → Lent → ℕ → ℕ → ℕ → Asked
-tileBy G l z x y = asked (stateBy G) (columnsBy G l) z x y
+abbrev pub tileBy : Given → BuildColumns → ℕ → ℕ → ℕ → TileAsked
+tileBy G l z x y = tileAsked (stateBy G) (columnsBy G l) z x y
 
-abbrev pub tallyBy : Given → Lent → ℕ → ℕ → ℕ → Tally
+abbrev pub tallyBy : Given → BuildColumns → ℕ → ℕ → ℕ → Tally
 tallyBy G l z x y = tallied (stateBy G) (columnsBy G l) z x y
 
 -- the items of places of a table, by a search
@@ -84,24 +84,24 @@ pub record Tiles (o : Options) (z x y : ℕ) (t : Table) (l : List Item) : Type 
   pub a : List ℕ
   pub b : List ℕ
   pub c : List ℕ
-  pub is : l ≡ itemsBy t (here o z x y) a ++ (itemsBy t (east o z x y) b ++ itemsBy t (west o z x y) c)
+  pub is : l ≡ itemsBy t (here o z x y) a ++ (itemsBy t (eastStrip o z x y) b ++ itemsBy t (westStrip o z x y) c)
   pub own : Boxes (least o z x) (least o z y) (greatest o z x) (greatest o z y) t a
   pub eastern : Strip (wraps o && eqb x 0) (sub binary64 one (edge o z)) (least o z y) one (greatest o z y) t b
   pub western : Strip (wraps o && eqb (x + 1) (2 ^ z)) zero (least o z y) (edge o z) (greatest o z y) t c
 
 -- the item is that of an entry of the table which lies between the edges, by the search g
-pub record From (t : Table) (g : Search) (w s e n : Float) (i : Item) : Type 0 where
+pub record FoundFrom (t : Table) (g : Search) (w s e n : Float) (i : Item) : Type 0 where
   pub place-in : i .place < length t
   pub inside : Lies w s e n (entry t (i .place))
   pub is : i ≡ itemOf g (i .place) (entry t (i .place))
 
 -- why an item is listed: by the tile's own range, by the strip in the east, or by that in the west
 pub data Why (o : Options) (z x y : ℕ) (t : Table) (i : Item) : Type 0 where
-  own : From t (here o z x y) (least o z x) (least o z y) (greatest o z x) (greatest o z y) i → Why o z x y t i
+  own : FoundFrom t (here o z x y) (least o z x) (least o z y) (greatest o z x) (greatest o z y) i → Why o z x y t i
   eastern : wraps o ≡ true → x ≡ 0
-      → From t (east o z x y) (sub binary64 one (edge o z)) (least o z y) one (greatest o z y) i → Why o z x y t i
+      → FoundFrom t (eastStrip o z x y) (sub binary64 one (edge o z)) (least o z y) one (greatest o z y) i → Why o z x y t i
   western : wraps o ≡ true → x + 1 ≡ 2 ^ z
-      → From t (west o z x y) zero (least o z y) (edge o z) (greatest o z y) i → Why o z x y t i
+      → FoundFrom t (westStrip o z x y) zero (least o z y) (edge o z) (greatest o z y) i → Why o z x y t i
 
 -- ---- when strips run: always where the option is off, and for longitude either way; on a plan with the option on never
 
@@ -125,15 +125,15 @@ plan-wraps o d e c = ap₂ (λ (b : Bool) (x : CoordinateSystem). cond b (goesRo
 
 -- ---- lists of items
 
-items-append : (t : Table) (a b : List Visit) → items t (a ++ b) ≡ items t a ++ items t b
+items-append : (t : Table) (a b : List Visit) → tileItems t (a ++ b) ≡ tileItems t a ++ tileItems t b
 items-append t [] b = refl
 items-append t (v ∷ a) b = ap (λ (l : List Item). itemAt t v ∷ l) (items-append t a b)
 
-items-by : (t : Table) (g : Search) (ps : List ℕ) → items t (visitsOf g ps) ≡ itemsBy t g ps
+items-by : (t : Table) (g : Search) (ps : List ℕ) → tileItems t (visitsOf g ps) ≡ itemsBy t g ps
 items-by t g [] = refl
 items-by t g (p ∷ ps) = ap (λ (l : List Item). itemOf g p (entry t p) ∷ l) (items-by t g ps)
 
-item-places : (t : Table) (v : List Visit) → map (λ j. j .place) (items t v) ≡ map (λ w. w .place) v
+item-places : (t : Table) (v : List Visit) → map (λ j. j .place) (tileItems t v) ≡ map (λ w. w .place) v
 item-places t [] = refl
 item-places t (w ∷ v) = ap (λ (l : List ℕ). w .place ∷ l) (item-places t v)
 
@@ -164,7 +164,7 @@ all-by P t g (p ∷ ps) f = (f p ([], ps, refl), all-by P t g ps (λ q m. f q (i
 
 -- ---- the searches of a table with its index
 
-module _ (size : ℕ) (t : Table) (old S : Cols) (I : Index size (xsOf t) (ysOf t) old S) (b : All Body t) (w s e n : Float) where
+module _ (size : ℕ) (t : Table) (old S : IndexCols) (I : Index size (xsOf t) (ysOf t) old S) (b : All Body t) (w s e n : Float) where
   -- a range finds exactly the entries between its edges, each once
   range-boxes : Boxes w s e n t (found (Range w s e n) size (length t) (S .ids) (S .co))
   range-boxes =
@@ -185,11 +185,11 @@ module _ (size : ℕ) (t : Table) (old S : Cols) (I : Index size (xsOf t) (ysOf 
 -- ---- why an item is listed
 
 module _ (o : Options) (z x y : ℕ) (t : Table) where
-  from-by : (g : Search) (w s e n : Float) (ps : List ℕ) → Boxes w s e n t ps → (p : ℕ) → In p ps → From t g w s e n (itemOf g p (entry t p))
+  from-by : (g : Search) (w s e n : Float) (ps : List ℕ) → Boxes w s e n t ps → (p : ℕ) → In p ps → FoundFrom t g w s e n (itemOf g p (entry t p))
   from-by g w s e n ps b p m = let q = b .inside p m in record { place-in = q .0; inside = q .1; is = refl }
 
   strip-all : (g : Search) (w s e n : Float) (P : Item → Type 0) (made : Bool) (ps : List ℕ) → Strip made w s e n t ps
-      → (made ≡ true → (i : Item) → From t g w s e n i → P i) → All P (itemsBy t g ps)
+      → (made ≡ true → (i : Item) → FoundFrom t g w s e n i → P i) → All P (itemsBy t g ps)
   strip-all g w s e n P true ps b f = all-by P t g ps (λ p m. f refl _ (from-by g w s e n ps b p m))
   strip-all g w s e n P false ps b f = subst (λ (k : List ℕ). All P (itemsBy t g k)) (sym b) (unfold All in tt)
 
@@ -198,9 +198,9 @@ module _ (o : Options) (z x y : ℕ) (t : Table) where
       let P = Why o z x y t in
       subst (All P) (sym (q .is))
       (all-append P _ _ (strip-all (here o z x y) _ _ _ _ P true (q .a) (q .own) (λ e i f. own f))
-      (all-append P _ _ (strip-all (east o z x y) _ _ _ _ P (wraps o && eqb x 0) (q .b) (q .eastern)
+      (all-append P _ _ (strip-all (eastStrip o z x y) _ _ _ _ P (wraps o && eqb x 0) (q .b) (q .eastern)
       (λ e i f. let d = and-both (wraps o) (eqb x 0) e in eastern (d .0) (eqb-true x 0 (d .1)) f))
-      (strip-all (west o z x y) _ _ _ _ P (wraps o && eqb (x + 1) (2 ^ z)) (q .c) (q .western)
+      (strip-all (westStrip o z x y) _ _ _ _ P (wraps o && eqb (x + 1) (2 ^ z)) (q .c) (q .western)
       (λ e i f. let d = and-both (wraps o) (eqb (x + 1) (2 ^ z)) e in western (d .0) (eqb-true (x + 1) (2 ^ z) (d .1)) f))))
 
 told-same : {a b : List Item} → told true a ≡ told true b → a ≡ b
@@ -212,18 +212,18 @@ some-somehow (suc k) room e = fits-somehow (suc k) room e
 
 -- ---- of a build that is accepted
 
-module _ (G : Given) (a : Accepted G) (l : Lent) (r : Holds (need (G .options) (points G)) l) (z x y : ℕ) where
+module _ (G : Given) (a : AcceptedBuild G) (l : BuildColumns) (r : Holds (need (G .options) (points G)) l) (z x y : ℕ) where
   abbrev t : Table
   t = usedBy G z
 
-  abbrev S : Cols
-  S = slotsOf (G .options .«node_size») (usedBy G z)
+  abbrev S : IndexCols
+  S = indexOfTable (G .options .«node_size») (usedBy G z)
 
-  abbrev old : Cols
+  abbrev old : IndexCols
   old = blank (length (xsOf (usedBy G z)))
 
   index : Index (G .options .«node_size») (xsOf (usedBy G z)) (ysOf (usedBy G z)) (blank (length (xsOf (usedBy G z))))
-      (slotsOf (G .options .«node_size») (usedBy G z))
+      (indexOfTable (G .options .«node_size») (usedBy G z))
   index = let k = between G a z in slots-index G a (zoomUsed (G .options) z) (k .0) (k .1)
 
   body : All Body (usedBy G z)
@@ -236,10 +236,10 @@ module _ (G : Given) (a : Accepted G) (l : Lent) (r : Holds (need (G .options) (
   abbrev finds : List Visit
   finds = visited (G .options) z x y t (S .ids) (S .co)
 
-  all-whole : whole t finds ≡ true
+  all-whole : wholeTile t finds ≡ true
   all-whole = tile-whole t placed (G .options) old S index z x y
 
-  all-listed : listed t finds ≡ finds
+  all-listed : tileListed t finds ≡ finds
   all-listed = listed-whole t finds all-whole
 
   -- what goes by the table and the index where they stand goes by those of the build
@@ -255,8 +255,8 @@ module _ (G : Given) (a : Accepted G) (l : Lent) (r : Holds (need (G .options) (
       ∙ ap (λ (q : List ℕ). f t q (coordsAt s (c .coords) u)) (ids-are G a l r u (k .0) (k .1))
       ∙ ap (f t (S .ids)) (coords-are G a l r u (k .0) (k .1))
 
-  three : Tiles (G .options) z x y t (items t (visited (G .options) z x y t (S .ids) (S .co)))
-  unfolding visited here east west
+  three : Tiles (G .options) z x y t (tileItems t (visited (G .options) z x y t (S .ids) (S .co)))
+  unfolding visited here eastStrip westStrip
   three =
       let f : Float → Float → Float → Float → List ℕ = λ w s e n. found (Range w s e n) (G .options .«node_size») (length t) (S .ids)
       (S .co) in
@@ -266,8 +266,8 @@ module _ (G : Given) (a : Accepted G) (l : Lent) (r : Holds (need (G .options) (
       let C = when (wraps (G .options) && eqb (x + 1) (2 ^ z))
       (f zero (least (G .options) z y) (edge (G .options) z) (greatest (G .options) z y)) in
       let g = here (G .options) z x y in
-      let h = east (G .options) z x y in
-      let k = west (G .options) z x y in
+      let h = eastStrip (G .options) z x y in
+      let k = westStrip (G .options) z x y in
       record {
         a = A;
         b = B;
@@ -281,19 +281,19 @@ module _ (G : Given) (a : Accepted G) (l : Lent) (r : Holds (need (G .options) (
 
   -- no such tile is 7
   pub tile-refused : isTile z x y ≡ false → tileBy G l z x y ≡ refused Tile
-  unfolding asked
+  unfolding tileAsked
   tile-refused f = rw (state-sound G a l r, f)
 
   module _ (tile : isTile z x y ≡ true) where
-    told-items : tileBy G l z x y ≡ told true (items t finds)
+    told-items : tileBy G l z x y ≡ told true (tileItems t finds)
     told-items =
         asked-is (stateBy G) (columnsBy G l) z x y (state-sound G a l r) tile
-        ∙ moved (λ q ids co. let v = visited (G .options) z x y q ids co in told (whole q v) (items q (listed q v)))
-        ∙ ap₂ (λ (k : Bool) (v : List Visit). told k (items t v)) all-whole all-listed
+        ∙ moved (λ q ids co. let v = visited (G .options) z x y q ids co in told (wholeTile q v) (tileItems q (tileListed q v)))
+        ∙ ap₂ (λ (k : Bool) (v : List Visit). told k (tileItems t v)) all-whole all-listed
 
     -- the items of the entries in the tile's own range, then those of its strips
     pub tile-listed : (i : List Item) × (tileBy G l z x y ≡ told true i) × Tiles (G .options) z x y (usedBy G z) i
-    tile-listed = (items t finds, told-items, three)
+    tile-listed = (tileItems t finds, told-items, three)
 
     -- where strips do not run, the tile is the first range alone: the items of exactly the entries between its edges, none listed twice
     pub tile-alone : wraps (G .options) ≡ false
@@ -310,7 +310,7 @@ module _ (G : Given) (a : Accepted G) (l : Lent) (r : Holds (need (G .options) (
           q .a,
           told-items ∙ ap (told true) (q .is
               ∙ ap₂ (λ (v w : List ℕ). itemsBy t (here (G .options) z x y) (q .a)
-              ++ (itemsBy t (east (G .options) z x y) v ++ itemsBy t (west (G .options) z x y) w)) f g
+              ++ (itemsBy t (eastStrip (G .options) z x y) v ++ itemsBy t (westStrip (G .options) z x y) w)) f g
               ∙ append-nil (itemsBy t (here (G .options) z x y) (q .a))),
           q .own,
         )
@@ -357,15 +357,15 @@ module _ (G : Given) (a : Accepted G) (l : Lent) (r : Holds (need (G .options) (
     unfolding tallied tallyOf
     tally-is =
         rw (state-sound G a l r, tile)
-        (moved (λ q ids co. let v = visited (G .options) z x y q ids co in sumOf (whole q v) (tallyOf (weightIn z x y) q v))
-        ∙ ap₂ (λ (k : Bool) (v : List Visit). sumOf k (total (weightIn z x y) t (distinct [] (map (λ w. w .place) v)))) all-whole all-listed)
+        (moved (λ q ids co. let v = visited (G .options) z x y q ids co in tallySum (wholeTile q v) (tallyOf (weightIn z x y) q v))
+        ∙ ap₂ (λ (k : Bool) (v : List Visit). tallySum k (total (weightIn z x y) t (distinct [] (map (λ w. w .place) v)))) all-whole all-listed)
 
     -- the tally is the sum, over the distinct places of the items that the tile lists, of the num of those entries whose centre the tile
     -- holds; 0 where there is none
     pub tally-told : (i : List Item) × (tileBy G l z x y ≡ told true i)
         × (tallyBy G l z x y ≡ Sum (total (weightIn z x y) (usedBy G z) (distinct [] (map (λ j. j .place) i))))
     tally-told = (
-      items t finds,
+      tileItems t finds,
       told-items,
       tally-is ∙ ap (λ (ps : List ℕ). Sum (total (weightIn z x y) t (distinct [] ps))) (sym (item-places t finds)),
     )
@@ -376,12 +376,12 @@ module _ (G : Given) (a : Accepted G) (l : Lent) (r : Holds (need (G .options) (
   tally-refused f = rw (state-sound G a l r, f)
 
   -- no tile is refused 11
-  pub tile-not-spoiled : (room : ℕ) → answerOf (tileBy G l z x y) room ≡ Spoiled → ⊥
+  pub tile-not-spoiled : (room : ℕ) → tileAnswerOf (tileBy G l z x y) room ≡ Spoiled → ⊥
   tile-not-spoiled room = by (isTile z x y) refl
     where
-      by : (b : Bool) → isTile z x y ≡ b → answerOf (tileBy G l z x y) room ≡ Spoiled → ⊥
-      by true f h = let w = tile-listed f in some-somehow (length (w .0)) room (sym (ap (λ (q : Asked). answerOf q room) (w .1)) ∙ h)
-      by false f h = let w = sym (ap (λ (q : Asked). answerOf q room) (tile-refused f)) ∙ h in omega (arith, ap answerNumber w)
+      by : (b : Bool) → isTile z x y ≡ b → tileAnswerOf (tileBy G l z x y) room ≡ Spoiled → ⊥
+      by true f h = let w = tile-listed f in some-somehow (length (w .0)) room (sym (ap (λ (q : TileAsked). tileAnswerOf q room) (w .1)) ∙ h)
+      by false f h = let w = sym (ap (λ (q : TileAsked). tileAnswerOf q room) (tile-refused f)) ∙ h in omega (arith, ap answerNumber w)
 
   -- nor its tally
   pub tally-not-spoiled : tallyBy G l z x y ≡ Tally·Spoiled → ⊥

@@ -30,10 +30,10 @@ use Rattle.walks.specs.Leaves.{leavesAt, leavesOf}
 use Rattle.walks.specs.declared.Expansion.{Expansion}
 use Rattle.walks.specs.declared.Expansion.the-variants.{At as Expands·At, NoTree as Expands·NoTree, NoCluster as Expands·NoCluster}
 use Rattle.walks.specs.declared.Expansion.the-variants.{Spoiled as Expands·Spoiled}
-use Rattle.supercluster.specs.Build.{Lent, need}
+use Rattle.supercluster.specs.Build.{BuildColumns, need}
 use Rattle.supercluster.specs.laws.Load.{Holds}
-use Rattle.builds.specs.Given.{Given, Accepted, points, minZ, maxZ}
-use Rattle.builds.specs.Came.{tableAt as built}
+use Rattle.builds.specs.Given.{Given, AcceptedBuild, points, minZ, maxZ}
+use Rattle.builds.specs.Came.{tableOfZoom as built}
 use Rattle.builds.specs.Parents.{Alone, Under, parents}
 use Rattle.builds.specs.RightAt.{right-at}
 use Rattle.lamps.specs.Owner.{answersAt, lampsOf}
@@ -110,7 +110,7 @@ module _ (s : State) (cap id : ℕ) (good : stateOk s cap ≡ true) (P : Target 
 
 -- ---- an id that leads to a place of a build
 
-module _ (G : Given) (a : Accepted G) (l : Lent) (r : Holds (need (G .options) (points G)) l) where
+module _ (G : Given) (a : AcceptedBuild G) (l : BuildColumns) (r : Holds (need (G .options) (points G)) l) where
   abbrev S : State
   S = stateBy G
 

@@ -24,11 +24,11 @@ use Rattle.tables.specs.Room.{Columns}
 use Rattle.asking.specs.Columns.{tableAt}
 use Rattle.asking.specs.declared.Target.{Target}
 use Rattle.kids.specs.Kids.{kidsAt}
-use Rattle.walks.specs.Leaves.{Trip, went, enter, visit, after, steps, walk}
-use Rattle.supercluster.specs.Build.{Lent, need}
+use Rattle.walks.specs.Leaves.{Trip, went, enter, visitChild, after, steps, leafWalk}
+use Rattle.supercluster.specs.Build.{BuildColumns, need}
 use Rattle.supercluster.specs.laws.Load.{Holds}
-use Rattle.builds.specs.Given.{Given, Accepted, points, minZ, maxZ}
-use Rattle.builds.specs.Came.{tableAt as built}
+use Rattle.builds.specs.Given.{Given, AcceptedBuild, points, minZ, maxZ}
+use Rattle.builds.specs.Came.{tableOfZoom as built}
 use Rattle.builds.specs.Identities.{Known, identities}
 use Rattle.builds.specs.RightAt.{right-at}
 use Rattle.lamps.specs.Owner.{gather, lampsOf, membersOf}
@@ -73,7 +73,7 @@ pub record Rules (limit offset : ℕ) (May : ℕ → List ℕ → Type 0) (R : �
   pub more : (n : ℕ) (out ls ms : List ℕ) (m : ℕ) (p : List ℕ) (t : Trip) → May n out → 1 ≤ length ls → R n out ls (went m p) →
       (length p ≡ limit → ⊥) → R m p ms t → R n out (ls ++ ms) t
 
-module _ (G : Given) (a : Accepted G) (l : Lent) (r : Holds (need (G .options) (points G)) l) (limit offset : ℕ)
+module _ (G : Given) (a : AcceptedBuild G) (l : BuildColumns) (r : Holds (need (G .options) (points G)) l) (limit offset : ℕ)
     (May : ℕ → List ℕ → Type 0) (R : ℕ → List ℕ → List ℕ → Trip → Type 0) (rules : Rules limit offset May R) where
   abbrev S : State
   S = stateBy G
@@ -85,7 +85,7 @@ module _ (G : Given) (a : Accepted G) (l : Lent) (r : Holds (need (G .options) (
   abbrev walkInto : ℕ → ℕ → ℕ → ℕ → List ℕ → Trip
   walkInto g z j n out =
       let id = entry (built G z) j .id in
-      walk (stateBy G) (columnsBy G l) limit offset g id (tableOf (points G) id) (originOf (points G) id) n out
+      leafWalk (stateBy G) (columnsBy G l) limit offset g id (tableOf (points G) id) (originOf (points G) id) n out
 
   abbrev Walks : ℕ → Type 0
   Walks g =
@@ -102,7 +102,7 @@ module _ (G : Given) (a : Accepted G) (l : Lent) (r : Holds (need (G .options) (
 
     abbrev visited : Trip
     visited =
-        visit (stateBy G) (columnsBy G l) limit offset (walk (stateBy G) (columnsBy G l) limit offset g) z
+        visitChild (stateBy G) (columnsBy G l) limit offset (leafWalk (stateBy G) (columnsBy G l) limit offset g) z
         (entry (built G z) j) n out
 
     abbrev Visits : Type 0
@@ -115,7 +115,7 @@ module _ (G : Given) (a : Accepted G) (l : Lent) (r : Holds (need (G .options) (
     by-trip t ls e d w = subst (λ (x : Trip). R n out (lampsOf G z j) x) (sym e) (subst (λ (x : List ℕ). R n out x t) (sym d) w)
 
     lamp-visit : entry (built G z) j .id < points G → entry (built G z) j .num ≡ 1 → Visits
-    unfolding visit
+    unfolding visitChild
     lamp-visit b one = ⊎-elim skipped there (below n offset)
       where
         is : lampsOf G z j ≡ entry (built G z) j .id ∷ []
@@ -131,7 +131,7 @@ module _ (G : Given) (a : Accepted G) (l : Lent) (r : Holds (need (G .options) (
             (rules .list n out (E .id) ok w)
 
     cluster-visit : points G ≤ entry (built G z) j .id → 2 ≤ entry (built G z) j .num → Visits
-    unfolding visit
+    unfolding visitChild
     cluster-visit b many = ⊎-elim (λ w. entered w) (λ w. skipped w) (below offset (n + E .num))
       where
         skipped : n + entry (built G z) j .num ≤ offset → Visits
@@ -144,7 +144,7 @@ module _ (G : Given) (a : Accepted G) (l : Lent) (r : Holds (need (G .options) (
         entered w =
             by-trip (walkInto g z j n out) (lampsOf G z j)
             (rw (lt-ltb 1 (E .num) (omega arith), lt-leb (n + E .num) offset w)
-            (ap (λ (t : Target). enter (walk S C limit offset g) t (E .id) n out) (onward-is G a l r z j h k q b z (omega arith))))
+            (ap (λ (t : Target). enter (leafWalk S C limit offset g) t (E .id) n out) (onward-is G a l r z j h k q b z (omega arith))))
             refl (ih z j h k q b (let t = above G a l r z j h k q b in omega arith) n out ok room)
 
     visit-is : Visits
@@ -162,7 +162,7 @@ module _ (G : Given) (a : Accepted G) (l : Lent) (r : Holds (need (G .options) (
 
   abbrev stepsOver : ℕ → ℕ → List ℕ → ℕ → List ℕ → Trip
   stepsOver g t ks n out =
-      steps (stateBy G) (columnsBy G l) limit offset (walk (stateBy G) (columnsBy G l) limit offset g) t true
+      steps (stateBy G) (columnsBy G l) limit offset (leafWalk (stateBy G) (columnsBy G l) limit offset g) t true
       (map (entry (built G t)) ks) n out
 
   steps-are : (g t : ℕ) → Walks g → minZ G ≤ t → t ≤ maxZ G + 1 → 32 ≤ g + suc t → (ks : List ℕ) → AllBelow (length (built G t)) ks →
@@ -185,7 +185,7 @@ module _ (G : Given) (a : Accepted G) (l : Lent) (r : Holds (need (G .options) (
       M = gather (λ k. lampsOf G t k) ks
 
       X : Trip
-      X = visit S C limit offset (walk S C limit offset g) t (entry (built G t) j) n out
+      X = visitChild S C limit offset (leafWalk S C limit offset g) t (entry (built G t) j) n out
 
       on : (m : ℕ) (p : List ℕ) → 1 ≤ length L → R n out L (went m p) → (b : Bool) → eqb (length p) limit ≡ b →
           (May m p → length p + length M ≤ points G → R m p M (stepsOver g t ks m p))
@@ -199,7 +199,7 @@ module _ (G : Given) (a : Accepted G) (l : Lent) (r : Holds (need (G .options) (
   -- ---- a walk
 
   pub walks : (g : ℕ) → Walks g
-  unfolding walk
+  unfolding leafWalk
   walks zero z j h k q b deep n out ok room =
       absurd (let t = top G a l r z j h k q b in let m = options-are (G .options) (a .options) .zoom-to in omega arith)
   walks (suc g) z j h k q b deep n out ok room =
@@ -234,7 +234,7 @@ module _ (G : Given) (a : Accepted G) (l : Lent) (r : Holds (need (G .options) (
       opened =
           rw (ne-eqb (length (kidsAt S C Id T I)) 0 (λ e. let w =
           two-members G a l r z j h k q b in let v = ap length (kids-are G a l r z j h k q b) in omega arith))
-          (ap (λ (c : Bool). steps S C limit offset (walk S C limit offset g) T c
+          (ap (λ (c : Bool). steps S C limit offset (leafWalk S C limit offset g) T c
           (map (entry (tableAt S C T)) (kidsAt S C Id T I)) n out) (no-spoiled-slot G a l r z j h k q b)
-          ∙ ap₂ (λ (t : Table) (ks : List ℕ). steps S C limit offset (walk S C limit offset g) T true (map (entry t) ks) n out)
+          ∙ ap₂ (λ (t : Table) (ks : List ℕ). steps S C limit offset (leafWalk S C limit offset g) T true (map (entry t) ks) n out)
           (table-is G a l r T low up) (kids-are G a l r z j h k q b))

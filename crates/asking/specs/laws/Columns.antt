@@ -36,21 +36,21 @@ even-part a n c h =
 
 -- ---- a column as it is lent, from a up to e
 
-abbrev pub lent : {A : Type 0} → ℕ → ℕ → List A → List A
-lent a e l = take (e - a) (drop a l)
+abbrev pub sliced : {A : Type 0} → ℕ → ℕ → List A → List A
+sliced a e l = take (e - a) (drop a l)
 
-pub lent-part : {A : Type 0} (a n : ℕ) (l : List A) → lent a (a + n) l ≡ part a n l
+pub lent-part : {A : Type 0} (a n : ℕ) (l : List A) → sliced a (a + n) l ≡ part a n l
 lent-part a n l =
     let k : a + n - a ≡ n = omega arith in
     ap (λ (m : ℕ). take m (drop a l)) k
 
-lent-each : (a n : ℕ) (c : Cols) → each (λ A l. lent a (a + n) l) c ≡ each (λ A l. part a n l) c
-lent-each a n c = each-same (λ A l. lent a (a + n) l) (λ A l. part a n l) c (λ A l. lent-part a n l)
+lent-each : (a n : ℕ) (c : Cols) → each (λ A l. sliced a (a + n) l) c ≡ each (λ A l. part a n l) c
+lent-each a n c = each-same (λ A l. sliced a (a + n) l) (λ A l. part a n l) c (λ A l. lent-part a n l)
 
-pub lent-rows : (a n : ℕ) (c : Cols) → rows (each (λ A l. lent a (a + n) l) c) ≡ part a n (rows c)
+pub lent-rows : (a n : ℕ) (c : Cols) → rows (each (λ A l. sliced a (a + n) l) c) ≡ part a n (rows c)
 lent-rows a n c = ap rows (lent-each a n c) ∙ rows-part a n c
 
-pub lent-even : (a n : ℕ) (c : Cols) → Roomy (a + n) c → Even (each (λ A l. lent a (a + n) l) c)
+pub lent-even : (a n : ℕ) (c : Cols) → Roomy (a + n) c → Even (each (λ A l. sliced a (a + n) l) c)
 lent-even a n c h = subst (λ (q : Cols). Even q) (sym (lent-each a n c)) (even-part a n c h)
 
 -- ---- of a table that stands

@@ -11,13 +11,13 @@ use Rattle.floats.specs.laws.Unit.{In01}
 use Rattle.range.specs.declared.DataRange.{DataRange}
 use Rattle.range.specs.declared.CoordinateSystem.the-variants.{LatLng, Cartesian}
 use Rattle.range.specs.Range.{normalized, converted}
-use Rattle.kdsort.specs.Cols.{Cols, cols}
+use Rattle.kdsort.specs.Cols.{IndexCols, indexCols}
 use Rattle.kdsort.specs.Tree.{Index}
 use Rattle.kdslots.specs.declared.Query.{Query}
 use Rattle.kdslots.specs.declared.Query.the-variants.{Range, Within}
 use Rattle.kdbush.specs.declared.BuildReply.the-variants.{Done}
 use Rattle.kdslots.specs.Query.{passesQ, queryOk}
-use Rattle.kdbush.specs.Reply.{found, checked, built}
+use Rattle.kdbush.specs.Reply.{found, indexChecked, built}
 use Rattle.kdslots.specs.laws.Members.{In, Distinct}
 use Rattle.kdbush.specs.laws.Built.{accepted, build-is-index}
 use Rattle.kdslots.specs.laws.All.{AllBelow, all-append}
@@ -38,12 +38,12 @@ use Rattle.boxes.specs.Lists.{walked, listedAt, ringAsked, boxAsked}
 pub record Indexed (s : State) (ids : List ℕ) (co : List Float) (z : ℕ) (xs ys : List Float) : Type 0 where
   pub long : length xs ≡ lenOf s z
   pub unit : (p : ℕ) → p < length xs → In01 (getD xs p nan) × In01 (getD ys p nan)
-  pub lent : Cols
-  pub index : Index (s .options .«node_size») xs ys lent (cols (idsAt s ids z) (coordsAt s co z))
+  pub lent : IndexCols
+  pub index : Index (s .options .«node_size») xs ys lent (indexCols (idsAt s ids z) (coordsAt s co z))
 
 -- so it is where `kdbush::build` was accepted for them
-pub built-indexed : (s : State) (ids : List ℕ) (co : List Float) (z : ℕ) (xs ys : List Float) (l : Cols) → length xs ≡ lenOf s z → checked (s .options .«node_size») xs ys l ≡ Done
-    → built (s .options .«node_size») xs ys l ≡ cols (idsAt s ids z) (coordsAt s co z) → Indexed s ids co z xs ys
+pub built-indexed : (s : State) (ids : List ℕ) (co : List Float) (z : ℕ) (xs ys : List Float) (l : IndexCols) → length xs ≡ lenOf s z → indexChecked (s .options .«node_size») xs ys l ≡ Done
+    → built (s .options .«node_size») xs ys l ≡ indexCols (idsAt s ids z) (coordsAt s co z) → Indexed s ids co z xs ys
 built-indexed s ids co z xs ys l h e f =
     let size = s .options .«node_size» in
     record { long = h; unit = accepted size xs ys l e .inside; lent = l; index = subst (Index size xs ys l) f (build-is-index size xs ys l e) }

@@ -15,7 +15,7 @@ use Rattle.kdbush.specs.laws.Run.{places-length}
 use Rattle.kdbush.specs.Run.{sound, whole, filled}
 use Rattle.kdbush.specs.Reply.{found}
 use Rattle.kdslots.specs.laws.Intervals.{answers-length}
-use Rattle.tables.specs.laws.Columns.{from, from-drop, back}
+use Rattle.tables.specs.laws.Columns.{fromPart, from-drop, back}
 use Rattle.asking.specs.declared.Answer.the-variants.{Spoiled}
 use Rattle.asking.specs.Answers.{fitted}
 use Rattle.asking.specs.Asked.{answerOf, columnOf}
@@ -92,9 +92,9 @@ back-whole s l p =
     rw (drop-of-length-le (drop s l) {i = length l - s} h) (ap (λ (q : List ℕ). take s l ++ q) (append-nil p))
 
 -- as it comes back, when the part from s on is lent to the second search
-pub filled-back : (s : ℕ) (a b out : List ℕ) → s ≡ min (length a) (length out) → back s (filled a out) (filled b (from s (filled a out))) ≡ filled (a ++ b) out
+pub filled-back : (s : ℕ) (a b out : List ℕ) → s ≡ min (length a) (length out) → back s (filled a out) (filled b (fromPart s (filled a out))) ≡ filled (a ++ b) out
 filled-back s a b out e =
-    back-whole s (filled a out) (filled b (from s (filled a out)))
+    back-whole s (filled a out) (filled b (fromPart s (filled a out)))
     ∙ ap (λ (l : List ℕ). take s (filled a out) ++ filled b l) (from-drop s (filled a out)) ∙ sym (filled-append s a b out e)
 
 -- ---- the ways out: the places a of the first search, and b of the second
@@ -111,15 +111,15 @@ module _ (n : ℕ) (a b out : List ℕ) where
 
     -- where the second list begins
     module _ (s : ℕ) (f : s ≡ min (length a) (length out)) where
-      came : back s (filled (sound n a) out) (filled (sound n b) (from s (filled (sound n a) out))) ≡ columnOf (walked n (a ++ b)) out
+      came : back s (filled (sound n a) out) (filled (sound n b) (fromPart s (filled (sound n a) out))) ≡ columnOf (walked n (a ++ b)) out
       came = rw (whole-sound n a e, whole-goes n a b e .1) (filled-back s a (sound n b) out f)
 
       -- the second search meets a place past the table
       pub second-past : whole n b ≡ false → (Spoiled ≡ answerOf (walked n (a ++ b)) (length out))
-          × (back s (filled (sound n a) out) (filled (sound n b) (from s (filled (sound n a) out))) ≡ columnOf (walked n (a ++ b)) out)
+          × (back s (filled (sound n a) out) (filled (sound n b) (fromPart s (filled (sound n a) out))) ≡ columnOf (walked n (a ++ b)) out)
       second-past g = (rw (whole-goes n a b e .0 ∙ g), came)
 
       -- both go to their end
       pub both-whole : whole n b ≡ true → (fitted (length a + length b) (length out) ≡ answerOf (walked n (a ++ b)) (length out))
-          × (back s (filled (sound n a) out) (filled (sound n b) (from s (filled (sound n a) out))) ≡ columnOf (walked n (a ++ b)) out)
+          × (back s (filled (sound n a) out) (filled (sound n b) (fromPart s (filled (sound n a) out))) ≡ columnOf (walked n (a ++ b)) out)
       both-whole g = (rw (whole-goes n a b e .0 ∙ g, whole-goes n a b e .1, whole-sound n b g, length-append a b), came)

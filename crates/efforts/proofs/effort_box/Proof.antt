@@ -6,7 +6,7 @@ use lib.ListN.{length}
 use borrow.Author.Tests.{not-true, not-false}
 use Rattle.tables.specs.Sound.{stateOk}
 use Rattle.tables.specs.Room.{indexRoom}
-use Rattle.efforts.specs.Effort.{EffortAsked, replyOf, columnOf}
+use Rattle.efforts.specs.Effort.{EffortAsked, effortReplyOf, effortColumnOf}
 use Rattle.efforts.proofs.Used.{asked-spoiled, asked-box, asked-sought}
 use borrow.Author.Needs.{needs}
 use Rattle.efforts.proofs.effort_box.Statement.{statement}
@@ -33,8 +33,8 @@ returns c =
     let a = r .before .before .before .before .args in
     let e = asked-spoiled (a .s) (now (a .ids)) (now (a .coords)) (a .zoom) (a .west) (a .least-y) (a .east) (a .greatest-y)
     (sym (ap (stateOk (a .s)) (r .index-room .ensures)) ∙ sym (c .before .is-sound .ensures) ∙ not-true _ (c .if1 .taken)) in (
-      ap (λ (x : EffortAsked). replyOf x (a .allowance) (length (now (a .out)))) e,
-      ap (λ (x : EffortAsked). columnOf x (a .allowance) (now (a .out))) e,
+      ap (λ (x : EffortAsked). effortReplyOf x (a .allowance) (length (now (a .out)))) e,
+      ap (λ (x : EffortAsked). effortColumnOf x (a .allowance) (now (a .out))) e,
     )
 
 box-ok-requires : tie.Need-box-ok-requires
@@ -46,8 +46,8 @@ returns-2 c =
     let a = start-of l .args in
     let e = asked-box (a .s) (now (a .ids)) (now (a .coords)) (a .zoom) (a .west) (a .least-y) (a .east) (a .greatest-y) (sound l)
     (sym (c .before .box-ok .ensures) ∙ not-true _ (c .if2 .taken)) in (
-      ap (λ (x : EffortAsked). replyOf x (a .allowance) (length (now (a .out)))) e,
-      ap (λ (x : EffortAsked). columnOf x (a .allowance) (now (a .out))) e,
+      ap (λ (x : EffortAsked). effortReplyOf x (a .allowance) (length (now (a .out)))) e,
+      ap (λ (x : EffortAsked). effortColumnOf x (a .allowance) (now (a .out))) e,
     )
 
 plan-box-requires : tie.Need-plan-box-requires
@@ -68,8 +68,8 @@ returns-3 c =
     let a = start-of l .args in
     let e = asked-sought (a .s) (now (a .ids)) (now (a .coords)) (a .zoom) (a .west) (a .least-y) (a .east) (a .greatest-y) (sound l)
     (sym (f .before .box-ok .ensures) ∙ not-false _ (f .if2 .left)) _ (b .plan-box .ensures) in (
-      v .effort-used .ensures .0 ∙ ap (λ (x : EffortAsked). replyOf x (a .allowance) (length (now (a .out)))) e,
-      v .effort-used .ensures .1 ∙ ap (λ (x : EffortAsked). columnOf x (a .allowance) (now (a .out))) e,
+      v .effort-used .ensures .0 ∙ ap (λ (x : EffortAsked). effortReplyOf x (a .allowance) (length (now (a .out)))) e,
+      v .effort-used .ensures .1 ∙ ap (λ (x : EffortAsked). effortColumnOf x (a .allowance) (now (a .out))) e,
     )
 
 pub effort-box-spec : {M : Type 1} → statement M

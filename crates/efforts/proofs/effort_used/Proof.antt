@@ -4,7 +4,7 @@ use denote.Ref.{now}
 use lib.ListN.{length}
 use Rattle.boxplan.specs.laws.Queries.{queriesOf}
 use Rattle.boxes.specs.laws.Standing.{used-small, at-used}
-use Rattle.efforts.specs.Effort.{EffortAsked, replyOf, columnOf}
+use Rattle.efforts.specs.Effort.{EffortAsked, effortReplyOf, effortColumnOf}
 use Rattle.efforts.proofs.Used.{sought-used}
 use borrow.Author.Needs.{needs}
 use Rattle.efforts.proofs.effort_used.Statement.{statement}
@@ -46,8 +46,8 @@ returns c =
     let a = n .before .before .before .before .before .before .before .args in
     let e = sought-used (a .s) (now (a .ids)) (now (a .coords)) (a .zoom) _ _ _ (queriesOf (a .p)) (n .before .before .zoom-used .ensures)
     (n .before .start-of .ensures) (n .len-of .ensures) in (
-      v .effort-at .ensures .0 ∙ ap (λ (x : EffortAsked). replyOf x (a .allowance) (length (now (a .out)))) e,
-      v .effort-at .ensures .1 ∙ ap (λ (x : EffortAsked). columnOf x (a .allowance) (now (a .out))) e,
+      v .effort-at .ensures .0 ∙ ap (λ (x : EffortAsked). effortReplyOf x (a .allowance) (length (now (a .out)))) e,
+      v .effort-at .ensures .1 ∙ ap (λ (x : EffortAsked). effortColumnOf x (a .allowance) (now (a .out))) e,
     )
 
 pub effort-used-spec : {M : Type 1} → statement M

@@ -33,9 +33,9 @@ use Rattle.spending.specs.declared.Effort.{Effort}
 use Rattle.spending.specs.declared.EffortReply.{EffortReply}
 use Rattle.spending.specs.declared.EffortReply.the-variants.{Found, Box, NoRoom, Spoiled}
 use Rattle.spending.specs.Trials.{Mark, hits, trials, items}
-use Rattle.spending.specs.Reply.{effortCarried, effortOf, fitted, answer}
+use Rattle.spending.specs.Reply.{effortCarried, effortOf, effortFitted, answer}
 use Rattle.spending.specs.laws.Promise.{not-stopped, given-begin, given-of-all, trials-found, trials-most}
-use Rattle.efforts.specs.Effort.{EffortAsked, replyOf, soughtAt, effortAsked}
+use Rattle.efforts.specs.Effort.{EffortAsked, effortReplyOf, soughtAt, effortAsked}
 use Rattle.efforts.specs.StatedEffort.{plain, Carries, Stated, StatedEffort}
 
 -- ---- of any tests, in a table of n entries
@@ -70,12 +70,12 @@ module _ (n : ℕ) (ms : List Mark) where
 
         go : (b : Bool) → whole n (hits ms) ≡ b → plain (answer n ms a room) ≡ answerOf (walked n (hits ms)) room
         go true e =
-            ap (λ (b : Bool). plain (cond b (fitted (effortOf a ms) room) Spoiled)) (ap (whole n) all-items ∙ e)
+            ap (λ (b : Bool). plain (cond b (effortFitted (effortOf a ms) room) Spoiled)) (ap (whole n) all-items ∙ e)
             ∙ by-room (leb (length (items a ms)) room)
             ∙ ap (λ (l : List ℕ). plainly (length l) room) (all-items ∙ sym (whole-sound n (hits ms) e))
             ∙ sym (ap (λ (b : Bool). answerOf (told b (sound n (hits ms))) room) e)
         go false e =
-            ap (λ (b : Bool). plain (cond b (fitted (effortOf a ms) room) Spoiled)) (ap (whole n) all-items ∙ e)
+            ap (λ (b : Bool). plain (cond b (effortFitted (effortOf a ms) room) Spoiled)) (ap (whole n) all-items ∙ e)
             ∙ sym (ap (λ (b : Bool). answerOf (told b (sound n (hits ms))) room) e)
 
   stated-sought : (count : ℕ) → length ms ≤ 2 * count → Stated (told n ms) (walked n (hits ms)) count

@@ -10,15 +10,15 @@ use Rattle.tables.specs.declared.State.{State}
 use Rattle.spending.specs.declared.Effort.{Effort}
 use Rattle.spending.specs.declared.EffortReply.{EffortReply}
 use Rattle.spending.specs.Reply.{effortNumber, effortCarried}
-use Rattle.efforts.specs.Effort.{replyOf, columnOf, effortAsked}
+use Rattle.efforts.specs.Effort.{effortReplyOf, effortColumnOf, effortAsked}
 
 module _ (s : State) (ids : List ℕ) (co : List Float) (zoom : ℕ) (west least east greatest : Float) (a : ℕ) (out : List ℕ) where
-  pub effort-replies : (r t : EffortReply) → r ≡ replyOf (effortAsked s ids co zoom west least east greatest) a (length out)
-      → t ≡ replyOf (effortAsked s ids co zoom west least east greatest) a (length out) → r ≡ t
+  pub effort-replies : (r t : EffortReply) → r ≡ effortReplyOf (effortAsked s ids co zoom west least east greatest) a (length out)
+      → t ≡ effortReplyOf (effortAsked s ids co zoom west least east greatest) a (length out) → r ≡ t
   effort-replies r t = same-reply
 
-  pub effort-columns : (u v : List ℕ) → u ≡ columnOf (effortAsked s ids co zoom west least east greatest) a out
-      → v ≡ columnOf (effortAsked s ids co zoom west least east greatest) a out → u ≡ v
+  pub effort-columns : (u v : List ℕ) → u ≡ effortColumnOf (effortAsked s ids co zoom west least east greatest) a out
+      → v ≡ effortColumnOf (effortAsked s ids co zoom west least east greatest) a out → u ≡ v
   effort-columns u v = same-reply
 
 pub number-replies : (x : EffortReply) (r t : ℕ) → r ≡ effortNumber x → t ≡ effortNumber x → r ≡ t

@@ -21,7 +21,7 @@ use Rattle.boxplan.specs.laws.Worked.{west, east}
 use Rattle.spending.specs.declared.EffortReply.the-variants.{Found, Box, NoRoom, Spoiled}
 use Rattle.spending.specs.Trials.{Mark, mark, marks, hits}
 use Rattle.asking.specs.Asked.{refused, told}
-use Rattle.efforts.specs.Effort.{EffortAsked, replyOf, columnOf, effortAsked}
+use Rattle.efforts.specs.Effort.{EffortAsked, effortReplyOf, effortColumnOf, effortAsked}
 
 -- lamps at -180, -170, 0, 170 and 180 in table 1, one entry in table 0, and two slots at most in an interval that is not split
 abbrev state : State
@@ -53,29 +53,29 @@ unfolding effortAsked flatMap planOf newWest newEast wrapped converted mercatorX
 worked-tests = refl
 
 -- six tests reach into the second half, and find nothing there
-pub worked-stopped : replyOf (asked ids) 6 9 ≡ Found (record { items = 5; tested = 6; stopped = true })
+pub worked-stopped : effortReplyOf (asked ids) 6 9 ≡ Found (record { items = 5; tested = 6; stopped = true })
 unfolding hits whole
 worked-stopped = rw worked-tests
 
 -- eight are just enough
-pub worked-enough : replyOf (asked ids) 8 9 ≡ Found (record { items = 7; tested = 8; stopped = false })
+pub worked-enough : effortReplyOf (asked ids) 8 9 ≡ Found (record { items = 7; tested = 8; stopped = false })
 unfolding hits whole
 worked-enough = rw worked-tests
 
-pub worked-none : replyOf (asked ids) 0 9 ≡ Found (record { items = 0; tested = 0; stopped = true })
+pub worked-none : effortReplyOf (asked ids) 0 9 ≡ Found (record { items = 0; tested = 0; stopped = true })
 unfolding hits whole
 worked-none = rw worked-tests
 
-pub worked-column : columnOf (asked ids) 7 (replicate 8 9) ≡ 2 ∷ 3 ∷ 4 ∷ 0 ∷ 1 ∷ 0 ∷ 9 ∷ 9 ∷ []
+pub worked-column : effortColumnOf (asked ids) 7 (replicate 8 9) ≡ 2 ∷ 3 ∷ 4 ∷ 0 ∷ 1 ∷ 0 ∷ 9 ∷ 9 ∷ []
 unfolding hits sound
 worked-column = rw worked-tests
 
 -- a column of six: the six items of seven tests fit, and the seven of eight do not
-pub worked-fits : replyOf (asked ids) 7 6 ≡ Found (record { items = 6; tested = 7; stopped = true })
+pub worked-fits : effortReplyOf (asked ids) 7 6 ≡ Found (record { items = 6; tested = 7; stopped = true })
 unfolding hits whole
 worked-fits = rw worked-tests
 
-pub worked-room : replyOf (asked ids) 8 6 ≡ NoRoom (record { items = 7; tested = 8; stopped = false })
+pub worked-room : effortReplyOf (asked ids) 8 6 ≡ NoRoom (record { items = 7; tested = 8; stopped = false })
 unfolding hits whole
 worked-room = rw worked-tests
 
@@ -88,11 +88,11 @@ pub worked-spoilt : asked spoilt
 unfolding effortAsked flatMap planOf newWest newEast wrapped converted mercatorX ofInt neg add sub div sum rem round le lt eq stateOk packed optionsOk systemInBounds slots scanned shape split marks
 worked-spoilt = refl
 
-pub worked-before : replyOf (asked spoilt) 4 9 ≡ Found (record { items = 4; tested = 4; stopped = true })
+pub worked-before : effortReplyOf (asked spoilt) 4 9 ≡ Found (record { items = 4; tested = 4; stopped = true })
 unfolding hits whole
 worked-before = rw worked-spoilt
 
-pub worked-come-to : (replyOf (asked spoilt) 5 9 ≡ Spoiled) × (columnOf (asked spoilt) 5 (replicate 6 9) ≡ 2 ∷ 3 ∷ 4 ∷ 0 ∷ 9 ∷ 9 ∷ [])
+pub worked-come-to : (effortReplyOf (asked spoilt) 5 9 ≡ Spoiled) × (effortColumnOf (asked spoilt) 5 (replicate 6 9) ≡ 2 ∷ 3 ∷ 4 ∷ 0 ∷ 9 ∷ 9 ∷ [])
 unfolding hits whole sound
 worked-come-to = rw worked-spoilt (refl, refl)
 

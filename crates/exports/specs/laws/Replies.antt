@@ -8,14 +8,14 @@ use lib.IntN.{ℤ}
 use lib.ListN.{length}
 use lib.Ieee.{Float}
 use Rattle.floats.specs.laws.Replies.{same-reply}
-use Rattle.kdsort.specs.Cols.{Cols}
+use Rattle.kdsort.specs.Cols.{IndexCols}
 use Rattle.kdslots.specs.declared.Query.{Query}
-use Rattle.kdbush.specs.Reply.{buildNumber, buildCarried, built, checked, searchNumber, searchCarried, searched, columnAfter}
+use Rattle.kdbush.specs.Reply.{buildNumber, buildCarried, built, indexChecked, searchNumber, searchCarried, searched, columnAfter}
 use Rattle.kdwalk.specs.declared.Step.{Step}
 use Rattle.kdwalk.specs.Reply.{stepNumber, firstStep, afterStep, stepCarried}
 use Rattle.tables.specs.declared.Options.{Options}
 use Rattle.tables.specs.declared.State.{State}
-use Rattle.supercluster.specs.Build.{Lent, loaded}
+use Rattle.supercluster.specs.Build.{BuildColumns, loaded}
 use Rattle.tables.specs.Room.{Columns}
 use Rattle.boxes.specs.Lists.{boxAsked, ringAsked}
 use Rattle.efforts.specs.Effort.{effortAsked}
@@ -39,10 +39,10 @@ same-step x r s i j e f = (same-reply (e .0) (f .0), same-reply (e .1) (f .1))
 -- ---- the index
 
 -- `kdbush_build`
-pub build-replies : (size : ℕ) (xs ys : List Float) (w : Cols) (r s c d : ℕ) (u v : Cols) → let a = checked size xs ys w in
+pub build-replies : (size : ℕ) (xs ys : List Float) (w : IndexCols) (r s c d : ℕ) (u v : IndexCols) → let a = indexChecked size xs ys w in
     (r ≡ buildNumber a) × (c ≡ buildCarried a) × (u ≡ built size xs ys w)
     → (s ≡ buildNumber a) × (d ≡ buildCarried a) × (v ≡ built size xs ys w) → (r ≡ s) × (c ≡ d) × (u ≡ v)
-build-replies size xs ys w = let a = checked size xs ys w in same-told (buildNumber a) (buildCarried a) (built size xs ys w)
+build-replies size xs ys w = let a = indexChecked size xs ys w in same-told (buildNumber a) (buildCarried a) (built size xs ys w)
 
 module _ (q : Query) (size n : ℕ) (co : List Float) where
   -- `kdbush_range`, `kdbush_within`
@@ -65,7 +65,7 @@ module _ (q : Query) (size n : ℕ) (co : List Float) where
 -- ---- the build, and the questions to it
 
 -- `supercluster_load`
-pub load-replies : (o : Options) (xs ys : List Float) (ws : List ℕ) (l : Lent) (starts lens : List ℕ) (r t : Laid)
+pub load-replies : (o : Options) (xs ys : List Float) (ws : List ℕ) (l : BuildColumns) (starts lens : List ℕ) (r t : Laid)
     → r ≡ laidOf (loaded o xs ys ws l) starts lens → t ≡ laidOf (loaded o xs ys ws l) starts lens → r ≡ t
 load-replies o xs ys ws l starts lens r t = same-reply
 

@@ -63,31 +63,31 @@ weightedSum w [] = w
 weightedSum w (p ∷ ps) = weightedSum (add binary64 w (mul binary64 (p .0) (float (p .1)))) ps
 
 -- the running total from S on
-abbrev pub total : ℕ → List (Float × ℕ) → ℕ
-total S [] = S
-total S (p ∷ ps) = total (S + p .1) ps
+abbrev pub centreTotal : ℕ → List (Float × ℕ) → ℕ
+centreTotal S [] = S
+centreTotal S (p ∷ ps) = centreTotal (S + p .1) ps
 
 -- each value is from 0 to 1, and each count at least 1
 abbrev pub All01 : List (Float × ℕ) → Type 0
 All01 [] = Unit {0}
 All01 (p ∷ ps) = In01 (p .0) × (1 ≤ p .1) × All01 ps
 
-pub total-le : (S : ℕ) (ps : List (Float × ℕ)) → S ≤ total S ps
+pub total-le : (S : ℕ) (ps : List (Float × ℕ)) → S ≤ centreTotal S ps
 total-le S [] = le-refl S
 total-le S (p ∷ ps) = le-trans (more S (p .1)) (total-le (S + p .1) ps)
   where
     more : (a b : ℕ) → a ≤ a + b
     more a b = omega arith
 
-pub sum-weighted : (w : Float) (S : ℕ) (ps : List (Float × ℕ)) → Weighted w S → All01 ps → total S ps ≤ 2 ^ 53 → Weighted (weightedSum w ps) (total S ps)
+pub sum-weighted : (w : Float) (S : ℕ) (ps : List (Float × ℕ)) → Weighted w S → All01 ps → centreTotal S ps ≤ 2 ^ 53 → Weighted (weightedSum w ps) (centreTotal S ps)
 sum-weighted w S [] k a h = k
 sum-weighted w S (p ∷ ps) k a h =
     sum-weighted (add binary64 w (mul binary64 (p .0) (float (p .1)))) (S + p .1) ps (weigh-more w S (p .0) (p .1) k (a .0) (a .1) (le-trans (total-le (S + p .1) ps) h)) (a .2) h
 
 -- every centre is within [0,1]: the origin x of count n, then what it absorbs
-pub centre : (x : Float) (n : ℕ) (ps : List (Float × ℕ)) → In01 x → 1 ≤ n → All01 ps → total n ps ≤ 2 ^ 53
-    → In01 (div binary64 (weightedSum (mul binary64 x (float n)) ps) (float (total n ps)))
+pub centre : (x : Float) (n : ℕ) (ps : List (Float × ℕ)) → In01 x → 1 ≤ n → All01 ps → centreTotal n ps ≤ 2 ^ 53
+    → In01 (div binary64 (weightedSum (mul binary64 x (float n)) ps) (float (centreTotal n ps)))
 centre x n ps h p a q =
-    weigh-mean (weightedSum (mul binary64 x (float n)) ps) (total n ps)
+    weigh-mean (weightedSum (mul binary64 x (float n)) ps) (centreTotal n ps)
     (sum-weighted (mul binary64 x (float n)) n ps (weigh-one x n h p (le-trans (total-le n ps) q)) a q)
     (le-trans p (total-le n ps)) q

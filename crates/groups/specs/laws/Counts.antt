@@ -9,7 +9,7 @@ use native.Mathlib.Omega.{arith}
 use lib.Dec.{eqb}
 use Rattle.kdslots.specs.laws.All.{All, AllBelow}
 use Rattle.kdslots.specs.laws.Members.{In, NotIn, Distinct}
-use Rattle.groups.specs.Sums.{one, sum, count, range}
+use Rattle.groups.specs.Sums.{oneIf, sum, count, range}
 use Rattle.groups.specs.laws.Sums.{hit, below, count-head, sum-append, range-in, range-out}
 
 -- ---- from kdslots' words to counts
@@ -22,20 +22,20 @@ pub distinct-count : (k : ℕ) (l : List ℕ) → Distinct l → count k l ≤ 1
 distinct-count k [] d = omega arith
 distinct-count k (j ∷ js) d = ⊎-elim same (other (distinct-count k js (d .1))) (hit k j)
   where
-    same : (k ≡ j) × (one (eqb k j) ≡ 1) → count k (j ∷ js) ≤ 1
+    same : (k ≡ j) × (oneIf (eqb k j) ≡ 1) → count k (j ∷ js) ≤ 1
     same e =
         let a = notin-count j js (d .0) in
         let b : count k js ≡ count j js = ap (λ (i : ℕ). count i js) (e .0) in
         let c = e .1 in
         omega arith
 
-    other : count k js ≤ 1 → (k ≡ j → ⊥) × (one (eqb k j) ≡ 0) → count k (j ∷ js) ≤ 1
+    other : count k js ≤ 1 → (k ≡ j → ⊥) × (oneIf (eqb k j) ≡ 0) → count k (j ∷ js) ≤ 1
     other a e = let b = e .1 in omega arith
 
 pub in-count : (k : ℕ) (l : List ℕ) → In k l → 1 ≤ count k l
 in-count k l h =
     let a : count k l ≡ count k (h .0 ++ k ∷ h .1) = ap (λ (m : List ℕ). count k m) (h .2) in
-    let b = sum-append (λ x. one (eqb k x)) (h .0) (k ∷ h .1) in
+    let b = sum-append (λ x. oneIf (eqb k x)) (h .0) (k ∷ h .1) in
     let c = count-head k (h .1) in
     omega arith
 
@@ -54,10 +54,10 @@ pub count-in : (k : ℕ) (l : List ℕ) → 1 ≤ count k l → In k l
 count-in k [] c = absurd (omega arith)
 count-in k (j ∷ js) c = ⊎-elim here (later (λ w. count-in k js w)) (hit k j)
   where
-    here : (k ≡ j) × (one (eqb k j) ≡ 1) → In k (j ∷ js)
+    here : (k ≡ j) × (oneIf (eqb k j) ≡ 1) → In k (j ∷ js)
     here e = ([], js, ap (λ (i : ℕ). i ∷ js) (sym (e .0)))
 
-    later : (1 ≤ count k js → In k js) → (k ≡ j → ⊥) × (one (eqb k j) ≡ 0) → In k (j ∷ js)
+    later : (1 ≤ count k js → In k js) → (k ≡ j → ⊥) × (oneIf (eqb k j) ≡ 0) → In k (j ∷ js)
     later ih e = let b = e .1 in let w = ih (omega arith) in (j ∷ w .0, w .1, ap (λ (m : List ℕ). j ∷ m) (w .2))
 
 pub count-below : (n : ℕ) (l : List ℕ) → ((k : ℕ) → n ≤ k → count k l ≡ 0) → AllBelow n l
@@ -86,8 +86,8 @@ same-counts (x ∷ xs) ys h = List·Permᴰ·trans (List·Permᴰ·cons refl (sa
     fewer k =
         let a = h k in
         let b : count k ys ≡ count k (there .0 ++ x ∷ there .1) = ap (λ (m : List ℕ). count k m) (there .2) in
-        let c = sum-append (λ y. one (eqb k y)) (there .0) (x ∷ there .1) in
-        let d = sum-append (λ y. one (eqb k y)) (there .0) (there .1) in
+        let c = sum-append (λ y. oneIf (eqb k y)) (there .0) (x ∷ there .1) in
+        let d = sum-append (λ y. oneIf (eqb k y)) (there .0) (there .1) in
         omega arith
 
     back : List·Permᴰ (x ∷ (there .0 ++ there .1)) ys

@@ -22,10 +22,10 @@ use Rattle.tables.specs.laws.Ids.{id-small}
 use Rattle.zoom.specs.laws.Lamps.{Carried}
 use Rattle.zoom.specs.Zoom.{Scan, cluster}
 use Rattle.groups.specs.laws.Sums.{pick, not-both, eqb-same, below, count-head, sum-ext, keep-ext, keep-in}
-use Rattle.groups.specs.Sums.{one, sum, count, range}
+use Rattle.groups.specs.Sums.{oneIf, sum, count, range}
 use Rattle.groups.specs.laws.Sums.{range-in, range-out}
-use Rattle.groups.specs.Groups.{Group, copied, unseenAt, turn, weighed, without, meanOf, others, members, total, joins, centreAt}
-use Rattle.groups.specs.Groups.{groupsAt, after, around, groupsOf}
+use Rattle.groups.specs.Groups.{Group, copied, unseenAt, turn, weighedSum, without, meanOf, others, members, groupTotal, joins, centreAt}
+use Rattle.groups.specs.Groups.{groupsAt, afterGroup, around, groupsOf}
 use Rattle.groups.specs.laws.Counts.{all-counted}
 use Rattle.groups.specs.laws.Sweeps.{inside, seen-alike}
 use Rattle.groups.specs.laws.Run.{Run, stop, pass, acts, run, Answers, members-here, members-unseen, others-are, after-in, after-out}
@@ -33,7 +33,7 @@ use Rattle.groups.specs.laws.Run.{after-done, after-seen, members-split,
 use Rattle.groups.specs.laws.Walks.{weighed-ext}
 use Rattle.groups.specs.laws.Literal.{answers, centre-carries, cluster-groups}
 use Rattle.groups.specs.laws.Once.{groups-once, groups-none}
-use Rattle.groups.specs.laws.OneZoom.{Copied, Fits, OneZoom}
+use Rattle.groups.specs.laws.OneZoom.{Copied, FitsZoom, OneZoom}
 
 -- a member's parent is no other cluster's
 turn-parent : (n z : ℕ) (b : Bool) (i j : ℕ) (e : Entry) → (i ≡ j → ⊥) → (e .parent ≡ clusterId n z j → ⊥) → turn b z (clusterId n z i) e .parent ≡ clusterId n z j → ⊥
@@ -51,7 +51,7 @@ module _ (n least z : ℕ) (near : ℕ → List ℕ) (T : Table) (A : Answers (l
   before-pass : {i : ℕ} {is : List ℕ} {d : Table} → Before (i ∷ is) d → Before is d
   before-pass h = record { long = h .long; asT = h .asT; clear = λ k j c. h .clear k j (omega arith); apart = λ k. let a = h .apart k in omega arith }
 
-  before-acts : {i : ℕ} {is : List ℕ} {d : Table} (b : Bool) → unseenAt z d i ≡ true → Before (i ∷ is) d → Before is (after n z near b d i)
+  before-acts : {i : ℕ} {is : List ℕ} {d : Table} (b : Bool) → unseenAt z d i ≡ true → Before (i ∷ is) d → Before is (afterGroup n z near b d i)
   before-acts {i} {is} {d} b u h =
       record {
         long = length-after n z near b d i (length T) (h .long);
@@ -63,22 +63,22 @@ module _ (n least z : ℕ) (near : ℕ → List ℕ) (T : Table) (A : Answers (l
       i<len : i < length T
       i<len = let a = inside z d i u in let b = h .long in omega arith
 
-      fresh : (k : ℕ) → unseenAt z (after n z near b d i) k ≡ true → 0 < count k (members z near d i) → entry (after n z near b d i) k ≡ entry T k
-      fresh k e c = absurd (not-both (unseenAt z (after n z near b d i) k) e (after-done n z near b d i k c))
+      fresh : (k : ℕ) → unseenAt z (afterGroup n z near b d i) k ≡ true → 0 < count k (members z near d i) → entry (afterGroup n z near b d i) k ≡ entry T k
+      fresh k e c = absurd (not-both (unseenAt z (afterGroup n z near b d i) k) e (after-done n z near b d i k c))
 
-      stale : (k : ℕ) → unseenAt z (after n z near b d i) k ≡ true → count k (members z near d i) ≤ 0 → entry (after n z near b d i) k ≡ entry T k
+      stale : (k : ℕ) → unseenAt z (afterGroup n z near b d i) k ≡ true → count k (members z near d i) ≤ 0 → entry (afterGroup n z near b d i) k ≡ entry T k
       stale k e c =
           let a = after-out n least z (length T) near A b d i k i<len (omega arith) in
           a ∙ h .asT k (seen-alike z _ _ true (sym a) e)
 
-      taken : (k j : ℕ) → 0 < count j is → 0 < count k (members z near d i) → entry (after n z near b d i) k .parent ≡ clusterId n z j → ⊥
+      taken : (k j : ℕ) → 0 < count j is → 0 < count k (members z near d i) → entry (afterGroup n z near b d i) k .parent ≡ clusterId n z j → ⊥
       taken k j c w p =
           turn-parent n z b i j (entry d k)
-          (λ e. let a = h .apart j in let q : one (eqb j i) ≡ 1 = ap (λ (y : ℕ). one (eqb j y)) e ∙ ap one (eqb-same j) in omega arith)
+          (λ e. let a = h .apart j in let q : oneIf (eqb j i) ≡ 1 = ap (λ (y : ℕ). oneIf (eqb j y)) e ∙ ap oneIf (eqb-same j) in omega arith)
           (h .clear k j (omega arith))
           (ap (λ (x : Entry). x .parent) (sym (after-in n z near b d i k w)) ∙ p)
 
-      left : (k j : ℕ) → 0 < count j is → count k (members z near d i) ≤ 0 → entry (after n z near b d i) k .parent ≡ clusterId n z j → ⊥
+      left : (k j : ℕ) → 0 < count j is → count k (members z near d i) ≤ 0 → entry (afterGroup n z near b d i) k .parent ≡ clusterId n z j → ⊥
       left k j c w p = h .clear k j (omega arith) (ap (λ (x : Entry). x .parent) (sym (after-out n least z (length T) near A b d i k i<len (omega arith))) ∙ p)
 
   -- the groups of a place that acts; d' is the table at the end of the scan
@@ -98,27 +98,27 @@ module _ (n least z : ℕ) (near : ℕ → List ℕ) (T : Table) (A : Answers (l
         ∙ sym (members-split n least z (length T) near A (λ k. f (entry d k)) d i (h .long) u)
         ∙ sum-ext (λ k. f (entry d k)) (λ k. f (entry T k)) (members z near d i) (λ k c. ap f (member-as k c))
 
-    lots : joins least z near d i ≡ true → (entry T i .num < total z near d i) × (least ≤ total z near d i)
+    lots : joins least z near d i ≡ true → (entry T i .num < groupTotal z near d i) × (least ≤ groupTotal z near d i)
     lots m =
-        let w = and-both (ltb (entry d i .num) (total z near d i)) (leb least (total z near d i)) m in
-        let a : entry d i .num < total z near d i = ltb-true (entry d i .num) (total z near d i) (w .0) in
-        (subst (λ (e : Entry). e .num < total z near d i) (h .asT i u) a, leb-true least (total z near d i) (w .1))
+        let w = and-both (ltb (entry d i .num) (groupTotal z near d i)) (leb least (groupTotal z near d i)) m in
+        let a : entry d i .num < groupTotal z near d i = ltb-true (entry d i .num) (groupTotal z near d i) (w .0) in
+        (subst (λ (e : Entry). e .num < groupTotal z near d i) (h .asT i u) a, leb-true least (groupTotal z near d i) (w .1))
 
-    mean : (c : Entry → Float) → meanOf c d i (others z near d i) (total z near d i) ≡ meanOf c T i (without i (members z near d i)) (total z near d i)
+    mean : (c : Entry → Float) → meanOf c d i (others z near d i) (groupTotal z near d i) ≡ meanOf c T i (without i (members z near d i)) (groupTotal z near d i)
     mean c =
         let ks = without i (members z near d i) in
         let w : Float = mul binary64 (c (entry T i)) (float (entry T i .num)) in
-        ap (λ (l : List ℕ). meanOf c d i l (total z near d i)) (others-are z near d i u)
-        ∙ ap (λ (e : Entry). div binary64 (weighed c d (mul binary64 (c e) (float (e .num))) ks) (float (total z near d i))) (h .asT i u)
-        ∙ ap (λ (v : Float). div binary64 v (float (total z near d i)))
+        ap (λ (l : List ℕ). meanOf c d i l (groupTotal z near d i)) (others-are z near d i u)
+        ∙ ap (λ (e : Entry). div binary64 (weighedSum c d (mul binary64 (c e) (float (e .num))) ks) (float (groupTotal z near d i))) (h .asT i u)
+        ∙ ap (λ (v : Float). div binary64 v (float (groupTotal z near d i)))
         (weighed-ext c d T ks w (λ k l. let a = member-as k (keep-in (λ j. not (eqb j i)) (members z near d i) k l) in (ap c a, ap (λ (e : Entry). e .num) a)))
 
     -- a member at the end of the scan
-    member-end : (b : Bool) → ((k : ℕ) → unseenAt z (after n z near b d i) k ≡ false → entry d' k ≡ entry (after n z near b d i) k) →
+    member-end : (b : Bool) → ((k : ℕ) → unseenAt z (afterGroup n z near b d i) k ≡ false → entry d' k ≡ entry (afterGroup n z near b d i) k) →
         (k : ℕ) → 0 < count k (members z near d i) → entry d' k ≡ turn b z (clusterId n z i) (entry T k)
     member-end b fr k c = fr k (after-done n z near b d i k c) ∙ after-in n z near b d i k c ∙ ap (λ (x : Entry). turn b z (clusterId n z i) x) (member-as k c)
 
-    kids-are : ((k : ℕ) → unseenAt z (after n z near true d i) k ≡ false → entry d' k ≡ entry (after n z near true d i) k) →
+    kids-are : ((k : ℕ) → unseenAt z (afterGroup n z near true d i) k ≡ false → entry d' k ≡ entry (afterGroup n z near true d i) k) →
         members z near d i ≡ keep (λ k. eqb (entry d' k .parent) (clusterId n z i)) (near i)
     kids-are fr = keep-ext (unseenAt z d) (λ k. eqb (entry d' k .parent) (clusterId n z i)) (near i) (λ k c. ⊎-elim (taken k c) (left k) (pick (unseenAt z d k)))
       where
@@ -133,8 +133,8 @@ module _ (n least z : ℕ) (near : ℕ → List ℕ) (T : Table) (A : Answers (l
             let f : entry d' k ≡ entry d k = fr k (seen-alike z _ _ false a e) ∙ a in
             e ∙ sym (ne-eqb (entry d' k .parent) (clusterId n z i) (λ p. h .clear k i (count-head i is) (ap (λ (x : Entry). x .parent) (sym f) ∙ p)))
 
-    groups-fit : (b : Bool) → joins least z near d i ≡ b → ((k : ℕ) → unseenAt z (after n z near b d i) k ≡ false → entry d' k ≡ entry (after n z near b d i) k) →
-        All (Fits n least z near T d') (groupsAt n z near b d i)
+    groups-fit : (b : Bool) → joins least z near d i ≡ b → ((k : ℕ) → unseenAt z (afterGroup n z near b d i) k ≡ false → entry d' k ≡ entry (afterGroup n z near b d i) k) →
+        All (FitsZoom n least z near T d') (groupsAt n z near b d i)
     unfolding All
     groups-fit true m fr = (
       record {
@@ -154,20 +154,20 @@ module _ (n least z : ℕ) (near : ℕ → List ℕ) (T : Table) (A : Answers (l
       },
       tt,
     )
-    groups-fit false m fr = all-counted (Fits n least z near T d') (λ k. copied k (marked z (entry d k))) (i ∷ others z near d i) each
+    groups-fit false m fr = all-counted (FitsZoom n least z near T d') (λ k. copied k (marked z (entry d k))) (i ∷ others z near d i) each
       where
         each : (k : ℕ) → 0 < count k (i ∷ others z near d i) → Copied n least z near T d' k (marked z (entry d k))
         each k c =
-            let s = members-split n least z (length T) near A (λ x. one (eqb k x)) d i (h .long) u in
+            let s = members-split n least z (length T) near A (λ x. oneIf (eqb k x)) d i (h .long) u in
             let w : 0 < count k (members z near d i) = omega arith in
             record { place = member-in k w; same = ap (λ (x : Entry). marked z x) (member-as k w); finer = member-end false fr k w }
 
-  fits : {is : List ℕ} {d d' : Table} {gs : List Group} → Run n least z near is d d' gs → Before is d → All (Fits n least z near T d') gs
+  fits : {is : List ℕ} {d d' : Table} {gs : List Group} → Run n least z near is d d' gs → Before is d → All (FitsZoom n least z near T d') gs
   unfolding All
   fits stop h = tt
   fits (pass e r) h = fits r (before-pass h)
   fits (acts {i = i} {is = is} {d = d} {d' = d'} {rs = rs} b m u r) h =
-      all-append (Fits n least z near T d') (groupsAt n z near b d i) rs (groups-fit i is d d' u h b m (frame n least z (length T) near A r)) (fits r (before-acts b u h))
+      all-append (FitsZoom n least z near T d') (groupsAt n z near b d i) rs (groups-fit i is d d' u h b m (frame n least z (length T) near A r)) (fits r (before-acts b u h))
 
 -- ---- one zoom of a table of which nothing is seen and nothing has a parent
 

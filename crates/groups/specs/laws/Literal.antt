@@ -23,8 +23,8 @@ use Rattle.zoom.specs.Zoom.{scanFrom, cluster}
 use Rattle.groups.specs.laws.Sums.{hit, sum-ext}
 use Rattle.groups.specs.Sums.{range}
 use Rattle.groups.specs.laws.Counts.{distinct-count, in-count, count-distinct}
-use Rattle.groups.specs.Groups.{Group, copied, entryOf, unseenAt, markedAt, took, turn, change, sweep, others, sumAt, total, joins}
-use Rattle.groups.specs.Groups.{weighed, centreAt, groupsAt, after, turning, groupsFrom, around, groupsOf}
+use Rattle.groups.specs.Groups.{Group, copied, entryOf, unseenAt, markedAt, took, turn, change, sweep, others, sumAt, groupTotal, joins}
+use Rattle.groups.specs.Groups.{weighedSum, centreAt, groupsAt, afterGroup, turning, groupsFrom, around, groupsOf}
 use Rattle.groups.specs.laws.Sweeps.{inside, seen-alike, turn-seen, length-sweep, sweep-seen, sweep-local, sweep-field}
 use Rattle.groups.specs.laws.Run.{Answers, length-after}
 use Rattle.groups.specs.laws.Walks.{map-ext, more-is, absorb-table, weighed-ext, absorb-sums, copiesOf, copy-is}
@@ -96,7 +96,7 @@ next-entry (r ∷ gs) g (suc j) h = next-entry gs g j (omega arith)
 
 -- a scan of the table d and the entries nx, after the place i: b says whether a cluster is made
 abbrev scanAfter : ℕ → ℕ → (ℕ → List ℕ) → Bool → Table → ℕ → Table → Scan
-scanAfter n z near b d i nx = record { table = after n z near b d i; next = nx ++ map entryOf (groupsAt n z near b d i) }
+scanAfter n z near b d i nx = record { table = afterGroup n z near b d i; next = nx ++ map entryOf (groupsAt n z near b d i) }
 
 module _ (n least z len : ℕ) (near : ℕ → List ℕ) (A : Answers len near) (d : Table) (i : ℕ) (l : length d ≡ len) (u : unseenAt z d i ≡ true) where
   at-i : i < length d
@@ -119,14 +119,14 @@ module _ (n least z len : ℕ) (near : ℕ → List ℕ) (A : Answers len near) 
       let c = sum-ext (λ k. f (entry (markedAt z i d) k)) (λ k. f (entry d k)) (others z near d i) (λ k w. like k) in
       omega arith
 
-  total-is : totalOf z (near i) i (markedAt z i d) ≡ total z near d i
+  total-is : totalOf z (near i) i (markedAt z i d) ≡ groupTotal z near d i
   total-is = more-at numOf (λ e q. refl)
 
   parent-last : set (sweep z (took z (clusterId n z i)) (near i) (markedAt z i d)) i (under (clusterId n z i) (entry (sweep z (took z (clusterId n z i)) (near i) (markedAt z i d)) i))
-      ≡ after n z near true d i
+      ≡ afterGroup n z near true d i
   parent-last = last-first z (clusterId n z i) (near i) d i at-i ∙ ap (λ (b : Bool). sweep z (took z (clusterId n z i)) (near i) (change b (took z (clusterId n z i)) d i)) (sym u)
 
-  sum-is : (c : Entry → Float) → ((e : Entry) → c (marked z e) ≡ c e) → (w : Float) → weighed c (markedAt z i d) w (others z near d i) ≡ weighed c d w (others z near d i)
+  sum-is : (c : Entry → Float) → ((e : Entry) → c (marked z e) ≡ c e) → (w : Float) → weighedSum c (markedAt z i d) w (others z near d i) ≡ weighedSum c d w (others z near d i)
   sum-is c same w =
       weighed-ext c (markedAt z i d) d (others z near d i) w
       (λ k h. (sym (same (entry (markedAt z i d) k)) ∙ ap c (marked-like z i d k at-i) ∙ same (entry d k), ap (λ (e : Entry). e .num) (marked-like z i d k at-i)))
@@ -138,7 +138,7 @@ module _ (n least z len : ℕ) (near : ℕ → List ℕ) (A : Answers len near) 
   near-distinct : Distinct (near i)
   near-distinct = count-distinct (near i) (λ j. A .single i j i<len)
 
-  centre-is : centre grown (clusterId n z i) (total z near d i) ≡ centreAt n z near d i
+  centre-is : centre grown (clusterId n z i) (groupTotal z near d i) ≡ centreAt n z near d i
   centre-is =
       let p = clusterId n z i in
       let M = markedAt z i d in
@@ -149,7 +149,7 @@ module _ (n least z len : ℕ) (near : ℕ → List ℕ) (A : Answers len near) 
       let w : grown .se ≡ sumAt energyOf z near d i =
       ap (λ (e : Entry). absorb z p (started M e) (near i) .se) (sym own)
       ∙ energy-carried .sums z p i (near i) M near-distinct ∙ more-at energyOf (energy-carried .marks) in
-      λ k. centre (absorbed d (x k) (y k) (w k)) p (total z near d i)
+      λ k. centre (absorbed d (x k) (y k) (w k)) p (groupTotal z near d i)
 
   -- what the cluster carries: the sum of what the place and the others do
   pub centre-carries : (f : Entry → ℕ) → Carried f → f (centreAt n z near d i) ≡ sumAt f z near d i
@@ -160,7 +160,7 @@ module _ (n least z len : ℕ) (near : ℕ → List ℕ) (A : Answers len near) 
       ap₂ (λ (w : Entry) (t : ℕ). centre (absorb z p (started M w) (near i)) p t) own total-is ∙ centre-is in
       sym (ap f whole) ∙ C .sums z p i (near i) M near-distinct ∙ more-at f (C .marks)
 
-  made-is : (nx : Table) → made i grown nx (clusterId n z i) (total z near d i) ≡ scanAfter n z near true d i nx
+  made-is : (nx : Table) → made i grown nx (clusterId n z i) (groupTotal z near d i) ≡ scanAfter n z near true d i nx
   made-is nx =
       let p = clusterId n z i in
       let s = started (markedAt z i d) (marked z (entry d i)) in
@@ -203,7 +203,7 @@ turn-y : (b : Bool) (z p : ℕ) (e : Entry) → turn b z p e .y ≡ e .y
 turn-y true z p e = refl
 turn-y false z p e = refl
 
-placed-after : (n z : ℕ) (near : ℕ → List ℕ) (t : Table) (b : Bool) (d : Table) (i : ℕ) → Placed t d → Placed t (after n z near b d i)
+placed-after : (n z : ℕ) (near : ℕ → List ℕ) (t : Table) (b : Bool) (d : Table) (i : ℕ) → Placed t d → Placed t (afterGroup n z near b d i)
 placed-after n z near t b d i h k =
     let p = clusterId n z i in (
       sweep-field z (turn b z p) (turn-seen b z p) (λ e. e .x) (turn-x b z p) (i ∷ near i) d k ∙ h k .0,
@@ -234,7 +234,7 @@ module _ (n least z : ℕ) (near : Float → Float → List ℕ) (t : Table) (A 
           }
       go ih true u =
           let b : Bool = joins least z (around near t) d i in
-          let e : Table = after n z (around near t) b d i in
+          let e : Table = afterGroup n z (around near t) b d i in
           let g : List Group = groupsAt n z (around near t) b d i in
           let r : List Group = groupsFrom n least z (around near t) (range (suc i) k) e .1 in
           ap (λ (m : Scan). scanFrom n least z near m (suc i) k) (one-is d nx i l h u)

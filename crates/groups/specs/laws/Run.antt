@@ -16,9 +16,9 @@ use Rattle.tables.specs.declared.Entry.{Entry}
 use Rattle.tables.specs.Entries.{Table, entry, none, marked}
 use Rattle.tables.specs.Ids.{clusterId}
 use Rattle.groups.specs.laws.Sums.{pick, eqb-same, Hit, hit, below, sum-append, count-keep, sum-split}
-use Rattle.groups.specs.Sums.{one, gate, sum, count}
+use Rattle.groups.specs.Sums.{oneIf, gate, sum, count}
 use Rattle.groups.specs.Groups.{Group, copied, from, froms, unseenAt, markedAt, turn, without, others, members, joins, groupsAt}
-use Rattle.groups.specs.Groups.{after, turning, groupsFrom}
+use Rattle.groups.specs.Groups.{afterGroup, turning, groupsFrom}
 use Rattle.groups.specs.laws.Sweeps.{inside, seen-alike, turn-seen, length-sweep, sweep-seen, sweep-out, sweep-in}
 
 -- ---- the places of groups
@@ -43,7 +43,7 @@ module _ (n least z : ℕ) (near : ℕ → List ℕ) where
     stop : {d : Table} → Run [] d d []
     pass : {i : ℕ} {is : List ℕ} {d d' : Table} {rs : List Group} → unseenAt z d i ≡ false → Run is d d' rs → Run (i ∷ is) d d' rs
     acts : {i : ℕ} {is : List ℕ} {d d' : Table} {rs : List Group} (b : Bool) → joins least z near d i ≡ b → unseenAt z d i ≡ true →
-        Run is (after n z near b d i) d' rs → Run (i ∷ is) d d' (groupsAt n z near b d i ++ rs)
+        Run is (afterGroup n z near b d i) d' rs → Run (i ∷ is) d d' (groupsAt n z near b d i ++ rs)
 
   pub run : (is : List ℕ) (d : Table) → Run is d (groupsFrom n least z near is d .0) (groupsFrom n least z near is d .1)
   run [] d = stop
@@ -51,7 +51,7 @@ module _ (n least z : ℕ) (near : ℕ → List ℕ) where
     where
       go : ((e : Table) → Run is e (groupsFrom n least z near is e .0) (groupsFrom n least z near is e .1)) → (b : Bool) → unseenAt z d i ≡ b →
           Run (i ∷ is) d (turning n least z near b d i (λ e. groupsFrom n least z near is e) .0) (turning n least z near b d i (λ e. groupsFrom n least z near is e) .1)
-      go ih true e = acts (joins least z near d i) refl e (ih (after n z near (joins least z near d i) d i))
+      go ih true e = acts (joins least z near d i) refl e (ih (afterGroup n z near (joins least z near d i) d i))
       go ih false e = pass e (ih d)
 
 -- ---- the answers around the places of a table of len places: each names its own place, and none twice
@@ -81,13 +81,13 @@ others-are z near d i u = keep-both (unseenAt z d) (λ k. not (eqb k i)) (unseen
     each : (k : ℕ) → unseenAt z (markedAt z i d) k ≡ (unseenAt z d k && not (eqb k i))
     each k = ⊎-elim same other (hit k i)
       where
-        same : (k ≡ i) × (one (eqb k i) ≡ 1) → unseenAt z (markedAt z i d) k ≡ (unseenAt z d k && not (eqb k i))
+        same : (k ≡ i) × (oneIf (eqb k i) ≡ 1) → unseenAt z (markedAt z i d) k ≡ (unseenAt z d k && not (eqb k i))
         same h =
             subst (λ (j : ℕ). unseenAt z (markedAt z i d) j ≡ (unseenAt z d j && not (eqb j i))) (sym (h .0))
             (seen-alike z _ _ false (getD-set-same d i (marked z (entry d i)) none (inside z d i u)) (le-ltb z z (le-refl z))
             ∙ sym (ap₂ (λ (a b : Bool). a && not b) u (eqb-same i)))
 
-        other : (k ≡ i → ⊥) × (one (eqb k i) ≡ 0) → unseenAt z (markedAt z i d) k ≡ (unseenAt z d k && not (eqb k i))
+        other : (k ≡ i → ⊥) × (oneIf (eqb k i) ≡ 0) → unseenAt z (markedAt z i d) k ≡ (unseenAt z d k && not (eqb k i))
         other h =
             ap (λ (r : Entry). ltb z (r .seen)) (getD-set-other d i k (marked z (entry d i)) none (h .0))
             ∙ and-not (unseenAt z d k) ∙ ap (λ (b : Bool). unseenAt z d k && not b) (sym (ne-eqb k i (h .0)))
@@ -96,19 +96,19 @@ others-are z near d i u = keep-both (unseenAt z d) (λ k. not (eqb k i)) (unseen
 
 module _ (n z : ℕ) (near : ℕ → List ℕ) where
   -- a member is marked, and under the cluster if there is one
-  pub after-in : (b : Bool) (d : Table) (i k : ℕ) → 0 < count k (members z near d i) → entry (after n z near b d i) k ≡ turn b z (clusterId n z i) (entry d k)
+  pub after-in : (b : Bool) (d : Table) (i k : ℕ) → 0 < count k (members z near d i) → entry (afterGroup n z near b d i) k ≡ turn b z (clusterId n z i) (entry d k)
   after-in b d i k c =
       let e = members-unseen z near d i k c in
       let h = members-here z near d i k e in
       sweep-in z (turn b z (clusterId n z i)) (turn-seen b z (clusterId n z i)) (i ∷ near i) d k e (omega arith)
 
-  pub after-done : (b : Bool) (d : Table) (i k : ℕ) → 0 < count k (members z near d i) → unseenAt z (after n z near b d i) k ≡ false
+  pub after-done : (b : Bool) (d : Table) (i k : ℕ) → 0 < count k (members z near d i) → unseenAt z (afterGroup n z near b d i) k ≡ false
   after-done b d i k c = seen-alike z _ _ false (after-in b d i k c) (ap (λ (s : ℕ). ltb z s) (turn-seen b z (clusterId n z i) (entry d k)) ∙ le-ltb z z (le-refl z))
 
-  pub after-seen : (b : Bool) (d : Table) (i k : ℕ) → unseenAt z d k ≡ false → entry (after n z near b d i) k ≡ entry d k
+  pub after-seen : (b : Bool) (d : Table) (i k : ℕ) → unseenAt z d k ≡ false → entry (afterGroup n z near b d i) k ≡ entry d k
   after-seen b d i k e = sweep-seen z (turn b z (clusterId n z i)) (turn-seen b z (clusterId n z i)) (i ∷ near i) d k e
 
-  pub length-after : (b : Bool) (d : Table) (i len : ℕ) → length d ≡ len → length (after n z near b d i) ≡ len
+  pub length-after : (b : Bool) (d : Table) (i len : ℕ) → length d ≡ len → length (afterGroup n z near b d i) ≡ len
   length-after b d i len l = length-sweep z (turn b z (clusterId n z i)) (turn-seen b z (clusterId n z i)) (i ∷ near i) d ∙ l
 
 module _ (n least z len : ℕ) (near : ℕ → List ℕ) (A : Answers len near) where
@@ -117,13 +117,13 @@ module _ (n least z len : ℕ) (near : ℕ → List ℕ) (A : Answers len near) 
       ⊎-elim (λ e. let c = members-here z near d i k e in let s = A .single i k h in omega arith) (λ e. let c = members-seen z near d i k e in omega arith) (pick (unseenAt z d k))
 
   -- any other place stays as it is
-  pub after-out : (b : Bool) (d : Table) (i k : ℕ) → i < len → count k (members z near d i) ≡ 0 → entry (after n z near b d i) k ≡ entry d k
+  pub after-out : (b : Bool) (d : Table) (i k : ℕ) → i < len → count k (members z near d i) ≡ 0 → entry (afterGroup n z near b d i) k ≡ entry d k
   after-out b d i k l c = ⊎-elim live (λ e. after-seen n z near b d i k e) (pick (unseenAt z d k))
     where
-      apart : count k (near i) ≡ 0 → one (eqb k i) ≡ 0
+      apart : count k (near i) ≡ 0 → oneIf (eqb k i) ≡ 0
       apart w = ⊎-elim (λ h. absurd (let s = A .self i l in let t : count k (near i) ≡ count i (near i) = ap (λ (j : ℕ). count j (near i)) (h .0) in omega arith)) (λ h. h .1) (hit k i)
 
-      live : unseenAt z d k ≡ true → entry (after n z near b d i) k ≡ entry d k
+      live : unseenAt z d k ≡ true → entry (afterGroup n z near b d i) k ≡ entry d k
       live e =
           let h = members-here z near d i k e in
           let a = apart (omega arith) in
@@ -143,23 +143,23 @@ module _ (n least z len : ℕ) (near : ℕ → List ℕ) (A : Answers len near) 
 
   -- a place that acts sees its members
   after-count : (b : Bool) (d : Table) (i : ℕ) → length d ≡ len → unseenAt z d i ≡ true → (k : ℕ) →
-      count k (members z near d i) + one (unseenAt z (after n z near b d i) k) ≡ one (unseenAt z d k)
+      count k (members z near d i) + oneIf (unseenAt z (afterGroup n z near b d i) k) ≡ oneIf (unseenAt z d k)
   after-count b d i l u k = ⊎-elim member other (below 0 (count k (members z near d i)))
     where
       i<len : i < len
       i<len = let h = inside z d i u in omega arith
 
-      member : 0 < count k (members z near d i) → count k (members z near d i) + one (unseenAt z (after n z near b d i) k) ≡ one (unseenAt z d k)
+      member : 0 < count k (members z near d i) → count k (members z near d i) + oneIf (unseenAt z (afterGroup n z near b d i) k) ≡ oneIf (unseenAt z d k)
       member h =
-          let p : one (unseenAt z (after n z near b d i) k) ≡ 0 = ap one (after-done n z near b d i k h) in
-          let q : one (unseenAt z d k) ≡ 1 = ap one (members-unseen z near d i k h) in
+          let p : oneIf (unseenAt z (afterGroup n z near b d i) k) ≡ 0 = ap oneIf (after-done n z near b d i k h) in
+          let q : oneIf (unseenAt z d k) ≡ 1 = ap oneIf (members-unseen z near d i k h) in
           let r = members-le d i k i<len in
           omega arith
 
-      other : count k (members z near d i) ≤ 0 → count k (members z near d i) + one (unseenAt z (after n z near b d i) k) ≡ one (unseenAt z d k)
+      other : count k (members z near d i) ≤ 0 → count k (members z near d i) + oneIf (unseenAt z (afterGroup n z near b d i) k) ≡ oneIf (unseenAt z d k)
       other h =
           let c : count k (members z near d i) ≡ 0 = omega arith in
-          let p : one (unseenAt z (after n z near b d i) k) ≡ one (unseenAt z d k) = ap (λ (x : Entry). one (ltb z (x .seen))) (after-out b d i k i<len c) in
+          let p : oneIf (unseenAt z (afterGroup n z near b d i) k) ≡ oneIf (unseenAt z d k) = ap (λ (x : Entry). oneIf (ltb z (x .seen))) (after-out b d i k i<len c) in
           omega arith
 
   -- ---- along a run
@@ -179,12 +179,12 @@ module _ (n least z len : ℕ) (near : ℕ → List ℕ) (A : Answers len near) 
 
   -- each place that was unseen is in the groups once, or is unseen still
   pub tally : {is : List ℕ} {d d' : Table} {rs : List Group} → Run n least z near is d d' rs → length d ≡ len → (k : ℕ) →
-      count k (froms rs) + one (unseenAt z d' k) ≡ one (unseenAt z d k)
+      count k (froms rs) + oneIf (unseenAt z d' k) ≡ oneIf (unseenAt z d k)
   tally stop l k = omega arith
   tally (pass u r) l k = tally r l k
   tally (acts {i = i} {d = d} {rs = rs} b m u r) l k =
-      let a = sum-froms-append (λ x. one (eqb k x)) (groupsAt n z near b d i) rs in
-      let c = groups-sum (λ x. one (eqb k x)) b d i l u in
+      let a = sum-froms-append (λ x. oneIf (eqb k x)) (groupsAt n z near b d i) rs in
+      let c = groups-sum (λ x. oneIf (eqb k x)) b d i l u in
       let s = after-count b d i l u k in
       let t = tally r (length-after n z near b d i len l) k in
       omega arith
@@ -202,10 +202,10 @@ module _ (n least z len : ℕ) (near : ℕ → List ℕ) (A : Answers len near) 
       i<len : i < len
       i<len = let h = inside z d i u in omega arith
 
-      go : (0 < count k is → unseenAt z d' k ≡ false) → ((j : ℕ) → unseenAt z (after n z near b d i) j ≡ false → entry d' j ≡ entry (after n z near b d i) j) → Hit k i → unseenAt z d' k ≡ false
+      go : (0 < count k is → unseenAt z d' k ≡ false) → ((j : ℕ) → unseenAt z (afterGroup n z near b d i) j ≡ false → entry d' j ≡ entry (afterGroup n z near b d i) j) → Hit k i → unseenAt z d' k ≡ false
       go ih fr (inl h) =
           let a = members-here z near d i i u in
           let s = A .self i i<len in
-          let e : unseenAt z (after n z near b d i) k ≡ false = ap (λ (j : ℕ). unseenAt z (after n z near b d i) j) (h .0) ∙ after-done n z near b d i i (omega arith) in
+          let e : unseenAt z (afterGroup n z near b d i) k ≡ false = ap (λ (j : ℕ). unseenAt z (afterGroup n z near b d i) j) (h .0) ∙ after-done n z near b d i i (omega arith) in
           seen-alike z _ _ false (fr k e) e
       go ih fr (inr h) = ih (omega arith)

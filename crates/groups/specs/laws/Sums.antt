@@ -8,7 +8,7 @@ use native.Mathlib.Omega.{arith}
 use lib.Dec.{eqb}
 use borrow.Author.Tests.{eqb-true, eqb-false, eq-eqb, ne-eqb}
 use Rattle.kdslots.specs.Keep.{put, keep}
-use Rattle.groups.specs.Sums.{gate, one, sum, count, range}
+use Rattle.groups.specs.Sums.{gate, oneIf, sum, count, range}
 
 -- ---- tests
 
@@ -25,12 +25,12 @@ eqb-same n = eq-eqb n n refl
 
 -- two numbers are the same, and count 1, or they are not, and count 0
 abbrev pub Hit : ℕ → ℕ → Type 0
-Hit k x = ((k ≡ x) × (one (eqb k x) ≡ 1)) ⊎ ((k ≡ x → ⊥) × (one (eqb k x) ≡ 0))
+Hit k x = ((k ≡ x) × (oneIf (eqb k x) ≡ 1)) ⊎ ((k ≡ x → ⊥) × (oneIf (eqb k x) ≡ 0))
 
 pub hit : (k x : ℕ) → Hit k x
 hit k x = go (eqb k x) refl
   where
-    go : (b : Bool) → eqb k x ≡ b → ((k ≡ x) × (one b ≡ 1)) ⊎ ((k ≡ x → ⊥) × (one b ≡ 0))
+    go : (b : Bool) → eqb k x ≡ b → ((k ≡ x) × (oneIf b ≡ 1)) ⊎ ((k ≡ x → ⊥) × (oneIf b ≡ 0))
     go true e = inl (eqb-true k x e, refl)
     go false e = inr (eqb-false k x e, refl)
 
@@ -43,7 +43,7 @@ below i n = go (native.Mathlib.Decide.decLt i n)
     go (no h) = inr (omega arith)
 
 pub count-head : (k : ℕ) (xs : List ℕ) → 0 < count k (k ∷ xs)
-count-head k xs = let e : one (eqb k k) ≡ 1 = ap one (eqb-same k) in omega arith
+count-head k xs = let e : oneIf (eqb k k) ≡ 1 = ap oneIf (eqb-same k) in omega arith
 
 pub sum-append : (f : ℕ → ℕ) (xs ys : List ℕ) → sum f (xs ++ ys) ≡ sum f xs + sum f ys
 sum-append f [] ys = omega arith
@@ -67,7 +67,7 @@ pub sum-keep : (f : ℕ → ℕ) (p : ℕ → Bool) (xs : List ℕ) → sum f (k
 sum-keep f p [] = refl
 sum-keep f p (x ∷ xs) = let a = sum-put f (p x) x (keep p xs) in let b = sum-keep f p xs in omega arith
 
-gate-hit : (p : ℕ → Bool) (k x : ℕ) → gate (p x) (one (eqb k x)) ≡ gate (p k) (one (eqb k x))
+gate-hit : (p : ℕ → Bool) (k x : ℕ) → gate (p x) (oneIf (eqb k x)) ≡ gate (p k) (oneIf (eqb k x))
 gate-hit p k x = go (hit k x)
   where
     zeros : (b c : Bool) (n : ℕ) → n ≡ 0 → gate b n ≡ gate c n
@@ -76,9 +76,9 @@ gate-hit p k x = go (hit k x)
     zeros true false n h = h
     zeros false true n h = sym h
 
-    go : Hit k x → gate (p x) (one (eqb k x)) ≡ gate (p k) (one (eqb k x))
-    go (inl h) = ap (λ (z : ℕ). gate (p z) (one (eqb k x))) (sym (h .0))
-    go (inr h) = zeros (p x) (p k) (one (eqb k x)) (h .1)
+    go : Hit k x → gate (p x) (oneIf (eqb k x)) ≡ gate (p k) (oneIf (eqb k x))
+    go (inl h) = ap (λ (z : ℕ). gate (p z) (oneIf (eqb k x))) (sym (h .0))
+    go (inr h) = zeros (p x) (p k) (oneIf (eqb k x)) (h .1)
 
 gate-add : (b : Bool) (m n : ℕ) → gate b m + gate b n ≡ gate b (m + n)
 gate-add true m n = refl
@@ -91,7 +91,7 @@ gate-zero false = refl
 pub count-keep : (k : ℕ) (p : ℕ → Bool) (xs : List ℕ) → count k (keep p xs) ≡ gate (p k) (count k xs)
 count-keep k p [] = sym (gate-zero (p k))
 count-keep k p (x ∷ xs) =
-    sum-put (λ x. one (eqb k x)) (p x) x (keep p xs) ∙ ap₂ (λ (a b : ℕ). a + b) (gate-hit p k x) (count-keep k p xs) ∙ gate-add (p k) (one (eqb k x)) (count k xs)
+    sum-put (λ x. oneIf (eqb k x)) (p x) x (keep p xs) ∙ ap₂ (λ (a b : ℕ). a + b) (gate-hit p k x) (count-keep k p xs) ∙ gate-add (p k) (oneIf (eqb k x)) (count k xs)
 
 -- what is kept was in the list
 pub keep-in : (p : ℕ → Bool) (xs : List ℕ) (k : ℕ) → 0 < count k (keep p xs) → 0 < count k xs
@@ -133,7 +133,7 @@ pub range-out : (lo n k : ℕ) → (k < lo) ⊎ (lo + n ≤ k) → count k (rang
 range-out lo zero k h = refl
 range-out lo (suc n) k h =
     let r = range-out (suc lo) n k (⊎-elim (λ a. inl (omega arith)) (λ a. inr (omega arith)) h) in
-    let a : one (eqb k lo) ≡ 0 = ap one (ne-eqb k lo (λ e. ⊎-elim (λ a. omega arith) (λ a. omega arith) h)) in
+    let a : oneIf (eqb k lo) ≡ 0 = ap oneIf (ne-eqb k lo (λ e. ⊎-elim (λ a. omega arith) (λ a. omega arith) h)) in
     omega arith
 
 pub range-in : (lo n k : ℕ) → lo ≤ k → k < lo + n → count k (range lo n) ≡ 1

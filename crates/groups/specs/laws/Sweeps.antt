@@ -15,7 +15,7 @@ use Rattle.tables.specs.declared.Entry.{Entry}
 use Rattle.tables.specs.Entries.{Table, entry, none}
 use Rattle.zoom.specs.laws.Unseen.{unseen-in}
 use Rattle.groups.specs.laws.Sums.{pick, eqb-same, Hit, hit, below}
-use Rattle.groups.specs.Sums.{one, count}
+use Rattle.groups.specs.Sums.{oneIf, count}
 use Rattle.groups.specs.Groups.{unseenAt, turn, change, sweep}
 
 -- a place that is unseen is in the table
@@ -71,7 +71,7 @@ module _ (z : ℕ) (f : Entry → Entry) (hf : (e : Entry) → f e .seen ≡ z) 
   sweep-out [] d k c = refl
   sweep-out (j ∷ ks) d k c =
       sweep-out ks (change (unseenAt z d j) f d j) k (omega arith)
-      ∙ change-other (unseenAt z d j) d j k (λ e. let h : one (eqb k j) ≡ 1 = ap (λ (i : ℕ). one (eqb k i)) (sym e) ∙ ap one (eqb-same k) in omega arith)
+      ∙ change-other (unseenAt z d j) d j k (λ e. let h : oneIf (eqb k j) ≡ 1 = ap (λ (i : ℕ). oneIf (eqb k i)) (sym e) ∙ ap oneIf (eqb-same k) in omega arith)
 
   -- what is unseen and in the list is changed
   pub sweep-in : (ks : List ℕ) (d : Table) (k : ℕ) → unseenAt z d k ≡ true → 0 < count k ks → entry (sweep z f ks d) k ≡ f (entry d k)

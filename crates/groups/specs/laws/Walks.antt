@@ -13,11 +13,11 @@ use Rattle.floats.specs.Numbers.{float}
 use Rattle.kdslots.specs.Keep.{put, keep}
 use Rattle.tables.specs.declared.Entry.{Entry}
 use Rattle.tables.specs.Entries.{Table, entry, none, marked}
-use Rattle.zoom.specs.laws.Steps.{joined, copiedOne}
+use Rattle.zoom.specs.laws.Steps.{joinedStep, copiedOne}
 use Rattle.zoom.specs.Zoom.{moreOf, Absorbed, absorbOne, absorb, Scan, copyOne, copyAll}
-use Rattle.groups.specs.Sums.{one, sum, count}
+use Rattle.groups.specs.Sums.{oneIf, sum, count}
 use Rattle.groups.specs.laws.Sums.{eqb-same, count-head, keep-ext, keep-in}
-use Rattle.groups.specs.Groups.{unseenAt, took, change, sweep, weighed}
+use Rattle.groups.specs.Groups.{unseenAt, took, change, sweep, weighedSum}
 
 -- ---- lists of places that stand once
 
@@ -29,7 +29,7 @@ rest-kept : (z : ℕ) (d : Table) (k : ℕ) (v : Entry) (ks : List ℕ) → coun
 rest-kept z d k v ks h = keep-ext (unseenAt z (set d k v)) (unseenAt z d) ks (λ j l. ap (λ (e : Entry). ltb z (e .seen)) (rest-same d k v ks h j l))
 
 alone : (k : ℕ) (ks : List ℕ) → ((j : ℕ) → count j (k ∷ ks) ≤ 1) → count k ks ≡ 0
-alone k ks h = let a = h k in let b : one (eqb k k) ≡ 1 = ap one (eqb-same k) in omega arith
+alone k ks h = let a = h k in let b : oneIf (eqb k k) ≡ 1 = ap oneIf (eqb-same k) in omega arith
 
 pub map-ext : {A : Type 0} (f g : ℕ → A) (ks : List ℕ) → ((k : ℕ) → 0 < count k ks → f k ≡ g k) → map f ks ≡ map g ks
 map-ext f g [] h = refl
@@ -51,7 +51,7 @@ more-is f z d (k ∷ ks) = go (unseenAt z d k) (more-is f z d ks)
 
 -- one neighbour, where b says whether it is unseen
 abbrev absorbBy : Bool → ℕ → ℕ → Absorbed → ℕ → Absorbed
-absorbBy b z p s k = cond b (joined z p s k) s
+absorbBy b z p s k = cond b (joinedStep z p s k) s
 
 pub absorb-table : (z p : ℕ) (s : Absorbed) (ks : List ℕ) → absorb z p s ks .table ≡ sweep z (took z p) ks (s .table)
 unfolding absorb absorbOne
@@ -65,35 +65,35 @@ absorb-table z p s (k ∷ ks) = go (λ u. absorb-table z p u ks) (unseenAt z (s 
 
 -- the sums look at coordinates and nums only
 pub weighed-ext : (c : Entry → Float) (d e : Table) (ks : List ℕ) (w : Float) → ((k : ℕ) → 0 < count k ks → (c (entry d k) ≡ c (entry e k)) × (entry d k .num ≡ entry e k .num)) →
-    weighed c d w ks ≡ weighed c e w ks
-unfolding weighed
+    weighedSum c d w ks ≡ weighedSum c e w ks
+unfolding weighedSum
 weighed-ext c d e [] w h = refl
 weighed-ext c d e (k ∷ ks) w h =
     let a = h k (count-head k ks) in
     weighed-ext c d e ks (add binary64 w (mul binary64 (c (entry d k)) (float (entry d k .num)))) (λ j l. h j (omega arith))
-    ∙ ap₂ (λ (u : Float) (n : ℕ). weighed c e (add binary64 w (mul binary64 u (float n))) ks) (a .0) (a .1)
+    ∙ ap₂ (λ (u : Float) (n : ℕ). weighedSum c e (add binary64 w (mul binary64 u (float n))) ks) (a .0) (a .1)
 
 -- the running sums are those over the unseen
 abbrev SumsAre : Table → ℕ → List ℕ → Absorbed → Absorbed → Type 0
-SumsAre d z ks s r = (r .sx ≡ weighed (λ e. e .x) d (s .sx) (keep (unseenAt z d) ks)) × (r .sy ≡ weighed (λ e. e .y) d (s .sy) (keep (unseenAt z d) ks))
+SumsAre d z ks s r = (r .sx ≡ weighedSum (λ e. e .x) d (s .sx) (keep (unseenAt z d) ks)) × (r .sy ≡ weighedSum (λ e. e .y) d (s .sy) (keep (unseenAt z d) ks))
 
 pub absorb-sums : (z p : ℕ) (s : Absorbed) (ks : List ℕ) → ((j : ℕ) → count j ks ≤ 1) → SumsAre (s .table) z ks s (absorb z p s ks)
-unfolding absorb absorbOne weighed
+unfolding absorb absorbOne weighedSum
 absorb-sums z p s [] h = (refl, refl)
 absorb-sums z p s (k ∷ ks) h = go (λ u. absorb-sums z p u ks (λ j. let a = h j in omega arith)) (unseenAt z (s .table) k)
   where
     moved : (c : Entry → Float) (w : Float) →
-        weighed c (set (s .table) k (took z p (entry (s .table) k))) w (keep (unseenAt z (set (s .table) k (took z p (entry (s .table) k)))) ks) ≡ weighed c (s .table) w (keep (unseenAt z (s .table)) ks)
+        weighedSum c (set (s .table) k (took z p (entry (s .table) k))) w (keep (unseenAt z (set (s .table) k (took z p (entry (s .table) k)))) ks) ≡ weighedSum c (s .table) w (keep (unseenAt z (s .table)) ks)
     moved c w =
         let t : Table = s .table in
         let u : Table = set t k (took z p (entry t k)) in
-        ap (λ (l : List ℕ). weighed c u w l) (rest-kept z t k (took z p (entry t k)) ks (alone k ks h))
+        ap (λ (l : List ℕ). weighedSum c u w l) (rest-kept z t k (took z p (entry t k)) ks (alone k ks h))
         ∙ weighed-ext c u t (keep (unseenAt z t) ks) w
         (λ j l. let a = rest-same t k (took z p (entry t k)) ks (alone k ks h) j (keep-in (unseenAt z t) ks j l) in (ap c a, ap (λ (e : Entry). e .num) a))
 
     go : ((u : Absorbed) → SumsAre (u .table) z ks u (absorb z p u ks)) → (b : Bool) →
-        (absorb z p (absorbBy b z p s k) ks .sx ≡ weighed (λ e. e .x) (s .table) (s .sx) (put b k (keep (unseenAt z (s .table)) ks)))
-        × (absorb z p (absorbBy b z p s k) ks .sy ≡ weighed (λ e. e .y) (s .table) (s .sy) (put b k (keep (unseenAt z (s .table)) ks)))
+        (absorb z p (absorbBy b z p s k) ks .sx ≡ weighedSum (λ e. e .x) (s .table) (s .sx) (put b k (keep (unseenAt z (s .table)) ks)))
+        × (absorb z p (absorbBy b z p s k) ks .sy ≡ weighedSum (λ e. e .y) (s .table) (s .sy) (put b k (keep (unseenAt z (s .table)) ks)))
     go ih true =
         let r = absorbBy true z p s k in
         let a = ih r in

@@ -12,7 +12,7 @@ use lib.Ieee.{Float, nan}
 use Rattle.floats.specs.laws.Fraction.{yes-of, is-true}
 use Rattle.floats.specs.laws.Unit.{In01, in01→In01, In01→in01, In01-not-nan}
 use Rattle.floats.specs.Unit.{in01}
-use Rattle.kdsort.specs.Cols.{Cols}
+use Rattle.kdsort.specs.Cols.{IndexCols}
 use Rattle.kdsort.specs.Sort.{indexed}
 use Rattle.kdsort.specs.Tree.{Points, Index}
 use Rattle.kdsort.specs.laws.Indexes.{indexed-ok}
@@ -21,10 +21,10 @@ use Rattle.kdbush.specs.declared.Outside.{Outside}
 use Rattle.kdbush.specs.declared.Outside.the-variants.{At, Nothing}
 use Rattle.kdslots.specs.Bounds.{nodeSizeOk, countOk}
 use Rattle.kdslots.specs.laws.Bounds.{and-both, size-is, count-is}
-use Rattle.kdbush.specs.Reply.{pairOk, firstOutside, inOrder, checked, built}
+use Rattle.kdbush.specs.Reply.{pairOk, firstOutside, inOrder, indexChecked, built}
 
 -- what an accepted build was given
-pub record Accepted (size : ℕ) (xs ys : List Float) (s : Cols) : Type 0 where
+pub record AcceptedIndex (size : ℕ) (xs ys : List Float) (s : IndexCols) : Type 0 where
   pub size-from : 1 ≤ size
   pub size-to : size ≤ 65535
   pub some : 1 ≤ length xs
@@ -55,9 +55,9 @@ done-tests true true (At i) c e = absurd (let z : _≡_ {A = ℕ} 0 1 = cc in om
 done-tests true false o c e = absurd (let z : _≡_ {A = ℕ} 0 1 = cc in omega arith)
 done-tests false b o c e = absurd (let z : _≡_ {A = ℕ} 0 1 = cc in omega arith)
 
-module _ (size : ℕ) (xs ys : List Float) (s : Cols) (e : checked size xs ys s ≡ Done) where
-  pub accepted : Accepted size xs ys s
-  unfolding checked
+module _ (size : ℕ) (xs ys : List Float) (s : IndexCols) (e : indexChecked size xs ys s ≡ Done) where
+  pub accepted : AcceptedIndex size xs ys s
+  unfolding indexChecked
   accepted =
       let w = done-tests (nodeSizeOk size) (pairOk xs ys) (firstOutside xs ys 0) (leb (length xs) (length (s .ids)) && leb (2 * length xs) (length (s .co))) e in
       let n = size-is size (w .0) in
@@ -99,8 +99,8 @@ no-outside (x ∷ xs) (y ∷ ys) i l f =
     let w = f 0 (omega arith) in
     rw (is-true (in01 x) (In01→in01 x (w .0)), is-true (in01 y) (In01→in01 y (w .1)), firstOutside) (no-outside xs ys (suc i) (omega arith) (λ p h. f (suc p) (omega arith)))
 
-pub accepts : (size : ℕ) (xs ys : List Float) (s : Cols) → Accepted size xs ys s → checked size xs ys s ≡ Done
-unfolding checked
+pub accepts : (size : ℕ) (xs ys : List Float) (s : IndexCols) → AcceptedIndex size xs ys s → indexChecked size xs ys s ≡ Done
+unfolding indexChecked
 accepts size xs ys s A =
     rw (
       le-leb 1 size (A .size-from),

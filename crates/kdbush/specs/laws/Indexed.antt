@@ -11,13 +11,13 @@ use lib.ListN.{length, getD, length-replicate}
 use lib.Ieee.{Float, nan}
 use lib.Ieee.Scale.{finite}
 use Rattle.floats.specs.laws.Unit.{In01, In01-not-nan, In01-finite}
-use Rattle.kdsort.specs.Cols.{Cols, blank, key}
+use Rattle.kdsort.specs.Cols.{IndexCols, blank, key}
 use Rattle.kdsort.specs.Tree.{Points, Index}
 use Rattle.kdsort.specs.laws.Indexes.{indexed-same, indexed-ok}
 use Rattle.kdslots.specs.declared.Query.the-variants.{Within}
 use Rattle.kdslots.specs.laws.Members.{In}
 use Rattle.kdbush.specs.Reply.{built, indexOf, found}
-use Rattle.kdbush.specs.laws.Built.{Accepted, accepts, build-is-index}
+use Rattle.kdbush.specs.laws.Built.{AcceptedIndex, accepts, build-is-index}
 use Rattle.kdbush.specs.laws.Promise.{Promised, promised, own-place}
 
 -- each point lies from 0 to 1 on both axes
@@ -34,7 +34,7 @@ pub record Indexable (size : ℕ) (xs ys : List Float) : Type 0 where
   pub inside : Inside xs ys
 
 module _ (size : ℕ) (xs ys : List Float) (b : Indexable size xs ys) where
-  taken : (s : Cols) → length xs ≤ length (s .ids) → 2 * length xs ≤ length (s .co) → Accepted size xs ys s
+  taken : (s : IndexCols) → length xs ≤ length (s .ids) → 2 * length xs ≤ length (s .co) → AcceptedIndex size xs ys s
   taken s h k =
       record {
         size-from = b .size-from;
@@ -48,7 +48,7 @@ module _ (size : ℕ) (xs ys : List Float) (b : Indexable size xs ys) where
       }
 
   -- columns that have just room for it hold the index, whatever they held
-  pub built-is : (s : Cols) → length (s .ids) ≡ length xs → length (s .co) ≡ 2 * length xs → built size xs ys s ≡ indexOf size xs ys
+  pub built-is : (s : IndexCols) → length (s .ids) ≡ length xs → length (s .co) ≡ 2 * length xs → built size xs ys s ≡ indexOf size xs ys
   unfolding indexOf
   built-is s h k =
       let e = accepts size xs ys s (taken s (omega (arith, h)) (omega (arith, k))) in

@@ -14,7 +14,7 @@ use lib.Ieee.{Float, nan}
 use lib.Ieee.Scale.{finite}
 use Rattle.floats.specs.laws.Fraction.{is-true}
 use Rattle.floats.specs.laws.Distance.{passes-self}
-use Rattle.kdsort.specs.Cols.{Cols, key}
+use Rattle.kdsort.specs.Cols.{IndexCols, key}
 use Rattle.kdsort.specs.Tree.{Index}
 use Rattle.kdslots.specs.declared.Query.{Query}
 use Rattle.kdslots.specs.declared.Query.the-variants.{Within}
@@ -25,7 +25,7 @@ use Rattle.kdbush.specs.Run.{places, sound, whole}
 use Rattle.kdbush.specs.laws.Run.{places-length}
 use Rattle.kdslots.specs.Bounds.{coordsOk}
 use Rattle.kdbush.specs.Reply.{found, listed, listedColumn, searched, columnAfter}
-use Rattle.kdslots.specs.laws.Members.{no-nil, In, NotIn, Distinct, Between}
+use Rattle.kdslots.specs.laws.Members.{no-nil, In, NotIn, Distinct, BetweenSlots}
 use Rattle.kdslots.specs.laws.Intervals.{answers-length}
 use Rattle.kdslots.specs.laws.All.{All, AllBelow}
 use Rattle.kdslots.specs.laws.Sound.{answers-sound, answers-between, answers-distinct}
@@ -53,25 +53,25 @@ to-place ids (y ∷ pre) i post =
     let w = to-place ids pre i post in
     (getD ids y 0 ∷ w .0, w .1, ap (λ (z : List ℕ). getD ids y 0 ∷ z) (w .2))
 
-places-below : (ids : List ℕ) (n : ℕ) → ((p : ℕ) → p < n → getD ids p 0 < n) → (l : List ℕ) → Between 0 n l → AllBelow n (places ids l)
-unfolding places Between All
+places-below : (ids : List ℕ) (n : ℕ) → ((p : ℕ) → p < n → getD ids p 0 < n) → (l : List ℕ) → BetweenSlots 0 n l → AllBelow n (places ids l)
+unfolding places BetweenSlots All
 places-below ids n f [] w = tt
 places-below ids n f (k ∷ ks) w = (f k (w .1), places-below ids n f ks (w .2))
 
-notin-places : (ids : List ℕ) (n : ℕ) → ((p q : ℕ) → p < n → q < n → getD ids p 0 ≡ getD ids q 0 → p ≡ q) → (k : ℕ) → k < n → (l : List ℕ) → Between 0 n l → NotIn k l
+notin-places : (ids : List ℕ) (n : ℕ) → ((p q : ℕ) → p < n → q < n → getD ids p 0 ≡ getD ids q 0 → p ≡ q) → (k : ℕ) → k < n → (l : List ℕ) → BetweenSlots 0 n l → NotIn k l
     → NotIn (getD ids k 0) (places ids l)
-unfolding places Between
+unfolding places BetweenSlots
 notin-places ids n f k h [] w d = tt
 notin-places ids n f k h (j ∷ js) w d = ((λ e. d .0 (f k j h (w .1) e)), notin-places ids n f k h js (w .2) (d .1))
 
-distinct-places : (ids : List ℕ) (n : ℕ) → ((p q : ℕ) → p < n → q < n → getD ids p 0 ≡ getD ids q 0 → p ≡ q) → (l : List ℕ) → Between 0 n l → Distinct l → Distinct (places ids l)
-unfolding places Between
+distinct-places : (ids : List ℕ) (n : ℕ) → ((p q : ℕ) → p < n → q < n → getD ids p 0 ≡ getD ids q 0 → p ≡ q) → (l : List ℕ) → BetweenSlots 0 n l → Distinct l → Distinct (places ids l)
+unfolding places BetweenSlots
 distinct-places ids n f [] w d = tt
 distinct-places ids n f (k ∷ ks) w d = (notin-places ids n f k (w .1) ks (w .2) (d .0), distinct-places ids n f ks (w .2) (d .1))
 
 -- what passes is kept before its places are taken, or after
-places-kept : (ids : List ℕ) (p q : ℕ → Bool) (n : ℕ) → ((i : ℕ) → i < n → q i ≡ p (getD ids i 0)) → (l : List ℕ) → Between 0 n l → places ids (keep q l) ≡ keep p (places ids l)
-unfolding places Between
+places-kept : (ids : List ℕ) (p q : ℕ → Bool) (n : ℕ) → ((i : ℕ) → i < n → q i ≡ p (getD ids i 0)) → (l : List ℕ) → BetweenSlots 0 n l → places ids (keep q l) ≡ keep p (places ids l)
+unfolding places BetweenSlots
 places-kept ids p q n f [] w = refl
 places-kept ids p q n f (k ∷ ks) w = rw (f k (w .1)) (go (p (getD ids k 0)) (keep q ks) (keep p (places ids ks)) (places-kept ids p q n f ks (w .2)))
   where
@@ -99,7 +99,7 @@ passesIn q xs ys p = passesQ q (getD xs p nan) (getD ys p nan)
 abbrev pub treeOrder : ℕ → ℕ → List ℕ → List ℕ
 treeOrder size n ids = places ids (order size n)
 
-module _ (size : ℕ) (xs ys : List Float) (s S : Cols) (I : Index size xs ys s S) (q : Query) where
+module _ (size : ℕ) (xs ys : List Float) (s S : IndexCols) (I : Index size xs ys s S) (q : Query) where
   -- the places that the query answers
   abbrev pub answered : List ℕ
   answered = found q size (length xs) (S .ids) (S .co)
@@ -149,12 +149,12 @@ module _ (size : ℕ) (xs ys : List Float) (s S : Cols) (I : Index size xs ys s 
       ∙ places-kept (S .ids) (passesIn q xs ys) (passesAt q (S .co)) (length xs) (λ i h. rw (I .x-of i h, I .y-of i h)) (order size (length xs)) (order-between size (length xs))
 
 -- whatever the node size is, and whatever stood in the columns before, a query has the same members
-module _ (size more : ℕ) (xs ys : List Float) (s t S U : Cols) (I : Index size xs ys s S) (J : Index more xs ys t U) (q : Query) where
+module _ (size more : ℕ) (xs ys : List Float) (s t S U : IndexCols) (I : Index size xs ys s S) (J : Index more xs ys t U) (q : Query) where
   pub same-members : (p : ℕ) → In p (answered size xs ys s S I q) → In p (answered more xs ys t U J q)
   same-members p m = let w = answered-sound size xs ys s S I q p m in answered-complete more xs ys t U J q p (w .0) (w .1)
 
 -- a query that passes what two others pass answers what the one answers of the other's answers, in the same order
-module _ (size : ℕ) (xs ys : List Float) (s S : Cols) (I : Index size xs ys s S) (p q b : Query) (both : (x y : Float) → passesQ b x y ≡ (passesQ p x y && passesQ q x y)) where
+module _ (size : ℕ) (xs ys : List Float) (s S : IndexCols) (I : Index size xs ys s S) (p q b : Query) (both : (x y : Float) → passesQ b x y ≡ (passesQ p x y && passesQ q x y)) where
   pub answered-both : answered size xs ys s S I b ≡ keep (passesIn q xs ys) (answered size xs ys s S I p)
   answered-both =
       answered-kept size xs ys s S I b
@@ -170,7 +170,7 @@ pub record Promised (size n : ℕ) (ids : List ℕ) (co : List Float) : Type 0 w
   pub once : (q : Query) → Distinct (found q size n ids co)
   pub short : (q : Query) → length (found q size n ids co) ≤ n
 
-pub promised : (size : ℕ) (xs ys : List Float) (s S : Cols) → Index size xs ys s S → coordsOk size (length xs) (length (S .co)) ≡ true → length xs ≤ length (S .ids)
+pub promised : (size : ℕ) (xs ys : List Float) (s S : IndexCols) → Index size xs ys s S → coordsOk size (length xs) (length (S .co)) ≡ true → length xs ≤ length (S .ids)
     → Promised size (length xs) (S .ids) (S .co)
 promised size xs ys s S I ok wide = record { ok = ok; wide = wide; below = answered-below size xs ys s S I; once = answered-once size xs ys s S I; short = answered-length size xs ys s S I }
 
@@ -199,7 +199,7 @@ module _ (size n : ℕ) (ids : List ℕ) (co : List Float) (P : Promised size n 
 
 -- ---- the own place of a query that is a point of the index, for finite coordinates and a finite radius
 
-module _ (size : ℕ) (xs ys : List Float) (s S : Cols) (I : Index size xs ys s S) (p : ℕ) (h : p < length xs) (r : Float)
+module _ (size : ℕ) (xs ys : List Float) (s S : IndexCols) (I : Index size xs ys s S) (p : ℕ) (h : p < length xs) (r : Float)
     (x : T (finite (getD xs p nan))) (y : T (finite (getD ys p nan))) (fr : T (finite r)) where
   pub own-place : In p (found (Within (getD xs p nan) (getD ys p nan) r) size (length xs) (S .ids) (S .co))
   own-place = answered-complete size xs ys s S I (Within (getD xs p nan) (getD ys p nan) r) p h (is-true _ (passes-self (getD xs p nan) (getD ys p nan) r x y fr))

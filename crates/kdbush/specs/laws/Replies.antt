@@ -5,17 +5,17 @@ use mathlib.Core.List.{List}
 use Prim.Native.Nat.{ℕ}
 use lib.Ieee.{Float}
 use Rattle.floats.specs.laws.Replies.{same-reply}
-use Rattle.kdsort.specs.Cols.{Cols}
+use Rattle.kdsort.specs.Cols.{IndexCols}
 use Rattle.kdslots.specs.declared.Query.{Query}
 use Rattle.kdbush.specs.declared.BuildReply.{BuildReply}
 use Rattle.kdbush.specs.declared.SearchReply.{SearchReply}
 use Rattle.kdbush.specs.Reply.{buildNumber, buildCarried, searchNumber, searchCarried}
-use Rattle.kdbush.specs.Reply.{checked, built, listed, listedColumn, searched, columnAfter}
+use Rattle.kdbush.specs.Reply.{indexChecked, built, listed, listedColumn, searched, columnAfter}
 
-pub build-replies : (size : ℕ) (xs ys : List Float) (s : Cols) (r t : BuildReply) → r ≡ checked size xs ys s → t ≡ checked size xs ys s → r ≡ t
+pub build-replies : (size : ℕ) (xs ys : List Float) (s : IndexCols) (r t : BuildReply) → r ≡ indexChecked size xs ys s → t ≡ indexChecked size xs ys s → r ≡ t
 build-replies size xs ys s r t = same-reply
 
-pub build-columns : (size : ℕ) (xs ys : List Float) (s u v : Cols) → u ≡ built size xs ys s → v ≡ built size xs ys s → u ≡ v
+pub build-columns : (size : ℕ) (xs ys : List Float) (s u v : IndexCols) → u ≡ built size xs ys s → v ≡ built size xs ys s → u ≡ v
 build-columns size xs ys s u v = same-reply
 
 -- the methods of a build's reply

@@ -14,7 +14,7 @@ use Rattle.kdsort.specs.Tree.{Kd}
 use Rattle.kdslots.specs.declared.Query.{Query}
 use Rattle.kdslots.specs.Query.{passesQ}
 use Rattle.kdslots.specs.Slots.{Search, when, scanned, slots, over, answers}
-use Rattle.kdslots.specs.laws.Members.{In, Between}
+use Rattle.kdslots.specs.laws.Members.{In, BetweenSlots}
 use Rattle.kdslots.specs.laws.Sound.{slots-between}
 use Rattle.kdslots.specs.laws.Reaches.{on-axis, reaches-left, reaches-right}
 use Rattle.kdslots.specs.Keep.{put, keep}
@@ -39,7 +39,7 @@ scanned-kept s i zero = refl
 scanned-kept s i (suc k) = one-put (s .test i) i (scanned s (i + 1) k) ∙ ap (λ (l : List ℕ). put (s .test i) i l) (scanned-kept s (i + 1) k)
 
 -- a part that is gone into or has nothing that passes
-part-kept : (p : ℕ → Bool) (b : Bool) (lo hi : ℕ) (mine l : List ℕ) → Between lo hi l → mine ≡ keep p l → ((i : ℕ) → lo ≤ i → i < hi → p i ≡ true → b ≡ true) → when b mine ≡ keep p l
+part-kept : (p : ℕ → Bool) (b : Bool) (lo hi : ℕ) (mine l : List ℕ) → BetweenSlots lo hi l → mine ≡ keep p l → ((i : ℕ) → lo ≤ i → i < hi → p i ≡ true → b ≡ true) → when b mine ≡ keep p l
 part-kept p true lo hi mine l w e f = e
 part-kept p false lo hi mine l w e f = sym (keep-none p lo hi l w (λ i a b. not-true (p i) (λ q. true≢false (sym (f i a b q)))))
   where

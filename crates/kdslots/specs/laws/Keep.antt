@@ -3,7 +3,7 @@ use mathlib.Core.Bool.{Bool, true, false, _&&_}
 use mathlib.Core.Path.{_≡_, refl, ap, _∙_}
 use mathlib.Core.List.{List, [], _∷_, _++_}
 use Prim.Native.Nat.{ℕ, _≤_, _<_}
-use Rattle.kdslots.specs.laws.Members.{In, Between}
+use Rattle.kdslots.specs.laws.Members.{In, BetweenSlots}
 use Rattle.kdslots.specs.Keep.{put, keep}
 
 put-append : (b : Bool) (x : ℕ) (r s : List ℕ) → put b x (r ++ s) ≡ put b x r ++ s
@@ -24,8 +24,8 @@ keep-both p q r h [] = refl
 keep-both p q r h (x ∷ xs) = ap (λ (b : Bool). put b x (keep r xs)) (h x) ∙ keep-put q (p x) x (keep p xs) (keep r xs) (keep-both p q r h xs)
 
 -- nothing is kept where nothing passes
-pub keep-none : (p : ℕ → Bool) (lo hi : ℕ) (xs : List ℕ) → Between lo hi xs → ((i : ℕ) → lo ≤ i → i < hi → p i ≡ false) → keep p xs ≡ []
-unfolding Between
+pub keep-none : (p : ℕ → Bool) (lo hi : ℕ) (xs : List ℕ) → BetweenSlots lo hi xs → ((i : ℕ) → lo ≤ i → i < hi → p i ≡ false) → keep p xs ≡ []
+unfolding BetweenSlots
 keep-none p lo hi [] b f = refl
 keep-none p lo hi (x ∷ xs) b f = rw (f x (b .0) (b .1)) (keep-none p lo hi xs (b .2) f)
 

@@ -23,9 +23,9 @@ Distinct [] = Unit
 Distinct (k ∷ ks) = NotIn k ks × Distinct ks
 
 -- each number of l is from lo up to hi
-unfoldable pub Between : ℕ → ℕ → List ℕ → Type 0
-Between lo hi [] = Unit
-Between lo hi (k ∷ ks) = (lo ≤ k) × (k < hi) × Between lo hi ks
+unfoldable pub BetweenSlots : ℕ → ℕ → List ℕ → Type 0
+BetweenSlots lo hi [] = Unit
+BetweenSlots lo hi (k ∷ ks) = (lo ≤ k) × (k < hi) × BetweenSlots lo hi ks
 
 -- ---- members of joined lists
 
@@ -64,40 +64,40 @@ sole m (x ∷ pre) c post e = let f : [] ≡ pre ++ c ∷ post = cc in absurd (n
 
 -- ---- lists within bounds
 
-pub widen : (a b lo hi : ℕ) (l : List ℕ) → lo ≤ a → b ≤ hi → Between a b l → Between lo hi l
-unfolding Between
+pub widen : (a b lo hi : ℕ) (l : List ℕ) → lo ≤ a → b ≤ hi → BetweenSlots a b l → BetweenSlots lo hi l
+unfolding BetweenSlots
 widen a b lo hi [] p q w = tt
 widen a b lo hi (k ∷ ks) p q w = (omega (arith, w .0), omega (arith, w .1), widen a b lo hi ks p q (w .2))
 
-pub between-append : (lo hi : ℕ) (a b : List ℕ) → Between lo hi a → Between lo hi b → Between lo hi (a ++ b)
-unfolding Between
+pub between-append : (lo hi : ℕ) (a b : List ℕ) → BetweenSlots lo hi a → BetweenSlots lo hi b → BetweenSlots lo hi (a ++ b)
+unfolding BetweenSlots
 between-append lo hi [] b p q = q
 between-append lo hi (k ∷ ks) b p q = (p .0, p .1, between-append lo hi ks b (p .2) q)
 
-pub between-when : (t : Bool) (lo hi : ℕ) (l : List ℕ) → Between lo hi l → Between lo hi (when t l)
-unfolding Between
+pub between-when : (t : Bool) (lo hi : ℕ) (l : List ℕ) → BetweenSlots lo hi l → BetweenSlots lo hi (when t l)
+unfolding BetweenSlots
 between-when true lo hi l w = w
 between-when false lo hi l w = tt
 
-pub between-one : (m : ℕ) → Between m (m + 1) (m ∷ [])
-unfolding Between
+pub between-one : (m : ℕ) → BetweenSlots m (m + 1) (m ∷ [])
+unfolding BetweenSlots
 between-one m = (le-refl m, omega arith, tt)
 
 -- a member of such a list
-pub between-in : (lo hi : ℕ) (pre : List ℕ) (c : ℕ) (post : List ℕ) → Between lo hi (pre ++ c ∷ post) → (lo ≤ c) × (c < hi)
-unfolding Between
+pub between-in : (lo hi : ℕ) (pre : List ℕ) (c : ℕ) (post : List ℕ) → BetweenSlots lo hi (pre ++ c ∷ post) → (lo ≤ c) × (c < hi)
+unfolding BetweenSlots
 between-in lo hi [] c post w = (w .0, w .1)
 between-in lo hi (k ∷ pre) c post w = between-in lo hi pre c post (w .2)
 
 -- ---- lists apart
 
-pub apart-left : (k lo hi : ℕ) (l : List ℕ) → Between lo hi l → k < lo → NotIn k l
-unfolding Between
+pub apart-left : (k lo hi : ℕ) (l : List ℕ) → BetweenSlots lo hi l → k < lo → NotIn k l
+unfolding BetweenSlots
 apart-left k lo hi [] w h = tt
 apart-left k lo hi (j ∷ js) w h = ((λ e. omega (arith, w .0, e)), apart-left k lo hi js (w .2) h)
 
-pub apart-right : (k lo hi : ℕ) (l : List ℕ) → Between lo hi l → hi ≤ k → NotIn k l
-unfolding Between
+pub apart-right : (k lo hi : ℕ) (l : List ℕ) → BetweenSlots lo hi l → hi ≤ k → NotIn k l
+unfolding BetweenSlots
 apart-right k lo hi [] w h = tt
 apart-right k lo hi (j ∷ js) w h = ((λ e. omega (arith, w .1, e)), apart-right k lo hi js (w .2) h)
 
@@ -106,8 +106,8 @@ notin-append k [] b p q = q
 notin-append k (j ∷ js) b p q = (p .0, notin-append k js b (p .1) q)
 
 -- the first list lies right of the second
-pub distinct-right : (m lo hi : ℕ) (a b : List ℕ) → Between m hi a → Between lo m b → Distinct a → Distinct b → Distinct (a ++ b)
-unfolding Between
+pub distinct-right : (m lo hi : ℕ) (a b : List ℕ) → BetweenSlots m hi a → BetweenSlots lo m b → Distinct a → Distinct b → Distinct (a ++ b)
+unfolding BetweenSlots
 distinct-right m lo hi [] b p q x y = y
 distinct-right m lo hi (k ∷ ks) b p q x y = (notin-append k ks b (x .0) (apart-right k lo m b q (p .0)), distinct-right m lo hi ks b (p .2) q (x .1) y)
 

@@ -13,7 +13,7 @@ use Rattle.kdsort.specs.laws.Shape.{Spans, all, both, spans}
 use Rattle.kdslots.specs.declared.Query.{Query}
 use Rattle.kdslots.specs.Query.{passesQ}
 use Rattle.kdslots.specs.Slots.{Search, when, scanned, slots, over, answers}
-use Rattle.kdslots.specs.laws.Members.{In, Distinct, Between, split, no-nil, when-all, sole, widen, between-append, between-when}
+use Rattle.kdslots.specs.laws.Members.{In, Distinct, BetweenSlots, split, no-nil, when-all, sole, widen, between-append, between-when}
 use Rattle.kdslots.specs.laws.Members.{between-one, between-in, apart-left, apart-right, notin-append, distinct-right, distinct-when}
 use Rattle.kdslots.specs.laws.Members.{distinct-one}
 
@@ -47,8 +47,8 @@ sound s ax (node m r l) pre c post e = ⊎-elim
 
 -- ---- each answered slot lies in the interval, and is answered once
 
-scanned-between : (s : Search) (i k : ℕ) → Between i (i + k) (scanned s i k)
-unfolding scanned Between
+scanned-between : (s : Search) (i k : ℕ) → BetweenSlots i (i + k) (scanned s i k)
+unfolding scanned BetweenSlots
 scanned-between s i zero = tt
 scanned-between s i (suc k) =
     between-append i (i + suc k) (when (s .test i) (i ∷ [])) (scanned s (i + 1) k)
@@ -61,7 +61,7 @@ scanned-distinct s i zero = tt
 scanned-distinct s i (suc k) =
     distinct-one (s .test i) i (scanned s (i + 1) k) (apart-left i (i + 1) (i + 1 + k) (scanned s (i + 1) k) (scanned-between s (i + 1) k) (omega arith)) (scanned-distinct s (i + 1) k)
 
-pub slots-between : (s : Search) (ax : ℕ) (lo hi : ℕ) (t : Shape) → Spans lo hi t → lo ≤ hi → Between lo hi (slots s ax t)
+pub slots-between : (s : Search) (ax : ℕ) (lo hi : ℕ) (t : Shape) → Spans lo hi t → lo ≤ hi → BetweenSlots lo hi (slots s ax t)
 unfolding slots
 slots-between s ax lo hi _ all h = widen lo (lo + (hi - lo)) lo hi (scanned s lo (hi - lo)) (le-refl lo) (omega arith) (scanned-between s lo (hi - lo))
 slots-between s ax lo hi _ (both {m = m} {r = r} {l = l} a b p q) h =
@@ -77,8 +77,8 @@ slots-distinct s ax lo hi _ all h = scanned-distinct s lo (hi - lo)
 slots-distinct s ax lo hi _ (both {m = m} {r = r} {l = l} a b p q) h =
     let B = when (s .right ax m) (slots s (1 - ax) r) in
     let C = when (s .left ax m) (slots s (1 - ax) l) in
-    let x : Between (m + 1) hi B = between-when (s .right ax m) (m + 1) hi (slots s (1 - ax) r) (slots-between s (1 - ax) (m + 1) hi r p (omega arith)) in
-    let y : Between lo m C = between-when (s .left ax m) lo m (slots s (1 - ax) l) (slots-between s (1 - ax) lo m l q a) in
+    let x : BetweenSlots (m + 1) hi B = between-when (s .right ax m) (m + 1) hi (slots s (1 - ax) r) (slots-between s (1 - ax) (m + 1) hi r p (omega arith)) in
+    let y : BetweenSlots lo m C = between-when (s .left ax m) lo m (slots s (1 - ax) l) (slots-between s (1 - ax) lo m l q a) in
     distinct-one (s .test m) m (B ++ C) (notin-append m B C (apart-left m (m + 1) hi B x (omega arith)) (apart-right m lo m C y (le-refl m)))
     (distinct-right (m + 1) lo hi B C x (widen lo m lo (m + 1) C (le-refl lo) (omega arith) y)
     (distinct-when (s .right ax m) (slots s (1 - ax) r) (slots-distinct s (1 - ax) (m + 1) hi r p (omega arith)))
@@ -86,11 +86,11 @@ slots-distinct s ax lo hi _ (both {m = m} {r = r} {l = l} a b p q) h =
 
 -- ---- of a whole index
 
-pub answers-between : (q : Query) (cs : List Float) (size n : ℕ) → Between 0 n (answers q cs size n)
+pub answers-between : (q : Query) (cs : List Float) (size n : ℕ) → BetweenSlots 0 n (answers q cs size n)
 answers-between q cs size n = slots-between (over q cs) 0 0 n (shape (size + 1) 0 n) (spans (size + 1) 0 n) (omega arith)
 
 pub answers-sound : (q : Query) (cs : List Float) (size n i : ℕ) → In i (answers q cs size n) → (i < n) × (passesQ q (key 0 cs i) (key 1 cs i) ≡ true)
-answers-sound q cs size n i p = (between-in 0 n (p .0) i (p .1) (subst (Between 0 n) (p .2) (answers-between q cs size n)) .1, sound (over q cs) 0 (shape (size + 1) 0 n) (p .0) i (p .1) (p .2))
+answers-sound q cs size n i p = (between-in 0 n (p .0) i (p .1) (subst (BetweenSlots 0 n) (p .2) (answers-between q cs size n)) .1, sound (over q cs) 0 (shape (size + 1) 0 n) (p .0) i (p .1) (p .2))
 
 pub answers-distinct : (q : Query) (cs : List Float) (size n : ℕ) → Distinct (answers q cs size n)
 answers-distinct q cs size n = slots-distinct (over q cs) 0 0 n (shape (size + 1) 0 n) (spans (size + 1) 0 n) (omega arith)

@@ -10,15 +10,15 @@ use native.Mathlib.Numerals.{add-one}
 use native.Mathlib.Omega.{arith}
 use lib.ListN.{length, getD}
 use lib.Ieee.{Float, lt}
-use Rattle.kdsort.specs.Cols.{Cols, swapItem, key}
+use Rattle.kdsort.specs.Cols.{IndexCols, swapItem, key}
 use Rattle.kdsort.specs.Select.{Cut}
 use Rattle.kdsort.specs.laws.Swaps.{tr-other, length-swapCo, key-swap}
 use Rattle.kdsort.specs.laws.Scans.{Up, Down, up-none, up-more, down-none, down-more}
-use Rattle.kdsort.specs.laws.Passes.{Scanning, scanning-turn, scanning-on, scanning-stops}
+use Rattle.kdsort.specs.laws.Passes.{PassScanning, scanning-turn, scanning-on, scanning-stops}
 
 -- an entry of a list of slots
-abbrev pub entry : List ℕ → ℕ → ℕ
-entry xs k = getD xs k 0
+abbrev pub batchEntry : List ℕ → ℕ → ℕ
+batchEntry xs k = getD xs k 0
 
 -- where the scan that makes the stop k begins
 unfoldable pub nextUp : (ℕ → ℕ) → ℕ → ℕ → ℕ
@@ -154,37 +154,37 @@ pub record Slots (f g : ℕ → ℕ) (n ids co : ℕ) : Type 0 where
   pub g-co : (k : ℕ) → k < n → 2 * g k + 1 < co
 
 -- the slots of the first n entries exchanged, pair by pair
-unfoldable pub exchanged : Cols → (ℕ → ℕ) → (ℕ → ℕ) → ℕ → Cols
+unfoldable pub exchanged : IndexCols → (ℕ → ℕ) → (ℕ → ℕ) → ℕ → IndexCols
 exchanged s f g zero = s
 exchanged s f g (suc k) = swapItem (exchanged s f g k) (f k) (g k)
 
-pub exchanged-none : (s : Cols) (f g : ℕ → ℕ) → s ≡ exchanged s f g 0
+pub exchanged-none : (s : IndexCols) (f g : ℕ → ℕ) → s ≡ exchanged s f g 0
 unfolding exchanged
 exchanged-none s f g = refl
 
-pub exchanged-more : (s : Cols) (f g : ℕ → ℕ) (k : ℕ) (S S' : Cols) → S ≡ exchanged s f g k → S' ≡ swapItem S (f k) (g k) → S' ≡ exchanged s f g (k + 1)
+pub exchanged-more : (s : IndexCols) (f g : ℕ → ℕ) (k : ℕ) (S S' : IndexCols) → S ≡ exchanged s f g k → S' ≡ swapItem S (f k) (g k) → S' ≡ exchanged s f g (k + 1)
 unfolding exchanged
-exchanged-more s f g k S S' e e' = rw (add-one k) (e' ∙ ap (λ (Z : Cols). swapItem Z (f k) (g k)) e)
+exchanged-more s f g k S S' e e' = rw (add-one k) (e' ∙ ap (λ (Z : IndexCols). swapItem Z (f k) (g k)) e)
 
 -- what the passes from i and j come to in the columns s, they come to from i' and j' in s'
-pub record Nearer (a : ℕ) (t : Float) (s s' : Cols) (i j i' j' : ℕ) : Type 0 where
+pub record Nearer (a : ℕ) (t : Float) (s s' : IndexCols) (i j i' j' : ℕ) : Type 0 where
   pub up : i ≤ i'
   pub down : j' ≤ j
   pub meet : i' ≤ j' + 1
-  pub goes : (P : Cut) → Scanning P a t s i j → Scanning P a t s' i' j'
+  pub goes : (P : Cut) → PassScanning P a t s i j → PassScanning P a t s' i' j'
 
-pub nearer-same : (a : ℕ) (t : Float) (s : Cols) (i j : ℕ) → i ≤ j + 1 → Nearer a t s s i j i j
+pub nearer-same : (a : ℕ) (t : Float) (s : IndexCols) (i j : ℕ) → i ≤ j + 1 → Nearer a t s s i j i j
 nearer-same a t s i j l = record { up = le-refl i; down = le-refl j; meet = l; goes = λ P h. h }
 
 -- ---- the exchanges of a batch
 
 -- nothing from x to y has changed, and the passes go on from there
-record After (P : Cut) (a : ℕ) (t : Float) (c : List Float) (s : Cols) (x y : ℕ) : Type 0 where
+record After (P : Cut) (a : ℕ) (t : Float) (c : List Float) (s : IndexCols) (x y : ℕ) : Type 0 where
   long : length (s .co) ≡ length c
   same : (p : ℕ) → x ≤ p → p ≤ y → key a (s .co) p ≡ key a c p
-  goes : Scanning P a t s x y
+  goes : PassScanning P a t s x y
 
-after-scans : (P : Cut) (a : ℕ) (t : Float) (c : List Float) (s : Cols) (x y x' y' : ℕ) → After P a t c s x y → Up a t c x x' → Down a t c y y' → x' ≤ y' → After P a t c s x' y'
+after-scans : (P : Cut) (a : ℕ) (t : Float) (c : List Float) (s : IndexCols) (x y x' y' : ℕ) → After P a t c s x y → Up a t c x x' → Down a t c y y' → x' ≤ y' → After P a t c s x' y'
 after-scans P a t c s x y x' y' h u d l =
     let lu : x ≤ x' = u .from in
     let ld : y' ≤ y = d .from in
@@ -196,7 +196,7 @@ after-scans P a t c s x y x' y' h u d l =
           (record { from = ld; past = λ p l1 l2. ap (λ (z : Float). lt t z) (h .same p (omega arith) l2) ∙ d .past p l1 l2 });
     }
 
-after-turn : (P : Cut) (a : ℕ) (t : Float) (c : List Float) (s : Cols) (x y : ℕ) → After P a t c s x y → x < y → a < 2 → 2 * y + 1 < length c
+after-turn : (P : Cut) (a : ℕ) (t : Float) (c : List Float) (s : IndexCols) (x y : ℕ) → After P a t c s x y → x < y → a < 2 → 2 * y + 1 < length c
     → lt (key a c x) t ≡ false → lt t (key a c y) ≡ false → After P a t c (swapItem s x y) (x + 1) (y - 1)
 after-turn P a t c s x y h l a2 room sx sy =
     let e : length (s .co) ≡ length c = h .long in
@@ -211,7 +211,7 @@ after-turn P a t c s x y h l a2 room sx sy =
     }
 
 -- the stops f of a scan up from i, as far as e, and the stops g of a scan down from j, as far as d
-module _ (a : ℕ) (t : Float) (s : Cols) (i j e d m n : ℕ) (f g : ℕ → ℕ) (u : Ups a t (s .co) i e f m) (v : Downs a t (s .co) j d g n) (ed : e ≤ d) where
+module _ (a : ℕ) (t : Float) (s : IndexCols) (i j e d m n : ℕ) (f g : ℕ → ℕ) (u : Ups a t (s .co) i e f m) (v : Downs a t (s .co) j d g n) (ed : e ≤ d) where
   f-to : (k : ℕ) → k ≤ m → f k ≤ e
   f-to k l = ⊎-elim (λ q. rw q (rw (u .last) (le-refl e))) (λ h. let w = u .under k h in omega (arith, w)) (eq-or-lt-of-le l)
 
@@ -239,7 +239,7 @@ module _ (a : ℕ) (t : Float) (s : Cols) (i j e d m n : ℕ) (f g : ℕ → ℕ
     g-co-in : (q : ℕ) → q < k → 2 * g q + 1 < length (s .co)
     g-co-in q l = let z = v .under q (omega arith) in omega (arith, z)
 
-  module _ (P : Cut) (a2 : a < 2) (room : 2 * j + 1 < length (s .co)) (h : Scanning P a t s i j) where
+  module _ (P : Cut) (a2 : a < 2) (room : 2 * j + 1 < length (s .co)) (h : PassScanning P a t s i j) where
     -- after k exchanges, where the scans go on, and where they stop next
     goes-on : (k : ℕ) → k ≤ m → k ≤ n → After P a t (s .co) (exchanged s f g k) (nextUp f i k) (nextDown g j k) → After P a t (s .co) (exchanged s f g k) (f k) (g k)
     goes-on k lm ln w = after-scans P a t (s .co) (exchanged s f g k) (nextUp f i k) (nextDown g j k) (f k) (g k) w (u .scans k lm) (v .scans k ln) (f-g k lm ln)
@@ -265,5 +265,5 @@ module _ (a : ℕ) (t : Float) (s : Cols) (i j e d m n : ℕ) (f g : ℕ → ℕ
         goes = λ P h. goes-on P a2 room h k lm ln (after P a2 room h k lm ln) .goes;
       }
 
-pub nearer-cols : (a : ℕ) (t : Float) (s S S' : Cols) (i j i' j' : ℕ) → S' ≡ S → Nearer a t s S i j i' j' → Nearer a t s S' i j i' j'
-nearer-cols a t s S S' i j i' j' e h = subst (λ (x : Cols). Nearer a t s x i j i' j') (sym e) h
+pub nearer-cols : (a : ℕ) (t : Float) (s S S' : IndexCols) (i j i' j' : ℕ) → S' ≡ S → Nearer a t s S i j i' j' → Nearer a t s S' i j i' j'
+nearer-cols a t s S S' i j i' j' e h = subst (λ (x : IndexCols). Nearer a t s x i j i' j') (sym e) h

@@ -12,7 +12,7 @@ use lib.ListN.{length}
 use lib.Ieee.{Float, lt, eq, isNan}
 use borrow.Author.Tests.{ltb-true, ltb-false}
 use Rattle.floats.specs.laws.NotAbove.{below-not-above, self-not-above, equal-not-above, number-equals-itself}
-use Rattle.kdsort.specs.Cols.{Cols, swapItem, swapCo, swapIds, key}
+use Rattle.kdsort.specs.Cols.{IndexCols, swapItem, swapCo, swapIds, key}
 use Rattle.kdsort.specs.Room.{Here}
 use Rattle.kdsort.specs.Select.{Cut, cut, up, down, scanUp, scanDown, passes, placed, settled, parted}
 use Rattle.kdsort.specs.Tree.{Permuted}
@@ -160,30 +160,30 @@ module _ (a : ℕ) (t : Float) (l r : ℕ) (c : List Float) (i j i' j' n : ℕ) 
       }
 
 -- how the passes end
-record Passed (a : ℕ) (t : Float) (l r : ℕ) (s : Cols) (P : Cut) : Type 0 where
+record Passed (a : ℕ) (t : Float) (l r : ℕ) (s : IndexCols) (P : Cut) : Type 0 where
   i-end : ℕ
   met : P .slot ≤ i-end
   split : Split a t l r (P .at .co) i-end (P .slot)
   perm : Permuted l r s (P .at)
 
-swap-up : (a : ℕ) (t : Float) (l r : ℕ) (s : Cols) (i j : ℕ) → Fits l r a (length (s .ids)) (length (s .co)) → Split a t l r (s .co) i j → i < j → UpAt a t (swapCo (s .co) i j) (i + 1) j (scanUp j a t (swapCo (s .co) i j) (i + 1))
+swap-up : (a : ℕ) (t : Float) (l r : ℕ) (s : IndexCols) (i j : ℕ) → Fits l r a (length (s .ids)) (length (s .co)) → Split a t l r (s .co) i j → i < j → UpAt a t (swapCo (s .co) i j) (i + 1) j (scanUp j a t (swapCo (s .co) i j) (i + 1))
 swap-up a t l r s i j F S ij =
     let x = S .i-from in
     let y = S .j-to in
     up-finds j (lt (key a (swapCo (s .co) i j) (i + 1)) t) a t (swapCo (s .co) i j) (i + 1) j refl (omega arith) (omega arith)
     (ap (λ (x : Float). lt x t) (key-swap (s .co) i j j (omega arith) (omega arith) a (F .a2) ∙ ap (key a (s .co)) (tr-right i j)) ∙ S .i-stop)
 
-swap-down : (a : ℕ) (t : Float) (l r : ℕ) (s : Cols) (i j : ℕ) → Fits l r a (length (s .ids)) (length (s .co)) → Split a t l r (s .co) i j → i < j → DownAt a t (swapCo (s .co) i j) (j - 1) i (scanDown j a t (swapCo (s .co) i j) (j - 1))
+swap-down : (a : ℕ) (t : Float) (l r : ℕ) (s : IndexCols) (i j : ℕ) → Fits l r a (length (s .ids)) (length (s .co)) → Split a t l r (s .co) i j → i < j → DownAt a t (swapCo (s .co) i j) (j - 1) i (scanDown j a t (swapCo (s .co) i j) (j - 1))
 swap-down a t l r s i j F S ij =
     let x = S .i-from in
     let y = S .j-to in
     down-finds j (lt t (key a (swapCo (s .co) i j) (j - 1))) a t (swapCo (s .co) i j) (j - 1) i refl (omega arith) (omega arith)
     (ap (lt t) (key-swap (s .co) i j i (omega arith) (omega arith) a (F .a2) ∙ ap (key a (s .co)) (tr-left i j)) ∙ S .j-stop)
 
-fits-swap : (l r a : ℕ) (s : Cols) (i j : ℕ) → Fits l r a (length (s .ids)) (length (s .co)) → Fits l r a (length (swapIds (s .ids) i j)) (length (swapCo (s .co) i j))
+fits-swap : (l r a : ℕ) (s : IndexCols) (i j : ℕ) → Fits l r a (length (s .ids)) (length (s .co)) → Fits l r a (length (swapIds (s .ids) i j)) (length (swapCo (s .co) i j))
 fits-swap l r a s i j F = rw (length-swapIds (s .ids) i j, length-swapCo (s .co) i j) F
 
-passes-end : (f : ℕ) (b : Bool) (a : ℕ) (t : Float) (l r : ℕ) (s : Cols) (i j : ℕ) → ltb i j ≡ b → j - i ≤ f → Fits l r a (length (s .ids)) (length (s .co)) → Split a t l r (s .co) i j → Passed a t l r s (passes f b a t s i j)
+passes-end : (f : ℕ) (b : Bool) (a : ℕ) (t : Float) (l r : ℕ) (s : IndexCols) (i j : ℕ) → ltb i j ≡ b → j - i ≤ f → Fits l r a (length (s .ids)) (length (s .co)) → Split a t l r (s .co) i j → Passed a t l r s (passes f b a t s i j)
 unfolding passes
 passes-end zero b a t l r s i j e fu F S = record { i-end = i; met = omega arith; split = S; perm = perm-same l r s }
 passes-end (suc f) false a t l r s i j e fu F S = record { i-end = i; met = ltb-false i j e; split = S; perm = perm-same l r s }
@@ -192,7 +192,7 @@ passes-end (suc f) true a t l r s i j e fu F S = passes-more f a t l r s i j (lt
     (let ij = ltb-true i j e in let u = swap-up a t l r s i j F S ij .scan .from in let d = swap-down a t l r s i j F S ij .scan .from in omega arith)
     (fits-swap l r a s i j F)
     (split-turn a t l r (s .co) i j _ _ (length (s .ids)) F S (ltb-true i j e) (swap-up a t l r s i j F S (ltb-true i j e)) (swap-down a t l r s i j F S (ltb-true i j e)))) where
-      passes-more : (f : ℕ) (a : ℕ) (t : Float) (l r : ℕ) (s : Cols) (i j : ℕ) → i < j → j - i ≤ suc f → Fits l r a (length (s .ids)) (length (s .co)) → Split a t l r (s .co) i j
+      passes-more : (f : ℕ) (a : ℕ) (t : Float) (l r : ℕ) (s : IndexCols) (i j : ℕ) → i < j → j - i ≤ suc f → Fits l r a (length (s .ids)) (length (s .co)) → Split a t l r (s .co) i j
           → {P : Cut} → Passed a t l r (swapItem s i j) P → Passed a t l r s P
       passes-more f a t l r s i j ij fu F S Q =
           let x = S .i-from in
@@ -201,7 +201,7 @@ passes-end (suc f) true a t l r s i j e fu F S = passes-more f a t l r s i j (lt
 
 -- ---- before the passes
 
-placed-ends : (a : ℕ) (s : Cols) (k l r : ℕ) → Here k l r a (length (s .ids)) (length (s .co))
+placed-ends : (a : ℕ) (s : IndexCols) (k l r : ℕ) → Here k l r a (length (s .ids)) (length (s .co))
     → (key a (placed a (key a (s .co) k) s k l r .co) l ≡ key a (s .co) k) ⊎ (key a (placed a (key a (s .co) k) s k l r .co) r ≡ key a (s .co) k)
 placed-ends a s k l r h = go (lt (key a (s .co) k) (key a (swapItem s l k .co) r)) where
   ll : 2 * l + 1 < length (s .co)
@@ -223,7 +223,7 @@ placed-ends a s k l r h = go (lt (key a (s .co) k) (key a (swapItem s l k .co) r
   go true = inr (key-swap (swapCo (s .co) l k) l r r ll' lr' a (h .a2) ∙ ap (key a (swapCo (s .co) l k)) (tr-right l r) ∙ first)
   go false = inl first
 
-placed-perm : (a : ℕ) (t : Float) (s : Cols) (k l r : ℕ) → Here k l r a (length (s .ids)) (length (s .co)) → Permuted l r s (placed a t s k l r)
+placed-perm : (a : ℕ) (t : Float) (s : IndexCols) (k l r : ℕ) → Here k l r a (length (s .ids)) (length (s .co)) → Permuted l r s (placed a t s k l r)
 placed-perm a t s k l r h = go (lt t (key a (swapItem s l k .co) r)) where
   one : Permuted l r s (swapItem s l k)
   one = perm-swap l r s l k (le-refl l) (omega arith) (omega arith) (omega arith) (h .rn) (h .nm)
@@ -232,7 +232,7 @@ placed-perm a t s k l r h = go (lt t (key a (swapItem s l k .co) r)) where
   go true = perm-trans l r s (swapItem s l k) (swapItem (swapItem s l k) l r) one (perm-swap l r (swapItem s l k) l r (le-refl l) (omega arith) (omega arith) (le-refl r) (rw length-swapIds (h .rn)) (rw length-swapCo (h .nm)))
   go false = one
 
-placed-split : (a : ℕ) (s : Cols) (k l r : ℕ) → Here k l r a (length (s .ids)) (length (s .co)) → Split a (key a (s .co) k) l r (placed a (key a (s .co) k) s k l r .co) l r
+placed-split : (a : ℕ) (s : IndexCols) (k l r : ℕ) → Here k l r a (length (s .ids)) (length (s .co)) → Split a (key a (s .co) k) l r (placed a (key a (s .co) k) s k l r .co) l r
 placed-split a s k l r h =
     let w = placed-stops a s k l r h in
     record {
@@ -308,11 +308,11 @@ settled-else a t l r c i j n F S m num e =
       le-of-lt-one : (p j : ℕ) → p < j + 1 → p ≤ j
       le-of-lt-one p j h = omega arith
 
-pub record Cutting (a : ℕ) (t : Float) (l r : ℕ) (s : Cols) (P : Cut) : Type 0 where
+pub record Cutting (a : ℕ) (t : Float) (l r : ℕ) (s : IndexCols) (P : Cut) : Type 0 where
   pub part : Parted a t l r (P .at .co) (P .slot)
   pub perm : Permuted l r s (P .at)
 
-settled-ok : (a : ℕ) (t : Float) (l r : ℕ) (s : Cols) (P : Cut) → Fits l r a (length (P .at .ids)) (length (P .at .co)) → T (not (isNan t)) → Passed a t l r s P → Cutting a t l r s (settled a t P l r)
+settled-ok : (a : ℕ) (t : Float) (l r : ℕ) (s : IndexCols) (P : Cut) → Fits l r a (length (P .at .ids)) (length (P .at .co)) → T (not (isNan t)) → Passed a t l r s P → Cutting a t l r s (settled a t P l r)
 settled-ok a t l r s P F num W = go (eq (key a (P .at .co) l) t) refl where
   go : (b : Bool) → eq (key a (P .at .co) l) t ≡ b → Cutting a t l r s (cond b (cut (swapItem (P .at) l (P .slot)) (P .slot)) (cut (swapItem (P .at) (P .slot + 1) r) (P .slot + 1)))
   go true e = record {
@@ -328,14 +328,14 @@ settled-ok a t l r s P F num W = go (eq (key a (P .at .co) l) t) refl where
         perm-trans l r s (P .at) (swapItem (P .at) (P .slot + 1) r) (W .perm) (perm-swap l r (P .at) (P .slot + 1) r (omega arith) (omega arith) (omega arith) (le-refl r) (F .rn) (F .nm));
   }
 
-pub parted-ok : (a k : ℕ) (s : Cols) (l r : ℕ) → Here k l r a (length (s .ids)) (length (s .co)) → T (not (isNan (key a (s .co) k))) → Cutting a (key a (s .co) k) l r s (parted a k s l r)
+pub parted-ok : (a k : ℕ) (s : IndexCols) (l r : ℕ) → Here k l r a (length (s .ids)) (length (s .co)) → T (not (isNan (key a (s .co) k))) → Cutting a (key a (s .co) k) l r s (parted a k s l r)
 unfolding parted
 parted-ok a k s l r h num =
     settled-ok a (key a (s .co) k) l r s _ F' num W' where
       t : Float
       t = key a (s .co) k
 
-      s1 : Cols
+      s1 : IndexCols
       s1 = placed a (key a (s .co) k) s k l r
 
       P : Permuted l r s s1
@@ -367,7 +367,7 @@ down-enough f f' a t c j q le h h' at =
     let to = D .to in
     down-stops f a t c j (scanDown f' a t c j) (D .scan) (omega arith) (D .stop)
 
-passes-same : (f f' : ℕ) (b : Bool) (a : ℕ) (t : Float) (l r : ℕ) (s : Cols) (i j : ℕ) → ltb i j ≡ b → j - i ≤ f → j - i ≤ f' → Fits l r a (length (s .ids)) (length (s .co)) → Split a t l r (s .co) i j
+passes-same : (f f' : ℕ) (b : Bool) (a : ℕ) (t : Float) (l r : ℕ) (s : IndexCols) (i j : ℕ) → ltb i j ≡ b → j - i ≤ f → j - i ≤ f' → Fits l r a (length (s .ids)) (length (s .co)) → Split a t l r (s .co) i j
     → passes f b a t s i j ≡ passes f' b a t s i j
 unfolding passes
 passes-same zero zero b a t l r s i j e h h' F S = refl
@@ -385,7 +385,7 @@ passes-same (suc f) (suc f') true a t l r s i j e h h' F S =
     passes-same f f' _ a t l r (swapItem s i j) (scanUp j a t (swapCo (s .co) i j) (i + 1)) (scanDown j a t (swapCo (s .co) i j) (j - 1)) refl (omega arith) (omega arith) (fits-swap l r a s i j F)
     (split-turn a t l r (s .co) i j _ _ (length (s .ids)) F S ij U D)
 
-pub passes-enough : (f a k : ℕ) (s : Cols) (l r : ℕ) → Here k l r a (length (s .ids)) (length (s .co)) → r - l ≤ f
+pub passes-enough : (f a k : ℕ) (s : IndexCols) (l r : ℕ) → Here k l r a (length (s .ids)) (length (s .co)) → r - l ≤ f
     → passes f (ltb l r) a (key a (s .co) k) (placed a (key a (s .co) k) s k l r) l r ≡ passes (r - l) (ltb l r) a (key a (s .co) k) (placed a (key a (s .co) k) s k l r) l r
 passes-enough f a k s l r h fu =
     let P = placed-perm a (key a (s .co) k) s k l r h in

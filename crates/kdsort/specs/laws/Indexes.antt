@@ -12,83 +12,83 @@ use lib.Dec.{T}
 use lib.ListN.{length, getD, set, length-set}
 use lib.Seq.{getD-set-same, getD-set-other, ext-getD}
 use lib.Ieee.{Float, nan, isNan}
-use Rattle.kdsort.specs.Cols.{Cols, cols, key}
+use Rattle.kdsort.specs.Cols.{IndexCols, indexCols, key}
 use Rattle.kdsort.specs.Shape.{shape}
-use Rattle.kdsort.specs.Sort.{filled, sorted, indexed}
+use Rattle.kdsort.specs.Sort.{filledSlots, sorted, indexed}
 use Rattle.kdsort.specs.Tree.{Numbers, Points, Index}
 use Rattle.kdsort.specs.laws.Swaps.{axis-cases}
 use Rattle.kdsort.specs.laws.Perms.{le-or-lt}
 use Rattle.kdsort.specs.laws.Trees.{Built, sorted-ok}
 
-pub filled-more : (i : ℕ) (xs ys : List Float) (s S : Cols) → S ≡ filled i xs ys s
-    → cols (set (S .ids) i i) (set (set (S .co) (2 * i) (getD xs i nan)) (2 * i + 1) (getD ys i nan)) ≡ filled (i + 1) xs ys s
-unfolding filled
+pub filled-more : (i : ℕ) (xs ys : List Float) (s S : IndexCols) → S ≡ filledSlots i xs ys s
+    → indexCols (set (S .ids) i i) (set (set (S .co) (2 * i) (getD xs i nan)) (2 * i + 1) (getD ys i nan)) ≡ filledSlots (i + 1) xs ys s
+unfolding filledSlots
 filled-more i xs ys s S e =
-    rw (add-one i) (ap (λ (x : Cols). cols (set (x .ids) i i) (set (set (x .co) (2 * i) (getD xs i nan)) (2 * i + 1) (getD ys i nan))) e)
+    rw (add-one i) (ap (λ (x : IndexCols). indexCols (set (x .ids) i i) (set (set (x .co) (2 * i) (getD xs i nan)) (2 * i + 1) (getD ys i nan))) e)
 
-module _ (xs ys : List Float) (s : Cols) where
-  ids-long : (i : ℕ) → length (filled i xs ys s .ids) ≡ length (s .ids)
-  unfolding filled
+module _ (xs ys : List Float) (s : IndexCols) where
+  ids-long : (i : ℕ) → length (filledSlots i xs ys s .ids) ≡ length (s .ids)
+  unfolding filledSlots
   ids-long zero = refl
-  ids-long (suc i) = length-set (filled i xs ys s .ids) i i ∙ ids-long i
+  ids-long (suc i) = length-set (filledSlots i xs ys s .ids) i i ∙ ids-long i
 
-  co-long : (i : ℕ) → length (filled i xs ys s .co) ≡ length (s .co)
-  unfolding filled
+  co-long : (i : ℕ) → length (filledSlots i xs ys s .co) ≡ length (s .co)
+  unfolding filledSlots
   co-long zero = refl
-  co-long (suc i) = length-set (set (filled i xs ys s .co) (2 * i) (getD xs i nan)) (2 * i + 1) (getD ys i nan) ∙ length-set (filled i xs ys s .co) (2 * i) (getD xs i nan) ∙ co-long i
+  co-long (suc i) = length-set (set (filledSlots i xs ys s .co) (2 * i) (getD xs i nan)) (2 * i + 1) (getD ys i nan) ∙ length-set (filledSlots i xs ys s .co) (2 * i) (getD xs i nan) ∙ co-long i
 
-  id-at : (i p : ℕ) → p < i → i ≤ length (s .ids) → getD (filled i xs ys s .ids) p 0 ≡ p
-  unfolding filled
+  id-at : (i p : ℕ) → p < i → i ≤ length (s .ids) → getD (filledSlots i xs ys s .ids) p 0 ≡ p
+  unfolding filledSlots
   id-at zero p h k = absurd (omega arith)
   id-at (suc i) p h k =
       let w = ids-long i in
       ⊎-elim
-      (λ e. ap (λ (x : ℕ). getD (set (filled i xs ys s .ids) i i) x 0) e ∙ getD-set-same (filled i xs ys s .ids) i i 0 (omega arith) ∙ sym e)
-      (λ l. getD-set-other (filled i xs ys s .ids) i p i 0 (λ e. omega arith) ∙ id-at i p l (omega arith))
+      (λ e. ap (λ (x : ℕ). getD (set (filledSlots i xs ys s .ids) i i) x 0) e ∙ getD-set-same (filledSlots i xs ys s .ids) i i 0 (omega arith) ∙ sym e)
+      (λ l. getD-set-other (filledSlots i xs ys s .ids) i p i 0 (λ e. omega arith) ∙ id-at i p l (omega arith))
       (eq-or-lt-of-le (omega arith))
 
-  id-rest : (i p : ℕ) → i ≤ p → getD (filled i xs ys s .ids) p 0 ≡ getD (s .ids) p 0
-  unfolding filled
+  id-rest : (i p : ℕ) → i ≤ p → getD (filledSlots i xs ys s .ids) p 0 ≡ getD (s .ids) p 0
+  unfolding filledSlots
   id-rest zero p h = refl
-  id-rest (suc i) p h = getD-set-other (filled i xs ys s .ids) i p i 0 (λ e. omega arith) ∙ id-rest i p (omega arith)
+  id-rest (suc i) p h = getD-set-other (filledSlots i xs ys s .ids) i p i 0 (λ e. omega arith) ∙ id-rest i p (omega arith)
 
-  co-rest : (i p : ℕ) → 2 * i ≤ p → getD (filled i xs ys s .co) p nan ≡ getD (s .co) p nan
-  unfolding filled
+  co-rest : (i p : ℕ) → 2 * i ≤ p → getD (filledSlots i xs ys s .co) p nan ≡ getD (s .co) p nan
+  unfolding filledSlots
   co-rest zero p h = refl
   co-rest (suc i) p h =
-      getD-set-other (set (filled i xs ys s .co) (2 * i) (getD xs i nan)) (2 * i + 1) p (getD ys i nan) nan (λ e. omega arith)
-      ∙ getD-set-other (filled i xs ys s .co) (2 * i) p (getD xs i nan) nan (λ e. omega arith) ∙ co-rest i p (omega arith)
+      getD-set-other (set (filledSlots i xs ys s .co) (2 * i) (getD xs i nan)) (2 * i + 1) p (getD ys i nan) nan (λ e. omega arith)
+      ∙ getD-set-other (filledSlots i xs ys s .co) (2 * i) p (getD xs i nan) nan (λ e. omega arith) ∙ co-rest i p (omega arith)
 
-  x-at : (i p : ℕ) → p < i → 2 * i ≤ length (s .co) → getD (filled i xs ys s .co) (2 * p) nan ≡ getD xs p nan
-  unfolding filled
+  x-at : (i p : ℕ) → p < i → 2 * i ≤ length (s .co) → getD (filledSlots i xs ys s .co) (2 * p) nan ≡ getD xs p nan
+  unfolding filledSlots
   x-at zero p h k = absurd (omega arith)
   x-at (suc i) p h k =
       let w = co-long i in
-      getD-set-other (set (filled i xs ys s .co) (2 * i) (getD xs i nan)) (2 * i + 1) (2 * p) (getD ys i nan) nan (λ e. omega arith)
+      getD-set-other (set (filledSlots i xs ys s .co) (2 * i) (getD xs i nan)) (2 * i + 1) (2 * p) (getD ys i nan) nan (λ e. omega arith)
       ∙ ⊎-elim
-      (λ e. ap (λ (x : ℕ). getD (set (filled i xs ys s .co) (2 * i) (getD xs i nan)) (2 * x) nan) e ∙ getD-set-same (filled i xs ys s .co) (2 * i) (getD xs i nan) nan (omega arith) ∙ ap (λ (x : ℕ). getD xs x nan) (sym e))
-      (λ l. getD-set-other (filled i xs ys s .co) (2 * i) (2 * p) (getD xs i nan) nan (λ e. omega arith) ∙ x-at i p l (omega arith))
+      (λ e. ap (λ (x : ℕ). getD (set (filledSlots i xs ys s .co) (2 * i) (getD xs i nan)) (2 * x) nan) e ∙ getD-set-same (filledSlots i xs ys s .co) (2 * i) (getD xs i nan) nan (omega arith) ∙ ap (λ (x : ℕ). getD xs x nan) (sym e))
+      (λ l. getD-set-other (filledSlots i xs ys s .co) (2 * i) (2 * p) (getD xs i nan) nan (λ e. omega arith) ∙ x-at i p l (omega arith))
       (eq-or-lt-of-le (omega arith))
 
-  y-at : (i p : ℕ) → p < i → 2 * i ≤ length (s .co) → getD (filled i xs ys s .co) (2 * p + 1) nan ≡ getD ys p nan
-  unfolding filled
+  y-at : (i p : ℕ) → p < i → 2 * i ≤ length (s .co) → getD (filledSlots i xs ys s .co) (2 * p + 1) nan ≡ getD ys p nan
+  unfolding filledSlots
   y-at zero p h k = absurd (omega arith)
   y-at (suc i) p h k =
       let w = co-long i in
-      let v : 2 * i + 1 < length (set (filled i xs ys s .co) (2 * i) (getD xs i nan)) = simp length-set (omega arith) in
+      let v : 2 * i + 1 < length (set (filledSlots i xs ys s .co) (2 * i) (getD xs i nan)) = simp length-set (omega arith) in
       ⊎-elim
-      (λ e. ap (λ (x : ℕ). getD (set (set (filled i xs ys s .co) (2 * i) (getD xs i nan)) (2 * i + 1) (getD ys i nan)) (2 * x + 1) nan) e ∙ getD-set-same (set (filled i xs ys s .co) (2 * i) (getD xs i nan)) (2 * i + 1) (getD ys i nan) nan v ∙ ap (λ (x : ℕ). getD ys x nan) (sym e))
+      (λ e. ap (λ (x : ℕ). getD (set (set (filledSlots i xs ys s .co) (2 * i) (getD xs i nan)) (2 * i + 1) (getD ys i nan)) (2 * x + 1) nan) e ∙ getD-set-same (set (filledSlots i xs ys s .co) (2 * i) (getD xs i nan)) (2 * i + 1) (getD ys i nan) nan v ∙ ap (λ (x : ℕ). getD ys x nan) (sym e))
       (λ l.
-      getD-set-other (set (filled i xs ys s .co) (2 * i) (getD xs i nan)) (2 * i + 1) (2 * p + 1) (getD ys i nan) nan (λ e. omega arith)
-      ∙ getD-set-other (filled i xs ys s .co) (2 * i) (2 * p + 1) (getD xs i nan) nan (λ e. omega arith) ∙ y-at i p l (omega arith))
+      getD-set-other (set (filledSlots i xs ys s .co) (2 * i) (getD xs i nan)) (2 * i + 1) (2 * p + 1) (getD ys i nan) nan (λ e. omega arith)
+      ∙ getD-set-other (filledSlots i xs ys s .co) (2 * i) (2 * p + 1) (getD xs i nan) nan (λ e. omega arith) ∙ y-at i p l (omega arith))
       (eq-or-lt-of-le (omega arith))
 
   module _ (n : ℕ) (n1 : 1 ≤ n) (some : 1 ≤ length xs) (room : length xs ≤ length (s .ids)) (room2 : 2 * length xs ≤ length (s .co)) (num : Points xs ys) where
-    abbrev F : Cols
-    F = filled (length xs) xs ys s
+    abbrev F : IndexCols
+    F = filledSlots (length xs) xs ys s
 
-    abbrev S : Cols
-    S = sorted 0 0 (length xs) (shape (n + 1) 0 (length xs)) (filled (length xs) xs ys s)
+    abbrev S : IndexCols
+    S = sorted 0 0 (length xs) (shape (n + 1) 0 (length xs)) (filledSlots (length xs) xs ys s)
 
     x-key : (p : ℕ) → p < length xs → key 0 (F .co) p ≡ getD xs p nan
     x-key p h = rw add-zero (x-at (length xs) p h room2)
@@ -149,37 +149,37 @@ module _ (xs ys : List Float) (s : Cols) where
         }
 
 -- what the columns held before is gone where they have just room
-module _ (xs ys : List Float) (s t : Cols) (a : length (s .ids) ≡ length xs) (b : length (t .ids) ≡ length xs)
+module _ (xs ys : List Float) (s t : IndexCols) (a : length (s .ids) ≡ length xs) (b : length (t .ids) ≡ length xs)
     (c : length (s .co) ≡ 2 * length xs) (d : length (t .co) ≡ 2 * length xs) where
-  same-ids : filled (length xs) xs ys s .ids ≡ filled (length xs) xs ys t .ids
+  same-ids : filledSlots (length xs) xs ys s .ids ≡ filledSlots (length xs) xs ys t .ids
   same-ids =
       let p = ids-long xs ys s (length xs) in
       let q = ids-long xs ys t (length xs) in
-      ext-getD 0 (filled (length xs) xs ys s .ids) (filled (length xs) xs ys t .ids) (omega arith)
+      ext-getD 0 (filledSlots (length xs) xs ys s .ids) (filledSlots (length xs) xs ys t .ids) (omega arith)
       (λ i h. id-at xs ys s (length xs) i (omega arith) (omega arith) ∙ sym (id-at xs ys t (length xs) i (omega arith) (omega arith)))
 
-  same-at : (i : ℕ) → i < 2 * length xs → getD (filled (length xs) xs ys s .co) i nan ≡ getD (filled (length xs) xs ys t .co) i nan
+  same-at : (i : ℕ) → i < 2 * length xs → getD (filledSlots (length xs) xs ys s .co) i nan ≡ getD (filledSlots (length xs) xs ys t .co) i nan
   same-at i h =
       let e : i ≡ 2 * (i / 2) + i % 2 = omega arith in
       let two : i % 2 < 2 = omega arith in
       let l : i / 2 < length xs = omega arith in
       ⊎-elim
       (λ z. let f : i ≡ 2 * (i / 2) = omega arith in
-      ap (λ (x : ℕ). getD (filled (length xs) xs ys s .co) x nan) f ∙ x-at xs ys s (length xs) (i / 2) l (omega arith)
-      ∙ sym (x-at xs ys t (length xs) (i / 2) l (omega arith)) ∙ ap (λ (x : ℕ). getD (filled (length xs) xs ys t .co) x nan) (sym f))
+      ap (λ (x : ℕ). getD (filledSlots (length xs) xs ys s .co) x nan) f ∙ x-at xs ys s (length xs) (i / 2) l (omega arith)
+      ∙ sym (x-at xs ys t (length xs) (i / 2) l (omega arith)) ∙ ap (λ (x : ℕ). getD (filledSlots (length xs) xs ys t .co) x nan) (sym f))
       (λ z. let f : i ≡ 2 * (i / 2) + 1 = omega arith in
-      ap (λ (x : ℕ). getD (filled (length xs) xs ys s .co) x nan) f ∙ y-at xs ys s (length xs) (i / 2) l (omega arith)
-      ∙ sym (y-at xs ys t (length xs) (i / 2) l (omega arith)) ∙ ap (λ (x : ℕ). getD (filled (length xs) xs ys t .co) x nan) (sym f))
+      ap (λ (x : ℕ). getD (filledSlots (length xs) xs ys s .co) x nan) f ∙ y-at xs ys s (length xs) (i / 2) l (omega arith)
+      ∙ sym (y-at xs ys t (length xs) (i / 2) l (omega arith)) ∙ ap (λ (x : ℕ). getD (filledSlots (length xs) xs ys t .co) x nan) (sym f))
       (axis-cases (i % 2) two)
 
-  same-co : filled (length xs) xs ys s .co ≡ filled (length xs) xs ys t .co
+  same-co : filledSlots (length xs) xs ys s .co ≡ filledSlots (length xs) xs ys t .co
   same-co =
       let p = co-long xs ys s (length xs) in
       let q = co-long xs ys t (length xs) in
-      ext-getD nan (filled (length xs) xs ys s .co) (filled (length xs) xs ys t .co) (omega arith) (λ i h. same-at i (omega arith))
+      ext-getD nan (filledSlots (length xs) xs ys s .co) (filledSlots (length xs) xs ys t .co) (omega arith) (λ i h. same-at i (omega arith))
 
   pub indexed-same : (n : ℕ) → indexed n xs ys s ≡ indexed n xs ys t
   unfolding indexed
   indexed-same n =
-      let f : filled (length xs) xs ys s ≡ filled (length xs) xs ys t = λ i. cols (same-ids i) (same-co i) in
-      ap (λ (x : Cols). sorted 0 0 (length xs) (shape (n + 1) 0 (length xs)) x) f
+      let f : filledSlots (length xs) xs ys s ≡ filledSlots (length xs) xs ys t = λ i. indexCols (same-ids i) (same-co i) in
+      ap (λ (x : IndexCols). sorted 0 0 (length xs) (shape (n + 1) 0 (length xs)) x) f

@@ -12,7 +12,7 @@ use lib.ListN.{length}
 use lib.Ieee.{Float, lt}
 use borrow.Author.Tests.{lt-ltb, le-ltb}
 use Rattle.floats.specs.laws.NotAbove.{below-not-above}
-use Rattle.kdsort.specs.Cols.{Cols, swapItem, swapCo, key}
+use Rattle.kdsort.specs.Cols.{IndexCols, swapItem, swapCo, key}
 use Rattle.kdsort.specs.laws.Perms.{le-or-lt}
 use Rattle.kdsort.specs.Select.{Cut, cut, scanUp, scanDown, passes}
 use Rattle.kdsort.specs.laws.Scans.{Up, Down, up-none, down-none, up-stops, down-stops, swap-stops}
@@ -20,14 +20,14 @@ use Rattle.kdsort.specs.laws.Scans.{Up, Down, up-none, down-none, up-sto
 -- ---- at two slots that are exchanged next
 
 -- with some fuel that is enough, the passes from here on come to P
-pub Passing : Cut → ℕ → Float → Cols → ℕ → ℕ → Type 0
+pub Passing : Cut → ℕ → Float → IndexCols → ℕ → ℕ → Type 0
 Passing P a t s i j = (f : ℕ) × (j - i ≤ f) × (passes f (ltb i j) a t s i j ≡ P)
 
-pub passing-starts : (a : ℕ) (t : Float) (s : Cols) (i j : ℕ) → Passing (passes (j - i) (ltb i j) a t s i j) a t s i j
+pub passing-starts : (a : ℕ) (t : Float) (s : IndexCols) (i j : ℕ) → Passing (passes (j - i) (ltb i j) a t s i j) a t s i j
 unfolding Passing
 passing-starts a t s i j = (j - i, le-refl (j - i), refl)
 
-passing-turn : (P : Cut) (a : ℕ) (t : Float) (s : Cols) (i j i' j' : ℕ) → Passing P a t s i j → i < j → i + 1 ≤ i' → j' ≤ j - 1
+passing-turn : (P : Cut) (a : ℕ) (t : Float) (s : IndexCols) (i j i' j' : ℕ) → Passing P a t s i j → i < j → i + 1 ≤ i' → j' ≤ j - 1
     → scanUp j a t (swapCo (s .co) i j) (i + 1) ≡ i' → scanDown j a t (swapCo (s .co) i j) (j - 1) ≡ j' → Passing P a t (swapItem s i j) i' j'
 unfolding Passing passes
 passing-turn P a t s i j i' j' h l li lj ui dj = go (h .0) (h .1) (rw (lt-ltb i j l) at (h .2)) where
@@ -35,7 +35,7 @@ passing-turn P a t s i j i' j' h l li lj ui dj = go (h .0) (h .1) (rw (lt-ltb i 
   go zero fu e = absurd (omega arith)
   go (suc f) fu e = (f, omega arith, rw (← ui, ← dj) e)
 
-pub passing-ends : (P : Cut) (a : ℕ) (t : Float) (s : Cols) (i j : ℕ) → Passing P a t s i j → j ≤ i → P ≡ cut s j
+pub passing-ends : (P : Cut) (a : ℕ) (t : Float) (s : IndexCols) (i j : ℕ) → Passing P a t s i j → j ≤ i → P ≡ cut s j
 unfolding Passing passes
 passing-ends P a t s i j h l = go (h .0) (rw (le-ltb i j l) at (h .2)) where
   go : (f : ℕ) → passes f false a t s i j ≡ P → P ≡ cut s j
@@ -46,14 +46,14 @@ passing-ends P a t s i j h l = go (h .0) (rw (le-ltb i j l) at (h .2)) where
 
 -- wherever the scan up from i and the scan down from j stop, the passes from there on come to P; what stands before i stops a scan down,
 -- and what stands after j a scan up
-pub record Scanning (P : Cut) (a : ℕ) (t : Float) (s : Cols) (i j : ℕ) : Type 0 where
+pub record PassScanning (P : Cut) (a : ℕ) (t : Float) (s : IndexCols) (i j : ℕ) : Type 0 where
   pub goes : (i' j' : ℕ) → i' ≤ j + 1 → Up a t (s .co) i i' → lt (key a (s .co) i') t ≡ false → Down a t (s .co) j j' → lt t (key a (s .co) j') ≡ false → Passing P a t s i' j'
   pub i-stop : lt t (key a (s .co) (i - 1)) ≡ false
   pub j-stop : lt (key a (s .co) (j + 1)) t ≡ false
 
 -- an exchange
-pub scanning-turn : (P : Cut) (a : ℕ) (t : Float) (s : Cols) (i j : ℕ) → Passing P a t s i j → i < j → a < 2 → 2 * j + 1 < length (s .co)
-    → lt (key a (s .co) i) t ≡ false → lt t (key a (s .co) j) ≡ false → Scanning P a t (swapItem s i j) (i + 1) (j - 1)
+pub scanning-turn : (P : Cut) (a : ℕ) (t : Float) (s : IndexCols) (i j : ℕ) → Passing P a t s i j → i < j → a < 2 → 2 * j + 1 < length (s .co)
+    → lt (key a (s .co) i) t ≡ false → lt t (key a (s .co) j) ≡ false → PassScanning P a t (swapItem s i j) (i + 1) (j - 1)
 scanning-turn P a t s i j h l a2 lj si sj =
     let w = swap-stops a t (s .co) i j a2 (omega arith) lj si sj in
     let ei : i + 1 - 1 ≡ i = omega arith in
@@ -88,7 +88,7 @@ down-after a t c j j' d h =
     (eq-or-lt-of-le (d .from))
 
 -- the scans, part of their way
-pub scanning-on : (P : Cut) (a : ℕ) (t : Float) (s : Cols) (i j i' j' : ℕ) → Scanning P a t s i j → Up a t (s .co) i i' → Down a t (s .co) j j' → Scanning P a t s i' j'
+pub scanning-on : (P : Cut) (a : ℕ) (t : Float) (s : IndexCols) (i j i' j' : ℕ) → PassScanning P a t s i j → Up a t (s .co) i i' → Down a t (s .co) j j' → PassScanning P a t s i' j'
 scanning-on P a t s i j i' j' h u d =
     let lj : j' ≤ j = d .from in
     record {
@@ -98,8 +98,8 @@ scanning-on P a t s i j i' j' h u d =
     }
 
 -- the scans, where they stand already at their stops
-pub scanning-stops : (P : Cut) (a : ℕ) (t : Float) (s : Cols) (i j : ℕ) → Scanning P a t s i j → i ≤ j + 1 → lt (key a (s .co) i) t ≡ false → lt t (key a (s .co) j) ≡ false → Passing P a t s i j
+pub scanning-stops : (P : Cut) (a : ℕ) (t : Float) (s : IndexCols) (i j : ℕ) → PassScanning P a t s i j → i ≤ j + 1 → lt (key a (s .co) i) t ≡ false → lt t (key a (s .co) j) ≡ false → Passing P a t s i j
 scanning-stops P a t s i j h le si sj = h .goes i j le (up-none a t (s .co) i) si (down-none a t (s .co) j) sj
 
-pub scanning-cols : (P : Cut) (a : ℕ) (t : Float) (s s' : Cols) (i j : ℕ) → s ≡ s' → Scanning P a t s' i j → Scanning P a t s i j
-scanning-cols P a t s s' i j e h = subst (λ (x : Cols). Scanning P a t x i j) (sym e) h
+pub scanning-cols : (P : Cut) (a : ℕ) (t : Float) (s s' : IndexCols) (i j : ℕ) → s ≡ s' → PassScanning P a t s' i j → PassScanning P a t s i j
+scanning-cols P a t s s' i j e h = subst (λ (x : IndexCols). PassScanning P a t x i j) (sym e) h

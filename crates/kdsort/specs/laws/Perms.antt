@@ -9,7 +9,7 @@ use lib.Dec.{T, eqb, leb}
 use lib.ListN.{length, getD}
 use lib.Ieee.{Float, isNan}
 use borrow.Author.Tests.{eqb-true, eqb-false, leb-true, leb-false}
-use Rattle.kdsort.specs.Cols.{Cols, swapItem, swapIds}
+use Rattle.kdsort.specs.Cols.{IndexCols, swapItem, swapIds}
 use Rattle.kdsort.specs.Tree.{Permuted, Numbers}
 use Rattle.kdsort.specs.laws.Swaps.{tr, tr-left, tr-right, tr-other, swap-at, length-swapIds, length-swapCo, key-swap}
 
@@ -40,7 +40,7 @@ tr-inside : (l r i j p : ℕ) → l ≤ i → i ≤ r → l ≤ j → j ≤ r �
 tr-inside l r i j p li ir lj jr lp pr =
     ⊎-elim (λ w. let e = w .1 in omega arith) (λ v. ⊎-elim (λ w. let e = w .1 in omega arith) (λ w. let e = w .2 in omega arith) v) (tr-cases i j p)
 
-pub perm-same : (l r : ℕ) (s : Cols) → Permuted l r s s
+pub perm-same : (l r : ℕ) (s : IndexCols) → Permuted l r s s
 perm-same l r s =
     record {
       from = λ p. p;
@@ -56,11 +56,11 @@ perm-same l r s =
       co-long = refl;
     }
 
-ids-at : (s : Cols) (i j p : ℕ) → i < length (s .ids) → j < length (s .ids) → getD (swapIds (s .ids) i j) p 0 ≡ getD (s .ids) (tr i j p) 0
+ids-at : (s : IndexCols) (i j p : ℕ) → i < length (s .ids) → j < length (s .ids) → getD (swapIds (s .ids) i j) p 0 ≡ getD (s .ids) (tr i j p) 0
 unfolding swapIds
 ids-at s i j p h k = swap-at 0 (s .ids) i j p h k
 
-pub perm-swap : (l r : ℕ) (s : Cols) (i j : ℕ) → l ≤ i → i ≤ r → l ≤ j → j ≤ r → r < length (s .ids) → 2 * r + 1 < length (s .co) → Permuted l r s (swapItem s i j)
+pub perm-swap : (l r : ℕ) (s : IndexCols) (i j : ℕ) → l ≤ i → i ≤ r → l ≤ j → j ≤ r → r < length (s .ids) → 2 * r + 1 < length (s .co) → Permuted l r s (swapItem s i j)
 perm-swap l r s i j li ir lj jr rn nm =
     record {
       from = tr i j;
@@ -76,7 +76,7 @@ perm-swap l r s i j li ir lj jr rn nm =
       co-long = length-swapCo (s .co) i j;
     }
 
-pub perm-trans : (l r : ℕ) (s s' s'' : Cols) → Permuted l r s s' → Permuted l r s' s'' → Permuted l r s s''
+pub perm-trans : (l r : ℕ) (s s' s'' : IndexCols) → Permuted l r s s' → Permuted l r s' s'' → Permuted l r s s''
 perm-trans l r s s' s'' P Q =
     record {
       from = λ p. P .from (Q .from p);
@@ -92,7 +92,7 @@ perm-trans l r s s' s'' P Q =
       co-long = Q .co-long ∙ P .co-long;
     }
 
-pub perm-widen : (l r l' r' : ℕ) (s s' : Cols) → l ≤ l' → r' ≤ r → Permuted l' r' s s' → Permuted l r s s'
+pub perm-widen : (l r l' r' : ℕ) (s s' : IndexCols) → l ≤ l' → r' ≤ r → Permuted l' r' s s' → Permuted l r s s'
 perm-widen l r l' r' s s' hl hr P =
     record {
       from = P .from;
@@ -109,7 +109,7 @@ perm-widen l r l' r' s s' hl hr P =
     }
 
 -- an order of numbers keeps numbers
-pub numbers-kept : (l r : ℕ) (s s' : Cols) → Permuted l r s s' → Numbers l r s → Numbers l r s'
+pub numbers-kept : (l r : ℕ) (s s' : IndexCols) → Permuted l r s s' → Numbers l r s → Numbers l r s'
 unfolding Numbers
 numbers-kept l r s s' P N a p a2 h k =
     let w = P .inside p h k in

@@ -10,7 +10,7 @@ use native.Mathlib.Omega.{arith}
 use lib.ListN.{length}
 use lib.Ieee.{Float, lt}
 use Rattle.floats.specs.laws.NotAbove.{below-not-above, self-not-above}
-use Rattle.kdsort.specs.Cols.{Cols, swapItem, swapCo, swapIds, key}
+use Rattle.kdsort.specs.Cols.{IndexCols, swapItem, swapCo, swapIds, key}
 use Rattle.kdsort.specs.Room.{Here}
 use Rattle.kdsort.specs.Select.{up, down, scanUp, scanDown, placed}
 use Rattle.kdsort.specs.laws.Swaps.{tr-left, tr-right, length-swapIds, length-swapCo, key-swap}
@@ -73,19 +73,19 @@ down-stops f a t c j r u fu at = down-is f (lt t (key a c j)) a t c j r refl (u 
 
 -- ---- before the passes
 
-pub length-placed-ids : (a : ℕ) (t : Float) (s : Cols) (k l r : ℕ) → length (placed a t s k l r .ids) ≡ length (s .ids)
+pub length-placed-ids : (a : ℕ) (t : Float) (s : IndexCols) (k l r : ℕ) → length (placed a t s k l r .ids) ≡ length (s .ids)
 length-placed-ids a t s k l r = go (lt t (key a (swapItem s l k .co) r)) where
   go : (b : Bool) → length (cond b (swapItem (swapItem s l k) l r) (swapItem s l k) .ids) ≡ length (s .ids)
   go true = length-swapIds (swapIds (s .ids) l k) l r ∙ length-swapIds (s .ids) l k
   go false = length-swapIds (s .ids) l k
 
-pub length-placed-co : (a : ℕ) (t : Float) (s : Cols) (k l r : ℕ) → length (placed a t s k l r .co) ≡ length (s .co)
+pub length-placed-co : (a : ℕ) (t : Float) (s : IndexCols) (k l r : ℕ) → length (placed a t s k l r .co) ≡ length (s .co)
 length-placed-co a t s k l r = go (lt t (key a (swapItem s l k .co) r)) where
   go : (b : Bool) → length (cond b (swapItem (swapItem s l k) l r) (swapItem s l k) .co) ≡ length (s .co)
   go true = length-swapCo (swapCo (s .co) l k) l r ∙ length-swapCo (s .co) l k
   go false = length-swapCo (s .co) l k
 
-pub placed-stops : (a : ℕ) (s : Cols) (k l r : ℕ) → Here k l r a (length (s .ids)) (length (s .co))
+pub placed-stops : (a : ℕ) (s : IndexCols) (k l r : ℕ) → Here k l r a (length (s .ids)) (length (s .co))
     → (lt (key a (placed a (key a (s .co) k) s k l r .co) l) (key a (s .co) k) ≡ false) × (lt (key a (s .co) k) (key a (placed a (key a (s .co) k) s k l r .co) r) ≡ false)
 placed-stops a s k l r h = go (lt t (key a (swapItem s l k .co) r)) refl where
   t : Float

@@ -11,7 +11,7 @@ use lib.ListN.{length}
 use lib.Ieee.{Float, lt, isNan}
 use borrow.Author.Tests.{ltb-true, ltb-false, leb-true, leb-false}
 use Rattle.floats.specs.laws.NotAbove.{not-above-trans}
-use Rattle.kdsort.specs.Cols.{Cols, key}
+use Rattle.kdsort.specs.Cols.{IndexCols, key}
 use Rattle.kdsort.specs.Room.{Here}
 use Rattle.kdsort.specs.Select.{parted, sel, selected}
 use Rattle.kdsort.specs.Tree.{Permuted, Numbers}
@@ -23,7 +23,7 @@ abbrev Apart : ℕ → ℕ → ℕ → List Float → ℕ → Type 0
 Apart a f z c x = (p q : ℕ) → f ≤ p → p < x → x ≤ q → q ≤ z → lt (key a c q) (key a c p) ≡ false
 
 -- where a slot comes from: a place on the same side of x, which is not within the interval
-same-side : (f z l r x : ℕ) (s s' : Cols) (P : Permuted l r s s') → f ≤ l → r ≤ z → (x ≤ l) ⊎ (r < x) → (p : ℕ) → f ≤ p → p ≤ z
+same-side : (f z l r x : ℕ) (s s' : IndexCols) (P : Permuted l r s s') → f ≤ l → r ≤ z → (x ≤ l) ⊎ (r < x) → (p : ℕ) → f ≤ p → p ≤ z
     → (f ≤ P .from p) × (P .from p ≤ z) × (p < x → P .from p < x) × (x ≤ p → x ≤ P .from p)
 same-side f z l r x s s' P fl rz side p fp pz =
     ⊎-elim
@@ -39,7 +39,7 @@ same-side f z l r x s s' P fl rz side p fp pz =
     (λ u. let e = P .before p u in (omega arith, omega arith, λ h. omega arith, λ h. omega arith))
     (le-or-lt l p)
 
-apart-kept : (a f z l r x : ℕ) (s s' : Cols) → Permuted l r s s' → a < 2 → f ≤ l → r ≤ z → (x ≤ l) ⊎ (r < x) → Apart a f z (s .co) x → Apart a f z (s' .co) x
+apart-kept : (a f z l r x : ℕ) (s s' : IndexCols) → Permuted l r s s' → a < 2 → f ≤ l → r ≤ z → (x ≤ l) ⊎ (r < x) → Apart a f z (s .co) x → Apart a f z (s' .co) x
 apart-kept a f z l r x s s' P a2 fl rz side A p q fp px xq qz =
     let u = same-side f z l r x s s' P fl rz side p fp (omega arith) in
     let v = same-side f z l r x s s' P fl rz side q (omega arith) qz in
@@ -68,13 +68,13 @@ module _ (a f z l r j : ℕ) (t : Float) (c : List Float) (num : T (not (isNan t
       (le-or-lt l p)
 
 -- what the selection comes to
-pub record Chosen (a k f z : ℕ) (s S : Cols) : Type 0 where
+pub record Chosen (a k f z : ℕ) (s S : IndexCols) : Type 0 where
   pub perm : Permuted f z s S
   pub left : (p : ℕ) → f ≤ p → p < k → lt (key a (S .co) k) (key a (S .co) p) ≡ false
   pub right : (p : ℕ) → k < p → p ≤ z → lt (key a (S .co) p) (key a (S .co) k) ≡ false
 
 -- where it stands: the interval holds k, or k has been cut out
-record Stand (a k f z l r : ℕ) (s : Cols) : Type 0 where
+record Stand (a k f z l r : ℕ) (s : IndexCols) : Type 0 where
   a2 : a < 2
   k1 : 1 ≤ k
   fk : f ≤ k
@@ -88,7 +88,7 @@ record Stand (a k f z l r : ℕ) (s : Cols) : Type 0 where
   lows : Apart a f z (s .co) l
   highs : Apart a f z (s .co) (r + 1)
 
-ended : (a k f z l r : ℕ) (s : Cols) → Stand a k f z l r s → r ≤ l → Chosen a k f z s s
+ended : (a k f z l r : ℕ) (s : IndexCols) → Stand a k f z l r s → r ≤ l → Chosen a k f z s s
 ended a k f z l r s S le =
     ⊎-elim
     (λ w.
@@ -109,7 +109,7 @@ ended a k f z l r s S le =
     })
     (S .mid)
 
-module _ (a k f z l r : ℕ) (s : Cols) (S : Stand a k f z l r s) (lr : l < r) where
+module _ (a k f z l r : ℕ) (s : IndexCols) (S : Stand a k f z l r s) (lr : l < r) where
   inner : (l ≤ k) × (k ≤ r)
   inner = ⊎-elim (λ w. w) (λ w. let x = w .0 in let y = w .1 in absurd (omega arith)) (S .mid)
 
@@ -195,10 +195,10 @@ module _ (a k f z l r : ℕ) (s : Cols) (S : Stand a k f z l r s) (lr : l < r) w
             r-cases;
       }
 
-through : (a k f z : ℕ) (s s' S : Cols) → Permuted f z s s' → Chosen a k f z s' S → Chosen a k f z s S
+through : (a k f z : ℕ) (s s' S : IndexCols) → Permuted f z s s' → Chosen a k f z s' S → Chosen a k f z s S
 through a k f z s s' S P C = record { perm = perm-trans f z s s' S P (C .perm); left = C .left; right = C .right }
 
-sel-ok : (g : ℕ) (b : Bool) (a k f z l r : ℕ) (s : Cols) → ltb l r ≡ b → r - l ≤ g → Stand a k f z l r s → Chosen a k f z s (sel g b a k s l r)
+sel-ok : (g : ℕ) (b : Bool) (a k f z l r : ℕ) (s : IndexCols) → ltb l r ≡ b → r - l ≤ g → Stand a k f z l r s → Chosen a k f z s (sel g b a k s l r)
 unfolding sel
 sel-ok zero b a k f z l r s e fu S = ended a k f z l r s S (omega arith)
 sel-ok (suc g) false a k f z l r s e fu S = ended a k f z l r s S (ltb-false l r e)
@@ -210,7 +210,7 @@ sel-ok (suc g) true a k f z l r s e fu S =
     (next a k f z l r s S (ltb-true l r e)))
 
 -- of columns with no NaN between l and r, the selection of k from there
-pub selected-ok : (a k : ℕ) (s : Cols) (l r : ℕ) → a < 2 → 1 ≤ k → l ≤ k → k ≤ r → r < length (s .ids) → 2 * r + 1 < length (s .co) → Numbers l r s → Chosen a k l r s (selected a k s l r)
+pub selected-ok : (a k : ℕ) (s : IndexCols) (l r : ℕ) → a < 2 → 1 ≤ k → l ≤ k → k ≤ r → r < length (s .ids) → 2 * r + 1 < length (s .co) → Numbers l r s → Chosen a k l r s (selected a k s l r)
 unfolding selected
 selected-ok a k s l r a2 k1 lk kr rn nm N =
     sel-ok (r - l) (ltb l r) a k l r l r s refl (le-refl (r - l))
@@ -231,7 +231,7 @@ selected-ok a k s l r a2 k1 lk kr rn nm N =
 
 -- ---- the fuel is never used up
 
-sel-same : (g g' : ℕ) (b : Bool) (a k f z l r : ℕ) (s : Cols) → ltb l r ≡ b → r - l ≤ g → r - l ≤ g' → Stand a k f z l r s → sel g b a k s l r ≡ sel g' b a k s l r
+sel-same : (g g' : ℕ) (b : Bool) (a k f z l r : ℕ) (s : IndexCols) → ltb l r ≡ b → r - l ≤ g → r - l ≤ g' → Stand a k f z l r s → sel g b a k s l r ≡ sel g' b a k s l r
 unfolding sel
 sel-same zero zero b a k f z l r s e h h' S = refl
 sel-same zero (suc g') true a k f z l r s e h h' S = let w = ltb-true l r e in absurd (omega arith)
@@ -244,7 +244,7 @@ sel-same (suc g) (suc g') true a k f z l r s e h h' S =
     sel-same g g' _ a k f z (cond (leb (parted a k s l r .slot) k) (parted a k s l r .slot + 1) l) (cond (leb k (parted a k s l r .slot)) (parted a k s l r .slot - 1) r) (parted a k s l r .at) refl
     (omega arith) (omega arith) (next a k f z l r s S (ltb-true l r e))
 
-pub selected-enough : (g a k : ℕ) (s : Cols) (l r : ℕ) → a < 2 → 1 ≤ k → l ≤ k → k ≤ r → r < length (s .ids) → 2 * r + 1 < length (s .co) → Numbers l r s → r - l ≤ g → sel g (ltb l r) a k s l r ≡ selected a k s l r
+pub selected-enough : (g a k : ℕ) (s : IndexCols) (l r : ℕ) → a < 2 → 1 ≤ k → l ≤ k → k ≤ r → r < length (s .ids) → 2 * r + 1 < length (s .co) → Numbers l r s → r - l ≤ g → sel g (ltb l r) a k s l r ≡ selected a k s l r
 unfolding selected
 selected-enough g a k s l r a2 k1 lk kr rn nm N h =
     sel-same g (r - l) (ltb l r) a k l r l r s refl h (le-refl (r - l))

@@ -10,7 +10,7 @@ use lib.ListN.{length}
 use lib.Ieee.{Float, le}
 use borrow.Author.Tests.{leb-true, leb-false}
 use Rattle.floats.specs.laws.NotAbove.{not-above→le}
-use Rattle.kdsort.specs.Cols.{Cols, key}
+use Rattle.kdsort.specs.Cols.{IndexCols, key}
 use Rattle.kdsort.specs.Shape.{Shape, node, shape, mid}
 use Rattle.kdsort.specs.laws.Shape.{shape-leaf, shape-node, Spans, all, both, spans}
 use Rattle.kdsort.specs.Select.{selected}
@@ -20,18 +20,18 @@ use Rattle.kdsort.specs.laws.Perms.{perm-same, perm-trans, perm-widen, n
 use Rattle.kdsort.specs.laws.Selects.{selected-ok}
 
 -- ---- the sort by the shape's cases
-pub sorted-leaf : (a most lo hi : ℕ) (s : Cols) → hi - lo ≤ most → sorted a lo hi (shape most lo hi) s ≡ s
+pub sorted-leaf : (a most lo hi : ℕ) (s : IndexCols) → hi - lo ≤ most → sorted a lo hi (shape most lo hi) s ≡ s
 unfolding sorted
 sorted-leaf a most lo hi s h = rw (shape-leaf most lo hi h)
 
-pub sorted-node : (a most lo hi : ℕ) (s : Cols) → most < hi - lo
+pub sorted-node : (a most lo hi : ℕ) (s : IndexCols) → most < hi - lo
     → sorted a lo hi (shape most lo hi) s
     ≡ sorted (1 - a) (mid lo hi + 1) hi (shape most (mid lo hi + 1) hi) (sorted (1 - a) lo (mid lo hi) (shape most lo (mid lo hi)) (selected a (mid lo hi) s lo (hi - 1)))
 unfolding sorted
 sorted-node a most lo hi s h = rw (shape-node most lo hi h)
 
 -- ---- around the median after a selection
-selected-around : (a k : ℕ) (s : Cols) (lo hi : ℕ) → a < 2 → 1 ≤ k → lo ≤ k → k < hi → hi ≤ length (s .ids) → 2 * hi ≤ length (s .co) → Numbers lo (hi - 1) s
+selected-around : (a k : ℕ) (s : IndexCols) (lo hi : ℕ) → a < 2 → 1 ≤ k → lo ≤ k → k < hi → hi ≤ length (s .ids) → 2 * hi ≤ length (s .co) → Numbers lo (hi - 1) s
     → Permuted lo (hi - 1) s (selected a k s lo (hi - 1)) × Around a k lo hi (selected a k s lo (hi - 1) .co)
 unfolding Numbers
 selected-around a k s lo hi a2 k1 lk kh n m N =
@@ -64,12 +64,12 @@ kd-alike a lo hi _ c c' a2 (both {m = m} {r = r} {l = l} lm mh R L) E k = (
   kd-alike (1 - a) (m + 1) hi r c c' (omega arith) R (λ b p b2 h u. E b p b2 (omega arith) u) (k .2),
 )
 
-pub record Built (a most lo hi : ℕ) (s S : Cols) : Type 0 where
+pub record Built (a most lo hi : ℕ) (s S : IndexCols) : Type 0 where
   pub perm : Permuted lo (hi - 1) s S
   pub tree : Kd (S .co) a lo hi (shape most lo hi)
 
 -- ---- a selection, then a tree on each side
-module _ (a most lo hi m : ℕ) (s s1 s2 s3 : Cols) (a2 : a < 2) (lm : lo < m) (mh : m + 1 < hi) (P : Permuted lo (hi - 1) s s1) (A : Around a m lo hi (s1 .co))
+module _ (a most lo hi m : ℕ) (s s1 s2 s3 : IndexCols) (a2 : a < 2) (lm : lo < m) (mh : m + 1 < hi) (P : Permuted lo (hi - 1) s s1) (A : Around a m lo hi (s1 .co))
     (L : Built (1 - a) most lo m s1 s2) (R : Built (1 - a) most (m + 1) hi s2 s3) where
   -- right of the left side nothing has moved, and left of the right side neither
   kept2 : (b p : ℕ) → b < 2 → m ≤ p → key b (s2 .co) p ≡ key b (s1 .co) p
@@ -104,11 +104,11 @@ module _ (a most lo hi m : ℕ) (s s1 s2 s3 : Cols) (a2 : a < 2) (lm : lo < m) (
   unfolding Kd
   joined-tree = (around3, kd-alike (1 - a) lo m (shape most lo m) (s2 .co) (s3 .co) (omega arith) (spans most lo m) (λ b p b2 h u. sym (kept3 b p b2 (omega arith))) (L .tree), R .tree)
 
-part-numbers : (l r l' r' : ℕ) (s : Cols) → l ≤ l' → r' ≤ r → Numbers l r s → Numbers l' r' s
+part-numbers : (l r l' r' : ℕ) (s : IndexCols) → l ≤ l' → r' ≤ r → Numbers l r s → Numbers l' r' s
 unfolding Numbers
 part-numbers l r l' r' s hl hr N a p a2 h k = N a p a2 (le-trans hl h) (le-trans k hr)
 
-leaf-built : (a most lo hi : ℕ) (s : Cols) → hi - lo ≤ most → Built a most lo hi s (sorted a lo hi (shape most lo hi) s)
+leaf-built : (a most lo hi : ℕ) (s : IndexCols) → hi - lo ≤ most → Built a most lo hi s (sorted a lo hi (shape most lo hi) s)
 unfolding Kd
 leaf-built a most lo hi s h =
     subst (Built a most lo hi s) (sym (sorted-leaf a most lo hi s h))
@@ -116,10 +116,10 @@ leaf-built a most lo hi s h =
 
 -- the sort of every interval of at most f slots comes to its tree
 Sorts : ℕ → ℕ → Type 0
-Sorts f most = (a lo hi : ℕ) (s : Cols) → hi - lo ≤ f → a < 2 → hi ≤ length (s .ids) → 2 * hi ≤ length (s .co) → Numbers lo (hi - 1) s
+Sorts f most = (a lo hi : ℕ) (s : IndexCols) → hi - lo ≤ f → a < 2 → hi ≤ length (s .ids) → 2 * hi ≤ length (s .co) → Numbers lo (hi - 1) s
     → Built a most lo hi s (sorted a lo hi (shape most lo hi) s)
 
-node-built : (f most : ℕ) → 2 ≤ most → Sorts f most → (a lo hi : ℕ) (s : Cols) → hi - lo ≤ suc f → a < 2 → hi ≤ length (s .ids) → 2 * hi ≤ length (s .co) → Numbers lo (hi - 1) s
+node-built : (f most : ℕ) → 2 ≤ most → Sorts f most → (a lo hi : ℕ) (s : IndexCols) → hi - lo ≤ suc f → a < 2 → hi ≤ length (s .ids) → 2 * hi ≤ length (s .co) → Numbers lo (hi - 1) s
     → most < hi - lo → Built a most lo hi s (sorted a lo hi (shape most lo hi) s)
 unfolding Sorts
 node-built f most m2 sorts a lo hi s fu a2 n m N d =
@@ -151,7 +151,7 @@ sorts (suc f) most m2 a lo hi s fu a2 n m N = go (leb (hi - lo) most) refl (node
     go false e k = k (leb-false (hi - lo) most e)
 
 -- of columns with no NaN from lo up to hi, the sort
-pub sorted-ok : (a most lo hi : ℕ) (s : Cols) → a < 2 → 2 ≤ most → hi ≤ length (s .ids) → 2 * hi ≤ length (s .co) → Numbers lo (hi - 1) s
+pub sorted-ok : (a most lo hi : ℕ) (s : IndexCols) → a < 2 → 2 ≤ most → hi ≤ length (s .ids) → 2 * hi ≤ length (s .co) → Numbers lo (hi - 1) s
     → Built a most lo hi s (sorted a lo hi (shape most lo hi) s)
 unfolding Sorts
 sorted-ok a most lo hi s a2 m2 n m N = sorts (hi - lo) most m2 a lo hi s (le-refl (hi - lo)) a2 n m N

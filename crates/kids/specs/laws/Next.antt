@@ -121,14 +121,14 @@ spoiled-is false n e = refl
 
 -- what a search among slots for the next child comes to: the child's place and entry, with the slots after it; or there is none; or a slot
 -- that names a place past the table comes before it
-pub data Next : Type 0 where
-  child : ℕ → Entry → List ℕ → Next
-  none : Next
-  past : Next
+pub data NextChild : Type 0 where
+  child : ℕ → Entry → List ℕ → NextChild
+  noChild : NextChild
+  past : NextChild
 
 -- the first child among slots of a table of n entries, whose slots name the places ids
-unfoldable pub nextOf : Table → List ℕ → ℕ → ℕ → List ℕ → Next
-nextOf t ids n id [] = none
+unfoldable pub nextOf : Table → List ℕ → ℕ → ℕ → List ℕ → NextChild
+nextOf t ids n id [] = noChild
 nextOf t ids n id (i ∷ is) =
     elim (ltb (getD ids i 0) n) [
       | true ↦
@@ -139,13 +139,13 @@ nextOf t ids n id (i ∷ is) =
       | false ↦ past
     ]
 
-abbrev pub nextIn : Ring → Columns → ℕ → List ℕ → Next
+abbrev pub nextIn : Ring → Columns → ℕ → List ℕ → NextChild
 nextIn g c id is = nextOf (tableIn g c) (idsIn g c) (g .len) id is
 
 -- what the code's reply says, with the page that it leaves: after the child lies what is ahead of the walk
-abbrev pub childIn : Ring → List Float → List ℕ → Child → Next
+abbrev pub childIn : Ring → List Float → List ℕ → Child → NextChild
 childIn g coords page (At to p e) = child p e (aheadIn g coords page to)
-childIn g coords page Child·Done = none
+childIn g coords page Child·Done = noChild
 childIn g coords page Child·Spoiled = past
 
 module _ (t : Table) (ids : List ℕ) (n id : ℕ) where
@@ -155,7 +155,7 @@ module _ (t : Table) (ids : List ℕ) (n id : ℕ) where
   abbrev C : List ℕ → Bool
   C is = whole n (places ids is)
 
-  pub next-none : nextOf t ids n id [] ≡ none
+  pub next-none : nextOf t ids n id [] ≡ noChild
   unfolding nextOf
   next-none = refl
 
@@ -195,46 +195,46 @@ module _ (t : Table) (ids : List ℕ) (n id : ℕ) where
     pub found : e ≡ entry t p
 
   -- what a search for the next child says of the slots
-  abbrev pub Told : Next → List ℕ → Type 0
-  Told (child p e l) is = Follows is p e l
-  Told none is = (K is ≡ []) × (C is ≡ true)
-  Told past is = (K is ≡ []) × (C is ≡ false)
+  abbrev pub ToldChild : NextChild → List ℕ → Type 0
+  ToldChild (child p e l) is = Follows is p e l
+  ToldChild noChild is = (K is ≡ []) × (C is ≡ true)
+  ToldChild past is = (K is ≡ []) × (C is ≡ false)
 
-  lift : (i : ℕ) (is : List ℕ) → K (i ∷ is) ≡ K is → C (i ∷ is) ≡ C is → (r : Next) → Told r is → Told r (i ∷ is)
+  lift : (i : ℕ) (is : List ℕ) → K (i ∷ is) ≡ K is → C (i ∷ is) ≡ C is → (r : NextChild) → ToldChild r is → ToldChild r (i ∷ is)
   unfolding All
   lift i is k c (child p e l) w =
       record { less = omega (arith, w .less); below = λ b. w .below (b .1); kids = k ∙ w .kids; clean = c ∙ w .clean; found = w .found }
-  lift i is k c none w = (k ∙ w .0, c ∙ w .1)
+  lift i is k c noChild w = (k ∙ w .0, c ∙ w .1)
   lift i is k c past w = (k ∙ w .0, c ∙ w .1)
 
-  pub told : (is : List ℕ) → Told (nextOf t ids n id is) is
+  pub told : (is : List ℕ) → ToldChild (nextOf t ids n id is) is
   unfolding nextOf sound whole places All
   told [] = (refl, refl)
   told (i ∷ is) = go (ltb (getD ids i 0) n) refl (eqb (entry t (getD ids i 0) .parent) id) refl (told is)
     where
-      go : (a : Bool) → ltb (getD ids i 0) n ≡ a → (b : Bool) → eqb (entry t (getD ids i 0) .parent) id ≡ b → Told (nextOf t ids n id is) is
-          → Told (nextOf t ids n id (i ∷ is)) (i ∷ is)
+      go : (a : Bool) → ltb (getD ids i 0) n ≡ a → (b : Bool) → eqb (entry t (getD ids i 0) .parent) id ≡ b → ToldChild (nextOf t ids n id is) is
+          → ToldChild (nextOf t ids n id (i ∷ is)) (i ∷ is)
       go false e b f w =
           let r : past ≡ nextOf t ids n id (i ∷ is) = rw (e, nextOf) in
           let k : K (i ∷ is) ≡ [] = rw (e, sound) in
           let c : C (i ∷ is) ≡ false = rw (e, whole) in
-          subst (λ (x : Next). Told x (i ∷ is)) r (k, c)
+          subst (λ (x : NextChild). ToldChild x (i ∷ is)) r (k, c)
       go true e true f w =
           let r : child (getD ids i 0) (entry t (getD ids i 0)) is ≡ nextOf t ids n id (i ∷ is) = rw (e, f, nextOf) in
           let k : K (i ∷ is) ≡ getD ids i 0 ∷ K is = rw (e, sound, f) in
           let c : C (i ∷ is) ≡ C is = rw (e, whole) in
-          subst (λ (x : Next). Told x (i ∷ is)) r (record { less = omega arith; below = λ b. b .1; kids = k; clean = c; found = refl })
+          subst (λ (x : NextChild). ToldChild x (i ∷ is)) r (record { less = omega arith; below = λ b. b .1; kids = k; clean = c; found = refl })
       go true e false f w =
           let r : nextOf t ids n id is ≡ nextOf t ids n id (i ∷ is) = rw (e, f, nextOf) in
           let k : K (i ∷ is) ≡ K is = rw (e, sound, f) in
           let c : C (i ∷ is) ≡ C is = rw (e, whole) in
-          subst (λ (x : Next). Told x (i ∷ is)) r (lift i is k c (nextOf t ids n id is) w)
+          subst (λ (x : NextChild). ToldChild x (i ∷ is)) r (lift i is k c (nextOf t ids n id is) w)
 
 -- what an answer to slots of a ring says of them
-pub next-told : (g : Ring) (c : Columns) (id : ℕ) (l : List ℕ) (r : Next) → nextIn g c id l ≡ r
-    → Told (tableIn g c) (idsIn g c) (g .len) id r l
+pub next-told : (g : Ring) (c : Columns) (id : ℕ) (l : List ℕ) (r : NextChild) → nextIn g c id l ≡ r
+    → ToldChild (tableIn g c) (idsIn g c) (g .len) id r l
 next-told g c id l r e =
-    subst (λ (q : Next). Told (tableIn g c) (idsIn g c) (g .len) id q l) e (told (tableIn g c) (idsIn g c) (g .len) id l)
+    subst (λ (q : NextChild). ToldChild (tableIn g c) (idsIn g c) (g .len) id q l) e (told (tableIn g c) (idsIn g c) (g .len) id l)
 
 -- ---- a walk over them that is read a page at a time
 
@@ -244,7 +244,7 @@ Further g c id l p e l' = Follows (tableIn g c) (idsIn g c) (g .len) id l p e l'
 
 -- what a reply says of the slots l, which were ahead, and of those that are ahead with the page that it leaves
 module _ (g : Ring) (c : Columns) (id : ℕ) (l page : List ℕ) (r : Child) (w : childIn g (c .coords) page r ≡ nextIn g c id l) where
-  said : (x : Child) → r ≡ x → Told (tableIn g c) (idsIn g c) (g .len) id (childIn g (c .coords) page x) l
+  said : (x : Child) → r ≡ x → ToldChild (tableIn g c) (idsIn g c) (g .len) id (childIn g (c .coords) page x) l
   said x e = next-told g c id l (childIn g (c .coords) page x) (sym w ∙ ap (childIn g (c .coords) page) e)
 
   pub kid-next : (to : Pages) (p : ℕ) (y : Entry) → r ≡ At to p y → Further g c id l p y (aheadIn g (c .coords) page to)

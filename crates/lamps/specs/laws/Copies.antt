@@ -19,11 +19,11 @@ use Rattle.tables.specs.Radius.{radiusAt}
 use Rattle.zoom.specs.Zoom.{numOf}
 use Rattle.groups.specs.laws.Sums.{below}
 use Rattle.groups.specs.Sums.{count}
-use Rattle.groups.specs.Groups.{Group, copied, joined, entryOf}
-use Rattle.groups.specs.laws.OneZoom.{Copied, Joined, Fits}
+use Rattle.groups.specs.Groups.{Group, copied, joinedGroup, entryOf}
+use Rattle.groups.specs.laws.OneZoom.{Copied, Joined, FitsZoom}
 use Rattle.zooms.specs.Zooms.{nearIn}
-use Rattle.builds.specs.Given.{Given, Accepted, points, minZ, maxZ}
-use Rattle.builds.specs.Came.{came, tableAt, down}
+use Rattle.builds.specs.Given.{Given, AcceptedBuild, points, minZ, maxZ}
+use Rattle.builds.specs.Came.{came, tableOfZoom, down}
 use Rattle.builds.specs.GroupsOfBuild.{groupsBy, nearBy}
 use Rattle.builds.specs.Identities.{Known, identities, ids-distinct, id-table-suc}
 use Rattle.builds.specs.Places.{groupAt}
@@ -32,18 +32,18 @@ use Rattle.lamps.specs.Owner.{gather, lampsOf, answersAt, membersOf}
 use Rattle.lamps.specs.laws.Owners.{lamps-first, lamps-joined, lamps-copied, first-long, first-id, group-same, group-id, group-fits}
 use Rattle.lamps.specs.laws.Carries.{lamps-long}
 
-module _ (G : Given) (a : Accepted G) where
+module _ (G : Given) (a : AcceptedBuild G) where
   high : maxZ G ≤ 30
   high = options-are (G .options) (a .options) .zoom-to
 
   -- what the zoom z makes of a group
   abbrev FitsBy : ℕ → Group → Type 0
-  FitsBy z g = Fits (points G) (G .options .«min_points») z (nearBy G z) (came G (suc z)) (tableAt G (suc z)) g
+  FitsBy z g = FitsZoom (points G) (G .options .«min_points») z (nearBy G z) (came G (suc z)) (tableOfZoom G (suc z)) g
 
   -- what the zoom z answered around a place of table z + 1 as it came is answered around it in the build's table
   near-build : (z : ℕ) → minZ G ≤ z → z ≤ maxZ G → (i : ℕ) → i < length (came G (suc z)) → nearBy G z i ≡ answersAt G (suc z) i
   near-build z h l i q =
-      let T = tableAt G (suc z) in
+      let T = tableOfZoom G (suc z) in
       let C = came G (suc z) in
       let e : suc z - 1 ≡ z = omega arith in
       let r = radiusAt (G .options .radius) (G .options .extent) z in
@@ -57,14 +57,14 @@ module _ (G : Given) (a : Accepted G) where
   -- where the entry at j of table z is from: the copy of one of table z + 1 with the same id and lamps, or a cluster with the members'
   -- lamps, of which its origin is one, with fewer lamps
   pub data From (z j : ℕ) : Type 0 where
-    again : (k : ℕ) → k < length (tableAt G (suc z)) → entry (tableAt G z) j .id ≡ entry (tableAt G (suc z)) k .id →
+    again : (k : ℕ) → k < length (tableOfZoom G (suc z)) → entry (tableOfZoom G z) j .id ≡ entry (tableOfZoom G (suc z)) k .id →
         lampsOf G z j ≡ lampsOf G (suc z) k → From z j
-    anew : (i : ℕ) (ks : List ℕ) → entry (tableAt G z) j .id ≡ clusterId (points G) z i →
-        entry (tableAt G (suc z)) i .num < entry (tableAt G z) j .num → count i ks ≡ 1 →
-        ks ≡ keep (λ k. eqb (entry (tableAt G (suc z)) k .parent) (clusterId (points G) z i)) (answersAt G (suc z) i) →
+    anew : (i : ℕ) (ks : List ℕ) → entry (tableOfZoom G z) j .id ≡ clusterId (points G) z i →
+        entry (tableOfZoom G (suc z)) i .num < entry (tableOfZoom G z) j .num → count i ks ≡ 1 →
+        ks ≡ keep (λ k. eqb (entry (tableOfZoom G (suc z)) k .parent) (clusterId (points G) z i)) (answersAt G (suc z) i) →
         lampsOf G z j ≡ gather (λ k. lampsOf G (suc z) k) ks → From z j
 
-  pub from-by : (z : ℕ) → minZ G ≤ z → z ≤ maxZ G → (j : ℕ) → j < length (tableAt G z) → From z j
+  pub from-by : (z : ℕ) → minZ G ≤ z → z ≤ maxZ G → (j : ℕ) → j < length (tableOfZoom G z) → From z j
   from-by z h l j q = by (groupAt (groupsBy G z) j) refl
     where
       fit : (g : Group) → groupAt (groupsBy G z) j ≡ g → FitsBy z g
@@ -72,7 +72,7 @@ module _ (G : Given) (a : Accepted G) where
 
       by : (g : Group) → groupAt (groupsBy G z) j ≡ g → From z j
       by (copied k e) p =
-          let w : Copied (points G) (G .options .«min_points») z (nearBy G z) (came G (suc z)) (tableAt G (suc z)) k e = fit
+          let w : Copied (points G) (G .options .«min_points») z (nearBy G z) (came G (suc z)) (tableOfZoom G (suc z)) k e = fit
           (copied k e) p in
           let s = table-same G a (suc z) (omega arith) (omega arith) in
           let n = s .long in
@@ -80,14 +80,14 @@ module _ (G : Given) (a : Accepted G) where
           again k (omega arith)
           (group-id G a z h l j q ∙ ap (λ (g : Group). entryOf g .id) p ∙ ap (λ (x : Entry). x .id) (w .same) ∙ sym (ap idOf (s .each k m)))
           (lamps-copied G z l j k e p)
-      by (joined i ks e) p =
-          let w : Joined (points G) (G .options .«min_points») z (nearBy G z) (came G (suc z)) (tableAt G (suc z)) i ks e = fit
-          (joined i ks e) p in
+      by (joinedGroup i ks e) p =
+          let w : Joined (points G) (G .options .«min_points») z (nearBy G z) (came G (suc z)) (tableOfZoom G (suc z)) i ks e = fit
+          (joinedGroup i ks e) p in
           let s = ap numOf (table-same G a (suc z) (omega arith) (omega arith) .each i (w .place)) in
           let n = ap numOf (group-same G a z h l j q) ∙ ap (λ (g : Group). entryOf g .num) p in
           let b = w .beyond in
           anew i ks (group-id G a z h l j q ∙ ap (λ (g : Group). entryOf g .id) p ∙ w .made-id) (omega arith) (w .has)
-          (w .kids ∙ ap (λ (r : List ℕ). keep (λ k. eqb (entry (tableAt G (suc z)) k .parent) (clusterId (points G) z i)) r)
+          (w .kids ∙ ap (λ (r : List ℕ). keep (λ k. eqb (entry (tableOfZoom G (suc z)) k .parent) (clusterId (points G) z i)) r)
           (near-build z h l i (w .place)))
           (lamps-joined G z l j i ks e p)
 
@@ -95,63 +95,63 @@ module _ (G : Given) (a : Accepted G) where
 
   -- the lamps of a lamp: its id alone
   abbrev Itself : ℕ → Type 0
-  Itself z = (j : ℕ) → j < length (tableAt G z) → entry (tableAt G z) j .id < points G → lampsOf G z j ≡ entry (tableAt G z) j .id ∷ []
+  Itself z = (j : ℕ) → j < length (tableOfZoom G z) → entry (tableOfZoom G z) j .id < points G → lampsOf G z j ≡ entry (tableOfZoom G z) j .id ∷ []
 
   pub lamps-of-lamp : (z : ℕ) → minZ G ≤ z → z ≤ maxZ G + 1 → Itself z
   lamps-of-lamp =
       down Itself (minZ G) (maxZ G + 1) (λ j q b. lamps-first G j ∙ ap (λ (i : ℕ). i ∷ []) (sym (first-id G a j q)))
       (λ z h k ih j q b. by z j b ih (from-by z h (omega arith) j q))
     where
-      by : (z j : ℕ) → entry (tableAt G z) j .id < points G → Itself (suc z) → From z j → lampsOf G z j ≡ entry (tableAt G z) j .id ∷ []
+      by : (z j : ℕ) → entry (tableOfZoom G z) j .id < points G → Itself (suc z) → From z j → lampsOf G z j ≡ entry (tableOfZoom G z) j .id ∷ []
       by z j b ih (again k q e s) = s ∙ ih k q (omega arith) ∙ ap (λ (i : ℕ). i ∷ []) (sym e)
       by z j b ih (anew i ks e m w c s) = absurd (let w = id-from (points G) z i in omega arith)
 
   -- an entry that counts one is a lamp
-  pub one-lamp : (z : ℕ) → minZ G ≤ z → z ≤ maxZ G + 1 → (j : ℕ) → j < length (tableAt G z) → entry (tableAt G z) j .num ≡ 1 →
-      entry (tableAt G z) j .id < points G
+  pub one-lamp : (z : ℕ) → minZ G ≤ z → z ≤ maxZ G + 1 → (j : ℕ) → j < length (tableOfZoom G z) → entry (tableOfZoom G z) j .num ≡ 1 →
+      entry (tableOfZoom G z) j .id < points G
   one-lamp z h k j q e = by (identities G a z h k j q)
     where
-      by : Known G z (entry (tableAt G z) j) → entry (tableAt G z) j .id < points G
+      by : Known G z (entry (tableOfZoom G z) j) → entry (tableOfZoom G z) j .id < points G
       by (inl w) = w .below
       by (inr w) = absurd (let m = w .many in omega arith)
 
-  pub lamps-of-one : (z : ℕ) → minZ G ≤ z → z ≤ maxZ G + 1 → (j : ℕ) → j < length (tableAt G z) → entry (tableAt G z) j .num ≡ 1 →
-      lampsOf G z j ≡ entry (tableAt G z) j .id ∷ []
+  pub lamps-of-one : (z : ℕ) → minZ G ≤ z → z ≤ maxZ G + 1 → (j : ℕ) → j < length (tableOfZoom G z) → entry (tableOfZoom G z) j .num ≡ 1 →
+      lampsOf G z j ≡ entry (tableOfZoom G z) j .id ∷ []
   lamps-of-one z h k j q e = lamps-of-lamp z h k j q (one-lamp z h k j q e)
 
   -- ---- entries with the same id
 
   -- no cluster that the zoom z made is in a finer table
-  not-yet : (z w i k : ℕ) → z < w → minZ G ≤ w → w ≤ maxZ G + 1 → k < length (tableAt G w) →
-      entry (tableAt G w) k .id ≡ clusterId (points G) z i → ⊥
+  not-yet : (z w i k : ℕ) → z < w → minZ G ≤ w → w ≤ maxZ G + 1 → k < length (tableOfZoom G w) →
+      entry (tableOfZoom G w) k .id ≡ clusterId (points G) z i → ⊥
   not-yet z w i k h l m q e = by (identities G a w l m k q)
     where
-      by : Known G w (entry (tableAt G w) k) → ⊥
+      by : Known G w (entry (tableOfZoom G w) k) → ⊥
       by (inl u) = let b = u .below in omega arith
       by (inr u) =
           let b = u .table-from in
           let t = high in
-          let s : tableOf (points G) (entry (tableAt G w) k .id) ≡ suc z = ap (tableOf (points G)) e
+          let s : tableOf (points G) (entry (tableOfZoom G w) k .id) ≡ suc z = ap (tableOf (points G)) e
           ∙ id-table-suc (points G) z i (omega arith) in
           omega arith
 
   abbrev Like : ℕ → ℕ → ℕ → Type 0
-  Like w k v = (j : ℕ) → j < length (tableAt G v) → entry (tableAt G v) j .id ≡ entry (tableAt G w) k .id → lampsOf G v j ≡ lampsOf G w k
+  Like w k v = (j : ℕ) → j < length (tableOfZoom G v) → entry (tableOfZoom G v) j .id ≡ entry (tableOfZoom G w) k .id → lampsOf G v j ≡ lampsOf G w k
 
-  same-above : (z w : ℕ) → minZ G ≤ z → z ≤ w → w ≤ maxZ G + 1 → (k : ℕ) → k < length (tableAt G w) → Like w k z
+  same-above : (z w : ℕ) → minZ G ≤ z → z ≤ w → w ≤ maxZ G + 1 → (k : ℕ) → k < length (tableOfZoom G w) → Like w k z
   same-above z w h l m k q =
       down (Like w k) (minZ G) w (λ j p e. ap (λ (i : ℕ). lampsOf G w i) (ids-distinct G a w (omega arith) m j k p q e))
       (λ v r s ih j p e. by v r s ih j e (from-by v r (omega arith) j p)) z h l
     where
-      by : (v : ℕ) → minZ G ≤ v → v < w → Like w k (suc v) → (j : ℕ) → entry (tableAt G v) j .id ≡ entry (tableAt G w) k .id → From v j →
+      by : (v : ℕ) → minZ G ≤ v → v < w → Like w k (suc v) → (j : ℕ) → entry (tableOfZoom G v) j .id ≡ entry (tableOfZoom G w) k .id → From v j →
           lampsOf G v j ≡ lampsOf G w k
       by v r s ih j e (again i p d t) = t ∙ ih i p (sym d ∙ e)
       by v r s ih j e (anew i ks d u y c t) = absurd (not-yet v w i k s (omega arith) m q (sym e ∙ d))
 
   -- entries of any two tables with the same id have the same lamps
-  pub lamps-same : (z w : ℕ) → minZ G ≤ z → z ≤ maxZ G + 1 → minZ G ≤ w → w ≤ maxZ G + 1 → (j k : ℕ) → j < length (tableAt G z) →
-      k < length (tableAt G w) →
-      entry (tableAt G z) j .id ≡ entry (tableAt G w) k .id → lampsOf G z j ≡ lampsOf G w k
+  pub lamps-same : (z w : ℕ) → minZ G ≤ z → z ≤ maxZ G + 1 → minZ G ≤ w → w ≤ maxZ G + 1 → (j k : ℕ) → j < length (tableOfZoom G z) →
+      k < length (tableOfZoom G w) →
+      entry (tableOfZoom G z) j .id ≡ entry (tableOfZoom G w) k .id → lampsOf G z j ≡ lampsOf G w k
   lamps-same z w h l m n j k p q e =
       ⊎-elim (λ s. same-above z w h (omega arith) n k q j p e) (λ s. sym (same-above w z m s l j p k q (sym e))) (below z w)
 
@@ -159,31 +159,31 @@ module _ (G : Given) (a : Accepted G) where
 
   -- the members of a cluster that the zoom z made
   members-made : (z i : ℕ) → z ≤ 30 →
-      membersOf G (clusterId (points G) z i) ≡ keep (λ k. eqb (entry (tableAt G (suc z)) k .parent) (clusterId (points G) z i))
+      membersOf G (clusterId (points G) z i) ≡ keep (λ k. eqb (entry (tableOfZoom G (suc z)) k .parent) (clusterId (points G) z i))
       (answersAt G (suc z) i)
   members-made z i h =
-      ap₂ (λ (t v : ℕ). keep (λ k. eqb (entry (tableAt G t) k .parent) (clusterId (points G) z i)) (answersAt G t v))
+      ap₂ (λ (t v : ℕ). keep (λ k. eqb (entry (tableOfZoom G t) k .parent) (clusterId (points G) z i)) (answersAt G t v))
       (id-table-suc (points G) z i h) (id-origin (points G) z i h)
 
   -- the num of the origin of the cluster id
   abbrev originNum : ℕ → ℕ
-  originNum id = entry (tableAt G (tableOf (points G) id)) (originOf (points G) id) .num
+  originNum id = entry (tableOfZoom G (tableOf (points G) id)) (originOf (points G) id) .num
 
   -- the cluster id with the lamps ls: they are those of its members, its origin is one of these, and has fewer lamps
   pub record Clustered (id : ℕ) (ls : List ℕ) : Type 0 where
     pub lamps : ls ≡ gather (λ k. lampsOf G (tableOf (points G) id) k) (membersOf G id)
     pub has : count (originOf (points G) id) (membersOf G id) ≡ 1
-    pub beyond : entry (tableAt G (tableOf (points G) id)) (originOf (points G) id) .num < length ls
+    pub beyond : entry (tableOfZoom G (tableOf (points G) id)) (originOf (points G) id) .num < length ls
 
   -- a cluster that the zoom z made
   clustered-made : (z i : ℕ) (ks ls : List ℕ) → z ≤ 30 → membersOf G (clusterId (points G) z i) ≡ ks → count i ks ≡ 1 →
       ls ≡ gather (λ k. lampsOf G (suc z) k) ks →
-      entry (tableAt G (suc z)) i .num < length ls → Clustered (clusterId (points G) z i) ls
+      entry (tableOfZoom G (suc z)) i .num < length ls → Clustered (clusterId (points G) z i) ls
   clustered-made z i ks ls t v c s m =
       let id = clusterId (points G) z i in
       let w : tableOf (points G) id ≡ suc z = id-table-suc (points G) z i t in
       let x : originOf (points G) id ≡ i = id-origin (points G) z i t in
-      let n : originNum id ≡ entry (tableAt G (suc z)) i .num = ap₂ (λ (u y : ℕ). entry (tableAt G u) y .num) w x in
+      let n : originNum id ≡ entry (tableOfZoom G (suc z)) i .num = ap₂ (λ (u y : ℕ). entry (tableOfZoom G u) y .num) w x in
       record {
         lamps = s ∙ sym (ap₂ (λ (u : ℕ) (r : List ℕ). gather (λ k. lampsOf G u k) r) w v);
         has = ap₂ (λ (u : ℕ) (r : List ℕ). count u r) x v ∙ c;
@@ -193,18 +193,18 @@ module _ (G : Given) (a : Accepted G) where
   -- each cluster of each table
   abbrev AllClustered : ℕ → Type 0
   AllClustered z =
-      (j : ℕ) → j < length (tableAt G z) → points G ≤ entry (tableAt G z) j .id → Clustered (entry (tableAt G z) j .id) (lampsOf G z j)
+      (j : ℕ) → j < length (tableOfZoom G z) → points G ≤ entry (tableOfZoom G z) j .id → Clustered (entry (tableOfZoom G z) j .id) (lampsOf G z j)
 
   pub clustered : (z : ℕ) → minZ G ≤ z → z ≤ maxZ G + 1 → AllClustered z
   clustered =
       down AllClustered (minZ G) (maxZ G + 1) (λ j q b. absurd (let n = first-long G a in let e = first-id G a j q in omega arith))
       (λ z h k ih j q b. by z h (omega arith) j q b ih (from-by z h (omega arith) j q))
     where
-      by : (z : ℕ) → minZ G ≤ z → z ≤ maxZ G → (j : ℕ) → j < length (tableAt G z) → points G ≤ entry (tableAt G z) j .id →
-          AllClustered (suc z) → From z j → Clustered (entry (tableAt G z) j .id) (lampsOf G z j)
+      by : (z : ℕ) → minZ G ≤ z → z ≤ maxZ G → (j : ℕ) → j < length (tableOfZoom G z) → points G ≤ entry (tableOfZoom G z) j .id →
+          AllClustered (suc z) → From z j → Clustered (entry (tableOfZoom G z) j .id) (lampsOf G z j)
       by z h l j q b ih (again k p e s) =
           subst (λ (id : ℕ). Clustered id (lampsOf G z j)) (sym e)
-          (subst (λ (ls : List ℕ). Clustered (entry (tableAt G (suc z)) k .id) ls) (sym s) (ih k p (omega arith)))
+          (subst (λ (ls : List ℕ). Clustered (entry (tableOfZoom G (suc z)) k .id) ls) (sym s) (ih k p (omega arith)))
       by z h l j q b ih (anew i ks e m w c s) =
           let t = high in
           let n = lamps-long G a z h (omega arith) j q in
@@ -212,14 +212,14 @@ module _ (G : Given) (a : Accepted G) where
           (clustered-made z i ks (lampsOf G z j) (omega arith) (members-made z i (omega arith) ∙ sym c) w s (omega arith))
 
   -- the members of the cluster of a group are the group's, in its order
-  pub members-are : (z : ℕ) → minZ G ≤ z → z ≤ maxZ G → (j i : ℕ) (ks : List ℕ) (e : Entry) → j < length (tableAt G z) →
-      groupAt (groupsBy G z) j ≡ joined i ks e →
+  pub members-are : (z : ℕ) → minZ G ≤ z → z ≤ maxZ G → (j i : ℕ) (ks : List ℕ) (e : Entry) → j < length (tableOfZoom G z) →
+      groupAt (groupsBy G z) j ≡ joinedGroup i ks e →
       membersOf G (e .id) ≡ ks
   members-are z h l j i ks e q p =
       let t = high in
-      let w : Joined (points G) (G .options .«min_points») z (nearBy G z) (came G (suc z)) (tableAt G (suc z)) i ks e =
+      let w : Joined (points G) (G .options .«min_points») z (nearBy G z) (came G (suc z)) (tableOfZoom G (suc z)) i ks e =
       subst (λ (g : Group). FitsBy z g) p (group-fits G a z h l j q) in
       ap (membersOf G) (w .made-id) ∙ members-made z i (omega arith)
       ∙ sym (w .kids
-      ∙ ap (λ (r : List ℕ). keep (λ k. eqb (entry (tableAt G (suc z)) k .parent) (clusterId (points G) z i)) r)
+      ∙ ap (λ (r : List ℕ). keep (λ k. eqb (entry (tableOfZoom G (suc z)) k .parent) (clusterId (points G) z i)) r)
       (near-build z h l i (w .place)))

@@ -9,7 +9,7 @@ use native.Mathlib.Nat.{suc-mul}
 use native.Mathlib.Omega.{arith}
 use lib.ListN.{length}
 use Rattle.kdslots.specs.Keep.{keep}
-use Rattle.groups.specs.Sums.{gate, one, sum, count, range}
+use Rattle.groups.specs.Sums.{gate, oneIf, sum, count, range}
 use Rattle.groups.specs.laws.Sums.{gate-zero, below, count-head, sum-append, count-keep, range-in, range-out}
 use Rattle.groups.specs.laws.Counts.{same-counts}
 use Rattle.lamps.specs.Owner.{gather}
@@ -51,7 +51,7 @@ pub range-below : (n k : ℕ) → 0 < count k (range 0 n) → k < n
 range-below n k h = ⊎-elim (λ l. l) (λ l. absurd (let a = range-out 0 n k (inr (omega arith)) in omega arith)) (below k n)
 
 -- a list that has each number below n once where it passes a test, and no other number, has those that pass, in another order
-pub permutes-kept : (n : ℕ) (p : ℕ → Bool) (ks : List ℕ) → ((k : ℕ) → k < n → count k ks ≡ one (p k)) → ((k : ℕ) → n ≤ k → count k ks ≡ 0)
+pub permutes-kept : (n : ℕ) (p : ℕ → Bool) (ks : List ℕ) → ((k : ℕ) → k < n → count k ks ≡ oneIf (p k)) → ((k : ℕ) → n ≤ k → count k ks ≡ 0)
     → List·Permᴰ ks (keep p (range 0 n))
 permutes-kept n p ks each none = same-counts ks (keep p (range 0 n)) (λ k. ⊎-elim (inside k) (past k) (below k n))
   where

@@ -4,13 +4,13 @@ use Prim.Native.Nat.{_+_, _≤_}
 use native.Mathlib.Omega.{arith}
 use borrow.Author.Needs.{needs}
 use Rattle.listing.specs.Text.{pointCols}
-use Rattle.listing.specs.laws.Form.{filled, filled-step, filled-end}
+use Rattle.listing.specs.laws.Form.{filledForm, filled-step, filled-end}
 use Rattle.listing.proofs.fill.Statement.{statement}
 use Rattle.listing.proofs.fill.Tie as tie
 
 abbrev Inv-loop : tie.InvT-loop
 Inv-loop s n xs₀ ys₀ es₀ at₀ left₀ i₀ xs ys es at left i =
-    (filled left s at i (pointCols xs ys es) ≡ filled n s at₀ 0 (pointCols xs₀ ys₀ es₀)) × (i + left ≤ 1152)
+    (filledForm left s at i (pointCols xs ys es) ≡ filledForm n s at₀ 0 (pointCols xs₀ ys₀ es₀)) × (i + left ≤ 1152)
 
 abbrev μ-loop : tie.MeasureT-loop
 μ-loop s n xs₀ ys₀ es₀ at₀ left₀ i₀ xs ys es at left i = left

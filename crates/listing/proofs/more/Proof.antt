@@ -4,12 +4,12 @@ use mathlib.Core.Path.{_≡_, refl, sym, _∙_}
 use native.Mathlib.Omega.{arith}
 use lib.ListN.{length, drop}
 use borrow.Author.Tests.{eq-eqb, ne-eqb, lt-ltb, le-ltb}
-use Rattle.listing.specs.laws.Scan.{moreOf, more-here, more-short}
+use Rattle.listing.specs.laws.Scan.{moreText, more-here, more-short}
 use Rattle.listing.proofs.more.Statement.{statement}
 use Rattle.listing.proofs.more.Tie as tie
 
 abbrev Inv-loop : tie.InvT-loop
-Inv-loop s from first at₀ v₀ at v = (moreOf v at (drop at s) ≡ moreOf first from (drop from s)) × (v ≤ 9999999)
+Inv-loop s from first at₀ v₀ at v = (moreText v at (drop at s) ≡ moreText first from (drop from s)) × (v ≤ 9999999)
 
 abbrev μ-loop : tie.MeasureT-loop
 μ-loop s from first at₀ v₀ at v = length s - at
@@ -24,14 +24,14 @@ add-at : tie.Need-add-at Inv-loop μ-loop
 add-at c = omega arith
 
 returns : tie.Need-returns Inv-loop μ-loop
-unfolding moreOf
+unfolding moreText
 returns c =
     let l = c .before .before .before in
     let s = l .before .before in
     sym (more-here (s .args .s .now) (l .loop .at) (l .loop .v) (omega arith) ∙ simp (eq-eqb _ _ (c .if1 .taken))) ∙ l .loop .inv .0
 
 returns-2 : tie.Need-returns-2 Inv-loop μ-loop
-unfolding moreOf
+unfolding moreText
 returns-2 c =
     let t1 = c .before in
     let l = t1 .before .before .before in
@@ -39,7 +39,7 @@ returns-2 c =
     sym (more-here (s .args .s .now) (l .loop .at) (l .loop .v) (omega arith) ∙ simp (ne-eqb _ _ (t1 .if1 .left), lt-ltb _ _ (c .if2 .taken))) ∙ l .loop .inv .0
 
 returns-3 : tie.Need-returns-3 Inv-loop μ-loop
-unfolding moreOf
+unfolding moreText
 returns-3 c =
     let t2 = c .before in
     let t1 = t2 .before in
@@ -48,7 +48,7 @@ returns-3 c =
     sym (more-here (s .args .s .now) (l .loop .at) (l .loop .v) (omega arith) ∙ simp (ne-eqb _ _ (t1 .if1 .left), le-ltb _ _ (t2 .if2 .left), lt-ltb _ _ (c .if3 .taken))) ∙ l .loop .inv .0
 
 returns-4 : tie.Need-returns-4 Inv-loop μ-loop
-unfolding moreOf
+unfolding moreText
 returns-4 c =
     let t3 = c .before in
     let t2 = t3 .before in
@@ -58,7 +58,7 @@ returns-4 c =
     sym (more-here (s .args .s .now) (l .loop .at) (l .loop .v) (omega arith) ∙ simp (ne-eqb _ _ (t1 .if1 .left), le-ltb _ _ (t2 .if2 .left), le-ltb _ _ (t3 .if3 .left), lt-ltb _ _ (c .if4 .taken))) ∙ l .loop .inv .0
 
 returns-5 : tie.Need-returns-5 Inv-loop μ-loop
-unfolding moreOf
+unfolding moreText
 returns-5 c =
     let t4 = c .before in
     let t3 = t4 .before in
@@ -81,7 +81,7 @@ loop-less : tie.Need-loop-less Inv-loop μ-loop
 loop-less c = omega arith
 
 loop-again : tie.Need-loop-again Inv-loop μ-loop
-unfolding moreOf
+unfolding moreText
 loop-again c = (
   let t5 = c .before in
       let t4 = t5 .before in

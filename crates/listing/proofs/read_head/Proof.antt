@@ -1,9 +1,9 @@
--- `listing::read_head` meets its contract: the first seven lines, one after the other, as `headOf` has them. Assumes nothing.
+-- `listing::read_head` meets its contract: the first seven lines, one after the other, as `headOfText` has them. Assumes nothing.
 use mathlib.Core.Path.{sym, _∙_, subst}
 use native.Mathlib.Omega.{arith}
 use borrow.Author.Needs.{needs}
 use Rattle.listing.specs.laws.Scan.{valueIn}
-use Rattle.listing.specs.laws.Form.{headOf, each-number, each-bad}
+use Rattle.listing.specs.laws.Form.{headOfText, each-number, each-bad}
 use Rattle.listing.proofs.read_head.Statement.{statement}
 use Rattle.listing.proofs.read_head.Tie as tie
 
@@ -30,7 +30,7 @@ enum-told : tie.Need-enum-told
 enum-told c = search needs
 
 returns : tie.Need-returns
-unfolding headOf
+unfolding headOfText
 returns c =
     let l1 = c .before .before in
     (sym (each-bad _ _ (sym (l1 .line .ensures .0) ∙ c .enum-told .given .1)), tt)
@@ -48,7 +48,7 @@ enum-told-2 : tie.Need-enum-told-2
 enum-told-2 c = search needs
 
 returns-2 : tie.Need-returns-2
-unfolding headOf
+unfolding headOfText
 returns-2 c =
     let l2 = c .before .before in
     let a = l2 .before .before .before in
@@ -71,7 +71,7 @@ enum-told-3 : tie.Need-enum-told-3
 enum-told-3 c = search needs
 
 returns-3 : tie.Need-returns-3
-unfolding headOf
+unfolding headOfText
 returns-3 c =
     let l3 = c .before .before in
     let b = l3 .before .before .before in
@@ -97,7 +97,7 @@ enum-told-4 : tie.Need-enum-told-4
 enum-told-4 c = search needs
 
 returns-4 : tie.Need-returns-4
-unfolding headOf
+unfolding headOfText
 returns-4 c =
     let l4 = c .before .before in
     let p = l4 .before .before .before in
@@ -126,7 +126,7 @@ enum-told-5 : tie.Need-enum-told-5
 enum-told-5 c = search needs
 
 returns-5 : tie.Need-returns-5
-unfolding headOf
+unfolding headOfText
 returns-5 c =
     let l5 = c .before .before in
     let r = l5 .before .before .before in
@@ -158,7 +158,7 @@ enum-told-6 : tie.Need-enum-told-6
 enum-told-6 c = search needs
 
 returns-6 : tie.Need-returns-6
-unfolding headOf
+unfolding headOfText
 returns-6 c =
     let l6 = c .before .before in
     let e = l6 .before .before .before in
@@ -193,7 +193,7 @@ enum-told-7 : tie.Need-enum-told-7
 enum-told-7 c = search needs
 
 returns-7 : tie.Need-returns-7
-unfolding headOf
+unfolding headOfText
 returns-7 c =
     let l7 = c .before .before in
     let n = l7 .before .before .before in
@@ -228,7 +228,7 @@ cast-t47 : tie.Need-cast-t47
 cast-t47 c = let p = third c in omega (arith, subst (valueIn 255) (p .p .given .1) (p .before .before .line3 .ensures .1))
 
 returns-8 : tie.Need-returns-8
-unfolding headOf
+unfolding headOfText
 returns-8 c =
     let k = c .before in
     let l7 = k .before .before in

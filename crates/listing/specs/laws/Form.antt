@@ -28,8 +28,8 @@ eachPoint (Stands x y wh next) other f = f (record { x = x; y = y; wh = wh }) (n
 eachPoint Missing other f = other
 
 -- the first seven lines
-unfoldable pub headOf : List ℕ → Parsed
-headOf s =
+unfoldable pub headOfText : List ℕ → Parsed
+headOfText s =
     eachValue (lineOf s 0 minZoomKey 255) Refused (λ a p1.
     eachValue (lineOf s p1 maxZoomKey 255) Refused (λ b p2.
     eachValue (lineOf s p2 minPointsKey 255) Refused (λ m p3.
@@ -53,9 +53,9 @@ pointsOk zero s at = eqb at (length s)
 pointsOk (suc n) s at = eachPoint (pointOf s at) false (λ p k. pointsOk n s k)
 
 -- the columns with these points from the place i on
-unfoldable pub filled : ℕ → List ℕ → ℕ → ℕ → PointCols → PointCols
-filled zero s at i c = c
-filled (suc n) s at i c = eachPoint (pointOf s at) c (λ p k. filled n s k (i + 1) (putPoints c i (p ∷ [])))
+unfoldable pub filledForm : ℕ → List ℕ → ℕ → ℕ → PointCols → PointCols
+filledForm zero s at i c = c
+filledForm (suc n) s at i c = eachPoint (pointOf s at) c (λ p k. filledForm n s k (i + 1) (putPoints c i (p ∷ [])))
 
 -- the points after the head, and then nothing
 abbrev pub withPoints : List ℕ → Parsed → Parsed
@@ -63,10 +63,10 @@ withPoints s (Read h) = cond (pointsOk (h .count) s (h .next .at)) (Read h) Refu
 withPoints s Refused = Refused
 
 unfoldable pub parsedOf : List ℕ → Parsed
-parsedOf s = cond (ltb 65536 (length s)) Refused (withPoints s (headOf s))
+parsedOf s = cond (ltb 65536 (length s)) Refused (withPoints s (headOfText s))
 
 abbrev pub filledBy : Parsed → List ℕ → PointCols → PointCols
-filledBy (Read h) s c = filled (h .count) s (h .next .at) 0 c
+filledBy (Read h) s c = filledForm (h .count) s (h .next .at) 0 c
 filledBy Refused s c = c
 
 abbrev pub countIn : Parsed → Type 0
@@ -87,13 +87,13 @@ ok-end zero s at h = refl
 ok-end (suc k) s at h = let z : ⊥ = omega arith in absurd z
 
 pub filled-step : (k : ℕ) (s : List ℕ) (at i : ℕ) (c : PointCols) (q : Point) → 0 < k → pointOf s at ≡ q
-    → filled k s at i c ≡ eachPoint q c (λ p r. filled (k - 1) s r (i + 1) (putPoints c i (p ∷ [])))
-unfolding filled
+    → filledForm k s at i c ≡ eachPoint q c (λ p r. filledForm (k - 1) s r (i + 1) (putPoints c i (p ∷ [])))
+unfolding filledForm
 filled-step zero s at i c q h e = let z : ⊥ = omega arith in absurd z
 filled-step (suc k) s at i c q h e = simp (sub-one, e)
 
-pub filled-end : (k : ℕ) (s : List ℕ) (at i : ℕ) (c : PointCols) → k ≤ 0 → filled k s at i c ≡ c
-unfolding filled
+pub filled-end : (k : ℕ) (s : List ℕ) (at i : ℕ) (c : PointCols) → k ≤ 0 → filledForm k s at i c ≡ c
+unfolding filledForm
 filled-end zero s at i c h = refl
 filled-end (suc k) s at i c h = let z : ⊥ = omega arith in absurd z
 

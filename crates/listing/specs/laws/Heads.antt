@@ -9,16 +9,16 @@ use Rattle.listing.specs.declared.Parsed.{Parsed}
 use Rattle.listing.specs.declared.Parsed.the-variants.{Read, Refused}
 use Rattle.listing.specs.Text.{line, minZoomKey, maxZoomKey, minPointsKey, radiusKey, extentKey, nodeSizeKey, countKey, headText}
 use Rattle.listing.specs.Text.{headFor, headEnd}
-use Rattle.listing.specs.laws.Form.{headOf}
-use Rattle.listing.specs.laws.Lines.{Left, past, goes-on, got}
+use Rattle.listing.specs.laws.Form.{headOfText}
+use Rattle.listing.specs.laws.Lines.{LeftText, past, goes-on, got}
 
 module _ (s : List ℕ) (a b m r e n k : ℕ) (t : List ℕ) where
   pub record HeadRead : Type 0 where
-    pub reads : headOf s ≡ Read (headFor a b m r e n k (headEnd a b m r e n k))
-    pub rest : Left s (headEnd a b m r e n k) t
+    pub reads : headOfText s ≡ Read (headFor a b m r e n k (headEnd a b m r e n k))
+    pub rest : LeftText s (headEnd a b m r e n k) t
 
   pub head-read : s ≡ headText a b m r e n k t → a ≤ 255 → b ≤ 255 → m ≤ 255 → r ≤ 9999999 → e ≤ 9999999 → n ≤ 9999999 → k ≤ 1152 → HeadRead
-  unfolding headOf
+  unfolding headOfText
   head-read is ha hb hm hr he hn hk =
       let t6 = line countKey k ++ t in
       let t5 = line nodeSizeKey n ++ t6 in
@@ -26,7 +26,7 @@ module _ (s : List ℕ) (a b m r e n k : ℕ) (t : List ℕ) where
       let t3 = line radiusKey r ++ t4 in
       let t2 = line minPointsKey m ++ t3 in
       let t1 = line maxZoomKey b ++ t2 in
-      let w0 : Left s 0 (line minZoomKey a ++ t1) = record { upto = omega arith; is = is } in
+      let w0 : LeftText s 0 (line minZoomKey a ++ t1) = record { upto = omega arith; is = is } in
       let p1 = 0 + length (line minZoomKey a) in
       let w1 = past s 0 minZoomKey a t1 w0 in
       let p2 = p1 + length (line maxZoomKey b) in
@@ -72,8 +72,8 @@ refused-not e = let z : _≡_ {A = ℕ} 0 1 = cc in omega arith
 pub read-inj : (g h : Head) → Read g ≡ Read h → g ≡ h
 read-inj g h e = cc
 
-pub head-ends : (s : List ℕ) (h : Head) → headOf s ≡ Read h → HeadStands s h
-unfolding headOf
+pub head-ends : (s : List ℕ) (h : Head) → headOfText s ≡ Read h → HeadStands s h
+unfolding headOfText
 head-ends s h q =
     let go : Parsed → Parsed = λ x. x in
     let g1 = got s 0 minZoomKey 255 Refused _ go (Read h) refused-not q in

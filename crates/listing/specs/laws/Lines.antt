@@ -13,12 +13,12 @@ use Rattle.listing.specs.laws.Form.{eachValue, each-number}
 use Rattle.listing.specs.laws.Reading.{line-read, line-ends, after, within}
 
 -- t is what is left of s at `at`
-pub record Left (s : List ℕ) (at : ℕ) (t : List ℕ) : Type 0 where
+pub record LeftText (s : List ℕ) (at : ℕ) (t : List ℕ) : Type 0 where
   pub upto : at ≤ length s
   pub is : drop at s ≡ t
 
-module _ (s : List ℕ) (at : ℕ) (key : List ℕ) (v : ℕ) (t : List ℕ) (w : Left s at (line key v ++ t)) where
-  pub past : Left s (at + length (line key v)) t
+module _ (s : List ℕ) (at : ℕ) (key : List ℕ) (v : ℕ) (t : List ℕ) (w : LeftText s at (line key v ++ t)) where
+  pub past : LeftText s (at + length (line key v)) t
   past = record { upto = within s at (line key v) t (w .upto) (w .is); is = after s at (line key v) t (w .is) }
 
   pub goes-on : {A : Type 0} (max : ℕ) → v ≤ max → max ≤ 9999999 → (other : A) (f : ℕ → ℕ → A)

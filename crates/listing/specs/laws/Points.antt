@@ -10,16 +10,16 @@ use lib.ListN.{length, drop, length-drop, drop-of-length-le}
 use Rattle.listing.specs.declared.Point.{Point}
 use Rattle.listing.specs.declared.Point.the-variants.{Stands, Missing}
 use Rattle.listing.specs.Text.{line, xKey, yKey, whKey, Place, PointCols, putPoints, pointText, pointsText, Small}
-use Rattle.listing.specs.laws.Form.{eachPoint, pointOf, pointsOk, filled}
-use Rattle.listing.specs.laws.Lines.{Left, past, goes-on, got}
+use Rattle.listing.specs.laws.Form.{eachPoint, pointOf, pointsOk, filledForm}
+use Rattle.listing.specs.laws.Lines.{LeftText, past, goes-on, got}
 
 -- the lines of a point that is left are read, and what follows them is left
 pub record PointRead (s : List ℕ) (at : ℕ) (p : Place) (t : List ℕ) : Type 0 where
   pub to : ℕ
   pub reads : pointOf s at ≡ Stands (p .x) (p .y) (p .wh) (record { at = to })
-  pub rest : Left s to t
+  pub rest : LeftText s to t
 
-pub point-read : (s : List ℕ) (at : ℕ) (p : Place) (t : List ℕ) → Left s at (pointText p t)
+pub point-read : (s : List ℕ) (at : ℕ) (p : Place) (t : List ℕ) → LeftText s at (pointText p t)
     → (p .x ≤ 9999999) × (p .y ≤ 9999999) × (p .wh ≤ 9999999) → PointRead s at p t
 unfolding pointOf
 point-read s at p t wx h =
@@ -36,10 +36,10 @@ point-read s at p t wx h =
 -- what the parser's two walks over the points find where the points stand
 pub record Found (n : ℕ) (s : List ℕ) (at : ℕ) (ps : List Place) : Type 0 where
   pub ok : pointsOk n s at ≡ true
-  pub stored : (i : ℕ) (c : PointCols) → filled n s at i c ≡ putPoints c i ps
+  pub stored : (i : ℕ) (c : PointCols) → filledForm n s at i c ≡ putPoints c i ps
 
-pub points-read : (ps : List Place) (s : List ℕ) (at : ℕ) → Left s at (pointsText ps) → Small ps → Found (length ps) s at ps
-unfolding pointsText pointsOk filled
+pub points-read : (ps : List Place) (s : List ℕ) (at : ℕ) → LeftText s at (pointsText ps) → Small ps → Found (length ps) s at ps
+unfolding pointsText pointsOk filledForm
 points-read [] s at w sm =
     let q : length s - at ≡ 0 = sym (length-drop at s) ∙ ap length (w .is) in
     record { ok = eq-eqb at (length s) (omega (arith, w .upto)); stored = λ i c. refl }
@@ -49,7 +49,7 @@ points-read (p ∷ ps) s at w sm =
     record {
       ok = ap (λ (q : Point). eachPoint q false (λ _ k. pointsOk (length ps) s k)) (here .reads) ∙ r .ok;
       stored = λ i c.
-          ap (λ (q : Point). eachPoint q c (λ o k. filled (length ps) s k (i + 1) (putPoints c i (o ∷ [])))) (here .reads)
+          ap (λ (q : Point). eachPoint q c (λ o k. filledForm (length ps) s k (i + 1) (putPoints c i (o ∷ [])))) (here .reads)
           ∙ r .stored (i + 1) (putPoints c i (p ∷ [])) ∙ rw add-one;
     }
 
@@ -58,13 +58,13 @@ points-read (p ∷ ps) s at w sm =
 false-not : false ≡ true → ⊥
 false-not e = let z : _≡_ {A = ℕ} 0 1 = cc in omega arith
 
-pub record Points (n : ℕ) (s : List ℕ) (at : ℕ) : Type 0 where
+pub record PointsRead (n : ℕ) (s : List ℕ) (at : ℕ) : Type 0 where
   pub ps : List Place
   pub count : length ps ≡ n
   pub is : drop at s ≡ pointsText ps
   pub small : Small ps
 
-pub points-end : (n : ℕ) (s : List ℕ) (at : ℕ) → pointsOk n s at ≡ true → Points n s at
+pub points-end : (n : ℕ) (s : List ℕ) (at : ℕ) → pointsOk n s at ≡ true → PointsRead n s at
 unfolding pointsOk pointsText pointOf
 points-end zero s at e =
     let q : at ≡ length s = eqb-true at (length s) e in

@@ -15,7 +15,7 @@ use Rattle.listing.specs.declared.Value.the-variants.{Number, Bad}
 use Rattle.listing.specs.declared.Cursor.{Cursor}
 use Rattle.listing.specs.Digits.{decimalOf}
 use Rattle.listing.specs.laws.Digits.{one-digit, more-digits}
-use Rattle.listing.specs.laws.Scan.{startsWith, moreOf, numberOf, atMost, lineOf}
+use Rattle.listing.specs.laws.Scan.{startsWith, moreText, numberOf, atMost, lineOf}
 use Rattle.listing.specs.Text.{line}
 
 -- ---- digits
@@ -59,9 +59,9 @@ pub record Ends (whole : List ℕ) (len v : ℕ) (n : Cursor) : Type 0 where
   pub small : v ≤ 9999999
 
 module _ (c : ℕ) (l : List ℕ) (w at v : ℕ) (n : Cursor) (h : w ≤ 9999999) where
-  more-step : ((w′ : ℕ) → w′ ≤ 9999999 → moreOf w′ (at + 1) l ≡ Number v n → Ends (decimalOf 7 w′ ++ l) (at + 1 + length l) v n)
+  more-step : ((w′ : ℕ) → w′ ≤ 9999999 → moreText w′ (at + 1) l ≡ Number v n → Ends (decimalOf 7 w′ ++ l) (at + 1 + length l) v n)
       → (b : Bool) → eqb c 10 ≡ b
-      → cond b (Number w (record { at = at + 1 })) (cond (ltb c 48) Bad (cond (ltb 57 c) Bad (cond (ltb w 1) Bad (cond (ltb 999999 w) Bad (moreOf (w * 10 + (c - 48)) (at + 1) l))))) ≡ Number v n
+      → cond b (Number w (record { at = at + 1 })) (cond (ltb c 48) Bad (cond (ltb 57 c) Bad (cond (ltb w 1) Bad (cond (ltb 999999 w) Bad (moreText (w * 10 + (c - 48)) (at + 1) l))))) ≡ Number v n
       → Ends (decimalOf 7 w ++ (c ∷ l)) (at + length (c ∷ l)) v n
   more-step ih true q e =
       let ten : c ≡ 10 = eqb-true c 10 q in
@@ -88,8 +88,8 @@ module _ (c : ℕ) (l : List ℕ) (w at v : ℕ) (n : Cursor) (h : w ≤ 9999999
         small = r .small;
       }
 
-more-ends : (l : List ℕ) (w at v : ℕ) (n : Cursor) → w ≤ 9999999 → moreOf w at l ≡ Number v n → Ends (decimalOf 7 w ++ l) (at + length l) v n
-unfolding moreOf
+more-ends : (l : List ℕ) (w at v : ℕ) (n : Cursor) → w ≤ 9999999 → moreText w at l ≡ Number v n → Ends (decimalOf 7 w ++ l) (at + length l) v n
+unfolding moreText
 more-ends [] w at v n h e = absurd (bad-not e)
 more-ends (c ∷ l) w at v n h e = more-step c l w at v n h (λ w′ h′ e′. more-ends l w′ (at + 1) v n h′ e′) (eqb c 10) refl e
 
@@ -113,22 +113,22 @@ number-ends (c ∷ l) at v n e =
 -- ---- what stands there is read
 
 module _ (at n : ℕ) (t : List ℕ) where
-  read-one : n < 10 → numberOf at ((48 + n) ∷ t) ≡ moreOf n (at + 1) t
+  read-one : n < 10 → numberOf at ((48 + n) ∷ t) ≡ moreText n (at + 1) t
   unfolding numberOf
   read-one h =
       let e : 48 + n - 48 ≡ n = omega arith in
       simp (le-ltb (48 + n) 48 (omega arith), le-ltb 57 (48 + n) (omega arith), e)
 
-  read-next : (d : ℕ) → d < 10 → 1 ≤ n → n ≤ 999999 → moreOf n at ((48 + d) ∷ t) ≡ moreOf (n * 10 + d) (at + 1) t
-  unfolding moreOf
+  read-next : (d : ℕ) → d < 10 → 1 ≤ n → n ≤ 999999 → moreText n at ((48 + d) ∷ t) ≡ moreText (n * 10 + d) (at + 1) t
+  unfolding moreText
   read-next d h l m =
       let e : 48 + d - 48 ≡ d = omega arith in
       let k : 48 + d ≡ 10 → ⊥ = λ q. omega arith in
       simp (ne-eqb (48 + d) 10 k, le-ltb (48 + d) 48 (omega arith), le-ltb 57 (48 + d) (omega arith), le-ltb n 1 l, le-ltb 999999 n m, e)
 
 module _ (k at n : ℕ) (t : List ℕ) (l : n ≤ 9999999) where
-  read-by : ((u : List ℕ) → numberOf at (decimalOf (suc k) (n / 10) ++ u) ≡ moreOf (n / 10) (at + length (decimalOf (suc k) (n / 10))) u)
-      → (b : Bool) → ltb n 10 ≡ b → numberOf at (decimalOf (suc (suc k)) n ++ t) ≡ moreOf n (at + length (decimalOf (suc (suc k)) n)) t
+  read-by : ((u : List ℕ) → numberOf at (decimalOf (suc k) (n / 10) ++ u) ≡ moreText (n / 10) (at + length (decimalOf (suc k) (n / 10))) u)
+      → (b : Bool) → ltb n 10 ≡ b → numberOf at (decimalOf (suc (suc k)) n ++ t) ≡ moreText n (at + length (decimalOf (suc (suc k)) n)) t
   read-by ih true e = rw (one-digit (suc k) n (ltb-true n 10 e)) (read-one at n t (ltb-true n 10 e))
   read-by ih false e =
       let ten : 10 ≤ n = ltb-false n 10 e in
@@ -138,15 +138,15 @@ module _ (k at n : ℕ) (t : List ℕ) (l : n ≤ 9999999) where
       (ap (λ (m : List ℕ). numberOf at m) (append-assoc (decimalOf (suc k) (n / 10)) ((48 + n % 10) ∷ []) t)
       ∙ ih ((48 + n % 10) ∷ t)
       ∙ read-next (at + length (decimalOf (suc k) (n / 10))) (n / 10) t (n % 10) (omega arith) (omega arith) (omega arith)
-      ∙ ap (λ (m : ℕ). moreOf m (at + length (decimalOf (suc k) (n / 10)) + 1) t) q
-      ∙ ap (λ (m : ℕ). moreOf n m t) p)
+      ∙ ap (λ (m : ℕ). moreText m (at + length (decimalOf (suc k) (n / 10)) + 1) t) q
+      ∙ ap (λ (m : ℕ). moreText n m t) p)
 
-read-all : (k at n : ℕ) (t : List ℕ) → n < 10 ^ suc k → n ≤ 9999999 → numberOf at (decimalOf (suc k) n ++ t) ≡ moreOf n (at + length (decimalOf (suc k) n)) t
+read-all : (k at n : ℕ) (t : List ℕ) → n < 10 ^ suc k → n ≤ 9999999 → numberOf at (decimalOf (suc k) n ++ t) ≡ moreText n (at + length (decimalOf (suc k) n)) t
 read-all zero at n t h l = rw (one-digit zero n (omega arith)) (read-one at n t (omega arith))
 read-all (suc k) at n t h l = read-by k at n t l (λ u. read-all k at (n / 10) u (tenth k n h) (omega arith)) (ltb n 10) refl
 
 pub number-read : (at n : ℕ) (t : List ℕ) → n ≤ 9999999 → numberOf at (decimalOf 7 n ++ (10 ∷ t)) ≡ Number n (record { at = at + length (decimalOf 7 n) + 1 })
-unfolding moreOf
+unfolding moreText
 number-read at n t h = read-all 6 at n (10 ∷ t) (omega arith) h
 
 -- ---- lines

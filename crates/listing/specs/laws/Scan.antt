@@ -17,15 +17,15 @@ startsWith (k ∷ ks) [] = false
 startsWith (k ∷ ks) (c ∷ s) = cond (eqb c k) (startsWith ks s) false
 
 -- the rest of a number of which v is read, up to its line's end: no digit after a 0, at most seven digits
-unfoldable pub moreOf : ℕ → ℕ → List ℕ → Value
-moreOf v at [] = Bad
-moreOf v at (c ∷ s) =
+unfoldable pub moreText : ℕ → ℕ → List ℕ → Value
+moreText v at [] = Bad
+moreText v at (c ∷ s) =
     cond (eqb c 10) (Number v (record { at = at + 1 }))
     (cond (ltb c 48) Bad
     (cond (ltb 57 c) Bad
     (cond (ltb v 1) Bad
     (cond (ltb 999999 v) Bad
-    (moreOf (v * 10 + (c - 48)) (at + 1) s)))))
+    (moreText (v * 10 + (c - 48)) (at + 1) s)))))
 
 -- a number and its line's end
 unfoldable pub numberOf : ℕ → List ℕ → Value
@@ -33,7 +33,7 @@ numberOf at [] = Bad
 numberOf at (c ∷ s) =
     cond (ltb c 48) Bad
     (cond (ltb 57 c) Bad
-    (moreOf (c - 48) (at + 1) s))
+    (moreText (c - 48) (at + 1) s))
 
 unfoldable pub atMost : ℕ → Value → Value
 atMost max (Number v next) = cond (leb v max) (Number v next) Bad
@@ -67,11 +67,11 @@ module _ (s : List ℕ) (at : ℕ) where
   unfolding startsWith
   starts-all key i h = rw (drop-of-length-le key h)
 
-  pub more-here : (v : ℕ) → at < length s → moreOf v at (drop at s) ≡ moreOf v at (getD s at 0 ∷ drop (at + 1) s)
+  pub more-here : (v : ℕ) → at < length s → moreText v at (drop at s) ≡ moreText v at (getD s at 0 ∷ drop (at + 1) s)
   more-here v h = rw (here h)
 
-  pub more-short : (v : ℕ) → length s ≤ at → moreOf v at (drop at s) ≡ Bad
-  unfolding moreOf
+  pub more-short : (v : ℕ) → length s ≤ at → moreText v at (drop at s) ≡ Bad
+  unfolding moreText
   more-short v h = rw (drop-of-length-le s h)
 
   pub number-here : at < length s → numberOf at (drop at s) ≡ numberOf at (getD s at 0 ∷ drop (at + 1) s)

@@ -14,7 +14,7 @@ use Rattle.listing.specs.declared.Parsed.{Parsed}
 use Rattle.listing.specs.declared.Parsed.the-variants.{Read, Refused}
 use Rattle.listing.specs.Text.{Place, Input, pointsText, headText, headIs, text, Valid}
 use Rattle.listing.specs.Text.{PointCols, pointCols, pointsOf, frontOf, Fits, putPoints, Reads, Parsing, xOf, yOf, whOf}
-use Rattle.listing.specs.laws.Form.{headOf, pointsOk, withPoints, parsedOf, filledBy}
+use Rattle.listing.specs.laws.Form.{headOfText, pointsOk, withPoints, parsedOf, filledBy}
 use Rattle.listing.specs.laws.Points.{Found, points-read, points-end}
 use Rattle.listing.specs.laws.OneInput.{text-one}
 use Rattle.listing.specs.laws.Heads.{refused-not, read-inj, head-read, head-ends}
@@ -28,7 +28,7 @@ accepts i v =
     head-read s (i .minZoom) (i .maxZoom) (i .minPoints) (i .radius) (i .extent) (i .nodeSize) (length (i .points)) (pointsText (i .points))
     refl (v .minZoom) (v .maxZoom) (v .minPoints) (v .radius) (v .extent) (v .nodeSize) (v .count) in
     let p = points-read (i .points) s (headIs i .next .at) (h .rest) (v .points) in (
-      ap (λ (b : Bool). cond b Refused (withPoints s (headOf s))) (le-ltb 65536 (length s) (v .short))
+      ap (λ (b : Bool). cond b Refused (withPoints s (headOfText s))) (le-ltb 65536 (length s) (v .short))
           ∙ ap (λ (x : Parsed). withPoints s x) (h .reads)
           ∙ ap (λ (b : Bool). cond b (Read (headIs i)) Refused) (p .ok),
       p,
@@ -59,7 +59,7 @@ pub only : (s : List ℕ) (h : Head) → parsedOf s ≡ Read h → Form s h
 unfolding parsedOf
 only s h e =
     let a = cond-refused (ltb 65536 (length s)) _ h e in
-    let p = points-inv s (headOf s) h (a .1) in
+    let p = points-inv s (headOfText s) h (a .1) in
     let hd = head-ends s h (p .0) in
     let pt = points-end (h .count) s (h .next .at) (p .1) in
     let i : Input =

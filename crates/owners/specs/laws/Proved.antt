@@ -12,27 +12,27 @@ use lib.Seq.{take-all, take-take, take-nil}
 use Rattle.supercluster.specs.declared.LoadReply.the-variants.{Done}
 use Rattle.tables.specs.declared.State.{State}
 use Rattle.tables.specs.Entries.{Table, entry}
-use Rattle.groups.specs.Sums.{one, sum, count, range, gate}
+use Rattle.groups.specs.Sums.{oneIf, sum, count, range, gate}
 use Rattle.groups.specs.laws.Sums.{below}
 use Rattle.asking.specs.declared.Answer.the-variants.{Listed}
 use Rattle.asking.specs.Asked.{Asked, told, answerOf, columnOf}
 use Rattle.tables.specs.Room.{Columns}
 use Rattle.asking.specs.Columns.{tableAt}
 use Rattle.walks.specs.Leaves.{leavesOf}
-use Rattle.supercluster.specs.Build.{Lent, Outcome, need}
+use Rattle.supercluster.specs.Build.{BuildColumns, Outcome, need}
 use Rattle.supercluster.specs.laws.Load.{Holds}
-use Rattle.builds.specs.Given.{Given, given, Accepted, points, minZ, maxZ, energyAt}
-use Rattle.builds.specs.Came.{tableAt as built}
+use Rattle.builds.specs.Given.{Given, givenBuild, AcceptedBuild, points, minZ, maxZ, energyAt}
+use Rattle.builds.specs.Came.{tableOfZoom as built}
 use Rattle.builds.specs.Identities.{Known, identities}
-use Rattle.lamps.specs.Owner.{up, owner, lampsOf}
+use Rattle.lamps.specs.Owner.{ownerUp, owner, lampsOf}
 use Rattle.lamps.specs.laws.Owners.{owner-first, owner-in, owns, owns-none, owners-share}
 use Rattle.lamps.specs.laws.Carries.{lamps-long, num-owned, nums-together, energy-owned, energies-together, energies-few}
 use Rattle.lamps.specs.laws.Climb.{owner-climbs}
 use Rattle.lamps.specs.laws.Gather.{gather-ext}
 use Rattle.answers.specs.Stored.{columnsOf}
-use Rattle.answers.specs.laws.Stored.{stateBy, columnsBy, loadedBy, table-is, of-load}
+use Rattle.answers.specs.laws.Stored.{stateBy, columnsBy, loadedOf, table-is, of-load}
 use Rattle.answers.specs.laws.Leaves.{leaves-page, ones-few}
-use Rattle.owners.specs.LeafPages.{items, numAt, asked, lampsAt, allLeaves, page as leafPage, OnPage, LeafPages}
+use Rattle.owners.specs.LeafPages.{pageItems, numAt, pageAsked, lampsOfCluster, allLeaves, page as leafPage, OnPage, LeafPages}
 use Rattle.owners.specs.laws.Paging.{pageOf, page-length, pages-joined, none-on, one-page}
 use Rattle.owners.specs.Owners.{Between, IsCluster, Owned, Leaves, Owners}
 
@@ -44,7 +44,7 @@ given-room q ls out e h = (
   ap (λ (x : Asked). columnOf x out) e ∙ ap (λ (x : List ℕ). x ++ drop (length ls) out) (take-all (length out) ls h),
 )
 
-module _ (G : Given) (a : Accepted G) (l : Lent) (r : Holds (need (G .options) (points G)) l) where
+module _ (G : Given) (a : AcceptedBuild G) (l : BuildColumns) (r : Holds (need (G .options) (points G)) l) where
   abbrev S : State
   S = stateBy G
 
@@ -98,20 +98,20 @@ module _ (G : Given) (a : Accepted G) (l : Lent) (r : Holds (need (G .options) (
   all-leaves z j limit w h =
       let e = long z j w in
       let L = lampsOf G z j in
-      let p : asked S C z j limit 0 ≡ told true L = page z j w limit 0 ∙ ap (told true) (take-all limit L (omega arith)) in
+      let p : pageAsked S C z j limit 0 ≡ told true L = page z j w limit 0 ∙ ap (told true) (take-all limit L (omega arith)) in
       record { lamps = L; given = p; long = sym e; owned = owned z j w; room = λ out n. fits e p out n }
     where
-      fits : numAt S C z j ≡ length (lampsOf G z j) → asked S C z j limit 0 ≡ told true (lampsOf G z j) → (out : List ℕ)
+      fits : numAt S C z j ≡ length (lampsOf G z j) → pageAsked S C z j limit 0 ≡ told true (lampsOf G z j) → (out : List ℕ)
           → numAt S C z j ≤ length out
-          → (answerOf (asked S C z j limit 0) (length out) ≡ Listed (numAt S C z j))
-          × (columnOf (asked S C z j limit 0) out ≡ lampsOf G z j ++ drop (numAt S C z j) out)
+          → (answerOf (pageAsked S C z j limit 0) (length out) ≡ Listed (numAt S C z j))
+          × (columnOf (pageAsked S C z j limit 0) out ≡ lampsOf G z j ++ drop (numAt S C z j) out)
       fits e p out n =
           let g = given-room _ (lampsOf G z j) out p (omega arith) in
           (g .0 ∙ ap Listed (sym e), g .1 ∙ ap (λ (m : ℕ). lampsOf G z j ++ drop m out) (sym e))
 
   fewer : (z j m n offset : ℕ) → IsCluster (stateBy G) (columnsBy G l) z j → m ≤ n
-      → (ls : List ℕ) × (asked (stateBy G) (columnsBy G l) z j n offset ≡ told true ls)
-      × (asked (stateBy G) (columnsBy G l) z j m offset ≡ told true (take m ls))
+      → (ls : List ℕ) × (pageAsked (stateBy G) (columnsBy G l) z j n offset ≡ told true ls)
+      × (pageAsked (stateBy G) (columnsBy G l) z j m offset ≡ told true (take m ls))
   fewer z j m n offset w k =
       let L = drop offset (lampsOf G z j) in
       (take n L, page z j w n offset, page z j w m offset ∙ ap (told true) (sym (take-take m n L k)))
@@ -121,11 +121,11 @@ module _ (G : Given) (a : Accepted G) (l : Lent) (r : Holds (need (G .options) (
     abbrev L : List ℕ
     L = lampsOf G z j
 
-    at : (offset : ℕ) → lampsAt (stateBy G) (columnsBy G l) z j size offset ≡ take size (drop offset (lampsOf G z j))
-    at offset = ap items (page z j w size offset)
+    at : (offset : ℕ) → lampsOfCluster (stateBy G) (columnsBy G l) z j size offset ≡ take size (drop offset (lampsOf G z j))
+    at offset = ap pageItems (page z j w size offset)
 
     whole : allLeaves (stateBy G) (columnsBy G l) z j ≡ lampsOf G z j
-    whole = ap items (page z j w (numAt S C z j) 0) ∙ take-all (numAt S C z j) L (let e = long z j w in omega arith)
+    whole = ap pageItems (page z j w (numAt S C z j) 0) ∙ take-all (numAt S C z j) L (let e = long z j w in omega arith)
 
     page-long : (k : ℕ) →
         length (leafPage (stateBy G) (columnsBy G l) z j size k) ≡ min size (numAt (stateBy G) (columnsBy G l) z j - k * size)
@@ -139,14 +139,14 @@ module _ (G : Given) (a : Accepted G) (l : Lent) (r : Holds (need (G .options) (
         short n m r h = omega arith
 
     past-end : (offset : ℕ) → numAt (stateBy G) (columnsBy G l) z j ≤ offset →
-        asked (stateBy G) (columnsBy G l) z j size offset ≡ told true []
+        pageAsked (stateBy G) (columnsBy G l) z j size offset ≡ told true []
     past-end offset h =
         let d : drop offset L ≡ [] = drop-of-length-le L {i = offset} (let e = long z j w in omega arith) in
         page z j w size offset ∙ ap (λ (q : List ℕ). told true (take size q)) d ∙ ap (told true) (take-nil size)
 
     -- a page fits a column of the size, or of the count
     room : (offset : ℕ) (out : List ℕ) → min size (numAt (stateBy G) (columnsBy G l) z j) ≤ length out
-        → length (lampsAt (stateBy G) (columnsBy G l) z j size offset) ≤ length out
+        → length (lampsOfCluster (stateBy G) (columnsBy G l) z j size offset) ≤ length out
     room offset out h =
         let e = ap length (at offset) in
         let d = length-take size (drop offset L) in
@@ -170,7 +170,7 @@ module _ (G : Given) (a : Accepted G) (l : Lent) (r : Holds (need (G .options) (
     on-one : (n k : ℕ) → numAt (stateBy G) (columnsBy G l) z j ≤ n * size → k < points G → owner G z k ≡ j
         → (i : ℕ) × (i < n) × OnPage k (λ m. leafPage (stateBy G) (columnsBy G l) z j size m) i
     on-one n k h b u =
-        lift (one-page k size n L (let e = long z j w in omega arith) (owned z j w .each k b ∙ ap one (eq-eqb (owner G z k) j u)))
+        lift (one-page k size n L (let e = long z j w in omega arith) (owned z j w .each k b ∙ ap oneIf (eq-eqb (owner G z k) j u)))
       where
         lift : ((i : ℕ) × (i < n) × OnPage k (λ m. pageOf size m L) i) → (i : ℕ) × (i < n) × OnPage k (λ m. leafPage S C z j size m) i
         lift (i, v, p) =
@@ -184,7 +184,7 @@ module _ (G : Given) (a : Accepted G) (l : Lent) (r : Holds (need (G .options) (
     strangers k m h = ap (count m) (at (k * size)) ∙ none-on m size k L (⊎-elim within past (below m (points G)))
       where
         within : m < points G → count m L ≡ 0
-        within b = owned z j w .each m b ∙ ap one (ne-eqb (owner G z m) j (h b))
+        within b = owned z j w .each m b ∙ ap oneIf (ne-eqb (owner G z m) j (h b))
 
         past : points G ≤ m → count m L ≡ 0
         past b = owned z j w .only m b
@@ -211,7 +211,7 @@ module _ (G : Given) (a : Accepted G) (l : Lent) (r : Holds (need (G .options) (
         first = owner-first G;
         there = λ z k b h. subst (λ (t : Table). owner G z k < length t) (is z b) (owner-in G a z (b .low) (b .high) k h);
         climbs = climbing;
-        counts = λ z j b h. subst (λ (t : Table). entry t j .num ≡ sum (λ k. one (eqb (owner G z k) j)) (range 0 (points G))) (is z b)
+        counts = λ z j b h. subst (λ (t : Table). entry t j .num ≡ sum (λ k. oneIf (eqb (owner G z k) j)) (range 0 (points G))) (is z b)
             (num-owned G a z (b .low) (b .high) j (in-built z j b h));
         together = λ z b. subst (λ (t : Table). sum (λ j. entry t j .num) (range 0 (length t)) ≡ points G) (is z b)
             (nums-together G a z (b .low) (b .high));
@@ -227,23 +227,23 @@ module _ (G : Given) (a : Accepted G) (l : Lent) (r : Holds (need (G .options) (
       }
     where
       climbing : (z k q : ℕ) → minZ G ≤ z → z ≤ maxZ G → k < points G → q < length (tableAt S C z)
-          → (entry (tableAt S C z) q .id ≡ up (entry (tableAt S C (suc z)) (owner G (suc z) k))) ↔ (q ≡ owner G z k)
+          → (entry (tableAt S C z) q .id ≡ ownerUp (entry (tableAt S C (suc z)) (owner G (suc z) k))) ↔ (q ≡ owner G z k)
       climbing z k q h m n w =
           let b : Between S z = record { low = h; high = omega arith } in
           let d : Between S (suc z) = record { low = omega arith; high = omega arith } in
-          subst (λ (t : Table). (entry t q .id ≡ up (entry (tableAt S C (suc z)) (owner G (suc z) k))) ↔ (q ≡ owner G z k)) (is z b)
-          (subst (λ (t : Table). (entry (built G z) q .id ≡ up (entry t (owner G (suc z) k))) ↔ (q ≡ owner G z k)) (is (suc z) d)
+          subst (λ (t : Table). (entry t q .id ≡ ownerUp (entry (tableAt S C (suc z)) (owner G (suc z) k))) ↔ (q ≡ owner G z k)) (is z b)
+          (subst (λ (t : Table). (entry (built G z) q .id ≡ ownerUp (entry t (owner G (suc z) k))) ↔ (q ≡ owner G z k)) (is (suc z) d)
           (owner-climbs G a z h m k n q (in-built z q b w)))
 
 -- ---- of every build that `load` accepts
 
 -- what `load` replies and leaves has one owner for every lamp, where it replies no refusal
-pub one-owner : (G : Given) (l : Lent) → loadedBy G l .reply .reply ≡ Done
-    → Owners (loadedBy G l .reply .state) (columnsOf (loadedBy G l .columns)) (G .energies) (owner G)
+pub one-owner : (G : Given) (l : BuildColumns) → loadedOf G l .reply .reply ≡ Done
+    → Owners (loadedOf G l .reply .state) (columnsOf (loadedOf G l .columns)) (G .energies) (owner G)
 one-owner G l e = of-load (λ s c. Owners s c (G .energies) (owner G)) G l (λ a r. owners G a l r) e
 
 -- so of any outcome that meets the contract of `load`
-pub outcome-owners : (G : Given) (l : Lent) (x : Outcome) → x ≡ loadedBy G l → x .reply .reply ≡ Done
+pub outcome-owners : (G : Given) (l : BuildColumns) (x : Outcome) → x ≡ loadedOf G l → x .reply .reply ≡ Done
     → Owners (x .reply .state) (columnsOf (x .columns)) (G .energies) (owner G)
 outcome-owners G l x e d =
     subst (λ (v : Outcome). Owners (v .reply .state) (columnsOf (v .columns)) (G .energies) (owner G)) (sym e)

@@ -15,10 +15,10 @@ use Rattle.listing.specs.declared.Head.{Head}
 use Rattle.listing.specs.Text.{Place, xOf, yOf, whOf, PointCols, pointCols, putPoints, Parsing, Reads}
 use Rattle.listing.specs.Values.{optionsOf}
 use Rattle.listing.specs.laws.Whole.{Wide, Front, reads-front}
-use Rattle.zooms.specs.Zooms.{over}
-use Rattle.supercluster.specs.Build.{Lent}
+use Rattle.zooms.specs.Zooms.{laidOver}
+use Rattle.supercluster.specs.Build.{BuildColumns}
 use Rattle.supercluster.specs.Lent.{givenAll}
-use Rattle.report.specs.Report.{loadedBy, buildText, linesOf, lending, left, read, refused}
+use Rattle.report.specs.Report.{loadedBy, buildText, linesOf, lending, left, read, refusedReport}
 use Rattle.report.specs.laws.Put.{put-over}
 use Rattle.report.proofs.report.Statement.{statement}
 use Rattle.report.proofs.report.Tie as tie
@@ -36,7 +36,7 @@ abbrev start-of : tie.After-parse → tie.Start
 start-of p = p .before .before .before .before .before
 
 -- the columns as they came
-abbrev columns-of : tie.Start → Lent
+abbrev columns-of : tie.Start → BuildColumns
 columns-of s = let a = s .args in givenAll (a .x) (a .y) (a .seen) (a .id) (a .parent) (a .num) (a .energy) (a .ids) (a .coords) (a .near)
 
 -- the columns of the points, before and after `parse`
@@ -91,7 +91,7 @@ returns c =
     let p = t .before .before in
     let r = parsed p _ (t .enum-told .given .1) in
     let o = put-over (c .put-refusal .ensures) (omega (arith, c .before .put-refusal-arg .given .0 .1)) in
-    refused (r .none) (o .0) (λ k. lending (columns-of (start-of p)) (o .1 k))
+    refusedReport (r .none) (o .0) (λ k. lending (columns-of (start-of p)) (o .1 k))
 
 slice-aggregate-report-read : tie.Need-slice-aggregate-report-read
 slice-aggregate-report-read c = sym (wide-of c .x)
@@ -115,7 +115,7 @@ returns-2 c =
     let t : buildText (optionsOf (head-of g)) _ ≡ linesOf (r .input) = λ k. buildText (optionsOf (r .head k)) (f k) in
     let l = c .report-read .ensures .1 ∙ (λ k. loadedBy (optionsOf (r .head k)) (f k) (columns-of s) .columns) in
     let o = put-over (c .report-read .ensures .0) (omega arith) in
-    let told = o .1 ∙ ap (λ (b : List ℕ). over b (now (s .args .out))) t in
+    let told = o .1 ∙ ap (λ (b : List ℕ). laidOver b (now (s .args .out))) t in
     read (r .input) (r .valid) (r .is) (o .0 ∙ ap length t) (λ k. lending (l k) (told k))
 
 pub report-spec : {M : Type 1} → statement M

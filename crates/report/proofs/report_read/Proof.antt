@@ -10,7 +10,7 @@ use lib.ListN.{length}
 use lib.Seq.{length-take-le}
 use Rattle.tables.specs.declared.Options.{Options}
 use Rattle.tables.specs.Rows.{cols}
-use Rattle.supercluster.specs.Build.{Lent, lent, loadNumber, Outcome}
+use Rattle.supercluster.specs.Build.{BuildColumns, buildColumns, loadNumber, Outcome}
 use Rattle.supercluster.specs.Lent.{givenAll}
 use Rattle.supercluster.specs.laws.Load.{rowsIn}
 use Rattle.listing.specs.Values.{optionsOf}
@@ -39,16 +39,16 @@ options-of w = asked-of w .options .result
 abbrev points-of : tie.Start → PointCols
 points-of s = let a = s .args in frontOf (a .h .count) (givenPoints (a .xs) (a .ys) (a .energies))
 
-abbrev columns-of : tie.Start → Lent
+abbrev columns-of : tie.Start → BuildColumns
 columns-of s = let a = s .args in givenAll (a .x) (a .y) (a .seen) (a .id) (a .parent) (a .num) (a .energy) (a .ids) (a .coords) (a .near)
 
 -- and as `load` leaves them
-abbrev columns-after : tie.After-load → Lent
+abbrev columns-after : tie.After-load → BuildColumns
 columns-after w =
     let a = w .load .last .1 .1 .1 .1 in
     let i = a .1 .1 .1 .1 .1 .1 in
     let c = cols (a .0) (a .1 .0) (a .1 .1 .0) (a .1 .1 .1 .0) (a .1 .1 .1 .1 .0) (a .1 .1 .1 .1 .1 .0) (i .0) in
-    lent c (i .1 .0) (i .1 .1 .0) (i .1 .1 .1 .0)
+    buildColumns c (i .1 .0) (i .1 .1 .0) (i .1 .1 .1 .0)
 
 sized : (w : tie.After-load) → Sized (columns-of (start-of w))
 sized w =

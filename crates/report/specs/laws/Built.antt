@@ -15,10 +15,10 @@ use Rattle.tables.specs.Room.{roomBy}
 use Rattle.tables.specs.declared.Entry.{Entry}
 use Rattle.tables.specs.declared.Options.{Options}
 use Rattle.tables.specs.declared.State.{State}
-use Rattle.zooms.specs.Zooms.{joined, over}
+use Rattle.zooms.specs.Zooms.{joined, laidOver}
 use Rattle.supercluster.specs.declared.LoadReply.{LoadReply}
 use Rattle.supercluster.specs.declared.LoadReply.the-variants.{Done, Options as No·Options, Count, Point, Energy, Tables}
-use Rattle.supercluster.specs.Build.{convertedAll, Lent, written, stateOf, need, firstOver, tripleOk, ordered}
+use Rattle.supercluster.specs.Build.{convertedAll, BuildColumns, written, builtState, need, firstOver, tripleOk, ordered}
 use Rattle.supercluster.specs.Build.{checked, loadNumber, loadCarried, Outcome, outcome, loaded}
 use Rattle.supercluster.specs.laws.Held.{heldBy, built-held, built-within}
 use Rattle.supercluster.specs.laws.Load.{accepted, replies, holds, rowsIn, EvenIn, by-reply}
@@ -27,11 +27,11 @@ use Rattle.supercluster.specs.laws.Right.{tables-room}
 use Rattle.supercluster.specs.declared.Loaded.{Loaded}
 use Rattle.listing.specs.Text.{PointCols}
 use Rattle.report.specs.Lines.{tablesText, refusalText}
-use Rattle.report.specs.Report.{columns, tablesBy, checkedBy, loadedBy, answerText, answerRoom, buildText}
+use Rattle.report.specs.Report.{listerColumns, tablesBy, checkedBy, loadedBy, answerText, answerRoom, buildText}
 use Rattle.report.specs.laws.Held.{Holding}
 
 -- columns of the lister's lengths
-pub record Sized (l : Lent) : Type 0 where
+pub record Sized (l : BuildColumns) : Type 0 where
   pub x : length (l .table .x) ≡ 1152
   pub even : EvenIn l
   pub ids : length (l .ids) ≡ 1152
@@ -41,7 +41,7 @@ pub record Sized (l : Lent) : Type 0 where
 -- ---- the reply
 
 -- a build in other columns of the same lengths has the same reply
-checked-sized : (o : Options) (p : PointCols) (l m : Lent) → Sized l → Sized m → checkedBy o p l ≡ checkedBy o p m
+checked-sized : (o : Options) (p : PointCols) (l m : BuildColumns) → Sized l → Sized m → checkedBy o p l ≡ checkedBy o p m
 unfolding checked
 checked-sized o p l m s t =
     let ps = convertedAll (o .«coordinate_system») (p .xs) (p .ys) in
@@ -54,19 +54,19 @@ checked-sized o p l m s t =
     (leb (need o (length (p .xs)))
     (min (roomBy (k .kx i) (k .ky i) (k .ks i) (k .ki i) (k .kp i) (k .kn i) (k .kw i) (min (d i) (c i / 2))) (n i)))
 
-columns-sized : Sized columns
-unfolding columns
+columns-sized : Sized listerColumns
+unfolding listerColumns
 columns-sized =
-    let even : EvenIn columns = record { ey = refl; es = refl; ei = refl; ep = refl; en = refl; ew = refl } in
+    let even : EvenIn listerColumns = record { ey = refl; es = refl; ei = refl; ep = refl; en = refl; ew = refl } in
     record { x = refl; even = even; ids = refl; coords = refl; near = refl }
 
 -- the reply of `load` in such columns is the one that the text goes by
-pub reply-is : (o : Options) (p : PointCols) (l l′ : Lent) (b : Loaded) → Sized l → outcome b l′ ≡ loadedBy o p l
-    → b .reply ≡ checkedBy o p columns
+pub reply-is : (o : Options) (p : PointCols) (l l′ : BuildColumns) (b : Loaded) → Sized l → outcome b l′ ≡ loadedBy o p l
+    → b .reply ≡ checkedBy o p listerColumns
 unfolding loaded
 reply-is o p l l′ b s e =
     ap (λ (q : Outcome). q .reply .reply) e ∙ replies o (p .xs) (p .ys) (p .energies) l (checkedBy o p l)
-    ∙ checked-sized o p l columns s columns-sized
+    ∙ checked-sized o p l listerColumns s columns-sized
 
 -- the number 0 is that of no refusal
 number-done : (r : LoadReply) → loadNumber r ≡ 0 → r ≡ Done
@@ -87,7 +87,7 @@ refused-by o p (Energy i) e = refl
 refused-by o p Tables e = refl
 
 -- what is printed for a refusal
-pub refused-text : (o : Options) (p : PointCols) (r : LoadReply) → r ≡ checkedBy o p columns → (loadNumber r ≡ 0 → ⊥)
+pub refused-text : (o : Options) (p : PointCols) (r : LoadReply) → r ≡ checkedBy o p listerColumns → (loadNumber r ≡ 0 → ⊥)
     → buildText o p ≡ refusalText (loadNumber r) (loadCarried r)
 unfolding buildText
 refused-text o p r e h = ap (answerText o p) (sym e) ∙ refused-by o p r h
@@ -95,12 +95,12 @@ refused-text o p r e h = ap (answerText o p) (sym e) ∙ refused-by o p r h
 -- ---- an accepted build
 
 -- what `put_tables` asks, and what it prints
-pub record Printable (o : Options) (p : PointCols) (s : State) (l : Lent) : Type 0 where
+pub record Printable (o : Options) (p : PointCols) (s : State) (l : BuildColumns) : Type 0 where
   pub even : EvenIn l
   pub holding : Holding s (rowsIn l) answerRoom
   pub text : tablesText (s .options .«max_zoom» + 1) (heldBy s (rowsIn l)) ≡ buildText o p
 
-module _ (o : Options) (p : PointCols) (l : Lent) (s : Sized l) (done : checkedBy o p l ≡ Done) where
+module _ (o : Options) (p : PointCols) (l : BuildColumns) (s : Sized l) (done : checkedBy o p l ≡ Done) where
   abbrev n : ℕ
   n = length (p .xs)
 
@@ -114,7 +114,7 @@ module _ (o : Options) (p : PointCols) (l : Lent) (s : Sized l) (done : checkedB
 
   -- a column that is as long as x is so after the build
   column : {A B : Type 0} (f : Entry → A) (g : Entry → B) (d : List A) (x : List B) → length d ≡ length x → length x ≡ 1152
-      → length (over (map f (joined ts)) d) ≡ length (over (map g (joined ts)) x)
+      → length (laidOver (map f (joined ts)) d) ≡ length (laidOver (map g (joined ts)) x)
   column f g d x e k =
       over-length (map f (joined ts)) d (omega (arith, entries, length-map (joined ts) f, e, k)) ∙ e
       ∙ sym (over-length (map g (joined ts)) x (omega (arith, entries, length-map (joined ts) g, k)))
@@ -133,14 +133,14 @@ module _ (o : Options) (p : PointCols) (l : Lent) (s : Sized l) (done : checkedB
         ew = column (λ e. e .energy) (λ e. e .x) (c .energy) (c .x) (v .ew) (s .x);
       }
 
-  built-printable : Printable o p (stateOf o n ts) (written (o .«node_size») n ts l)
+  built-printable : Printable o p (builtState o n ts) (written (o .«node_size») n ts l)
   unfolding buildText
   built-printable =
       let a = accepted o (p .xs) (p .ys) (p .energies) l done .0 in
       let z = options-are o (a .options) in
       let h = built-held o (p .xs) (p .ys) (p .energies) a l in
       let text : buildText o p ≡ tablesText (o .«max_zoom» + 1) ts =
-      ap (answerText o p) (sym (checked-sized o p l columns s columns-sized) ∙ done) in
+      ap (answerText o p) (sym (checked-sized o p l listerColumns s columns-sized) ∙ done) in
       record {
         even = even-built;
         holding = record {
@@ -152,10 +152,10 @@ module _ (o : Options) (p : PointCols) (l : Lent) (s : Sized l) (done : checkedB
         text = ap (tablesText (o .«max_zoom» + 1)) h ∙ sym text;
       }
 
-pub printable : (o : Options) (p : PointCols) (l l′ : Lent) (b : Loaded) → Sized l → outcome b l′ ≡ loadedBy o p l
+pub printable : (o : Options) (p : PointCols) (l l′ : BuildColumns) (b : Loaded) → Sized l → outcome b l′ ≡ loadedBy o p l
     → loadNumber (b .reply) ≡ 0 → Printable o p (b .state) l′
 printable o p l l′ b s e n =
     let done : checkedBy o p l ≡ Done =
-    checked-sized o p l columns s columns-sized ∙ sym (reply-is o p l l′ b s e) ∙ number-done (b .reply) n in
+    checked-sized o p l listerColumns s columns-sized ∙ sym (reply-is o p l l′ b s e) ∙ number-done (b .reply) n in
     let is = e ∙ by-reply o (p .xs) (p .ys) (p .energies) l (checkedBy o p l) Done refl done in
     subst (λ (q : Outcome). Printable o p (q .reply .state) (q .columns)) (sym is) (built-printable o p l s done)

@@ -6,7 +6,7 @@ use native.Mathlib.Nat.{add-zero, zero-add, add-suc, suc-add}
 use native.Mathlib.Omega.{arith}
 use lib.ListN.{length, set, drop, length-append}
 use lib.Seq.{sets, length-sets, sets-eq}
-use Rattle.zooms.specs.Zooms.{over}
+use Rattle.zooms.specs.Zooms.{laidOver}
 
 -- bs stored at `at`, at most `most` of them; r is the place past them
 pub record Put (o o′ : List ℕ) (at : ℕ) (bs : List ℕ) (most r : ℕ) : Type 0 where
@@ -35,7 +35,7 @@ pub put-length : {o o′ : List ℕ} {at : ℕ} {bs : List ℕ} {most r : ℕ} �
 put-length {o} {o′} {at} {bs} p = ap length (p .stored) ∙ length-sets o at bs
 
 -- bytes stored at the front: these, and past them what was there
-pub put-over : {o o′ : List ℕ} {bs : List ℕ} {most r : ℕ} → Put o o′ 0 bs most r → most ≤ length o → (r ≡ length bs) × (o′ ≡ over bs o)
+pub put-over : {o o′ : List ℕ} {bs : List ℕ} {most r : ℕ} → Put o o′ 0 bs most r → most ≤ length o → (r ≡ length bs) × (o′ ≡ laidOver bs o)
 put-over {o} {o′} {bs} {most} {r} p h =
     let e : r ≡ length bs = omega (arith, p .past) in
     let fits : 0 + length bs ≤ length o = omega (arith, p .near, e) in

@@ -13,7 +13,7 @@ use Rattle.kdslots.specs.Slots.{Search, over, when, slots}
 use Rattle.spending.specs.declared.Spent.{Spent}
 use Rattle.spending.specs.Tested.{testing}
 use Rattle.spending.specs.Trials.{marks}
-use Rattle.spending.specs.laws.Spend.{went, spend, spend-sum}
+use Rattle.spending.specs.laws.Spend.{wentTests, spend, spend-sum}
 use Rattle.spending.proofs.Turns.{over-is, part-skipped, part-leaf, part-node}
 use borrow.Fn.Kinds.{In}
 use borrow.Fn.PlainCycle.{Measures, is, falls, and}
@@ -96,7 +96,7 @@ put-sum t v =
 
 right-is : (t : ℕ) (v : After-part t)
     → let r = v .before .before in let p = r .before .before .before in let c = p .before .before in let a = start-of t c .args in
-    went (v .part .result) (right-out t v)
+    wentTests (v .part .result) (right-out t v)
     ≡ spend (a .n) (marks (search-of t c) (now (a .ids)) (when (search-of t c .right (a .axis) (m-of t c)) (rights t c))) (p .put .result)
     (put-out t p)
 right-is t v =

@@ -15,7 +15,7 @@ use Rattle.kdslots.specs.laws.Bounds.{Searchable, coords-is, and-both}
 use Rattle.boxplan.specs.laws.Queries.{queriesOf}
 use Rattle.spending.specs.Tested.{tests}
 use Rattle.spending.specs.Trials.{Mark, marks, trials}
-use Rattle.spending.specs.laws.Spend.{fresh, settled, went, spend, spend-then, spend-sum}
+use Rattle.spending.specs.laws.Spend.{fresh, settledTests, wentTests, spend, spend-then, spend-sum}
 use Rattle.spending.specs.laws.Ended.{ends, left-small}
 use Rattle.spending.proofs.search.Statement.{statement}
 use Rattle.spending.proofs.search.Tie as tie
@@ -72,7 +72,7 @@ in-turn k = ap (λ (l : List Mark). firsts k ++ l) (go (k .args .p .two))
     go false = refl
 
 left : (v : tie.After-part2) → let a = start-of (first-of v) .args in
-    went (v .part2 .result) (both-left v)
+    wentTests (v .part2 .result) (both-left v)
     ≡ spend (a .n) (trials (queriesOf (a .p)) (a .node-size) (a .n) (now (a .ids)) (now (a .coords))) (fresh (a .allowance)) (now (a .out))
 left v =
     let u = first-of v in
@@ -121,7 +121,7 @@ returns c =
     let room = v .part2 .kept .1 .1 .1 .1 .1 .1 .1 .1 .1 .1 .0 ∙ u .part .kept .1 .1 .1 .1 .1 .1 .1 .1 .1 .1 .0 in
     let w = ends (a .n) (a .allowance) (trials (queriesOf (a .p)) (a .node-size) (a .n) (now (a .ids)) (now (a .coords))) (v .part2 .result)
     (now (a .out)) (both-left v) (length (now (a .out))) (left v) in
-    (c .settle .ensures ∙ ap (settled (v .part2 .result) (a .allowance)) room ∙ w .0, w .1)
+    (c .settle .ensures ∙ ap (settledTests (v .part2 .result) (a .allowance)) room ∙ w .0, w .1)
 
 pub search-spec : {M : Type 1} → statement M
 search-spec = tie.close (tie.spec add-most part-requires part-requires-2 settle-requires same-length returns)

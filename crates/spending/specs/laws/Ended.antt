@@ -12,7 +12,7 @@ use Rattle.asking.specs.laws.Filled.{filled-none, filled-next}
 use Rattle.spending.specs.declared.Spent.{Spent}
 use Rattle.spending.specs.Trials.{Mark, mark, hits, items}
 use Rattle.spending.specs.Reply.{answer, column}
-use Rattle.spending.specs.laws.Spend.{Went, went, fresh, settled, spoilt, made, due, andThen, spend, spend-over, spend-sum}
+use Rattle.spending.specs.laws.Spend.{Went, wentTests, fresh, settledTests, spoilt, madeTests, due, thenSpent, spend, spend-over, spend-sum}
 
 -- a search that has found k and has the allowance b
 abbrev from : ℕ → ℕ → Spent
@@ -20,8 +20,8 @@ from k b = record { found = k; left = b; over = false; spoiled = false }
 
 -- how far it came, if no place is past the table: it found k, l is left of the allowance, and d says whether a test is due
 abbrev endWith : Bool → ℕ → ℕ → Bool → List ℕ → Went
-endWith true k l d out = went (record { found = k; left = l; over = d; spoiled = false }) out
-endWith false k l d out = went spoilt out
+endWith true k l d out = wentTests (record { found = k; left = l; over = d; spoiled = false }) out
+endWith false k l d out = wentTests spoilt out
 
 -- so after the tests ms with the allowance b, where the places `done` were found before
 abbrev endOf : ℕ → List ℕ → ℕ → List Mark → List ℕ → Went
@@ -61,13 +61,13 @@ spend-end n done (suc b) (mark false p ∷ ms) out =
     let w = whole n (items b ms) in
     let k = length (done ++ items b ms) in
     let o = filled (done ++ sound n (items b ms)) out in
-    ap (λ (z : Bool). andThen (due false z false (ltb p n) p (from (length done) (suc b)) (filled done out)) (λ t o. spend n ms t o))
+    ap (λ (z : Bool). thenSpent (due false z false (ltb p n) p (from (length done) (suc b)) (filled done out)) (λ t o. spend n ms t o))
     (eqb·suc-zero b)
     ∙ ap (λ (k : ℕ). spend n ms (from (length done) k) (filled done out)) e ∙ spend-end n done b ms out
     ∙ same w k k (b - length ms) (suc b - suc (length ms)) (ltb b (length ms)) (ltb (suc b) (suc (length ms))) o o refl (omega arith)
     (ltb-suc b (length ms)) refl
 spend-end n done (suc b) (mark true p ∷ ms) out =
-    ap (λ (z : Bool). andThen (due false z true (ltb p n) p (from (length done) (suc b)) (filled done out)) (λ t o. spend n ms t o))
+    ap (λ (z : Bool). thenSpent (due false z true (ltb p n) p (from (length done) (suc b)) (filled done out)) (λ t o. spend n ms t o))
     (eqb·suc-zero b)
     ∙ go (ltb p n) refl (spend-end n (done ++ (p ∷ [])) b ms out)
   where
@@ -76,7 +76,7 @@ spend-end n done (suc b) (mark true p ∷ ms) out =
 
     go : (l : Bool) → ltb p n ≡ l
         → spend n ms (from (length (done ++ (p ∷ []))) b) (filled (done ++ (p ∷ [])) out) ≡ endOf n (done ++ (p ∷ [])) b ms out
-        → andThen (made true l p (from (length done) (suc b)) (filled done out)) (λ t o. spend n ms t o)
+        → thenSpent (madeTests true l p (from (length done) (suc b)) (filled done out)) (λ t o. spend n ms t o)
         ≡ endOf n done (suc b) (mark true p ∷ ms) out
     go true f h =
         let e : suc b - 1 ≡ b = omega arith in
@@ -90,7 +90,7 @@ spend-end n done (suc b) (mark true p ∷ ms) out =
         (ap (λ (x : List ℕ). filled x out) (joined (sound n (items b ms)))))
     go false f h =
         rw (f, whole, sound)
-        (spend-over n ms spoilt (filled done out) refl ∙ ap (λ (x : List ℕ). went spoilt (filled x out)) (sym (append-nil done)))
+        (spend-over n ms spoilt (filled done out) refl ∙ ap (λ (x : List ℕ). wentTests spoilt (filled x out)) (sym (append-nil done)))
 
 -- ---- a whole search
 
@@ -98,26 +98,26 @@ spend-end n done (suc b) (mark true p ∷ ms) out =
 made-tests : (a k : ℕ) → a - (a - k) ≡ min a k
 made-tests a k = omega arith
 
-pub ends : (n a : ℕ) (ms : List Mark) (r : Spent) (out o : List ℕ) (room : ℕ) → went r o ≡ spend n ms (fresh a) out
-    → (settled r a room ≡ answer n ms a room) × (o ≡ column n ms a out)
+pub ends : (n a : ℕ) (ms : List Mark) (r : Spent) (out o : List ℕ) (room : ℕ) → wentTests r o ≡ spend n ms (fresh a) out
+    → (settledTests r a room ≡ answer n ms a room) × (o ≡ column n ms a out)
 ends n a ms r out o room e =
     go (whole n (items a ms)) refl (e ∙ ap (spend n ms (fresh a)) (sym (filled-none out)) ∙ spend-end n [] a ms out)
   where
-    go : (w : Bool) → whole n (items a ms) ≡ w → went r o ≡ endOf n [] a ms out
-        → (settled r a room ≡ answer n ms a room) × (o ≡ column n ms a out)
+    go : (w : Bool) → whole n (items a ms) ≡ w → wentTests r o ≡ endOf n [] a ms out
+        → (settledTests r a room ≡ answer n ms a room) × (o ≡ column n ms a out)
     go true g f =
-        let h : went r o ≡ endWith true (length (items a ms)) (a - length ms) (ltb a (length ms))
+        let h : wentTests r o ≡ endWith true (length (items a ms)) (a - length ms) (ltb a (length ms))
         (filled (sound n (items a ms)) out) = rw g at f in
         let x : r ≡ record { found = length (items a ms); left = a - length ms; over = ltb a (length ms); spoiled = false } = cc in
         let y : o ≡ filled (sound n (items a ms)) out = cc in
-        (ap (λ (s : Spent). settled s a room) x ∙ rw (g, made-tests), y)
+        (ap (λ (s : Spent). settledTests s a room) x ∙ rw (g, made-tests), y)
     go false g f =
-        let h : went r o ≡ endWith false (length (items a ms)) (a - length ms) (ltb a (length ms))
+        let h : wentTests r o ≡ endWith false (length (items a ms)) (a - length ms) (ltb a (length ms))
         (filled (sound n (items a ms)) out) = rw g at f in
         let x : r ≡ spoilt = cc in
         let y : o ≡ filled (sound n (items a ms)) out = cc in
-        (ap (λ (s : Spent). settled s a room) x ∙ rw g, y)
+        (ap (λ (s : Spent). settledTests s a room) x ∙ rw g, y)
 
 -- what is left is no more than the allowance
-pub left-small : (n a : ℕ) (ms : List Mark) (r : Spent) (out o : List ℕ) → went r o ≡ spend n ms (fresh a) out → r .left ≤ a
+pub left-small : (n a : ℕ) (ms : List Mark) (r : Spent) (out o : List ℕ) → wentTests r o ≡ spend n ms (fresh a) out → r .left ≤ a
 left-small n a ms r out o e = omega (arith, spend-sum n ms (fresh a) r out o e)

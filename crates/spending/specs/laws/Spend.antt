@@ -12,19 +12,19 @@ use Rattle.spending.specs.declared.EffortReply.{EffortReply}
 use Rattle.spending.specs.declared.EffortReply.the-variants.{Spoiled}
 use Rattle.spending.specs.declared.Spent.{Spent}
 use Rattle.spending.specs.Trials.{Mark, mark}
-use Rattle.spending.specs.Reply.{fitted}
+use Rattle.spending.specs.Reply.{effortFitted}
 
 -- how far a search came, beside what the column holds
 pub data Went : Type 0 where
-  went : Spent → List ℕ → Went
+  wentTests : Spent → List ℕ → Went
 
 -- a search that begins with an allowance
 abbrev pub fresh : ℕ → Spent
 fresh a = record { found = 0; left = a; over = false; spoiled = false }
 
 -- the reply by how far a search came that was allowed a tests
-abbrev pub settled : Spent → ℕ → ℕ → EffortReply
-settled s a room = cond (s .spoiled) Spoiled (fitted (record { items = s .found; tested = a - s .left; stopped = s .over }) room)
+abbrev pub settledTests : Spent → ℕ → ℕ → EffortReply
+settledTests s a room = cond (s .spoiled) Spoiled (effortFitted (record { items = s .found; tested = a - s .left; stopped = s .over }) room)
 
 -- a search that is spoiled
 abbrev pub spoilt : Spent
@@ -32,55 +32,55 @@ spoilt = record { found = 0; left = 0; over = true; spoiled = true }
 
 -- a test that is made: it passes or not, and its place p is below the number of slots or not. A place goes to the next position, if that
 -- is within the column.
-abbrev pub made : Bool → Bool → ℕ → Spent → List ℕ → Went
-made false low p s out = went (record { found = s .found; left = s .left - 1; over = false; spoiled = false }) out
-made true true p s out = went (record { found = s .found + 1; left = s .left - 1; over = false; spoiled = false }) (set out (s .found) p)
-made true false p s out = went spoilt out
+abbrev pub madeTests : Bool → Bool → ℕ → Spent → List ℕ → Went
+madeTests false low p s out = wentTests (record { found = s .found; left = s .left - 1; over = false; spoiled = false }) out
+madeTests true true p s out = wentTests (record { found = s .found + 1; left = s .left - 1; over = false; spoiled = false }) (set out (s .found) p)
+madeTests true false p s out = wentTests spoilt out
 
 -- a test that is due: nothing changes where the search is over; where nothing is left of the allowance it stops
 abbrev pub due : Bool → Bool → Bool → Bool → ℕ → Spent → List ℕ → Went
-due true none passes low p s out = went s out
-due false true passes low p s out = went (record { found = s .found; left = 0; over = true; spoiled = false }) out
-due false false passes low p s out = made passes low p s out
+due true none passes low p s out = wentTests s out
+due false true passes low p s out = wentTests (record { found = s .found; left = 0; over = true; spoiled = false }) out
+due false false passes low p s out = madeTests passes low p s out
 
 abbrev pub step : ℕ → Mark → Spent → List ℕ → Went
 step n (mark b p) s out = due (s .over) (eqb (s .left) 0) b (ltb p n) p s out
 
-abbrev pub andThen : Went → (Spent → List ℕ → Went) → Went
-andThen (went s out) f = f s out
+abbrev pub thenSpent : Went → (Spent → List ℕ → Went) → Went
+thenSpent (wentTests s out) f = f s out
 
 -- the tests of a list, one after the other, over an index of n
 unfoldable pub spend : ℕ → List Mark → Spent → List ℕ → Went
-spend n [] s out = went s out
-spend n (m ∷ ms) s out = andThen (step n m s out) (λ t o. spend n ms t o)
+spend n [] s out = wentTests s out
+spend n (m ∷ ms) s out = thenSpent (step n m s out) (λ t o. spend n ms t o)
 
 -- ---- one list after the other
 
 pub spend-append : (n : ℕ) (ms ps : List Mark) (s : Spent) (out : List ℕ)
-    → spend n (ms ++ ps) s out ≡ andThen (spend n ms s out) (λ t o. spend n ps t o)
+    → spend n (ms ++ ps) s out ≡ thenSpent (spend n ms s out) (λ t o. spend n ps t o)
 unfolding spend
 spend-append n [] ps s out = refl
 spend-append n (m ∷ ms) ps s out = go (step n m s out) (λ t o. spend-append n ms ps t o)
   where
-    go : (w : Went) → ((t : Spent) (o : List ℕ) → spend n (ms ++ ps) t o ≡ andThen (spend n ms t o) (λ t o. spend n ps t o))
-        → andThen w (λ t o. spend n (ms ++ ps) t o) ≡ andThen (andThen w (λ t o. spend n ms t o)) (λ t o. spend n ps t o)
-    go (went t o) h = h t o
+    go : (w : Went) → ((t : Spent) (o : List ℕ) → spend n (ms ++ ps) t o ≡ thenSpent (spend n ms t o) (λ t o. spend n ps t o))
+        → thenSpent w (λ t o. spend n (ms ++ ps) t o) ≡ thenSpent (thenSpent w (λ t o. spend n ms t o)) (λ t o. spend n ps t o)
+    go (wentTests t o) h = h t o
 
-pub spend-then : (n : ℕ) (ms ps : List Mark) (s k r : Spent) (out o p : List ℕ) → went k o ≡ spend n ms s out → went r p ≡ spend n ps k o
-    → went r p ≡ spend n (ms ++ ps) s out
+pub spend-then : (n : ℕ) (ms ps : List Mark) (s k r : Spent) (out o p : List ℕ) → wentTests k o ≡ spend n ms s out → wentTests r p ≡ spend n ps k o
+    → wentTests r p ≡ spend n (ms ++ ps) s out
 spend-then n ms ps s k r out o p e f = f ∙ rw (spend-append n ms ps s out, ← e)
 
 -- a search that is over stays as it is
-pub spend-over : (n : ℕ) (ms : List Mark) (s : Spent) (out : List ℕ) → s .over ≡ true → spend n ms s out ≡ went s out
+pub spend-over : (n : ℕ) (ms : List Mark) (s : Spent) (out : List ℕ) → s .over ≡ true → spend n ms s out ≡ wentTests s out
 unfolding spend
 spend-over n [] s out e = refl
 spend-over n (mark b p ∷ ms) s out e =
-    ap (λ (x : Bool). andThen (due x (eqb (s .left) 0) b (ltb p n) p s out) (λ t o. spend n ms t o)) e ∙ spend-over n ms s out e
+    ap (λ (x : Bool). thenSpent (due x (eqb (s .left) 0) b (ltb p n) p s out) (λ t o. spend n ms t o)) e ∙ spend-over n ms s out e
 
 -- ---- what is found and what is left never exceed what they were
 
 sum : Went → ℕ
-sum (went s out) = s .found + s .left
+sum (wentTests s out) = s .found + s .left
 
 sum-step : (n : ℕ) (m : Mark) (s : Spent) (out : List ℕ) → sum (step n m s out) ≤ s .found + s .left
 unfolding sum
@@ -99,10 +99,10 @@ sum-spend n [] s out = omega arith
 sum-spend n (m ∷ ms) s out = go (step n m s out) (sum-step n m s out) (λ t o. sum-spend n ms t o)
   where
     go : (w : Went) → sum w ≤ s .found + s .left → ((t : Spent) (o : List ℕ) → sum (spend n ms t o) ≤ t .found + t .left)
-        → sum (andThen w (λ t o. spend n ms t o)) ≤ s .found + s .left
-    go (went t o) h f = omega (arith, f t o)
+        → sum (thenSpent w (λ t o. spend n ms t o)) ≤ s .found + s .left
+    go (wentTests t o) h f = omega (arith, f t o)
 
-pub spend-sum : (n : ℕ) (ms : List Mark) (s r : Spent) (out o : List ℕ) → went r o ≡ spend n ms s out
+pub spend-sum : (n : ℕ) (ms : List Mark) (s r : Spent) (out o : List ℕ) → wentTests r o ≡ spend n ms s out
     → r .found + r .left ≤ s .found + s .left
 unfolding sum
 spend-sum n ms s r out o e = omega (arith, ap sum e, sum-spend n ms s out)

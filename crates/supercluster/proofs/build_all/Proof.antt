@@ -9,7 +9,7 @@ use borrow.Author.Needs.{needs}
 use Rattle.tables.specs.laws.Bounds.{InBounds, options-are}
 use Rattle.tables.specs.Rows.{Cols, cols, rows}
 use Rattle.tables.specs.laws.Rows.{Kept, each, even-kept}
-use Rattle.supercluster.specs.Build.{Lent, lent, need}
+use Rattle.supercluster.specs.Build.{BuildColumns, buildColumns, need}
 use Rattle.supercluster.specs.Lent.{givenAll}
 use Rattle.supercluster.specs.laws.Over.{cut-long}
 use Rattle.supercluster.specs.laws.Ready.{Accepted, need-few, need-two}
@@ -22,7 +22,7 @@ use Rattle.supercluster.proofs.build_all.Tie as tie
 abbrev count : tie.Start → ℕ
 count s = length (s .args .xs .now)
 
-abbrev old : tie.Start → Lent
+abbrev old : tie.Start → BuildColumns
 old s = let a = s .args in (givenAll (a .x) (a .y) (a .seen) (a .id) (a .parent) (a .num) (a .energy) (a .ids) (a .coords) (a .near))
 
 accepted : (s : tie.Start) → Accepted (s .args .o) (s .args .xs .now) (s .args .ys .now) (s .args .energies .now)
@@ -197,7 +197,7 @@ returns c =
     let h = held w in
     let l = b .build-in .last in
     let k = b .build-in .kept in
-    let new : Lent = lent (built b) (l .1 .1 .1 .1 .1 .1 .1 .1 .1 .1 .1 .0) (l .1 .1 .1 .1 .1 .1 .1 .1 .1 .1 .1 .1 .0) (l .1 .1 .1 .1 .1 .1 .1 .1 .1 .1 .1 .1 .1 .0) in
+    let new : BuildColumns = buildColumns (built b) (l .1 .1 .1 .1 .1 .1 .1 .1 .1 .1 .1 .0) (l .1 .1 .1 .1 .1 .1 .1 .1 .1 .1 .1 .1 .0) (l .1 .1 .1 .1 .1 .1 .1 .1 .1 .1 .1 .1 .1 .0) in
     let v : EvenIn new = even-kept (front w) (built b) (kept-built b) (even w) in (
       b .build-in .ensures .of-state,
       whole (a .o) (a .xs .now) (a .ys .now) (a .energies .now) (size w) (old s) new (b .build-in .result) h (even w) v (kept-built b .kx ∙ length-take-le (size w) (a .x .now) (h .hx))

@@ -6,7 +6,7 @@ use native.Mathlib.Omega.{arith}
 use lib.ListN.{length, set, replicate}
 use lib.Seq.{set-set}
 use borrow.Author.Needs.{needs}
-use Rattle.kdsort.specs.Cols.{Cols as Index}
+use Rattle.kdsort.specs.Cols.{IndexCols as Index}
 use Rattle.tables.specs.declared.State.{State}
 use Rattle.tables.specs.laws.Bounds.{InBounds, options-are}
 use Rattle.tables.specs.Columns.{part}
@@ -15,7 +15,7 @@ use Rattle.tables.specs.laws.Rows.{Even, Kept, even-kept, kept-then, rows-lengt
 use Rattle.tables.specs.Lent.{given}
 use Rattle.tables.specs.State.{withTable}
 use Rattle.kdbush.specs.Reply.{indexOf}
-use Rattle.zooms.specs.Zooms.{slotsOf}
+use Rattle.zooms.specs.Zooms.{indexOfTable}
 use Rattle.zooms.specs.laws.Parts.{putAt}
 use Rattle.zooms.specs.laws.Zooming.{part-index}
 use Rattle.supercluster.specs.Build.{need}
@@ -61,7 +61,7 @@ filled-long : (w : tie.After-fill) → length (rows (filled w)) ≡ need (start-
 filled-long w = rows-length (filled w) ∙ long w
 
 slots : (w : tie.After-fill) → let s = start-of w in
-    indexOf (s .args .o .«node_size») (part 0 (count s) (filled w .x)) (part 0 (count s) (filled w .y)) ≡ slotsOf (s .args .o .«node_size») (part 0 (count s) (rows (filled w)))
+    indexOf (s .args .o .«node_size») (part 0 (count s) (filled w .x)) (part 0 (count s) (filled w .y)) ≡ indexOfTable (s .args .o .«node_size») (part 0 (count s) (rows (filled w)))
 slots w = let s = start-of w in part-index (s .args .o .«node_size») 0 (count s) (filled w) (even w .ey)
 
 -- ---- after its index
@@ -70,11 +70,11 @@ abbrev fill-of : tie.After-index-part → tie.After-fill
 fill-of i = i .before .before .before .before .before .before .before .before .before .before .before .before .before .before .before .before .before .before .before
 
 ids-put : (i : tie.After-index-part) → let w = fill-of i in let s = start-of w in
-    i .index-part .last .1 .1 .0 ≡ putAt 0 (count s) (slotsOf (s .args .o .«node_size») (part 0 (count s) (rows (filled w))) .ids) (s .args .ids .now)
+    i .index-part .last .1 .1 .0 ≡ putAt 0 (count s) (indexOfTable (s .args .o .«node_size») (part 0 (count s) (rows (filled w))) .ids) (s .args .ids .now)
 ids-put i = let s = start-of (fill-of i) in i .index-part .ensures .0 ∙ ap (λ (q : Index). putAt 0 (count s) (q .ids) (s .args .ids .now)) (slots (fill-of i))
 
 co-put : (i : tie.After-index-part) → let w = fill-of i in let s = start-of w in
-    i .index-part .last .1 .1 .1 .0 ≡ putAt 0 (count s * 2) (slotsOf (s .args .o .«node_size») (part 0 (count s) (rows (filled w))) .co) (s .args .coords .now)
+    i .index-part .last .1 .1 .1 .0 ≡ putAt 0 (count s * 2) (indexOfTable (s .args .o .«node_size») (part 0 (count s) (rows (filled w))) .co) (s .args .coords .now)
 co-put i = let s = start-of (fill-of i) in i .index-part .ensures .1 ∙ ap (λ (q : Index). putAt 0 (count s * 2) (q .co) (s .args .coords .now)) (slots (fill-of i))
 
 -- ---- before the zooms, and after them

@@ -18,7 +18,7 @@ use Rattle.kdbush.specs.Reply.{firstOutside}
 use Rattle.tables.specs.Rows.{cols}
 use Rattle.supercluster.specs.Lent.{givenAll}
 use Rattle.supercluster.specs.declared.Loaded.{Loaded}
-use Rattle.supercluster.specs.Build.{Lent, lent, need, roomIn, checked, outcome, refused, byReply, loaded, stateOf, tablesOf, written}
+use Rattle.supercluster.specs.Build.{BuildColumns, buildColumns, need, roomIn, checked, outcome, refusedBuild, byReply, loaded, builtState, tablesOf, written}
 use Rattle.supercluster.specs.Build.{convertedAll, ordered, tripleOk, firstOver}
 use Rattle.supercluster.specs.laws.Fill.{pxs, pys}
 use Rattle.supercluster.specs.laws.Load.{accepted, holds, by-reply}
@@ -26,17 +26,17 @@ use Rattle.supercluster.proofs.load.Statement.{statement}
 use Rattle.supercluster.proofs.load.Tie as tie
 
 -- all tables, where every column has room
-all-tables : (o : Options) (xs ys : List Float) (ws : List ℕ) (l : Lent) (s : State) (c : Lent)
-    → s ≡ stateOf o (length xs) (tablesOf o xs ys ws)
+all-tables : (o : Options) (xs ys : List Float) (ws : List ℕ) (l : BuildColumns) (s : State) (c : BuildColumns)
+    → s ≡ builtState o (length xs) (tablesOf o xs ys ws)
     → c ≡ written (o .«node_size») (length xs) (tablesOf o xs ys ws) l
     → outcome (record { reply = Done; state = s }) c ≡ byReply o xs ys ws l Done
 all-tables o xs ys ws l s c e f = λ i. record { reply = record { reply = Done; state = e i }; columns = f i }
 
 -- what stands beside a refusal
-no-tables : (o : Options) (r : Loaded) (b : LoadReply) (l : Lent) → r .reply ≡ b → r .state ≡ newState o 0 → outcome r l ≡ refused o b l
+no-tables : (o : Options) (r : Loaded) (b : LoadReply) (l : BuildColumns) → r .reply ≡ b → r .state ≡ newState o 0 → outcome r l ≡ refusedBuild o b l
 no-tables o r b l e f = λ i. record { reply = record { reply = e i; state = f i }; columns = l }
 
-abbrev old : tie.Start → Lent
+abbrev old : tie.Start → BuildColumns
 old s = let a = s .args in (givenAll (a .x) (a .y) (a .seen) (a .id) (a .parent) (a .num) (a .energy) (a .ids) (a .coords) (a .near))
 
 -- ---- what the check tells
@@ -170,7 +170,7 @@ returns c =
     let w = b .build-all in
     let l = w .last .1 .1 .1 .1 in
     let l′ = l .1 .1 .1 .1 .1 .1 in
-    let c′ : Lent = lent (cols (l .0) (l .1 .0) (l .1 .1 .0) (l .1 .1 .1 .0) (l .1 .1 .1 .1 .0) (l .1 .1 .1 .1 .1 .0) (l′ .0)) (l′ .1 .0) (l′ .1 .1 .0) (l′ .1 .1 .1 .0) in
+    let c′ : BuildColumns = buildColumns (cols (l .0) (l .1 .0) (l .1 .1 .0) (l .1 .1 .1 .0) (l .1 .1 .1 .1 .0) (l .1 .1 .1 .1 .1 .0) (l′ .0)) (l′ .1 .0) (l′ .1 .1 .0) (l′ .1 .1 .1 .0) in
     all-tables (a .o) (a .xs .now) (a .ys .now) (a .energies .now) (old s) (w .result) c′ (w .ensures .0) (w .ensures .1)
     ∙ sym (told k Done (e .enum-told .given .1))
 

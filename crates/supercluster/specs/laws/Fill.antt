@@ -20,10 +20,10 @@ use Rattle.kdbush.specs.declared.Outside.the-variants.{At, Nothing}
 use Rattle.kdslots.specs.laws.All.{All}
 use Rattle.kdbush.specs.Reply.{firstOutside}
 use Rattle.tables.specs.Entries.{Table, entry}
-use Rattle.zoom.specs.laws.Lamps.{sumOf, total}
+use Rattle.zoom.specs.laws.Lamps.{sumOf, lampTotal}
 use Rattle.zoom.specs.Zoom.{energyOf}
 use Rattle.zoom.specs.laws.Sound.{Next}
-use Rattle.zooms.specs.Zooms.{over}
+use Rattle.zooms.specs.Zooms.{laidOver}
 use Rattle.kdbush.specs.laws.Indexed.{Inside}
 use Rattle.supercluster.specs.Build.{convertedAll, lamp, finest, mostEnergy, firstOver}
 
@@ -90,7 +90,7 @@ fill-step {A} d F R t i e h a b q =
     ∙ ap (λ (l : List A). l ++ drop (suc i) R) (sym (take-suc F i d a))
     ∙ ap (λ (j : ℕ). take j F ++ drop j R) (sym (add-one i)))
 
-pub fill-end : {A : Type 0} (F R t : List A) (i n : ℕ) → t ≡ take i F ++ drop i R → length F ≡ n → n ≤ i → i ≤ n → t ≡ over F R
+pub fill-end : {A : Type 0} (F R t : List A) (i n : ℕ) → t ≡ take i F ++ drop i R → length F ≡ n → n ≤ i → i ≤ n → t ≡ laidOver F R
 fill-end {A} F R t i n h e a b =
     let q : i ≡ length F = omega arith in
     h ∙ ap (λ (j : ℕ). take j F ++ drop j R) q ∙ ap (λ (l : List A). l ++ drop (length F) R) (take-all (length F) F (omega arith))
@@ -104,7 +104,7 @@ finest-fine (p ∷ ps) ws i z h f =
     let w = f 0 (omega arith) in
     (((w .0, w .1, omega arith), h), finest-fine ps ws (suc i) z h (λ k l. f (suc k) (omega (arith, l))))
 
-pub finest-total : (ps : List Point) (ws : List ℕ) (i : ℕ) → total (finest ps ws i) ≡ length (finest ps ws i)
+pub finest-total : (ps : List Point) (ws : List ℕ) (i : ℕ) → lampTotal (finest ps ws i) ≡ length (finest ps ws i)
 unfolding finest sumOf
 finest-total [] ws i = refl
 finest-total (p ∷ ps) ws i = let r = finest-total ps ws (suc i) in omega (arith, r)

@@ -14,8 +14,8 @@ use Rattle.tables.specs.Entries.{Table}
 use Rattle.tables.specs.laws.Bounds.{options-are}
 use Rattle.tables.specs.declared.Options.{Options}
 use Rattle.tables.specs.declared.State.{State}
-use Rattle.zooms.specs.Zooms.{joined, over, starts, lens}
-use Rattle.supercluster.specs.Build.{tablesOf, stateOf, Lent, written}
+use Rattle.zooms.specs.Zooms.{joined, laidOver, starts, lens}
+use Rattle.supercluster.specs.Build.{tablesOf, builtState, BuildColumns, written}
 use Rattle.supercluster.specs.laws.Over.{rows-over}
 use Rattle.supercluster.specs.laws.Ready.{Accepted}
 use Rattle.supercluster.specs.laws.Load.{rowsIn}
@@ -58,13 +58,13 @@ lens-above (t ∷ ts) low l = lens-keep (t ∷ ts) (low + length (t ∷ ts) - 1)
 -- ---- the tables, each in its place
 
 -- ss and ll record the tables ts, low the smallest zoom: the first starts at `at`, and each where the one before ends
-unfoldable pub Laid : List ℕ → List ℕ → ℕ → ℕ → List Table → Type 0
-Laid ss ll low at [] = Unit
-Laid ss ll low at (t ∷ ts) = (getD ss (low + length ts) 0 ≡ at) × (getD ll (low + length ts) 0 ≡ length t) × Laid ss ll low (at + length t) ts
+unfoldable pub LaidOut : List ℕ → List ℕ → ℕ → ℕ → List Table → Type 0
+LaidOut ss ll low at [] = Unit
+LaidOut ss ll low at (t ∷ ts) = (getD ss (low + length ts) 0 ≡ at) × (getD ll (low + length ts) 0 ≡ length t) × LaidOut ss ll low (at + length t) ts
 
 laid : (ts : List Table) (low at : ℕ) (ss ll : List ℕ) → low + length ts ≤ length ss → low + length ts ≤ length ll
-    → Laid (starts (low + length ts - 1) at ts ss) (lens (low + length ts - 1) ts ll) low at ts
-unfolding starts lens Laid
+    → LaidOut (starts (low + length ts - 1) at ts ss) (lens (low + length ts - 1) ts ll) low at ts
+unfolding starts lens LaidOut
 laid [] low at ss ll hs hl = tt
 laid (t ∷ ts) low at ss ll hs hl =
     let z = low + length ts in
@@ -74,22 +74,22 @@ laid (t ∷ ts) low at ss ll hs hl =
     let g = laid ts low (at + length t) ss′ ll′ (omega (arith, length-set ss z at)) (omega (arith, length-set ll z (length t))) in
     let s : getD (starts (z - 1) (at + length t) ts ss′) z 0 ≡ at = starts-above ts low (at + length t) ss′ ∙ getD-set-same ss z at 0 (omega arith) in
     let l : getD (lens (z - 1) ts ll′) z 0 ≡ length t = lens-above ts low ll′ ∙ getD-set-same ll z (length t) 0 (omega arith) in
-    subst (λ (y : ℕ). Laid (starts y at (t ∷ ts) ss) (lens y (t ∷ ts) ll) low at (t ∷ ts)) top (s, l, g)
+    subst (λ (y : ℕ). LaidOut (starts y at (t ∷ ts) ss) (lens y (t ∷ ts) ll) low at (t ∷ ts)) top (s, l, g)
 
 -- ss and ll give the tables ts back, low the smallest zoom, each within the rows R
-pub record Stands (ss ll : List ℕ) (R : Table) (low : ℕ) (ts : List Table) : Type 0 where
+pub record StandsBuilt (ss ll : List ℕ) (R : Table) (low : ℕ) (ts : List Table) : Type 0 where
   pub is : held ss ll R low (length ts) ≡ ts
   pub within : (z : ℕ) → low ≤ z → z < low + length ts → getD ss z 0 + getD ll z 0 ≤ length R
 
 module _ (t : Table) (ts : List Table) (low at : ℕ) (ss ll : List ℕ) (R : Table) (s : getD ss (low + length ts) 0 ≡ at) (l : getD ll (low + length ts) 0 ≡ length t)
-    (e : take (length t) (drop at R) ≡ t) (w : at + length t ≤ length R) (g : Stands ss ll R low ts) where
+    (e : take (length t) (drop at R) ≡ t) (w : at + length t ≤ length R) (g : StandsBuilt ss ll R low ts) where
   within-by : (z : ℕ) → low ≤ z → z < low + length (t ∷ ts) → (b : Bool) → ltb z (low + length ts) ≡ b → getD ss z 0 + getD ll z 0 ≤ length R
   within-by z h k true q = g .within z h (ltb-true z (low + length ts) q)
   within-by z h k false q =
       let same : low + length ts ≡ z = omega (arith, ltb-false z (low + length ts) q) in
       subst (λ (y : ℕ). getD ss y 0 + getD ll y 0 ≤ length R) same (omega (arith, s, l))
 
-  one-more : Stands ss ll R low (t ∷ ts)
+  one-more : StandsBuilt ss ll R low (t ∷ ts)
   unfolding held
   one-more =
       let here : heldAt ss ll R (low + length ts) ≡ t = ap (λ (k : ℕ). part k (getD ll (low + length ts) 0) R) s ∙ ap (λ (k : ℕ). part at k R) l ∙ e in
@@ -98,8 +98,8 @@ module _ (t : Table) (ts : List Table) (low at : ℕ) (ss ll : List ℕ) (R : Ta
         within = λ z h k. within-by z h k (ltb z (low + length ts)) refl;
       }
 
-stands : (ts : List Table) (low at : ℕ) (ss ll : List ℕ) (R rest : Table) → Laid ss ll low at ts → at ≤ length R → drop at R ≡ joined ts ++ rest → Stands ss ll R low ts
-unfolding Laid joined held
+stands : (ts : List Table) (low at : ℕ) (ss ll : List ℕ) (R rest : Table) → LaidOut ss ll low at ts → at ≤ length R → drop at R ≡ joined ts ++ rest → StandsBuilt ss ll R low ts
+unfolding LaidOut joined held
 stands [] low at ss ll R rest d h e = record { is = refl; within = λ z a b. absurd (omega arith) }
 stands (t ∷ ts) low at ss ll R rest d h e =
     let e′ : drop at R ≡ t ++ (joined ts ++ rest) = e ∙ append-assoc t (joined ts) rest in
@@ -115,36 +115,36 @@ module _ (o : Options) (xs ys : List Float) (ws : List ℕ) (a : Accepted o xs y
   tables = tablesOf o xs ys ws
 
   -- its state records them
-  pub built-laid : Laid (stateOf o (length xs) tables .starts) (stateOf o (length xs) tables .lens) (o .«min_zoom») 0 tables
+  pub built-laid : LaidOut (builtState o (length xs) tables .starts) (builtState o (length xs) tables .lens) (o .«min_zoom») 0 tables
   built-laid =
       let z = options-are o (a .options) in
       let n = tables-count o xs ys ws in
       let top : o .«min_zoom» + length tables - 1 ≡ o .«max_zoom» + 1 = omega (arith, z .zooms, n) in
       let room : o .«min_zoom» + length tables ≤ 32 = omega (arith, z .zooms, z .zoom-to, n) in
       let r = length-replicate {A = ℕ} 32 0 in
-      subst (λ (y : ℕ). Laid (starts y 0 tables (replicate 32 0)) (lens y tables (replicate 32 0)) (o .«min_zoom») 0 tables) top
+      subst (λ (y : ℕ). LaidOut (starts y 0 tables (replicate 32 0)) (lens y tables (replicate 32 0)) (o .«min_zoom») 0 tables) top
       (laid tables (o .«min_zoom») 0 (replicate 32 0) (replicate 32 0) (omega (arith, r)) (omega (arith, r)))
 
-  module _ (l : Lent) where
-    rows-are : rowsIn (written (o .«node_size») (length xs) tables l) ≡ over (joined tables) (rowsIn l)
+  module _ (l : BuildColumns) where
+    rows-are : rowsIn (written (o .«node_size») (length xs) tables l) ≡ laidOver (joined tables) (rowsIn l)
     unfolding written
     rows-are = rows-over (joined tables) (l .table)
 
-    pub built-stands : (R : Table) → R ≡ over (joined tables) (rowsIn l)
-        → Stands (stateOf o (length xs) tables .starts) (stateOf o (length xs) tables .lens) R (o .«min_zoom») tables
+    pub built-stands : (R : Table) → R ≡ laidOver (joined tables) (rowsIn l)
+        → StandsBuilt (builtState o (length xs) tables .starts) (builtState o (length xs) tables .lens) R (o .«min_zoom») tables
     built-stands R e =
-        stands tables (o .«min_zoom») 0 (stateOf o (length xs) tables .starts) (stateOf o (length xs) tables .lens) R (drop (length (joined tables)) (rowsIn l)) built-laid (omega arith) e
+        stands tables (o .«min_zoom») 0 (builtState o (length xs) tables .starts) (builtState o (length xs) tables .lens) R (drop (length (joined tables)) (rowsIn l)) built-laid (omega arith) e
 
     -- all of them, and each within the rows
-    pub built-held : heldBy (stateOf o (length xs) tables) (rowsIn (written (o .«node_size») (length xs) tables l)) ≡ tables
+    pub built-held : heldBy (builtState o (length xs) tables) (rowsIn (written (o .«node_size») (length xs) tables l)) ≡ tables
     built-held =
         let z = options-are o (a .options) in
         let n : length tables ≡ o .«max_zoom» + 2 - o .«min_zoom» = omega (arith, z .zooms, tables-count o xs ys ws) in
         let R = rowsIn (written (o .«node_size») (length xs) tables l) in
-        ap (held (stateOf o (length xs) tables .starts) (stateOf o (length xs) tables .lens) R (o .«min_zoom»)) (sym n) ∙ built-stands R rows-are .is
+        ap (held (builtState o (length xs) tables .starts) (builtState o (length xs) tables .lens) R (o .«min_zoom»)) (sym n) ∙ built-stands R rows-are .is
 
     pub built-within : (z : ℕ) → o .«min_zoom» ≤ z → z < o .«max_zoom» + 2
-        → getD (stateOf o (length xs) tables .starts) z 0 + getD (stateOf o (length xs) tables .lens) z 0 ≤ length (rowsIn (written (o .«node_size») (length xs) tables l))
+        → getD (builtState o (length xs) tables .starts) z 0 + getD (builtState o (length xs) tables .lens) z 0 ≤ length (rowsIn (written (o .«node_size») (length xs) tables l))
     built-within z h k =
         let b = options-are o (a .options) in
         built-stands (rowsIn (written (o .«node_size») (length xs) tables l)) rows-are .within z h (omega (arith, b .zooms, tables-count o xs ys ws))

@@ -28,8 +28,8 @@ use Rattle.tables.specs.laws.Rows.{Even, each}
 use Rattle.tables.specs.declared.Entry.{Entry}
 use Rattle.tables.specs.declared.Options.{Options}
 use Rattle.tables.specs.declared.State.{State}
-use Rattle.zooms.specs.Zooms.{joined, joinedIds, joinedCo, over}
-use Rattle.supercluster.specs.Build.{convertedAll, tablesOf, Lent, lent, written, need, roomy, tripleOk, ordered, firstOver}
+use Rattle.zooms.specs.Zooms.{joined, joinedIds, joinedCo, laidOver}
+use Rattle.supercluster.specs.Build.{convertedAll, tablesOf, BuildColumns, buildColumns, written, need, roomy, tripleOk, ordered, firstOver}
 use Rattle.supercluster.specs.Build.{checked, byReply, loaded}
 use Rattle.supercluster.specs.laws.Fill.{pxs, pys, none-over}
 use Rattle.supercluster.specs.laws.Over.{over-map, cut-over}
@@ -45,7 +45,7 @@ done-by true false p q r e = let z : _≡_ {A = ℕ} 0 1 = cc in absurd (omega a
 done-by false b p q r e = let z : _≡_ {A = ℕ} 0 1 = cc in absurd (omega arith)
 
 -- the points of an accepted build, and that its columns are long enough
-pub accepted : (o : Options) (xs ys : List Float) (ws : List ℕ) (l : Lent) → checked o xs ys ws l ≡ Done → Accepted o xs ys ws × (roomy (need o (length xs)) l ≡ true)
+pub accepted : (o : Options) (xs ys : List Float) (ws : List ℕ) (l : BuildColumns) → checked o xs ys ws l ≡ Done → Accepted o xs ys ws × (roomy (need o (length xs)) l ≡ true)
 unfolding checked
 accepted o xs ys ws l e =
     let ps = convertedAll (o .«coordinate_system») xs ys in
@@ -58,7 +58,7 @@ accepted o xs ys ws l e =
     (record { options = w .0; same = q; weighed = eqb-true (length ws) (length xs) (u .1); some = c .0; few = c .1; inside = none-outside (pxs ps) (pys ps) 0 (w .2) both; light = none-over ws 0 (w .3) }, w .4)
 
 -- a build replies what was checked of it
-pub replies : (o : Options) (xs ys : List Float) (ws : List ℕ) (l : Lent) (r : LoadReply) → byReply o xs ys ws l r .reply .reply ≡ r
+pub replies : (o : Options) (xs ys : List Float) (ws : List ℕ) (l : BuildColumns) (r : LoadReply) → byReply o xs ys ws l r .reply .reply ≡ r
 replies o xs ys ws l Done = refl
 replies o xs ys ws l No·Options = refl
 replies o xs ys ws l Count = refl
@@ -67,7 +67,7 @@ replies o xs ys ws l (Energy i) = refl
 replies o xs ys ws l Tables = refl
 
 -- each column holds that much
-pub record Holds (m : ℕ) (l : Lent) : Type 0 where
+pub record Holds (m : ℕ) (l : BuildColumns) : Type 0 where
   pub hx : m ≤ length (l .table .x)
   pub hy : m ≤ length (l .table .y)
   pub hs : m ≤ length (l .table .seen)
@@ -79,7 +79,7 @@ pub record Holds (m : ℕ) (l : Lent) : Type 0 where
   pub hc : m * 2 ≤ length (l .coords)
   pub hr : m ≤ length (l .near)
 
-pub holds : (m : ℕ) (l : Lent) → roomy m l ≡ true → Holds m l
+pub holds : (m : ℕ) (l : BuildColumns) → roomy m l ≡ true → Holds m l
 holds m l e =
     let c = columns (l .table) (l .ids) (l .coords) in
     let w : m ≤ min (roomOf c) (length (l .near)) = leb-true m _ e in
@@ -100,26 +100,26 @@ holds m l e =
     }
 
 -- one column, from the rows
-col : {B : Type 0} (f : Entry → B) (T R R′ : Table) (c c′ d : List B) (m : ℕ) → R′ ≡ over T R → map f R′ ≡ c′ → map f R ≡ c → c ≡ take m d → m ≤ length d → length c′ ≡ m
-    → c′ ++ drop m d ≡ over (map f T) d
+col : {B : Type 0} (f : Entry → B) (T R R′ : Table) (c c′ d : List B) (m : ℕ) → R′ ≡ laidOver T R → map f R′ ≡ c′ → map f R ≡ c → c ≡ take m d → m ≤ length d → length c′ ≡ m
+    → c′ ++ drop m d ≡ laidOver (map f T) d
 col f T R R′ c c′ d m e a b k h l =
-    cut-over (map f T) d c′ m h (sym a ∙ ap (map f) e ∙ over-map f T R ∙ ap (over (map f T)) (b ∙ k)) l
+    cut-over (map f T) d c′ m h (sym a ∙ ap (map f) e ∙ over-map f T R ∙ ap (laidOver (map f T)) (b ∙ k)) l
 
-abbrev pub fronts : ℕ → ℕ → Lent → Lent
-fronts m n l = lent (each (λ A q. take m q) (l .table)) (take m (l .ids)) (take (m * 2) (l .coords)) (take n (l .near))
+abbrev pub fronts : ℕ → ℕ → BuildColumns → BuildColumns
+fronts m n l = buildColumns (each (λ A q. take m q) (l .table)) (take m (l .ids)) (take (m * 2) (l .coords)) (take n (l .near))
 
-abbrev pub rowsIn : Lent → Table
+abbrev pub rowsIn : BuildColumns → Table
 rowsIn l = rows (l .table)
 
 -- the fronts of the columns as they came back, and what follows them
-abbrev pub rejoined : ℕ → ℕ → Lent → Lent → Lent
+abbrev pub rejoined : ℕ → ℕ → BuildColumns → BuildColumns → BuildColumns
 rejoined m n l′ l =
-    lent (each2 (λ A p q. p ++ drop m q) (l′ .table) (l .table)) (l′ .ids ++ drop m (l .ids)) (l′ .coords ++ drop (m * 2) (l .coords)) (l′ .near ++ drop n (l .near))
+    buildColumns (each2 (λ A p q. p ++ drop m q) (l′ .table) (l .table)) (l′ .ids ++ drop m (l .ids)) (l′ .coords ++ drop (m * 2) (l .coords)) (l′ .near ++ drop n (l .near))
 
-abbrev pub EvenIn : Lent → Type 0
+abbrev pub EvenIn : BuildColumns → Type 0
 EvenIn l = Even (l .table)
 
-pub fronts-even : (m n : ℕ) (l : Lent) → Holds m l → EvenIn (fronts m n l)
+pub fronts-even : (m n : ℕ) (l : BuildColumns) → Holds m l → EvenIn (fronts m n l)
 fronts-even m n l h =
     let c = l .table in
     let e = sym (length-take-le m (c .x) (h .hx)) in
@@ -132,7 +132,7 @@ fronts-even m n l h =
       ew = length-take-le m (c .energy) (h .hw) ∙ e;
     }
 
-module _ (o : Options) (xs ys : List Float) (ws : List ℕ) (m : ℕ) (l l′ : Lent) (s : State) (h : Holds m l)
+module _ (o : Options) (xs ys : List Float) (ws : List ℕ) (m : ℕ) (l l′ : BuildColumns) (s : State) (h : Holds m l)
     (v : EvenIn (fronts m (length xs + length xs) l)) (v′ : EvenIn l′) (k : length (l′ .table .x) ≡ m) (kd : length (l′ .ids) ≡ m) (kc : length (l′ .coords) ≡ m * 2)
     (g : Made o xs ys ws s (rowsIn (fronts m (length xs + length xs) l)) (rowsIn l′) (take m (l .ids)) (l′ .ids) (take (m * 2) (l .coords)) (l′ .coords) (l′ .near)) where
   pub whole : rejoined m (length xs + length xs) l′ l ≡ written (o .«node_size») (length xs) (tablesOf o xs ys ws) l
@@ -152,12 +152,12 @@ module _ (o : Options) (xs ys : List Float) (ws : List ℕ) (m : ℕ) (l l′ : 
       let ed = cut-over (joinedIds (o .«node_size») (tablesOf o xs ys ws)) (l .ids) (l′ .ids) m (h .hd) (g .of-ids) kd in
       let ec = cut-over (joinedCo (o .«node_size») (tablesOf o xs ys ws)) (l .coords) (l′ .coords) (m * 2) (h .hc) (g .of-co) kc in
       let two = length xs + length xs in
-      let er : l′ .near ++ drop two (l .near) ≡ over (replicate two 0) (l .near) =
+      let er : l′ .near ++ drop two (l .near) ≡ laidOver (replicate two 0) (l .near) =
       ap (λ (q : List ℕ). q ++ drop two (l .near)) (g .of-near) ∙ ap (λ (q : ℕ). replicate two 0 ++ drop q (l .near)) (sym (length-replicate {A = ℕ} two 0)) in
       λ i. record { table = record { x = ex i; y = ey i; seen = es i; id = ei i; parent = ep i; num = en i; energy = ew i }; ids = ed i; coords = ec i; near = er i }
 
 -- ---- what `load` leaves, by its reply
 
-pub by-reply : (o : Options) (xs ys : List Float) (ws : List ℕ) (l : Lent) (r r′ : LoadReply) → r ≡ checked o xs ys ws l → r ≡ r′ → loaded o xs ys ws l ≡ byReply o xs ys ws l r′
+pub by-reply : (o : Options) (xs ys : List Float) (ws : List ℕ) (l : BuildColumns) (r r′ : LoadReply) → r ≡ checked o xs ys ws l → r ≡ r′ → loaded o xs ys ws l ≡ byReply o xs ys ws l r′
 unfolding loaded
 by-reply o xs ys ws l r r′ e f = ap (byReply o xs ys ws l) (sym e ∙ f)

@@ -12,25 +12,25 @@ use Rattle.tables.specs.Rows.{Cols, rows, each2}
 use Rattle.tables.specs.declared.Entry.{Entry}
 use Rattle.zoom.specs.laws.Keeps.{cluster-long}
 use Rattle.supercluster.specs.Build.{colsOf}
-use Rattle.zooms.specs.Zooms.{Plan, zoomed, run, joined, over}
+use Rattle.zooms.specs.Zooms.{Plan, zoomed, runZooms, joined, laidOver}
 
 -- what a longer front covers is gone
-pub over-over : {A : Type 0} (T F R : List A) → length F ≤ length T → over T (over F R) ≡ over T R
+pub over-over : {A : Type 0} (T F R : List A) → length F ≤ length T → laidOver T (laidOver F R) ≡ laidOver T R
 over-over T F R h =
     let q : length T ≡ length F + (length T - length F) = omega arith in
     ap (λ (l : List _). T ++ l)
-    (ap (λ (k : ℕ). drop k (over F R)) q ∙ drop-append-add F (drop (length F) R) (length T - length F) ∙ drop-drop (length T - length F) (length F) R ∙ ap (λ (k : ℕ). drop k R) (sym q))
+    (ap (λ (k : ℕ). drop k (laidOver F R)) q ∙ drop-append-add F (drop (length F) R) (length T - length F) ∙ drop-drop (length T - length F) (length F) R ∙ ap (λ (k : ℕ). drop k R) (sym q))
 
 map-append : {B : Type 0} (f : Entry → B) (a b : Table) → map f (a ++ b) ≡ map f a ++ map f b
 map-append f [] b = refl
 map-append f (e ∷ a) b = ap (λ (l : List _). f e ∷ l) (map-append f a b)
 
-pub over-map : {B : Type 0} (f : Entry → B) (T R : Table) → map f (over T R) ≡ over (map f T) (map f R)
+pub over-map : {B : Type 0} (f : Entry → B) (T R : Table) → map f (laidOver T R) ≡ laidOver (map f T) (map f R)
 over-map f T R =
     map-append f T (drop (length T) R) ∙ ap (λ (l : List _). map f T ++ l) (map-drop f (length T) R ∙ ap (λ (k : ℕ). drop k (map f R)) (sym (length-map T f)))
 
 -- the front of a column was lent, and came back with a front of its own
-pub cut-over : {A : Type 0} (l d x : List A) (m : ℕ) → m ≤ length d → x ≡ over l (take m d) → length x ≡ m → x ++ drop m d ≡ over l d
+pub cut-over : {A : Type 0} (l d x : List A) (m : ℕ) → m ≤ length d → x ≡ laidOver l (take m d) → length x ≡ m → x ++ drop m d ≡ laidOver l d
 cut-over l d x m h e k =
     let lt : length (take m d) ≡ m = length-take-le m d h in
     let n : length l ≤ m = omega (arith, ap length e, length-append l (drop (length l) (take m d)), k) in
@@ -44,12 +44,12 @@ cut-long m x d e =
     let whole : length (take m d ++ drop m d) ≡ length d = ap length (take-append-drop m d) in
     omega (arith, e, length-append x (drop m d), length-append (take m d) (drop m d), whole)
 
-pub run-long : (p : Plan) (k : ℕ) (t : Table) → length t ≤ length (joined (run p k t))
-unfolding run joined
+pub run-long : (p : Plan) (k : ℕ) (t : Table) → length t ≤ length (joined (runZooms p k t))
+unfolding runZooms joined
 run-long p zero t = omega (arith, length-append t [])
 run-long p (suc k) t =
     let h : length (zoomed p (p .options .«min_zoom» + k) t .table) ≡ length t = cluster-long (p .count) (p .options .«min_points») (p .options .«min_zoom» + k) _ t in
-    omega (arith, length-append (zoomed p (p .options .«min_zoom» + k) t .table) (joined (run p k (zoomed p (p .options .«min_zoom» + k) t .next))), h)
+    omega (arith, length-append (zoomed p (p .options .«min_zoom» + k) t .table) (joined (runZooms p k (zoomed p (p .options .«min_zoom» + k) t .next))), h)
 
 -- ---- the rows of columns that have a table at their front
 
@@ -58,9 +58,9 @@ unfolding rows
 rows-append [] c = refl
 rows-append (q ∷ T) c = ap (λ (t : Table). q ∷ t) (rows-append T c)
 
-pub rows-over : (T : Table) (c : Cols) → rows (each2 (λ A l q. over l q) (colsOf T) c) ≡ over T (rows c)
+pub rows-over : (T : Table) (c : Cols) → rows (each2 (λ A l q. laidOver l q) (colsOf T) c) ≡ laidOver T (rows c)
 rows-over T c =
     rows-append T (each2 (λ A l q. drop (length l) q) (colsOf T) c) ∙ ap (λ (t : Table). T ++ t) (simp length-map (rows-drop (length T) c))
 
-pub over-length : {A : Type 0} (l d : List A) → length l ≤ length d → length (over l d) ≡ length d
+pub over-length : {A : Type 0} (l d : List A) → length l ≤ length d → length (laidOver l d) ≡ length d
 over-length l d h = omega (arith, length-append l (drop (length l) d), length-drop (length l) d)

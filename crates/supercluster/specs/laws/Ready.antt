@@ -19,15 +19,15 @@ use Rattle.tables.specs.Rows.{Cols, rows}
 use Rattle.tables.specs.State.{newState, withTable}
 use Rattle.tables.specs.declared.Options.{Options}
 use Rattle.tables.specs.declared.State.{State}
-use Rattle.zoom.specs.laws.Lamps.{sumOf, total}
+use Rattle.zoom.specs.laws.Lamps.{sumOf, lampTotal}
 use Rattle.zoom.specs.Zoom.{energyOf}
 use Rattle.zoom.specs.laws.Sound.{Body, Next}
-use Rattle.zooms.specs.Zooms.{slotsOf, planOf, run, zoomsOf, joined, joinedIds, joinedCo, over, starts, lens}
+use Rattle.zooms.specs.Zooms.{indexOfTable, zoomPlan, runZooms, zoomsOf, joined, joinedIds, joinedCo, laidOver, starts, lens}
 use Rattle.kdbush.specs.laws.Indexed.{Inside}
 use Rattle.zooms.specs.laws.Parts.{putAt, part-put}
 use Rattle.zooms.specs.laws.Progress.{Finished, starts-again, lens-again}
 use Rattle.zooms.specs.laws.Running.{Able, Running, table-inside, slots-ids, slots-co}
-use Rattle.supercluster.specs.Build.{convertedAll, tablesOf, stateOf, need, mostEnergy}
+use Rattle.supercluster.specs.Build.{convertedAll, tablesOf, builtState, need, mostEnergy}
 use Rattle.supercluster.specs.laws.Fill.{lamps, lamps-length, converted-length, finest-fine, finest-total, finest-watts, pxs, pys}
 use Rattle.supercluster.specs.laws.Over.{over-over, run-long}
 
@@ -43,10 +43,10 @@ pub record Accepted (o : Options) (xs ys : List Float) (ws : List ℕ) : Type 0 
 
 -- what a build leaves of columns that just hold it
 pub record Made (o : Options) (xs ys : List Float) (ws : List ℕ) (s : State) (r r′ : Table) (ids ids′ : List ℕ) (co co′ : List Float) (near′ : List ℕ) : Type 0 where
-  pub of-state : s ≡ stateOf o (length xs) (tablesOf o xs ys ws)
-  pub of-rows : r′ ≡ over (joined (tablesOf o xs ys ws)) r
-  pub of-ids : ids′ ≡ over (joinedIds (o .«node_size») (tablesOf o xs ys ws)) ids
-  pub of-co : co′ ≡ over (joinedCo (o .«node_size») (tablesOf o xs ys ws)) co
+  pub of-state : s ≡ builtState o (length xs) (tablesOf o xs ys ws)
+  pub of-rows : r′ ≡ laidOver (joined (tablesOf o xs ys ws)) r
+  pub of-ids : ids′ ≡ laidOver (joinedIds (o .«node_size») (tablesOf o xs ys ws)) ids
+  pub of-co : co′ ≡ laidOver (joinedCo (o .«node_size») (tablesOf o xs ys ws)) co
   pub of-near : near′ ≡ replicate (length xs + length xs) 0
 
 -- the state before the first zoom: the finest table alone
@@ -72,7 +72,7 @@ need-two o n h =
     let q : zoomsOf o * n ≡ k * n + n = ap (λ (j : ℕ). j * n) e ∙ suc-mul k n in
     omega (arith, need-some o n h, q)
 
-pub able : (o : Options) (xs ys : List Float) (ws : List ℕ) → Accepted o xs ys ws → Able (planOf o (length xs))
+pub able : (o : Options) (xs ys : List Float) (ws : List ℕ) → Accepted o xs ys ws → Able (zoomPlan o (length xs))
 able o xs ys ws a =
     let z = options-are o (a .options) in
     record { some = a .some; few = a .few; size-from = z .size-from; size-to = z .size-to; radius-from = z .radius-from; radius-to = z .radius-to; extent-from = z .extent-from; extent-to = z .extent-to }
@@ -88,13 +88,13 @@ module _ (o : Options) (xs ys : List Float) (ws : List ℕ) (a : Accepted o xs y
   F-body = all-map (Next 0) Body (λ e q. q .0) (lamps (o .«coordinate_system») xs ys ws) (F-fine 0 (omega arith))
 
   -- the first part of rows that begin with the finest table
-  first-part : (t R : Table) → t ≡ over (lamps (o .«coordinate_system») xs ys ws) R → part 0 (length xs) t ≡ lamps (o .«coordinate_system») xs ys ws
+  first-part : (t R : Table) → t ≡ laidOver (lamps (o .«coordinate_system») xs ys ws) R → part 0 (length xs) t ≡ lamps (o .«coordinate_system») xs ys ws
   first-part t R e =
-      ap (take (length xs)) e ∙ ap (λ (k : ℕ). take k (over (lamps (o .«coordinate_system») xs ys ws) R)) (sym F-long)
+      ap (take (length xs)) e ∙ ap (λ (k : ℕ). take k (laidOver (lamps (o .«coordinate_system») xs ys ws) R)) (sym F-long)
       ∙ take-append-seam (lamps (o .«coordinate_system») xs ys ws) (drop (length (lamps (o .«coordinate_system») xs ys ws)) R)
 
   -- and its points lie within [0,1]
-  pub first-inside : (c : Cols) (R : Table) → length (c .y) ≡ length (c .x) → rows c ≡ over (lamps (o .«coordinate_system») xs ys ws) R
+  pub first-inside : (c : Cols) (R : Table) → length (c .y) ≡ length (c .x) → rows c ≡ laidOver (lamps (o .«coordinate_system») xs ys ws) R
       → Inside (part 0 (length xs) (c .x)) (part 0 (length xs) (c .y))
   first-inside c R h e =
       subst (λ (q : List Float). Inside q (part 0 (length xs) (c .y))) (sym (xs-part 0 (length xs) c))
@@ -109,11 +109,11 @@ module _ (o : Options) (xs ys : List Float) (ws : List ℕ) (a : Accepted o xs y
       let n : length ps ≤ 1048576 = omega (arith, converted-length (o .«coordinate_system») xs ys (a .same), a .few) in
       le-trans w (le-trans (mul-le-mul n (le-refl mostEnergy)) (lit≤ tt))
 
-  module _ (t R : Table) (ids ids₀ : List ℕ) (co co₀ : List Float) (et : t ≡ over (lamps (o .«coordinate_system») xs ys ws) R)
+  module _ (t R : Table) (ids ids₀ : List ℕ) (co co₀ : List Float) (et : t ≡ laidOver (lamps (o .«coordinate_system») xs ys ws) R)
       (lt : length t ≡ need o (length xs)) (li : length ids₀ ≡ need o (length xs)) (lc : length co₀ ≡ need o (length xs) * 2)
       (li′ : length ids ≡ length ids₀) (lc′ : length co ≡ length co₀)
-      (ei : ids ≡ putAt 0 (length xs) (slotsOf (o .«node_size») (part 0 (length xs) t) .ids) ids₀)
-      (ec : co ≡ putAt 0 (length xs * 2) (slotsOf (o .«node_size») (part 0 (length xs) t) .co) co₀) where
+      (ei : ids ≡ putAt 0 (length xs) (indexOfTable (o .«node_size») (part 0 (length xs) t) .ids) ids₀)
+      (ec : co ≡ putAt 0 (length xs * 2) (indexOfTable (o .«node_size») (part 0 (length xs) t) .co) co₀) where
     fp : part 0 (length xs) t ≡ lamps (o .«coordinate_system») xs ys ws
     fp = first-part t R et
 
@@ -129,10 +129,10 @@ module _ (o : Options) (xs ys : List Float) (ws : List ℕ) (a : Accepted o xs y
     cur-body : All Body (part 0 (length xs) t)
     cur-body = rw fp F-body
 
-    ids-len : length (slotsOf (o .«node_size») (part 0 (length xs) t) .ids) ≡ length xs
+    ids-len : length (indexOfTable (o .«node_size») (part 0 (length xs) t) .ids) ≡ length xs
     ids-len = slots-ids (o .«node_size») (part 0 (length xs) t) (options-are o (a .options) .size-from) (options-are o (a .options) .size-to) cur-some cur-most cur-body ∙ cur-long
 
-    co-len : length (slotsOf (o .«node_size») (part 0 (length xs) t) .co) ≡ length xs * 2
+    co-len : length (indexOfTable (o .«node_size») (part 0 (length xs) t) .co) ≡ length xs * 2
     co-len = slots-co (o .«node_size») (part 0 (length xs) t) (options-are o (a .options) .size-from) (options-are o (a .options) .size-to) cur-some cur-most cur-body ∙ ap (λ (q : ℕ). q * 2) cur-long
 
     room : 0 + length xs + zoomsOf o * length xs ≤ need o (length xs)
@@ -144,7 +144,7 @@ module _ (o : Options) (xs ys : List Float) (ws : List ℕ) (a : Accepted o xs y
     co-fit : 0 + length xs * 2 ≤ length co₀
     co-fit = omega (arith, room, lc)
 
-    ready : Running (planOf o (length xs)) (need o (length xs)) (zoomsOf o) 0 (length xs) t ids co
+    ready : Running (zoomPlan o (length xs)) (need o (length xs)) (zoomsOf o) 0 (length xs) t ids co
     ready =
         let z = options-are o (a .options) in
         record {
@@ -152,66 +152,66 @@ module _ (o : Options) (xs ys : List Float) (ws : List ℕ) (a : Accepted o xs y
           low-few = omega (arith, z .zooms, z .zoom-to);
           M-few = need-few o xs ys ws a;
           fine = rw fp (F-fine (o .«min_zoom» + zoomsOf o) (omega (arith, z .zooms, z .zoom-to)));
-          lamps = ap total fp ∙ finest-total (convertedAll (o .«coordinate_system») xs ys) ws 0 ∙ F-long;
+          lamps = ap lampTotal fp ∙ finest-total (convertedAll (o .«coordinate_system») xs ys) ws 0 ∙ F-long;
           watts = rw fp F-watts;
           len-few = omega arith;
           room = room;
           long = lt;
           ids-long = li′ ∙ li;
           co-long = lc′ ∙ lc;
-          ids-at = ap (part 0 (length xs)) ei ∙ part-put 0 (length xs) (slotsOf (o .«node_size») (part 0 (length xs) t) .ids) ids₀ ids-fit ids-len;
-          co-at = ap (part 0 (length xs * 2)) ec ∙ part-put 0 (length xs * 2) (slotsOf (o .«node_size») (part 0 (length xs) t) .co) co₀ co-fit co-len;
+          ids-at = ap (part 0 (length xs)) ei ∙ part-put 0 (length xs) (indexOfTable (o .«node_size») (part 0 (length xs) t) .ids) ids₀ ids-fit ids-len;
+          co-at = ap (part 0 (length xs * 2)) ec ∙ part-put 0 (length xs * 2) (indexOfTable (o .«node_size») (part 0 (length xs) t) .co) co₀ co-fit co-len;
         }
 
-    pub ready-at : (s : State) (M : ℕ) → s ≡ firstState o (length xs) → M ≡ need o (length xs) → Running (planOf (s .options) (length xs)) M (zoomsOf (s .options)) 0 (length xs) t ids co
+    pub ready-at : (s : State) (M : ℕ) → s ≡ firstState o (length xs) → M ≡ need o (length xs) → Running (zoomPlan (s .options) (length xs)) M (zoomsOf (s .options)) 0 (length xs) t ids co
     ready-at s M e k =
-        subst (λ (v : State). Running (planOf (v .options) (length xs)) M (zoomsOf (v .options)) 0 (length xs) t ids co) (sym e)
-        (subst (λ (v : ℕ). Running (planOf o (length xs)) v (zoomsOf o) 0 (length xs) t ids co) (sym k) ready)
+        subst (λ (v : State). Running (zoomPlan (v .options) (length xs)) M (zoomsOf (v .options)) 0 (length xs) t ids co) (sym e)
+        (subst (λ (v : ℕ). Running (zoomPlan o (length xs)) v (zoomsOf o) 0 (length xs) t ids co) (sym k) ready)
 
     -- the loop's results, against what the columns held before the first table was written
     module _ (s′ : State) (t′ : Table) (ids′ : List ℕ) (co′ : List Float)
-        (f : Finished (planOf o (length xs)) (zoomsOf o) (firstState o (length xs)) s′ (part 0 (length xs) t) t t′ ids ids′ co co′) where
-      runs : run (planOf o (length xs)) (zoomsOf o) (part 0 (length xs) t) ≡ tablesOf o xs ys ws
+        (f : Finished (zoomPlan o (length xs)) (zoomsOf o) (firstState o (length xs)) s′ (part 0 (length xs) t) t t′ ids ids′ co co′) where
+      runs : runZooms (zoomPlan o (length xs)) (zoomsOf o) (part 0 (length xs) t) ≡ tablesOf o xs ys ws
       unfolding tablesOf
-      runs = ap (run (planOf o (length xs)) (zoomsOf o)) fp
+      runs = ap (runZooms (zoomPlan o (length xs)) (zoomsOf o)) fp
 
       whole-long : length xs ≤ length (joined (tablesOf o xs ys ws))
-      whole-long = rw (sym runs) (omega (arith, run-long (planOf o (length xs)) (zoomsOf o) (part 0 (length xs) t), cur-long))
+      whole-long = rw (sym runs) (omega (arith, run-long (zoomPlan o (length xs)) (zoomsOf o) (part 0 (length xs) t), cur-long))
 
-      rows-built : t′ ≡ over (joined (tablesOf o xs ys ws)) R
+      rows-built : t′ ≡ laidOver (joined (tablesOf o xs ys ws)) R
       rows-built =
-          f .of-rows ∙ ap (λ (q : List Table). over (joined q) t) runs ∙ ap (over (joined (tablesOf o xs ys ws))) et
+          f .of-rows ∙ ap (λ (q : List Table). laidOver (joined q) t) runs ∙ ap (laidOver (joined (tablesOf o xs ys ws))) et
           ∙ over-over (joined (tablesOf o xs ys ws)) (lamps (o .«coordinate_system») xs ys ws) R (omega (arith, whole-long, F-long))
 
-      ids-built : ids′ ≡ over (joinedIds (o .«node_size») (tablesOf o xs ys ws)) ids₀
+      ids-built : ids′ ≡ laidOver (joinedIds (o .«node_size») (tablesOf o xs ys ws)) ids₀
       ids-built =
-          let I = slotsOf (o .«node_size») (part 0 (length xs) t) .ids in
-          let e : ids ≡ over I ids₀ = ei ∙ ap (λ (k : ℕ). I ++ drop k ids₀) (sym ids-len) in
+          let I = indexOfTable (o .«node_size») (part 0 (length xs) t) .ids in
+          let e : ids ≡ laidOver I ids₀ = ei ∙ ap (λ (k : ℕ). I ++ drop k ids₀) (sym ids-len) in
           let l : length (joinedIds (o .«node_size») (tablesOf o xs ys ws)) ≡ length (joined (tablesOf o xs ys ws)) = rw (sym runs) (f .ids-long) in
-          f .of-ids ∙ ap (λ (q : List Table). over (joinedIds (o .«node_size») q) ids) runs ∙ ap (over (joinedIds (o .«node_size») (tablesOf o xs ys ws))) e
+          f .of-ids ∙ ap (λ (q : List Table). laidOver (joinedIds (o .«node_size») q) ids) runs ∙ ap (laidOver (joinedIds (o .«node_size») (tablesOf o xs ys ws))) e
           ∙ over-over (joinedIds (o .«node_size») (tablesOf o xs ys ws)) I ids₀ (omega (arith, whole-long, l, ids-len))
 
-      co-built : co′ ≡ over (joinedCo (o .«node_size») (tablesOf o xs ys ws)) co₀
+      co-built : co′ ≡ laidOver (joinedCo (o .«node_size») (tablesOf o xs ys ws)) co₀
       co-built =
-          let C = slotsOf (o .«node_size») (part 0 (length xs) t) .co in
-          let e : co ≡ over C co₀ = ec ∙ ap (λ (k : ℕ). C ++ drop k co₀) (sym co-len) in
+          let C = indexOfTable (o .«node_size») (part 0 (length xs) t) .co in
+          let e : co ≡ laidOver C co₀ = ec ∙ ap (λ (k : ℕ). C ++ drop k co₀) (sym co-len) in
           let l : length (joinedCo (o .«node_size») (tablesOf o xs ys ws)) ≡ length (joined (tablesOf o xs ys ws)) * 2 = rw (sym runs) (f .co-long) in
-          f .of-co ∙ ap (λ (q : List Table). over (joinedCo (o .«node_size») q) co) runs ∙ ap (over (joinedCo (o .«node_size») (tablesOf o xs ys ws))) e
+          f .of-co ∙ ap (λ (q : List Table). laidOver (joinedCo (o .«node_size») q) co) runs ∙ ap (laidOver (joinedCo (o .«node_size») (tablesOf o xs ys ws))) e
           ∙ over-over (joinedCo (o .«node_size») (tablesOf o xs ys ws)) C co₀ (omega (arith, whole-long, l, co-len))
 
       top-is : o .«min_zoom» + zoomsOf o ≡ o .«max_zoom» + 1
       top-is = let z = options-are o (a .options) in omega (arith, z .zooms, z .zoom-to)
 
-      state-built : s′ ≡ stateOf o (length xs) (tablesOf o xs ys ws)
+      state-built : s′ ≡ builtState o (length xs) (tablesOf o xs ys ws)
       state-built =
-          let p = planOf o (length xs) in
+          let p = zoomPlan o (length xs) in
           let Z = o .«max_zoom» + 1 in
           let a3 : s′ .starts ≡ starts Z 0 (tablesOf o xs ys ws) (replicate 32 0) =
-          f .of-starts ∙ ap (λ (k : ℕ). starts k 0 (run p (zoomsOf o) (part 0 (length xs) t)) (set (replicate 32 0) Z 0)) top-is
+          f .of-starts ∙ ap (λ (k : ℕ). starts k 0 (runZooms p (zoomsOf o) (part 0 (length xs) t)) (set (replicate 32 0) Z 0)) top-is
           ∙ starts-again p (zoomsOf o) (part 0 (length xs) t) Z 0 (replicate 32 0)
           ∙ ap (λ (q : List Table). starts Z 0 q (replicate 32 0)) runs in
           let a4 : s′ .lens ≡ lens Z (tablesOf o xs ys ws) (replicate 32 0) =
-          f .of-lens ∙ ap (λ (k : ℕ). lens k (run p (zoomsOf o) (part 0 (length xs) t)) (set (replicate 32 0) Z (length xs))) top-is
+          f .of-lens ∙ ap (λ (k : ℕ). lens k (runZooms p (zoomsOf o) (part 0 (length xs) t)) (set (replicate 32 0) Z (length xs))) top-is
           ∙ lens-again p (zoomsOf o) (part 0 (length xs) t) Z (length xs) (replicate 32 0) cur-long
           ∙ ap (λ (q : List Table). lens Z q (replicate 32 0)) runs in
           λ i. record { options = f .of-options i; count = f .of-count i; starts = a3 i; lens = a4 i }
@@ -220,8 +220,8 @@ module _ (o : Options) (xs ys : List Float) (ws : List ℕ) (a : Accepted o xs y
       made near′ e = record { of-state = state-built; of-rows = rows-built; of-ids = ids-built; of-co = co-built; of-near = e }
 
     pub made-at : (s s′ : State) (t′ : Table) (ids′ : List ℕ) (co′ : List Float) (near′ : List ℕ) → s ≡ firstState o (length xs)
-        → Finished (planOf (s .options) (length xs)) (zoomsOf (s .options)) s s′ (part 0 (length xs) t) t t′ ids ids′ co co′ → near′ ≡ replicate (length xs + length xs) 0
+        → Finished (zoomPlan (s .options) (length xs)) (zoomsOf (s .options)) s s′ (part 0 (length xs) t) t t′ ids ids′ co co′ → near′ ≡ replicate (length xs + length xs) 0
         → Made o xs ys ws s′ R t′ ids₀ ids′ co₀ co′ near′
     made-at s s′ t′ ids′ co′ near′ e f =
         made s′ t′ ids′ co′
-        (subst (λ (v : State). Finished (planOf (v .options) (length xs)) (zoomsOf (v .options)) v s′ (part 0 (length xs) t) t t′ ids ids′ co co′) e f) near′
+        (subst (λ (v : State). Finished (zoomPlan (v .options) (length xs)) (zoomsOf (v .options)) v s′ (part 0 (length xs) t) t t′ ids ids′ co co′) e f) near′

@@ -7,9 +7,9 @@ use lib.Ieee.{Float}
 use Rattle.floats.specs.laws.Replies.{same-reply}
 use Rattle.tables.specs.declared.Options.{Options}
 use Rattle.supercluster.specs.declared.LoadReply.{LoadReply}
-use Rattle.supercluster.specs.Build.{Lent, Outcome, loaded, loadNumber, loadCarried}
+use Rattle.supercluster.specs.Build.{BuildColumns, Outcome, loaded, loadNumber, loadCarried}
 
-pub load-outcomes : (o : Options) (xs ys : List Float) (ws : List ℕ) (l : Lent) (r t : Outcome) → r ≡ loaded o xs ys ws l
+pub load-outcomes : (o : Options) (xs ys : List Float) (ws : List ℕ) (l : BuildColumns) (r t : Outcome) → r ≡ loaded o xs ys ws l
     → t ≡ loaded o xs ys ws l → r ≡ t
 load-outcomes o xs ys ws l r t = same-reply
 

@@ -15,10 +15,10 @@ use Rattle.tables.specs.laws.Bounds.{options-are}
 use Rattle.tables.specs.Entries.{Table}
 use Rattle.tables.specs.Radius.{radiusAt}
 use Rattle.tables.specs.declared.Options.{Options}
-use Rattle.zoom.specs.laws.Lamps.{sumOf, total}
+use Rattle.zoom.specs.laws.Lamps.{sumOf, lampTotal}
 use Rattle.zoom.specs.Zoom.{energyOf}
 use Rattle.zoom.specs.laws.Sound.{Body, Next, cluster-sound}
-use Rattle.zooms.specs.Zooms.{nearIn, Plan, planOf, zoomed, run, zoomsOf, joined}
+use Rattle.zooms.specs.Zooms.{nearIn, Plan, zoomPlan, zoomed, runZooms, zoomsOf, joined}
 use Rattle.zooms.specs.laws.Running.{Able, total-some, slots-promised}
 use Rattle.supercluster.specs.Build.{convertedAll, tablesOf, need}
 use Rattle.supercluster.specs.laws.Fill.{lamps-length, finest-fine, finest-total, lamps}
@@ -27,7 +27,7 @@ use Rattle.supercluster.specs.laws.Ready.{Accepted, need-some, able}
 -- what is true of a table of a build of n lamps
 pub record Right (n w : ℕ) (t : Table) : Type 0 where
   pub unit : All Body t
-  pub lamps : total t ≡ n
+  pub lamps : lampTotal t ≡ n
   pub energies : sumOf energyOf t ≡ w
   pub some : 1 ≤ length t
   pub few : length t ≤ n
@@ -36,8 +36,8 @@ module _ (p : Plan) (a : Able p) where
   near-once : (t : Table) → All Body t → 1 ≤ length t → length t ≤ 1048576 → (rad qx qy : Float) → Distinct (nearIn (p .options .«node_size») rad t qx qy)
   near-once t b s m rad qx qy = slots-promised (p .options .«node_size») t (a .size-from) (a .size-to) s m b .once (Within qx qy rad)
 
-  pub run-right : (k : ℕ) (t : Table) → p .options .«min_zoom» + k ≤ 31 → All (Next (p .options .«min_zoom» + k)) t → total t ≡ p .count → length t ≤ p .count → (w : ℕ) → sumOf energyOf t ≡ w → All (Right (p .count) w) (run p k t)
-  unfolding run All
+  pub run-right : (k : ℕ) (t : Table) → p .options .«min_zoom» + k ≤ 31 → All (Next (p .options .«min_zoom» + k)) t → lampTotal t ≡ p .count → length t ≤ p .count → (w : ℕ) → sumOf energyOf t ≡ w → All (Right (p .count) w) (runZooms p k t)
+  unfolding runZooms All
   run-right zero t h f e l w j =
       let s = total-some t (omega (arith, e, a .some)) in
       (record { unit = all-map (Next (p .options .«min_zoom» + 0)) Body (λ e q. q .0) t f; lamps = e; energies = j; some = s; few = l }, tt)
@@ -45,7 +45,7 @@ module _ (p : Plan) (a : Able p) where
       let z = p .options .«min_zoom» + k in
       let s = total-some t (omega (arith, e, a .some)) in
       let b = all-map (Next (p .options .«min_zoom» + suc k)) Body (λ e q. q .0) t f in
-      let few : total t ≤ 1048576 = omega (arith, e, a .few) in
+      let few : lampTotal t ≤ 1048576 = omega (arith, e, a .few) in
       let rad = radiusAt (p .options .radius) (p .options .extent) z in
       let d = cluster-sound (p .count) (p .options .«min_points») z (nearIn (p .options .«node_size») rad t)
       (near-once t b s (omega (arith, l, a .few)) rad) t (rw (add-suc (p .options .«min_zoom») k) at f) (le-trans few (lit≤ tt)) (omega (arith, h)) in (
@@ -61,21 +61,21 @@ tables-right o xs ys ws a =
     let c = o .«coordinate_system» in
     let ps = convertedAll (o .«coordinate_system») xs ys in
     let l = lamps-length (o .«coordinate_system») xs ys ws (a .same) in
-    run-right (planOf o (length xs)) (able o xs ys ws a) (zoomsOf o) (lamps c xs ys ws) (omega (arith, z .zooms, z .zoom-to))
+    run-right (zoomPlan o (length xs)) (able o xs ys ws a) (zoomsOf o) (lamps c xs ys ws) (omega (arith, z .zooms, z .zoom-to))
     (finest-fine ps ws 0 (o .«min_zoom» + zoomsOf o) (omega (arith, z .zooms, z .zoom-to)) (a .inside))
     (finest-total ps ws 0 ∙ l) (omega (arith, l)) (sumOf energyOf (lamps c xs ys ws)) refl
 
 -- ---- how many there are
 
-run-length : (p : Plan) (k : ℕ) (t : Table) → length (run p k t) ≡ suc k
-unfolding run
+run-length : (p : Plan) (k : ℕ) (t : Table) → length (runZooms p k t) ≡ suc k
+unfolding runZooms
 run-length p zero t = refl
 run-length p (suc k) t = ap suc (run-length p k (zoomed p (p .options .«min_zoom» + k) t .next))
 
 -- a build has one table more than zooms
 pub tables-count : (o : Options) (xs ys : List Float) (ws : List ℕ) → length (tablesOf o xs ys ws) ≡ suc (zoomsOf o)
 unfolding tablesOf
-tables-count o xs ys ws = run-length (planOf o (length xs)) (zoomsOf o) (lamps (o .«coordinate_system») xs ys ws)
+tables-count o xs ys ws = run-length (zoomPlan o (length xs)) (zoomsOf o) (lamps (o .«coordinate_system») xs ys ws)
 
 each-few : (n w : ℕ) (ts : List Table) → All (Right n w) ts → length (joined ts) ≤ length ts * n
 unfolding All joined

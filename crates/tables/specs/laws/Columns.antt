@@ -36,20 +36,20 @@ pub rows-part : (a n : ℕ) (c : Cols) → rows (each (λ A l. part a n l) c) �
 rows-part a n c = rows-take n (each (λ A l. drop a l) c) ∙ ap (take n) (rows-drop a c)
 
 -- the part of a column from s on, as it is lent
-abbrev pub from : {A : Type 0} → ℕ → List A → List A
-from s l = take (length l - s) (drop s l)
+abbrev pub fromPart : {A : Type 0} → ℕ → List A → List A
+fromPart s l = take (length l - s) (drop s l)
 
-pub from-drop : {A : Type 0} (s : ℕ) (l : List A) → from s l ≡ drop s l
+pub from-drop : {A : Type 0} (s : ℕ) (l : List A) → fromPart s l ≡ drop s l
 from-drop s l = take-all (length l - s) (drop s l) (rw (length-drop s l) (omega arith))
 
-pub from-length : {A : Type 0} (s : ℕ) (l : List A) → length (from s l) ≡ length l - s
+pub from-length : {A : Type 0} (s : ℕ) (l : List A) → length (fromPart s l) ≡ length l - s
 from-length s l = ap length (from-drop s l) ∙ length-drop s l
 
-pub rows-from : (s : ℕ) (c : Cols) → rows (each (λ A l. from s l) c) ≡ drop s (rows c)
-rows-from s c = ap rows (each-same (λ A l. from s l) (λ A l. drop s l) c (λ A l. from-drop s l)) ∙ rows-drop s c
+pub rows-from : (s : ℕ) (c : Cols) → rows (each (λ A l. fromPart s l) c) ≡ drop s (rows c)
+rows-from s c = ap rows (each-same (λ A l. fromPart s l) (λ A l. drop s l) c (λ A l. from-drop s l)) ∙ rows-drop s c
 
-pub even-from : (s : ℕ) (c : Cols) → Even c → Even (each (λ A l. from s l) c)
-even-from s c v = even-each (λ A l. from s l) (λ k. k - s) c (λ A l. from-length s l) v
+pub even-from : (s : ℕ) (c : Cols) → Even c → Even (each (λ A l. fromPart s l) c)
+even-from s c v = even-each (λ A l. fromPart s l) (λ k. k - s) c (λ A l. from-length s l) v
 
 -- a column whose part from s on came back as p
 abbrev pub back : {A : Type 0} → ℕ → List A → List A → List A

@@ -23,7 +23,7 @@ pub record Stands (s : State) (cap z : ℕ) : Type 0 where
   pub most : lenOf s z ≤ s .count
 
 -- the numbers that bound a build
-pub record Given (s : State) : Type 0 where
+pub record GivenState (s : State) : Type 0 where
   pub bounds : InBounds (s .options)
   pub zooms : s .options .«min_zoom» ≤ s .options .«max_zoom»
   pub zoom-to : s .options .«max_zoom» ≤ 30
@@ -51,7 +51,7 @@ parts s cap e =
     let c = and-both o n (b .0) in
     record { options = c .0; count = c .1; finest = eqb-true _ _ (b .1); tables = a .1 }
 
-pub given : (s : State) (cap : ℕ) → stateOk s cap ≡ true → Given s
+pub given : (s : State) (cap : ℕ) → stateOk s cap ≡ true → GivenState s
 given s cap e =
     let p = parts s cap e in
     let b = options-are (s .options) (p .options) in

@@ -10,11 +10,11 @@ use Rattle.tables.specs.Options.{zoomUsed}
 use Rattle.tables.specs.State.{startOf, lenOf}
 use Rattle.tables.specs.Entries.{Table}
 use Rattle.tables.specs.Room.{Columns}
-use Rattle.asking.specs.laws.Columns.{lent, lent-even}
+use Rattle.asking.specs.laws.Columns.{sliced, lent-even}
 use Rattle.tables.specs.Lent.{givenColumns}
 use Rattle.tiling.specs.Tile.{Visit, visited}
 use Rattle.tiling.specs.laws.Framed.{IsTile}
-use Rattle.tiling.specs.laws.Runs.{Left, run}
+use Rattle.tiling.specs.laws.Runs.{Left, runTile}
 use Rattle.tiles.specs.Asked.{visitsFor}
 use Rattle.tiles.specs.laws.Used.{Spot, spot, spot-at, lent-ok, lent-ids, lentTable, table-used, visits-used}
 use Rattle.tiles.proofs.list_used.Statement.{statement}
@@ -123,7 +123,7 @@ same-length-3 : tie.Need-same-length-3
 same-length-3 c = omega (arith, ended c .list .kept)
 
 abbrev runs : tie.Start → Table → List Visit → Left
-runs s t vs = run t 0 vs (now (s .args .out)) (now (s .args .px)) (now (s .args .py))
+runs s t vs = runTile t 0 vs (now (s .args .out)) (now (s .args .px)) (now (s .args .py))
 
 returns : tie.Need-returns
 returns c =
@@ -136,7 +136,7 @@ returns c =
     let f = from-of w in
     let n = len-of w in
     l .list .ensures
-    ∙ ap (λ (z : ℕ). runs s (lentTable k f (f + n)) (visited (a .s .options) z (a .tx) (a .ty) (lentTable k f (f + n)) (lent f (f + n) (k .ids)) (lent (2 * f) (2 * (f + n)) (k .coords)))) (v .wide .ensures)
+    ∙ ap (λ (z : ℕ). runs s (lentTable k f (f + n)) (visited (a .s .options) z (a .tx) (a .ty) (lentTable k f (f + n)) (sliced f (f + n) (k .ids)) (sliced (2 * f) (2 * (f + n)) (k .coords)))) (v .wide .ensures)
     ∙ ap (λ (vs : List Visit). runs s (lentTable k f (f + n)) vs) (visits-used (a .s) k (a .z) f n (from-is w) (len-is w) (a .tx) (a .ty))
     ∙ ap (λ (t : Table). runs s t (visitsFor (a .s) k (a .z) (a .tx) (a .ty))) (table-used (a .s) k (a .z) f n (from-is w) (len-is w))
 

@@ -4,14 +4,14 @@ use mathlib.Core.Bool.{Bool, true, false}
 use Prim.Native.Nat.{ℕ}
 use borrow.Author.Tests.{not-true, not-false}
 use Rattle.tiling.specs.declared.Tally.the-variants.{Sum, Spoiled}
-use Rattle.tiles.specs.Tallied.{sumOf}
+use Rattle.tiles.specs.Tallied.{tallySum}
 use Rattle.tiles.proofs.sum_of.Statement.{statement}
 use Rattle.tiles.proofs.sum_of.Tie as tie
 
-spoiled : (b : Bool) (s : ℕ) → b ≡ false → Spoiled ≡ sumOf b s
+spoiled : (b : Bool) (s : ℕ) → b ≡ false → Spoiled ≡ tallySum b s
 spoiled b s e = rw e
 
-some : (b : Bool) (s : ℕ) → b ≡ true → Sum s ≡ sumOf b s
+some : (b : Bool) (s : ℕ) → b ≡ true → Sum s ≡ tallySum b s
 some b s e = rw e
 
 returns : tie.Need-returns

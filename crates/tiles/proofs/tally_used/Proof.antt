@@ -10,7 +10,7 @@ use Rattle.tables.specs.Options.{zoomUsed}
 use Rattle.tables.specs.State.{startOf, lenOf}
 use Rattle.tables.specs.Entries.{Table}
 use Rattle.tables.specs.Room.{Columns}
-use Rattle.asking.specs.laws.Columns.{lent, lent-even}
+use Rattle.asking.specs.laws.Columns.{sliced, lent-even}
 use Rattle.tables.specs.Lent.{givenColumns}
 use Rattle.tiling.specs.Tile.{Visit, visited}
 use Rattle.tiling.specs.laws.Framed.{IsTile}
@@ -121,7 +121,7 @@ returns c =
     let f = from-of w in
     let n = len-of w in
     c .add-up .ensures
-    ∙ ap (λ (z : ℕ). runningOf (weightIn z (a .tx) (a .ty)) (lentTable k f (f + n)) (visited (a .s .options) z (a .tx) (a .ty) (lentTable k f (f + n)) (lent f (f + n) (k .ids)) (lent (2 * f) (2 * (f + n)) (k .coords)))) (v .wide .ensures)
+    ∙ ap (λ (z : ℕ). runningOf (weightIn z (a .tx) (a .ty)) (lentTable k f (f + n)) (visited (a .s .options) z (a .tx) (a .ty) (lentTable k f (f + n)) (sliced f (f + n) (k .ids)) (sliced (2 * f) (2 * (f + n)) (k .coords)))) (v .wide .ensures)
     ∙ ap (λ (vs : List Visit). runningOf (weightIn (a .z) (a .tx) (a .ty)) (lentTable k f (f + n)) vs) (visits-used (a .s) k (a .z) f n (from-is w) (len-is w) (a .tx) (a .ty))
     ∙ ap (λ (t : Table). runningOf (weightIn (a .z) (a .tx) (a .ty)) t (visitsFor (a .s) k (a .z) (a .tx) (a .ty))) (table-used (a .s) k (a .z) f n (from-is w) (len-is w))
 

@@ -20,7 +20,7 @@ use Rattle.tiling.specs.declared.Ran.{Ran}
 use Rattle.tiling.specs.Tile.{isTile}
 use Rattle.tiling.specs.laws.Framed.{tile-is}
 use Rattle.tiling.specs.laws.Runs.{outLeft, pxLeft, pyLeft}
-use Rattle.tiles.specs.Asked.{shortest, outcome, tiled}
+use Rattle.tiles.specs.Asked.{shortest, tileOutcome, tiled}
 use Rattle.tiles.specs.laws.Ends.{finish, room-fits, ends-spoiled, ends-no-tile, ends-listed}
 use Rattle.tiles.proofs.tile_lent.Statement.{statement}
 use Rattle.tiles.proofs.tile_lent.Tie as tie
@@ -141,7 +141,7 @@ px-after l = pxLeft (l .list-used .ensures) ++ drop (room-of l .less2 .result) (
 abbrev py-after : tie.After-list-used → List ℤ
 py-after l = pyLeft (l .list-used .ensures) ++ drop (room-of l .less2 .result) (now (begun (room-of l) .args .py))
 
-listed-is : (l : tie.After-list-used) → let a = begun (room-of l) .args in outcome (finish (l .list-used .result) (room-of l .less2 .result)) (places-after l) (px-after l) (py-after l)
+listed-is : (l : tie.After-list-used) → let a = begun (room-of l) .args in tileOutcome (finish (l .list-used .result) (room-of l .less2 .result)) (places-after l) (px-after l) (py-after l)
     ≡ tiled (state-of (begun (room-of l))) (lent-columns (begun (room-of l))) (a .z) (a .tx) (a .ty) (now (a .places)) (now (a .px)) (now (a .py))
 listed-is l =
     let r = room-of l in
@@ -196,7 +196,7 @@ same-length-3 c = py-kept (listing c)
 returns-3 : tie.Need-returns-3
 returns-3 c =
     let l = listing c in
-    sym (ap (λ (q : Ran). outcome (finish q (room-of l .less2 .result)) (places-after l) (px-after l) (py-after l)) (c .enum-told .given .1)) ∙ listed-is l
+    sym (ap (λ (q : Ran). tileOutcome (finish q (room-of l .less2 .result)) (places-after l) (px-after l) (py-after l)) (c .enum-told .given .1)) ∙ listed-is l
 
 same-length-4 : tie.Need-same-length-4
 same-length-4 c = places-kept (listing-some c)
@@ -211,8 +211,8 @@ returns-4 : tie.Need-returns-4
 returns-4 c =
     let k = c .before .before in
     let l = listing-some c in
-    ap (λ (q : Answer). outcome q (places-after l) (px-after l) (py-after l)) (c .some-of .ensures)
-    ∙ sym (ap (λ (q : Ran). outcome (finish q (room-of l .less2 .result)) (places-after l) (px-after l) (py-after l)) (k .k .given .1))
+    ap (λ (q : Answer). tileOutcome q (places-after l) (px-after l) (py-after l)) (c .some-of .ensures)
+    ∙ sym (ap (λ (q : Ran). tileOutcome (finish q (room-of l .less2 .result)) (places-after l) (px-after l) (py-after l)) (k .k .given .1))
     ∙ listed-is l
 
 pub tile-lent-spec : {M : Type 1} → statement M

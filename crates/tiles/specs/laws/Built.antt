@@ -7,7 +7,7 @@ use mathlib.Core.List.{List}
 use Prim.Native.Nat.{ℕ, _<_}
 use lib.ListN.{length}
 use Rattle.floats.specs.laws.Unit.{In01}
-use Rattle.kdsort.specs.Cols.{Cols}
+use Rattle.kdsort.specs.Cols.{IndexCols}
 use Rattle.kdsort.specs.Tree.{Index}
 use Rattle.kdslots.specs.declared.Query.{Query}
 use Rattle.kdslots.specs.Query.{queryOk}
@@ -23,18 +23,18 @@ use Rattle.asking.specs.Asked.{told}
 use Rattle.tables.specs.Room.{Columns, roomOf}
 use Rattle.asking.specs.Columns.{idsAt, coordsAt}
 use Rattle.tiling.specs.declared.Item.{Item}
-use Rattle.tiling.specs.Tile.{isTile, here, east, west, visited, listed, whole, items, itemOf}
+use Rattle.tiling.specs.Tile.{isTile, here, eastStrip, westStrip, visited, tileListed, wholeTile, tileItems, itemOf}
 use Rattle.tiling.specs.laws.Framed.{tile-is}
 use Rattle.tiling.specs.laws.Finite.{walk-whole, here-fine, east-fine, west-fine}
 use Rattle.tiling.specs.laws.Inside.{InTile}
 use Rattle.tiling.specs.laws.Lists.{Lists, tile-whole, tile-lists}
-use Rattle.tiles.specs.Asked.{tableFor, visitsFor, asked}
+use Rattle.tiles.specs.Asked.{tableFor, visitsFor, tileAsked}
 use Rattle.tiles.specs.laws.Used.{coords-ok}
 use Rattle.tiles.specs.laws.Ends.{asked-is}
 
 module _ (s : State) (c : Columns) (z x y : ℕ) (ok : stateOk s (roomOf c) ≡ true) (tile : isTile z x y ≡ true) where
   -- the three ranges are of finite numbers
-  pub ranges-finite : (queryOk (here (s .options) z x y .query) ≡ true) × (queryOk (east (s .options) z x y .query) ≡ true) × (queryOk (west (s .options) z x y .query) ≡ true)
+  pub ranges-finite : (queryOk (here (s .options) z x y .query) ≡ true) × (queryOk (eastStrip (s .options) z x y .query) ≡ true) × (queryOk (westStrip (s .options) z x y .query) ≡ true)
   ranges-finite =
       let b = given s (roomOf c) ok .bounds in
       let w = tile-is z x y tile in
@@ -48,7 +48,7 @@ module _ (s : State) (c : Columns) (z x y : ℕ) (ok : stateOk s (roomOf c) ≡ 
       walk-whole q (s .options .«node_size») (lenOf s u) (coordsAt s (c .coords) u) (coords-ok s c z ok) f
 
   -- the table of the zoom used, with its index
-  module _ (old S : Cols) (I : Index (s .options .«node_size») (xsOf (tableFor s c z)) (ysOf (tableFor s c z)) old S)
+  module _ (old S : IndexCols) (I : Index (s .options .«node_size») (xsOf (tableFor s c z)) (ysOf (tableFor s c z)) old S)
       (ids : idsAt s (c .ids) (zoomUsed (s .options) z) ≡ S .ids) (co : coordsAt s (c .coords) (zoomUsed (s .options) z) ≡ S .co)
       (placed : (p : ℕ) → p < length (tableFor s c z) → In01 (entry (tableFor s c z) p .x) × In01 (entry (tableFor s c z) p .y)) where
     same : visitsFor s c z x y ≡ visited (s .options) z x y (tableFor s c z) (S .ids) (S .co)
@@ -56,12 +56,12 @@ module _ (s : State) (c : Columns) (z x y : ℕ) (ok : stateOk s (roomOf c) ≡ 
 
     -- each entry that lies in the tile is listed, and nothing stops the walk
     pub built-tile : (p : ℕ) → p < length (tableFor s c z) → InTile z x y (entry (tableFor s c z) p .x) (entry (tableFor s c z) p .y)
-        → (l : List Item) × (asked s c z x y ≡ told true l) × Lists (itemOf (here (s .options) z x y) p (entry (tableFor s c z) p)) l
+        → (l : List Item) × (tileAsked s c z x y ≡ told true l) × Lists (itemOf (here (s .options) z x y) p (entry (tableFor s c z) p)) l
     built-tile p h i =
         let t = tableFor s c z in
         let b = given s (roomOf c) ok .bounds in
         let vs = visited (s .options) z x y t (S .ids) (S .co) in
-        let e : asked s c z x y ≡ told (whole t vs) (items t (listed t vs)) =
-        asked-is s c z x y ok tile ∙ ap (λ (v : List _). told (whole t v) (items t (listed t v))) same in
+        let e : tileAsked s c z x y ≡ told (wholeTile t vs) (tileItems t (tileListed t vs)) =
+        asked-is s c z x y ok tile ∙ ap (λ (v : List _). told (wholeTile t v) (tileItems t (tileListed t v))) same in
         let w = tile-whole t placed (s .options) old S I z x y in
-        (items t (listed t vs), e ∙ ap (λ (k : Bool). told k (items t (listed t vs))) w, tile-lists t placed (s .options) old S I z x y b (tile-is z x y tile) p h i)
+        (tileItems t (tileListed t vs), e ∙ ap (λ (k : Bool). told k (tileItems t (tileListed t vs))) w, tile-lists t placed (s .options) old S I z x y b (tile-is z x y tile) p h i)

@@ -21,12 +21,12 @@ use Rattle.tiling.specs.declared.Ran.{Ran}
 use Rattle.tiling.specs.declared.Ran.the-variants.{All, Spoiled}
 use Rattle.tiling.specs.declared.Running.{Running}
 use Rattle.tiling.specs.declared.Tally.the-variants.{Tile as Tally·Tile, Spoiled as Tally·Spoiled}
-use Rattle.tiling.specs.Tile.{isTile, listed, whole, items, itemAt}
-use Rattle.tiling.specs.laws.Runs.{left, run, ranOf, run-is}
+use Rattle.tiling.specs.Tile.{isTile, tileListed, wholeTile, tileItems, itemAt}
+use Rattle.tiling.specs.laws.Runs.{leftRuns, runTile, ranOf, run-is}
 use Rattle.tiling.specs.Tally.{weightIn}
 use Rattle.tiling.specs.laws.Counting.{runningOf}
-use Rattle.tiles.specs.Tallied.{sumOf, tallied}
-use Rattle.tiles.specs.Asked.{tableFor, visitsFor, Asked, asked, someOf, answerOf, shortest, outcome, outcomeOf, tiled}
+use Rattle.tiles.specs.Tallied.{tallySum, tallied}
+use Rattle.tiles.specs.Asked.{tableFor, visitsFor, TileAsked, tileAsked, someOf, tileAnswerOf, shortest, tileOutcome, outcomeOf, tiled}
 
 -- ---- a column
 
@@ -60,7 +60,7 @@ abbrev pub finish : Ran → ℕ → Answer
 finish (All k) room = someOf k room
 finish Spoiled room = No
 
-finish-is : (b : Bool) (l : List Item) (k room : ℕ) → k ≡ length l → finish (ranOf b k) room ≡ answerOf (told b l) room
+finish-is : (b : Bool) (l : List Item) (k room : ℕ) → k ≡ length l → finish (ranOf b k) room ≡ tileAnswerOf (told b l) room
 finish-is true l k room e = ap (λ (n : ℕ). someOf n room) e
 finish-is false l k room e = refl
 
@@ -70,37 +70,37 @@ room-fits a b c = (omega arith, omega arith, omega arith)
 -- ---- the three ends
 
 pub asked-is : (s : State) (c : Columns) (z x y : ℕ) → stateOk s (roomOf c) ≡ true → isTile z x y ≡ true
-    → asked s c z x y ≡ told (whole (tableFor s c z) (visitsFor s c z x y)) (items (tableFor s c z) (listed (tableFor s c z) (visitsFor s c z x y)))
-unfolding asked
+    → tileAsked s c z x y ≡ told (wholeTile (tableFor s c z) (visitsFor s c z x y)) (tileItems (tableFor s c z) (tileListed (tableFor s c z) (visitsFor s c z x y)))
+unfolding tileAsked
 asked-is s c z x y e f = rw (e, f)
 
 module _ (s : State) (c : Columns) (z x y : ℕ) (places : List ℕ) (xs ys : List ℤ) where
-  pub ends-spoiled : stateOk s (roomOf c) ≡ false → outcome No places xs ys ≡ tiled s c z x y places xs ys
-  unfolding asked
+  pub ends-spoiled : stateOk s (roomOf c) ≡ false → tileOutcome No places xs ys ≡ tiled s c z x y places xs ys
+  unfolding tileAsked
   ends-spoiled e = rw e
 
-  pub ends-no-tile : stateOk s (roomOf c) ≡ true → isTile z x y ≡ false → outcome Tile places xs ys ≡ tiled s c z x y places xs ys
-  unfolding asked
+  pub ends-no-tile : stateOk s (roomOf c) ≡ true → isTile z x y ≡ false → tileOutcome Tile places xs ys ≡ tiled s c z x y places xs ys
+  unfolding tileAsked
   ends-no-tile e f = rw (e, f)
 
   pub ends-listed : stateOk s (roomOf c) ≡ true → isTile z x y ≡ true → (room : ℕ) → room ≡ shortest places xs ys → (r : Ran) (o : List ℕ) (a b : List ℤ)
-      → left r o a b ≡ run (tableFor s c z) 0 (visitsFor s c z x y) (take room places) (take room xs) (take room ys)
-      → outcome (finish r room) (o ++ drop room places) (a ++ drop room xs) (b ++ drop room ys) ≡ tiled s c z x y places xs ys
+      → leftRuns r o a b ≡ runTile (tableFor s c z) 0 (visitsFor s c z x y) (take room places) (take room xs) (take room ys)
+      → tileOutcome (finish r room) (o ++ drop room places) (a ++ drop room xs) (b ++ drop room ys) ≡ tiled s c z x y places xs ys
   ends-listed e f room q r o a b h =
       let t = tableFor s c z in
       let vs = visitsFor s c z x y in
-      let l = items t (listed t vs) in
+      let l = tileItems t (tileListed t vs) in
       let w = run-is t vs (take room places) (take room xs) (take room ys) r o a b h in
       let m = room-fits (length places) (length xs) (length ys) in
-      let A : finish r room ≡ answerOf (told (whole t vs) l) room =
-      ap (λ (k : Ran). finish k room) (w .0) ∙ finish-is (whole t vs) l (length (listed t vs)) room (sym (length-map (listed t vs) (itemAt t))) in
+      let A : finish r room ≡ tileAnswerOf (told (wholeTile t vs) l) room =
+      ap (λ (k : Ran). finish k room) (w .0) ∙ finish-is (wholeTile t vs) l (length (tileListed t vs)) room (sym (length-map (tileListed t vs) (itemAt t))) in
       let P : o ++ drop room places ≡ filled (take room (map (λ i. i .place) l)) places =
       ap (λ (k : List ℕ). k ++ drop room places) (w .1) ∙ first-items room (map (λ i. i .place) l) places (omega (arith, m)) in
       let X : a ++ drop room xs ≡ filled (take room (map (λ i. i .x) l)) xs =
       ap (λ (k : List ℤ). k ++ drop room xs) (w .2) ∙ first-items room (map (λ i. i .x) l) xs (omega (arith, m)) in
       let Y : b ++ drop room ys ≡ filled (take room (map (λ i. i .y) l)) ys =
       ap (λ (k : List ℤ). k ++ drop room ys) (w .3) ∙ first-items room (map (λ i. i .y) l) ys (omega (arith, m)) in
-      rw (A, P, X, Y, q) (ap (λ (k : Asked). outcomeOf k places xs ys) (sym (asked-is s c z x y e f)))
+      rw (A, P, X, Y, q) (ap (λ (k : TileAsked). outcomeOf k places xs ys) (sym (asked-is s c z x y e f)))
 
 -- ---- the ends of a tally
 
@@ -114,6 +114,6 @@ module _ (s : State) (c : Columns) (z x y : ℕ) where
   tally-no-tile e f = rw (e, f)
 
   pub tally-summed : stateOk s (roomOf c) ≡ true → isTile z x y ≡ true → (r : Running) → r ≡ runningOf (weightIn z x y) (tableFor s c z) (visitsFor s c z x y)
-      → sumOf (r .whole) (r .sum) ≡ tallied s c z x y
+      → tallySum (r .whole) (r .sum) ≡ tallied s c z x y
   unfolding tallied
-  tally-summed e f r h = rw (e, f) (ap (λ (q : Running). sumOf (q .whole) (q .sum)) h)
+  tally-summed e f r h = rw (e, f) (ap (λ (q : Running). tallySum (q .whole) (q .sum)) h)

@@ -7,10 +7,10 @@ use Rattle.floats.specs.laws.Replies.{same-reply}
 use Rattle.tables.specs.declared.State.{State}
 use Rattle.tables.specs.Room.{Columns}
 use Rattle.tiling.specs.declared.Tally.{Tally}
-use Rattle.tiles.specs.Asked.{Outcome, tiled}
+use Rattle.tiles.specs.Asked.{TileOutcome, tiled}
 use Rattle.tiles.specs.Tallied.{tallied}
 
-pub tile-outcomes : (s : State) (c : Columns) (z x y : ℕ) (places : List ℕ) (xs ys : List ℤ) (r t : Outcome) → r ≡ tiled s c z x y places xs ys → t ≡ tiled s c z x y places xs ys → r ≡ t
+pub tile-outcomes : (s : State) (c : Columns) (z x y : ℕ) (places : List ℕ) (xs ys : List ℤ) (r t : TileOutcome) → r ≡ tiled s c z x y places xs ys → t ≡ tiled s c z x y places xs ys → r ≡ t
 tile-outcomes s c z x y places xs ys r t = same-reply
 
 pub tally-replies : (s : State) (c : Columns) (z x y : ℕ) (r t : Tally) → r ≡ tallied s c z x y → t ≡ tallied s c z x y → r ≡ t

@@ -21,7 +21,7 @@ use Rattle.tables.specs.Columns.{part}
 use Rattle.tables.specs.laws.Columns.{part-long}
 use Rattle.tables.specs.Room.{Columns, roomOf}
 use Rattle.tables.specs.laws.Roomy.{Roomy, each-roomy, room-index, index-roomy}
-use Rattle.asking.specs.laws.Columns.{lent, lent-part, lent-rows, coords-length}
+use Rattle.asking.specs.laws.Columns.{sliced, lent-part, lent-rows, coords-length}
 use Rattle.asking.specs.Columns.{coordsAt}
 use Rattle.asking.specs.laws.Columns.{stands-index}
 use Rattle.tiling.specs.Tile.{visited}
@@ -73,24 +73,24 @@ searchable size n co a b c d e = rw (le-leb 1 size a, le-leb size 65535 b, le-le
 -- ---- what is lent
 
 -- by the lengths that the code finds
-pub lent-length : {A : Type 0} (a n : ℕ) (l : List A) → a + n ≤ length l → length (lent a (a + n) l) ≡ n
+pub lent-length : {A : Type 0} (a n : ℕ) (l : List A) → a + n ≤ length l → length (sliced a (a + n) l) ≡ n
 lent-length a n l h = ap length (lent-part a n l) ∙ part-long a n l h
 
 -- from 2 * a up to 2 * (a + n)
-pub lent-twice : {A : Type 0} (a n : ℕ) (l : List A) → lent (2 * a) (2 * (a + n)) l ≡ part (2 * a) (2 * n) l
+pub lent-twice : {A : Type 0} (a n : ℕ) (l : List A) → sliced (2 * a) (2 * (a + n)) l ≡ part (2 * a) (2 * n) l
 lent-twice a n l =
     let e : 2 * (a + n) ≡ 2 * a + 2 * n = omega arith in
-    ap (λ (k : ℕ). lent (2 * a) k l) e ∙ lent-part (2 * a) (2 * n) l
+    ap (λ (k : ℕ). sliced (2 * a) k l) e ∙ lent-part (2 * a) (2 * n) l
 
 module _ (s : State) (c : Columns) (u a n : ℕ) (p : Spot s c u a n) where
-  pub lent-ok : coordsOk (s .options .«node_size») (length (lent a (a + n) (c .table .x))) (length (lent (2 * a) (2 * (a + n)) (c .coords))) ≡ true
+  pub lent-ok : coordsOk (s .options .«node_size») (length (sliced a (a + n) (c .table .x))) (length (sliced (2 * a) (2 * (a + n)) (c .coords))) ≡ true
   lent-ok =
       let h = lent-length a n (c .table .x) (p .rows-held .hx) in
-      let k : length (lent (2 * a) (2 * (a + n)) (c .coords)) ≡ 2 * n = ap length (lent-twice a n (c .coords)) ∙ part-long (2 * a) (2 * n) (c .coords) (omega (arith, p .coords-held)) in
-      searchable (s .options .«node_size») (length (lent a (a + n) (c .table .x))) (length (lent (2 * a) (2 * (a + n)) (c .coords))) (p .size-from) (p .size-to)
+      let k : length (sliced (2 * a) (2 * (a + n)) (c .coords)) ≡ 2 * n = ap length (lent-twice a n (c .coords)) ∙ part-long (2 * a) (2 * n) (c .coords) (omega (arith, p .coords-held)) in
+      searchable (s .options .«node_size») (length (sliced a (a + n) (c .table .x))) (length (sliced (2 * a) (2 * (a + n)) (c .coords))) (p .size-from) (p .size-to)
       (omega (arith, h, p .some)) (omega (arith, h, p .most)) (omega (arith, h, k))
 
-  pub lent-ids : length (lent a (a + n) (c .table .x)) ≤ length (lent a (a + n) (c .ids))
+  pub lent-ids : length (sliced a (a + n) (c .table .x)) ≤ length (sliced a (a + n) (c .ids))
   lent-ids = omega (arith, lent-length a n (c .table .x) (p .rows-held .hx), lent-length a n (c .ids) (p .ids-held))
 
 -- the index of the zoom used may be searched
@@ -103,11 +103,11 @@ coords-ok s c z e =
 
 -- the same tables, and so the same visits
 abbrev pub lentTable : Columns → ℕ → ℕ → Table
-lentTable c a e = rows (each (λ A l. lent a e l) (c .table))
+lentTable c a e = rows (each (λ A l. sliced a e l) (c .table))
 
 module _ (s : State) (c : Columns) (z a n : ℕ) (ea : a ≡ startOf s (zoomUsed (s .options) z)) (en : n ≡ lenOf s (zoomUsed (s .options) z)) where
   pub table-used : lentTable c a (a + n) ≡ tableFor s c z
   table-used = lent-rows a n (c .table) ∙ rw (ea, en)
 
-  pub visits-used : (x y : ℕ) → visited (s .options) z x y (lentTable c a (a + n)) (lent a (a + n) (c .ids)) (lent (2 * a) (2 * (a + n)) (c .coords)) ≡ visitsFor s c z x y
+  pub visits-used : (x y : ℕ) → visited (s .options) z x y (lentTable c a (a + n)) (sliced a (a + n) (c .ids)) (sliced (2 * a) (2 * (a + n)) (c .coords)) ≡ visitsFor s c z x y
   visits-used x y = rw (table-used, lent-part a n (c .ids), lent-twice a n (c .coords), ea, en)

@@ -6,7 +6,7 @@ use native.Mathlib.Omega.{arith}
 use lib.ListN.{getD, length-set}
 use denote.Ref.{now}
 use borrow.Author.Needs.{needs}
-use Rattle.tiling.specs.laws.Marks.{marked, unmarked, mark-is, bit-fits}
+use Rattle.tiling.specs.laws.Marks.{markedPlaces, unmarked, mark-is, bit-fits}
 use Rattle.tiling.proofs.add_once.Statement.{statement}
 use Rattle.tiling.proofs.add_once.Tie as tie
 
@@ -26,7 +26,7 @@ start-of k = begin (tested k .before)
 abbrev bit-of : Read → ℕ
 bit-of k = k .before .bit .result
 
-unmarked-at : (c : tie.Else1) → marked (now (begin (c .before) .args .marks)) (begin (c .before) .args .q) ≡ false
+unmarked-at : (c : tie.Else1) → markedPlaces (now (begin (c .before) .args .marks)) (begin (c .before) .args .q) ≡ false
 unmarked-at c = sym (c .before .is-marked .ensures) ∙ c .if1 .left
 
 is-marked-requires : tie.Need-is-marked-requires

@@ -14,7 +14,7 @@ use Rattle.tables.specs.Rows.{Cols, rows}
 use Rattle.tables.specs.laws.Rows.{rows-length}
 use Rattle.tables.specs.Lent.{given}
 use Rattle.tiling.specs.declared.Running.{Running}
-use Rattle.tiling.specs.Tile.{Visit, here, east, west, visits, visited}
+use Rattle.tiling.specs.Tile.{Visit, here, eastStrip, westStrip, visits, visited}
 use Rattle.tiling.specs.laws.Three.{here-whole, east-whole, west-whole, own-range}
 use Rattle.tiling.specs.declared.Home.{Home}
 use Rattle.tiling.specs.Tally.{weightIn}
@@ -40,10 +40,10 @@ abbrev here-of : tie.Start → List Visit
 here-of s = let a = s .args in visits (here (a .o) (a .z) (a .tx) (a .ty)) (table s) (now (a .ids)) (now (a .coords))
 
 abbrev east-of : tie.Start → List Visit
-east-of s = let a = s .args in visits (east (a .o) (a .z) (a .tx) (a .ty)) (table s) (now (a .ids)) (now (a .coords))
+east-of s = let a = s .args in visits (eastStrip (a .o) (a .z) (a .tx) (a .ty)) (table s) (now (a .ids)) (now (a .coords))
 
 abbrev west-of : tie.Start → List Visit
-west-of s = let a = s .args in visits (west (a .o) (a .z) (a .tx) (a .ty)) (table s) (now (a .ids)) (now (a .coords))
+west-of s = let a = s .args in visits (westStrip (a .o) (a .z) (a .tx) (a .ty)) (table s) (now (a .ids)) (now (a .coords))
 
 long : (s : tie.Start) → length (table s) ≡ length (now (s .args .x))
 long s = rows-length (columns s)

@@ -14,8 +14,8 @@ use Rattle.tables.specs.Rows.{Cols, rows}
 use Rattle.tables.specs.laws.Rows.{rows-length}
 use Rattle.tables.specs.Lent.{given}
 use Rattle.tiling.specs.declared.Ran.{Ran}
-use Rattle.tiling.specs.Tile.{Visit, here, east, west, visits, visited}
-use Rattle.tiling.specs.laws.Runs.{left, outLeft, pxLeft, pyLeft, run}
+use Rattle.tiling.specs.Tile.{Visit, here, eastStrip, westStrip, visits, visited}
+use Rattle.tiling.specs.laws.Runs.{leftRuns, outLeft, pxLeft, pyLeft, runTile}
 use Rattle.tiling.specs.laws.Three.{here-may, east-may, west-may, here-whole, east-whole, west-whole, own-range, listed-few, first-ends}
 use Rattle.tiling.specs.laws.Three.{second-ends, third-ends}
 use Rattle.tiling.proofs.list.Statement.{statement}
@@ -33,10 +33,10 @@ abbrev here-of : tie.Start → List Visit
 here-of s = let a = s .args in visits (here (a .o) (a .z) (a .tx) (a .ty)) (table s) (now (a .ids)) (now (a .coords))
 
 abbrev east-of : tie.Start → List Visit
-east-of s = let a = s .args in visits (east (a .o) (a .z) (a .tx) (a .ty)) (table s) (now (a .ids)) (now (a .coords))
+east-of s = let a = s .args in visits (eastStrip (a .o) (a .z) (a .tx) (a .ty)) (table s) (now (a .ids)) (now (a .coords))
 
 abbrev west-of : tie.Start → List Visit
-west-of s = let a = s .args in visits (west (a .o) (a .z) (a .tx) (a .ty)) (table s) (now (a .ids)) (now (a .coords))
+west-of s = let a = s .args in visits (westStrip (a .o) (a .z) (a .tx) (a .ty)) (table s) (now (a .ids)) (now (a .coords))
 
 long : (s : tie.Start) → length (table s) ≡ length (now (s .args .x))
 long s = rows-length (columns s)
@@ -63,13 +63,13 @@ abbrev py-1 : tie.After-list-by → List ℤ
 py-1 c = pyLeft (c .list-by .ensures)
 
 listed-here : (c : tie.After-list-by)
-    → left (c .list-by .result) (out-1 c) (px-1 c) (py-1 c) ≡ run (table (begin c)) 0 (here-of (begin c)) (now (begin c .args .out)) (now (begin c .args .px)) (now (begin c .args .py))
+    → leftRuns (c .list-by .result) (out-1 c) (px-1 c) (py-1 c) ≡ runTile (table (begin c)) 0 (here-of (begin c)) (now (begin c .args .out)) (now (begin c .args .px)) (now (begin c .args .py))
 listed-here c =
     let s = begin c in
     let a = s .args in
     let p = s .pre in
     c .list-by .ensures
-    ∙ ap (λ (vs : List Visit). run (table s) 0 vs (now (a .out)) (now (a .px)) (now (a .py)))
+    ∙ ap (λ (vs : List Visit). runTile (table s) 0 vs (now (a .out)) (now (a .px)) (now (a .py)))
     (here-whole (a .o) (a .z) (a .tx) (a .ty) (p .0 .0) (p .0 .1) (here-made c .search-here .result) (table s) (length (now (a .x))) (now (a .ids)) (now (a .coords)) (long s) (p .1 .1 .0) (here-made c .search-here .ensures))
 
 search-here-requires : tie.Need-search-here-requires
@@ -138,9 +138,9 @@ returns-2 c =
     let l = here-ended c in
     let s = begin l in
     let a = s .args in
-    ap (λ (q : Ran). left q (out-1 l) (px-1 l) (py-1 l)) (sym (all-here c .a .given .1))
+    ap (λ (q : Ran). leftRuns q (out-1 l) (px-1 l) (py-1 l)) (sym (all-here c .a .given .1))
     ∙ listed-here l
-    ∙ ap (λ (vs : List Visit). run (table s) 0 vs (now (a .out)) (now (a .px)) (now (a .py)))
+    ∙ ap (λ (vs : List Visit). runTile (table s) 0 vs (now (a .out)) (now (a .px)) (now (a .py)))
     (sym (own-range (a .o) (a .z) (a .tx) (a .ty) (table s) (now (a .ids)) (now (a .coords)) (sym (c .before .is-at-end .ensures) ∙ not-true _ (c .if1 .taken))))
 
 -- ---- the second search
@@ -179,7 +179,7 @@ count-1-few c =
     )
 
 listed-east : (c : tie.After-list-by2) → let l = one-of (east-made c) in
-    left (c .list-by2 .result) (out-2 c) (px-2 c) (py-2 c) ≡ run (table (begin l)) (count-1 (east-made c)) (east-of (begin l)) (out-1 l) (px-1 l) (py-1 l)
+    leftRuns (c .list-by2 .result) (out-2 c) (px-2 c) (py-2 c) ≡ runTile (table (begin l)) (count-1 (east-made c)) (east-of (begin l)) (out-1 l) (px-1 l) (py-1 l)
 listed-east c =
     let e = east-made c in
     let l = one-of e in
@@ -187,7 +187,7 @@ listed-east c =
     let a = s .args in
     let p = s .pre in
     c .list-by2 .ensures
-    ∙ ap (λ (vs : List Visit). run (table s) (count-1 e) vs (out-1 l) (px-1 l) (py-1 l))
+    ∙ ap (λ (vs : List Visit). runTile (table s) (count-1 e) vs (out-1 l) (px-1 l) (py-1 l))
     (east-whole (a .o) (a .z) (a .tx) (a .ty) (p .0 .0) (p .0 .1) (e .search-east .result) (table s) (length (now (a .x))) (now (a .ids)) (now (a .coords)) (long s) (p .1 .1 .0) (e .search-east .ensures))
 
 search-east-requires : tie.Need-search-east-requires
@@ -303,7 +303,7 @@ returns-4 c =
     third-ends (table s) (here-of s) (east-of s) (west-of s) (now (a .out)) (now (a .px)) (now (a .py)) (l .list-by .result) (count-1 e) (out-1 l) (px-1 l) (py-1 l)
     (one-goes e .a .given .1) (listed-here l) (m .list-by2 .result) (count-2 w) (out-2 m) (px-2 m) (py-2 m) (two-goes w .b .given .1) (listed-east m) _
     (n .list-by3 .ensures
-    ∙ ap (λ (vs : List Visit). run (table s) (count-2 w) vs (out-2 m) (px-2 m) (py-2 m))
+    ∙ ap (λ (vs : List Visit). runTile (table s) (count-2 w) vs (out-2 m) (px-2 m) (py-2 m))
     (west-whole (a .o) (a .z) (a .tx) (a .ty) (p .0 .0) (p .0 .1) (w .search-west .result) (table s) (length (now (a .x))) (now (a .ids)) (now (a .coords)) (long s) (p .1 .1 .0) (w .search-west .ensures)))
 
 pub list-spec : {M : Type 1} → statement M

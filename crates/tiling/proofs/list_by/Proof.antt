@@ -18,8 +18,8 @@ use Rattle.tables.specs.Entries.{Table}
 use Rattle.tables.specs.Rows.{Cols, cols, rows}
 use Rattle.tables.specs.Lent.{given}
 use Rattle.tiling.specs.Tile.{Visit, visitsOf}
-use Rattle.tiling.specs.laws.Runs.{left, run}
-use Rattle.tiling.specs.laws.Turns.{walked, walked-none, walked-made, run-none, named-fine, turn-end, turn-bad, turn-next}
+use Rattle.tiling.specs.laws.Runs.{leftRuns, runTile}
+use Rattle.tiling.specs.laws.Turns.{walkedTurns, walked-none, walked-made, run-none, named-fine, turn-end, turn-bad, turn-next}
 use Rattle.tiling.proofs.Ends.{no-more}
 use Rattle.tiling.proofs.list_by.Statement.{statement}
 use Rattle.tiling.proofs.list_by.Tie as tie
@@ -28,8 +28,8 @@ abbrev Inv-loop : tie.InvT-loop
 Inv-loop g x y seen id parent num energy ids coords at out₀ px₀ py₀ q size n k₀ page₀ pages₀ out px py k page pages =
     (length out ≡ length out₀) × (length px ≡ length px₀) × (length py ≡ length py₀) × AllBelow n (aheadOf q size n coords page pages)
     × (k + length (aheadOf q size n coords page pages) ≤ at + n)
-    × (run (rows (cols x y seen id parent num energy)) k (visitsOf g (places ids (aheadOf q size n coords page pages))) out px py
-    ≡ run (rows (cols x y seen id parent num energy)) at (visitsOf g (places ids (walk q size n coords))) out₀ px₀ py₀)
+    × (runTile (rows (cols x y seen id parent num energy)) k (visitsOf g (places ids (aheadOf q size n coords page pages))) out px py
+    ≡ runTile (rows (cols x y seen id parent num energy)) at (visitsOf g (places ids (walk q size n coords))) out₀ px₀ py₀)
     × (length page ≡ 16)
 
 abbrev μ-loop : tie.MeasureT-loop
@@ -64,12 +64,12 @@ abbrev ahead : Loop → List ℕ
 ahead l = slots (begin l) (l .loop .page) (l .loop .pages)
 
 -- the run that the contract names, once the search is made
-whole : (l : Loop) → run (table (begin l)) (l .loop .k) (visitsOf (begin l .args .g) (places (now (begin l .args .ids)) (ahead l))) (l .loop .out) (l .loop .px) (l .loop .py)
-    ≡ run (table (begin l)) (begin l .args .at) (walked (begin l .args .g) (length (now (begin l .args .x))) (now (begin l .args .ids)) (now (begin l .args .coords))) (now (begin l .args .out)) (now (begin l .args .px)) (now (begin l .args .py))
+whole : (l : Loop) → runTile (table (begin l)) (l .loop .k) (visitsOf (begin l .args .g) (places (now (begin l .args .ids)) (ahead l))) (l .loop .out) (l .loop .px) (l .loop .py)
+    ≡ runTile (table (begin l)) (begin l .args .at) (walkedTurns (begin l .args .g) (length (now (begin l .args .x))) (now (begin l .args .ids)) (now (begin l .args .coords))) (now (begin l .args .out)) (now (begin l .args .px)) (now (begin l .args .py))
 whole l =
     let a = begin l .args in
     l .loop .inv .5
-    ∙ ap (λ (vs : List Visit). run (table (begin l)) (a .at) vs (now (a .out)) (now (a .px)) (now (a .py)))
+    ∙ ap (λ (vs : List Visit). runTile (table (begin l)) (a .at) vs (now (a .out)) (now (a .px)) (now (a .py)))
     (sym (walked-made (a .g) (length (now (a .x))) (now (a .ids)) (now (a .coords)) (not-false (a .g .made) (asked-of l .if1 .left))))
 
 -- ---- a step
@@ -131,7 +131,7 @@ returns c =
     let s : Start = search in
     let a = s .args in
     run-none (table s) (a .at) (now (a .out)) (now (a .px)) (now (a .py))
-    ∙ ap (λ (vs : List Visit). run (table s) (a .at) vs (now (a .out)) (now (a .px)) (now (a .py)))
+    ∙ ap (λ (vs : List Visit). runTile (table s) (a .at) vs (now (a .out)) (now (a .px)) (now (a .py)))
     (sym (walked-none (a .g) (length (now (a .x))) (now (a .ids)) (now (a .coords)) (not-true (a .g .made) (c .if1 .taken))))
 
 begin-requires : tie.Need-begin-requires Inv-loop μ-loop
@@ -148,7 +148,7 @@ loop-holds c =
       refl,
       subst (λ (l : List ℕ). AllBelow (length (now (a .x))) l) (sym h) (walk-below (a .g .query) (a .g .«node_size») (length (now (a .x))) (now (a .coords))),
       omega (arith, ap length h, walk-length (a .g .query) (a .g .«node_size») (length (now (a .x))) (now (a .coords))),
-      ap (λ (l : List ℕ). run (table s) (a .at) (visitsOf (a .g) (places (now (a .ids)) l)) (now (a .out)) (now (a .px)) (now (a .py))) h,
+      ap (λ (l : List ℕ). runTile (table s) (a .at) (visitsOf (a .g) (places (now (a .ids)) l)) (now (a .out)) (now (a .px)) (now (a .py))) h,
       refl,
     )
 

@@ -1,7 +1,7 @@
 -- `tiling::search_east` meets its contract: it is the strip from 1 - p / z2 to 1. Assumes nothing.
 use lib.Ieee.{ofBits}
 use borrow.Author.Needs.{needs}
-use Rattle.tiling.specs.Tile.{east}
+use Rattle.tiling.specs.Tile.{eastStrip}
 use Rattle.tiling.proofs.search_east.Statement.{statement}
 use Rattle.tiling.proofs.search_east.Tie as tie
 
@@ -15,7 +15,7 @@ strip-of-requires : tie.Need-strip-of-requires
 strip-of-requires c κs = search needs
 
 returns : tie.Need-returns
-unfolding east ofBits
+unfolding eastStrip ofBits
 returns c = simp (c .strip-of .ensures, c .before .before .before .power .ensures, c .before .has-east .ensures)
 
 pub search-east-spec : {M : Type 1} → statement M

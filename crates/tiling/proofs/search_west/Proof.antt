@@ -1,7 +1,7 @@
 -- `tiling::search_west` meets its contract: it is the strip from 0 to p / z2. Assumes nothing.
 use lib.Ieee.{ofBits, neg}
 use borrow.Author.Needs.{needs}
-use Rattle.tiling.specs.Tile.{west}
+use Rattle.tiling.specs.Tile.{westStrip}
 use Rattle.tiling.proofs.search_west.Statement.{statement}
 use Rattle.tiling.proofs.search_west.Tie as tie
 
@@ -15,7 +15,7 @@ strip-of-requires : tie.Need-strip-of-requires
 strip-of-requires c κs = search needs
 
 returns : tie.Need-returns
-unfolding west ofBits neg
+unfolding westStrip ofBits neg
 returns c = simp (c .strip-of .ensures, c .before .before .before .power .ensures, c .before .has-west .ensures)
 
 pub search-west-spec : {M : Type 1} → statement M

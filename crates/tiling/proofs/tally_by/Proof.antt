@@ -19,9 +19,9 @@ use Rattle.tables.specs.Entries.{Table}
 use Rattle.tables.specs.Rows.{Cols, cols, rows}
 use Rattle.tables.specs.Lent.{given}
 use Rattle.tiling.specs.Tile.{Visit}
-use Rattle.tiling.specs.laws.Turns.{walked, walked-none, walked-made}
+use Rattle.tiling.specs.laws.Turns.{walkedTurns, walked-none, walked-made}
 use Rattle.tiling.specs.laws.Home.{weightBy}
-use Rattle.tiling.specs.laws.Counting.{Held, heldOf, marksHeld, placesIn, places-of, counted, counted-none, counted-sure, count-end}
+use Rattle.tiling.specs.laws.Counting.{HeldMarks, heldMarksOf, marksHeld, placesIn, places-of, counted, counted-none, counted-sure, count-end}
 use Rattle.tiling.specs.laws.Counting.{count-stop, count-next}
 use Rattle.tiling.proofs.Ends.{no-more}
 use Rattle.tiling.proofs.tally_by.Statement.{statement}
@@ -68,15 +68,15 @@ abbrev ahead : Loop → List ℕ
 ahead l = slots (begin l) (l .loop .page) (l .loop .pages)
 
 -- the tally of these places, from what is tallied before
-abbrev of-places : Start → ℕ → ℕ → List ℕ → List ℕ → Held
+abbrev of-places : Start → ℕ → ℕ → List ℕ → List ℕ → HeldMarks
 of-places s k t ps m = counted (s .args .few) (weightBy (s .args .h)) (table s) k t ps m
 
 -- the tally that the contract names, of a list of visits
-abbrev of-visits : Start → List Visit → Held
+abbrev of-visits : Start → List Visit → HeldMarks
 of-visits s vs = of-places s (s .args .r .count) (s .args .r .sum) (placesIn vs) (now (s .args .marks))
 
 abbrev all-visits : Start → List Visit
-all-visits s = let a = s .args in walked (a .g) (length (now (a .x))) (now (a .ids)) (now (a .coords))
+all-visits s = let a = s .args in walkedTurns (a .g) (length (now (a .x))) (now (a .ids)) (now (a .coords))
 
 -- once the search is made
 whole : (l : Loop) → of-places (begin l) (l .loop .a .count) (l .loop .a .sum) (places (now (begin l .args .ids)) (ahead l))
@@ -140,7 +140,7 @@ abbrev marks-of : Counted → List ℕ
 marks-of c = marksHeld (c .tally-one .ensures .0)
 
 one : (c : Counted) → let l = loop-at c in let s = begin l in
-    heldOf (c .tally-one .result) (marks-of c) ≡ of-places s (l .loop .a .count) (l .loop .a .sum)
+    heldMarksOf (c .tally-one .result) (marks-of c) ≡ of-places s (l .loop .a .count) (l .loop .a .sum)
     (getD (now (s .args .ids)) (slot (found-of c)) 0 ∷ []) (l .loop .marks)
 one c = c .tally-one .ensures .0
 

@@ -14,9 +14,9 @@ use Rattle.tables.specs.laws.Rows.{rows-length}
 use Rattle.tables.specs.Lent.{given}
 use Rattle.tiling.specs.Tile.{listable}
 use Rattle.tiling.specs.laws.Turns.{named-bad, named-at, named-fine}
-use Rattle.tiling.specs.laws.Marks.{marked}
+use Rattle.tiling.specs.laws.Marks.{markedPlaces}
 use Rattle.tiling.specs.laws.Home.{weightBy}
-use Rattle.tiling.specs.laws.Counting.{held, markOf, doubt, added, marking, counted-bad, counted-doubt, counted-one}
+use Rattle.tiling.specs.laws.Counting.{heldMarks, markOf, doubt, added, markingPlace, counted-bad, counted-doubt, counted-one}
 use Rattle.tiling.specs.laws.Told.{mark-below}
 use Rattle.tiling.proofs.tally_one.Statement.{statement}
 use Rattle.tiling.proofs.tally_one.Tie as tie
@@ -79,11 +79,11 @@ abbrev start-of : Tested → tie.Start
 start-of c = begin (known-of (marked-of c))
 
 doubt-is : (c : Tested) → let a = start-of c .args in c .in-doubt .result
-    ≡ doubt (a .few) (a .r .count) (marked (now (a .marks)) (markOf (a .few) (a .p)))
+    ≡ doubt (a .few) (a .r .count) (markedPlaces (now (a .marks)) (markOf (a .few) (a .p)))
 doubt-is c =
     let a = start-of c .args in
     c .in-doubt .ensures ∙ ap (doubt (a .few) (a .r .count))
-    (c .before .is-marked .ensures ∙ ap (marked (now (a .marks))) (mark-is (marked-of c)))
+    (c .before .is-marked .ensures ∙ ap (markedPlaces (now (a .marks))) (mark-is (marked-of c)))
 
 -- ---- the parts
 
@@ -172,9 +172,9 @@ returns-3 c =
     let n = w .add-once in
     let q = mark-is (marked-of d) in
     let m = now (a .marks) in (
-      ap₂ (λ (u : ℕ) (o : List ℕ). held true true (a .r .count + 1) u o)
+      ap₂ (λ (u : ℕ) (o : List ℕ). heldMarks true true (a .r .count + 1) u o)
           (n .ensures .0 ∙ ap₂ (λ (i j : ℕ). added i j (a .r .sum) m) (weighed-of w .weigh .ensures ∙ ap (weightBy (a .h)) (named k .1)) q)
-          (n .ensures .1 ∙ ap (λ (j : ℕ). marking j m) q)
+          (n .ensures .1 ∙ ap (λ (j : ℕ). markingPlace j m) q)
           ∙ counted-one (a .few) (weightBy (a .h)) (table s) (a .r .count) (a .r .sum) (a .p) m (named k .0)
           (sym (doubt-is d) ∙ clear-of w .if1 .left),
       omega arith,

@@ -31,7 +31,7 @@ use Rattle.kdslots.specs.Bounds.{coordsOk}
 use Rattle.kdwalk.specs.Reply.{walk}
 use Rattle.tables.specs.declared.Options.{Options}
 use Rattle.tables.specs.laws.Bounds.{InBounds}
-use Rattle.tiling.specs.Tile.{margin, side, edge, least, greatest, here, east, west}
+use Rattle.tiling.specs.Tile.{margin, side, edge, least, greatest, here, eastStrip, westStrip}
 use Rattle.tiling.specs.laws.Framed.{IsTile, float-most, below-side}
 
 -- a walk by a query of finite numbers, over an index that may be searched, is the whole answer
@@ -218,14 +218,14 @@ module _ (o : Options) (b : InBounds o) where
         query-fine (least o z x) (least o z y) (greatest o z x) (greatest o z y)
         (least-finite z (t .z-to) x (t .x-to)) (least-finite z (t .z-to) y (t .y-to)) (greatest-finite z (t .z-to) x (t .x-to)) (greatest-finite z (t .z-to) y (t .y-to))
 
-    pub east-fine : queryOk (east o z x y .query) ≡ true
-    unfolding east
+    pub east-fine : queryOk (eastStrip o z x y .query) ≡ true
+    unfolding eastStrip
     east-fine =
         query-fine (sub binary64 one (edge o z)) (least o z y) one (greatest o z y)
         (strip-finite z (t .z-to)) (least-finite z (t .z-to) y (t .y-to)) tt (greatest-finite z (t .z-to) y (t .y-to))
 
-    pub west-fine : queryOk (west o z x y .query) ≡ true
-    unfolding west
+    pub west-fine : queryOk (westStrip o z x y .query) ≡ true
+    unfolding westStrip
     west-fine =
         query-fine zero (least o z y) (edge o z) (greatest o z y)
         tt (least-finite z (t .z-to) y (t .y-to)) (edge-finite z (t .z-to)) (greatest-finite z (t .z-to) y (t .y-to))

@@ -17,7 +17,7 @@ use Rattle.kdslots.specs.laws.Bounds.{and-both}
 use Rattle.tables.specs.declared.Options.{Options}
 use Rattle.tables.specs.laws.Bounds.{InBounds}
 use Rattle.tiling.specs.declared.Search.{Search}
-use Rattle.tiling.specs.Tile.{isTile, side, strip, here, east, west}
+use Rattle.tiling.specs.Tile.{isTile, side, strip, here, eastStrip, westStrip}
 
 pub record Framed (g : Search) : Type 0 where
   pub z : ℕ
@@ -77,10 +77,10 @@ module _ (o : Options) (z x y : ℕ) (b : InBounds o) (t : IsTile z x y) where
   unfolding here
   here-framed = framed _ _ _ (float x) (float-least x) (float-most x (below-side z x (t .z-to) (t .x-to)))
 
-  pub east-framed : Framed (east o z x y)
-  unfolding east
+  pub east-framed : Framed (eastStrip o z x y)
+  unfolding eastStrip
   east-framed = framed _ _ _ (side z) (float-least (2 ^ z)) (float-most (2 ^ z) (pow-mono (t .z-to)))
 
-  pub west-framed : Framed (west o z x y)
-  unfolding west
+  pub west-framed : Framed (westStrip o z x y)
+  unfolding westStrip
   west-framed = framed _ _ _ (neg one) (unfold le neg in tt) (unfold le neg in tt)

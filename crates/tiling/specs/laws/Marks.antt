@@ -63,12 +63,12 @@ pub bit-fits : (b i : ℕ) → i < 8 → b < 256 → b / 2 ^ i % 2 ≡ 0 → b +
 bit-fits b i h l = eight (λ i. b / 2 ^ i % 2 ≡ 0 → b + 2 ^ i < 256) (λ e. omega arith) (λ e. omega arith) (λ e. omega arith) (λ e. omega arith) (λ e. omega arith) (λ e. omega arith) (λ e. omega arith) (λ e. omega arith) i h
 
 -- whether the place p is marked
-unfoldable pub marked : List ℕ → ℕ → Bool
-marked m p = eqb (getD m (p / 8) 0 / 2 ^ (p % 8) % 2) 1
+unfoldable pub markedPlaces : List ℕ → ℕ → Bool
+markedPlaces m p = eqb (getD m (p / 8) 0 / 2 ^ (p % 8) % 2) 1
 
 -- the place p, which was not, is marked
-unfoldable pub mark : List ℕ → ℕ → List ℕ
-mark m p = set m (p / 8) (getD m (p / 8) 0 + 2 ^ (p % 8))
+unfoldable pub markPlace : List ℕ → ℕ → List ℕ
+markPlace m p = set m (p / 8) (getD m (p / 8) 0 + 2 ^ (p % 8))
 
 zero-bit : (x : ℕ) → eqb (x % 2) 1 ≡ false → x % 2 ≡ 0
 zero-bit x e = go (x % 2) (omega arith) (eqb-false (x % 2) 1 e)
@@ -78,25 +78,25 @@ zero-bit x e = go (x % 2) (omega arith) (eqb-false (x % 2) 1 e)
     go (suc zero) h n = absurd (n refl)
     go (suc (suc r)) h n = absurd (omega arith)
 
-pub unmarked : (m : List ℕ) (p : ℕ) → marked m p ≡ false → getD m (p / 8) 0 / 2 ^ (p % 8) % 2 ≡ 0
-unfolding marked
+pub unmarked : (m : List ℕ) (p : ℕ) → markedPlaces m p ≡ false → getD m (p / 8) 0 / 2 ^ (p % 8) % 2 ≡ 0
+unfolding markedPlaces
 unmarked m p e = zero-bit (getD m (p / 8) 0 / 2 ^ (p % 8)) e
 
-pub fresh : (n p : ℕ) → p / 8 < n → marked (replicate n 0) p ≡ false
-unfolding marked
+pub fresh : (n p : ℕ) → p / 8 < n → markedPlaces (replicate n 0) p ≡ false
+unfolding markedPlaces
 fresh n p h = rw (getD-replicate {A = ℕ} n (p / 8) 0 0 h, zero-div (2 ^ (p % 8)))
 
-pub mark-same : (m : List ℕ) (p : ℕ) → p / 8 < length m → marked m p ≡ false → marked (mark m p) p ≡ true
-unfolding marked mark
+pub mark-same : (m : List ℕ) (p : ℕ) → p / 8 < length m → markedPlaces m p ≡ false → markedPlaces (markPlace m p) p ≡ true
+unfolding markedPlaces markPlace
 mark-same m p h e =
     ap (λ (b : ℕ). eqb (b / 2 ^ (p % 8) % 2) 1) (getD-set-same m (p / 8) (getD m (p / 8) 0 + 2 ^ (p % 8)) 0 h)
     ∙ eq-eqb _ _ (bit-same (getD m (p / 8) 0) (p % 8) (omega arith) (unmarked m p e))
 
-pub mark-other : (m : List ℕ) (p q : ℕ) → p / 8 < length m → (q ≡ p → ⊥) → marked m p ≡ false → marked (mark m p) q ≡ marked m q
-unfolding marked mark
+pub mark-other : (m : List ℕ) (p q : ℕ) → p / 8 < length m → (q ≡ p → ⊥) → markedPlaces m p ≡ false → markedPlaces (markPlace m p) q ≡ markedPlaces m q
+unfolding markedPlaces markPlace
 mark-other m p q h n e = go (eqb (q / 8) (p / 8)) refl
   where
-    go : (b : Bool) → eqb (q / 8) (p / 8) ≡ b → marked (mark m p) q ≡ marked m q
+    go : (b : Bool) → eqb (q / 8) (p / 8) ≡ b → markedPlaces (markPlace m p) q ≡ markedPlaces m q
     go true f =
         let g : q / 8 ≡ p / 8 = eqb-true (q / 8) (p / 8) f in
         rw g (ap (λ (b : ℕ). eqb (b / 2 ^ (q % 8) % 2) 1) (getD-set-same m (p / 8) (getD m (p / 8) 0 + 2 ^ (p % 8)) 0 h)
@@ -105,10 +105,10 @@ mark-other m p q h n e = go (eqb (q / 8) (p / 8)) refl
 
 -- ---- as the code has it: b is the bit of p
 
-pub marked-is : (m : List ℕ) (p b : ℕ) → b ≡ 2 ^ (p % 8) → eqb (getD m (p / 8) 0 / b % 2) 1 ≡ marked m p
-unfolding marked
+pub marked-is : (m : List ℕ) (p b : ℕ) → b ≡ 2 ^ (p % 8) → eqb (getD m (p / 8) 0 / b % 2) 1 ≡ markedPlaces m p
+unfolding markedPlaces
 marked-is m p b e = rw e
 
-pub mark-is : (m : List ℕ) (p b : ℕ) → b ≡ 2 ^ (p % 8) → set m (p / 8) (getD m (p / 8) 0 + b) ≡ mark m p
-unfolding mark
+pub mark-is : (m : List ℕ) (p b : ℕ) → b ≡ 2 ^ (p % 8) → set m (p / 8) (getD m (p / 8) 0 + b) ≡ markPlace m p
+unfolding markPlace
 mark-is m p b e = rw e

@@ -13,62 +13,62 @@ use lib.IntN.{ℤ}
 use Rattle.tables.specs.Entries.{Table}
 use Rattle.tiling.specs.declared.Ran.{Ran}
 use Rattle.tiling.specs.declared.Ran.the-variants.{All, Spoiled}
-use Rattle.tiling.specs.Tile.{Visit, listable, listed, whole, itemAt, items}
+use Rattle.tiling.specs.Tile.{Visit, listable, tileListed, wholeTile, itemAt, tileItems}
 
 -- a reply beside what the columns hold
 pub data Left : Type 0 where
-  left : Ran → List ℕ → List ℤ → List ℤ → Left
+  leftRuns : Ran → List ℕ → List ℤ → List ℤ → Left
 
 -- each column, by a contract that says what is left in all three
 module _ {r : Ran} {o : List ℕ} {a b : List ℤ} {l : Left} where
-  abbrev pub outLeft : left r o a b ≡ l → List ℕ
+  abbrev pub outLeft : leftRuns r o a b ≡ l → List ℕ
   outLeft e = o
 
-  abbrev pub pxLeft : left r o a b ≡ l → List ℤ
+  abbrev pub pxLeft : leftRuns r o a b ≡ l → List ℤ
   pxLeft e = a
 
-  abbrev pub pyLeft : left r o a b ≡ l → List ℤ
+  abbrev pub pyLeft : leftRuns r o a b ≡ l → List ℤ
   pyLeft e = b
 
 -- the visits one after the other, k listed before: the item of each goes to its position, if a column reaches so far. The first that
 -- cannot be listed ends it.
-unfoldable pub run : Table → ℕ → List Visit → List ℕ → List ℤ → List ℤ → Left
-run t k [] out xs ys = left (All k) out xs ys
-run t k (v ∷ vs) out xs ys =
+unfoldable pub runTile : Table → ℕ → List Visit → List ℕ → List ℤ → List ℤ → Left
+runTile t k [] out xs ys = leftRuns (All k) out xs ys
+runTile t k (v ∷ vs) out xs ys =
     elim (listable t (v .place)) [
-      | true ↦ run t (k + 1) vs (set out k (itemAt t v .place)) (set xs k (itemAt t v .x)) (set ys k (itemAt t v .y))
-      | false ↦ left Spoiled out xs ys
+      | true ↦ runTile t (k + 1) vs (set out k (itemAt t v .place)) (set xs k (itemAt t v .x)) (set ys k (itemAt t v .y))
+      | false ↦ leftRuns Spoiled out xs ys
     ]
 
 -- what follows, where nothing was spoiled
-abbrev pub next : Ran → List ℕ → List ℤ → List ℤ → (ℕ → List ℕ → List ℤ → List ℤ → Left) → Left
-next (All k) out xs ys f = f k out xs ys
-next Spoiled out xs ys f = left Spoiled out xs ys
+abbrev pub nextRun : Ran → List ℕ → List ℤ → List ℤ → (ℕ → List ℕ → List ℤ → List ℤ → Left) → Left
+nextRun (All k) out xs ys f = f k out xs ys
+nextRun Spoiled out xs ys f = leftRuns Spoiled out xs ys
 
-abbrev pub andThen : Left → (ℕ → List ℕ → List ℤ → List ℤ → Left) → Left
-andThen (left r out xs ys) f = next r out xs ys f
+abbrev pub thenRuns : Left → (ℕ → List ℕ → List ℤ → List ℤ → Left) → Left
+thenRuns (leftRuns r out xs ys) f = nextRun r out xs ys f
 
 pub run-append : (t : Table) (k : ℕ) (vs ws : List Visit) (out : List ℕ) (xs ys : List ℤ)
-    → run t k (vs ++ ws) out xs ys ≡ andThen (run t k vs out xs ys) (λ j o a b. run t j ws o a b)
-unfolding run
+    → runTile t k (vs ++ ws) out xs ys ≡ thenRuns (runTile t k vs out xs ys) (λ j o a b. runTile t j ws o a b)
+unfolding runTile
 run-append t k [] ws out xs ys = refl
 run-append t k (v ∷ vs) ws out xs ys =
     go (listable t (v .place)) refl (run-append t (k + 1) vs ws (set out k (itemAt t v .place)) (set xs k (itemAt t v .x)) (set ys k (itemAt t v .y)))
   where
     go : (b : Bool) → listable t (v .place) ≡ b
-        → run t (k + 1) (vs ++ ws) (set out k (itemAt t v .place)) (set xs k (itemAt t v .x)) (set ys k (itemAt t v .y))
-        ≡ andThen (run t (k + 1) vs (set out k (itemAt t v .place)) (set xs k (itemAt t v .x)) (set ys k (itemAt t v .y))) (λ j o a b. run t j ws o a b)
-        → run t k ((v ∷ vs) ++ ws) out xs ys ≡ andThen (run t k (v ∷ vs) out xs ys) (λ j o a b. run t j ws o a b)
-    go true e h = rw (e, run) h
-    go false e h = rw (e, run)
+        → runTile t (k + 1) (vs ++ ws) (set out k (itemAt t v .place)) (set xs k (itemAt t v .x)) (set ys k (itemAt t v .y))
+        ≡ thenRuns (runTile t (k + 1) vs (set out k (itemAt t v .place)) (set xs k (itemAt t v .x)) (set ys k (itemAt t v .y))) (λ j o a b. runTile t j ws o a b)
+        → runTile t k ((v ∷ vs) ++ ws) out xs ys ≡ thenRuns (runTile t k (v ∷ vs) out xs ys) (λ j o a b. runTile t j ws o a b)
+    go true e h = rw (e, runTile) h
+    go false e h = rw (e, runTile)
 
 -- the first part ends well, and the rest follows; or it does not, and that is the end
-pub run-more : (t : Table) (k j : ℕ) (vs ws : List Visit) (out o : List ℕ) (xs ys a b : List ℤ) → left (All j) o a b ≡ run t k vs out xs ys
-    → run t k (vs ++ ws) out xs ys ≡ run t j ws o a b
+pub run-more : (t : Table) (k j : ℕ) (vs ws : List Visit) (out o : List ℕ) (xs ys a b : List ℤ) → leftRuns (All j) o a b ≡ runTile t k vs out xs ys
+    → runTile t k (vs ++ ws) out xs ys ≡ runTile t j ws o a b
 run-more t k j vs ws out o xs ys a b e = rw (run-append, ← e)
 
-pub run-ends : (t : Table) (k : ℕ) (vs ws : List Visit) (out o : List ℕ) (xs ys a b : List ℤ) → left Spoiled o a b ≡ run t k vs out xs ys
-    → left Spoiled o a b ≡ run t k (vs ++ ws) out xs ys
+pub run-ends : (t : Table) (k : ℕ) (vs ws : List Visit) (out o : List ℕ) (xs ys a b : List ℤ) → leftRuns Spoiled o a b ≡ runTile t k vs out xs ys
+    → leftRuns Spoiled o a b ≡ runTile t k (vs ++ ws) out xs ys
 run-ends t k vs ws out o xs ys a b e = rw (run-append, ← e)
 
 -- ---- the same, without the run
@@ -80,44 +80,44 @@ ranOf false k = Spoiled
 
 -- the items of visits, stored from k on
 abbrev stored : Table → Ran → ℕ → List Visit → List ℕ → List ℤ → List ℤ → Left
-stored t r k vs out xs ys = left r (sets out k (map (λ i. i .place) (items t vs))) (sets xs k (map (λ i. i .x) (items t vs))) (sets ys k (map (λ i. i .y) (items t vs)))
+stored t r k vs out xs ys = leftRuns r (sets out k (map (λ i. i .place) (tileItems t vs))) (sets xs k (map (λ i. i .x) (tileItems t vs))) (sets ys k (map (λ i. i .y) (tileItems t vs)))
 
 run-sets : (t : Table) (k : ℕ) (vs : List Visit) (out : List ℕ) (xs ys : List ℤ)
-    → run t k vs out xs ys ≡ stored t (ranOf (whole t vs) (k + length (listed t vs))) k (listed t vs) out xs ys
-unfolding run listed whole
+    → runTile t k vs out xs ys ≡ stored t (ranOf (wholeTile t vs) (k + length (tileListed t vs))) k (tileListed t vs) out xs ys
+unfolding runTile tileListed wholeTile
 run-sets t k [] out xs ys = rw add-zero
 run-sets t k (v ∷ vs) out xs ys =
     go (listable t (v .place)) refl (run-sets t (k + 1) vs (set out k (itemAt t v .place)) (set xs k (itemAt t v .x)) (set ys k (itemAt t v .y)))
   where
     go : (b : Bool) → listable t (v .place) ≡ b
-        → run t (k + 1) vs (set out k (itemAt t v .place)) (set xs k (itemAt t v .x)) (set ys k (itemAt t v .y))
-        ≡ stored t (ranOf (whole t vs) (k + 1 + length (listed t vs))) (k + 1) (listed t vs) (set out k (itemAt t v .place)) (set xs k (itemAt t v .x)) (set ys k (itemAt t v .y))
-        → run t k (v ∷ vs) out xs ys ≡ stored t (ranOf (whole t (v ∷ vs)) (k + length (listed t (v ∷ vs)))) k (listed t (v ∷ vs)) out xs ys
+        → runTile t (k + 1) vs (set out k (itemAt t v .place)) (set xs k (itemAt t v .x)) (set ys k (itemAt t v .y))
+        ≡ stored t (ranOf (wholeTile t vs) (k + 1 + length (tileListed t vs))) (k + 1) (tileListed t vs) (set out k (itemAt t v .place)) (set xs k (itemAt t v .x)) (set ys k (itemAt t v .y))
+        → runTile t k (v ∷ vs) out xs ys ≡ stored t (ranOf (wholeTile t (v ∷ vs)) (k + length (tileListed t (v ∷ vs)))) k (tileListed t (v ∷ vs)) out xs ys
     go true e h =
-        let n : k + 1 + length (listed t vs) ≡ k + suc (length (listed t vs)) = omega arith in
-        rw (e, run, whole, listed) (h
-        ∙ ap (λ (j : ℕ). stored t (ranOf (whole t vs) j) (k + 1) (listed t vs) (set out k (itemAt t v .place)) (set xs k (itemAt t v .x)) (set ys k (itemAt t v .y))) n
-        ∙ ap (λ (j : ℕ). stored t (ranOf (whole t vs) (k + suc (length (listed t vs)))) j (listed t vs) (set out k (itemAt t v .place)) (set xs k (itemAt t v .x)) (set ys k (itemAt t v .y))) (add-one k))
-    go false e h = rw (e, run, whole, listed)
+        let n : k + 1 + length (tileListed t vs) ≡ k + suc (length (tileListed t vs)) = omega arith in
+        rw (e, runTile, wholeTile, tileListed) (h
+        ∙ ap (λ (j : ℕ). stored t (ranOf (wholeTile t vs) j) (k + 1) (tileListed t vs) (set out k (itemAt t v .place)) (set xs k (itemAt t v .x)) (set ys k (itemAt t v .y))) n
+        ∙ ap (λ (j : ℕ). stored t (ranOf (wholeTile t vs) (k + suc (length (tileListed t vs)))) j (tileListed t vs) (set out k (itemAt t v .place)) (set xs k (itemAt t v .x)) (set ys k (itemAt t v .y))) (add-one k))
+    go false e h = rw (e, runTile, wholeTile, tileListed)
 
-pub run-is : (t : Table) (vs : List Visit) (out : List ℕ) (xs ys : List ℤ) (r : Ran) (o : List ℕ) (a b : List ℤ) → left r o a b ≡ run t 0 vs out xs ys
-    → (r ≡ ranOf (whole t vs) (length (listed t vs))) × (o ≡ sets out 0 (map (λ i. i .place) (items t (listed t vs))))
-    × (a ≡ sets xs 0 (map (λ i. i .x) (items t (listed t vs)))) × (b ≡ sets ys 0 (map (λ i. i .y) (items t (listed t vs))))
+pub run-is : (t : Table) (vs : List Visit) (out : List ℕ) (xs ys : List ℤ) (r : Ran) (o : List ℕ) (a b : List ℤ) → leftRuns r o a b ≡ runTile t 0 vs out xs ys
+    → (r ≡ ranOf (wholeTile t vs) (length (tileListed t vs))) × (o ≡ sets out 0 (map (λ i. i .place) (tileItems t (tileListed t vs))))
+    × (a ≡ sets xs 0 (map (λ i. i .x) (tileItems t (tileListed t vs)))) × (b ≡ sets ys 0 (map (λ i. i .y) (tileItems t (tileListed t vs))))
 run-is t vs out xs ys r o a b e =
     let f = e ∙ run-sets t 0 vs out xs ys in
-    let z : 0 + length (listed t vs) ≡ length (listed t vs) = omega arith in
-    let g : r ≡ ranOf (whole t vs) (0 + length (listed t vs)) = cc in
-    (g ∙ ap (ranOf (whole t vs)) z, cc, cc, cc)
+    let z : 0 + length (tileListed t vs) ≡ length (tileListed t vs) = omega arith in
+    let g : r ≡ ranOf (wholeTile t vs) (0 + length (tileListed t vs)) = cc in
+    (g ∙ ap (ranOf (wholeTile t vs)) z, cc, cc, cc)
 
 -- how many there are, of a run that ends well
-pub listed-length : (t : Table) (vs : List Visit) → length (listed t vs) ≤ length vs
-unfolding listed
+pub listed-length : (t : Table) (vs : List Visit) → length (tileListed t vs) ≤ length vs
+unfolding tileListed
 listed-length t [] = omega arith
 listed-length t (v ∷ vs) = go (listable t (v .place)) refl (listed-length t vs)
   where
-    go : (b : Bool) → listable t (v .place) ≡ b → length (listed t vs) ≤ length vs → length (listed t (v ∷ vs)) ≤ suc (length vs)
-    go true e h = rw (e, listed) (omega arith)
-    go false e h = rw (e, listed) (omega arith)
+    go : (b : Bool) → listable t (v .place) ≡ b → length (tileListed t vs) ≤ length vs → length (tileListed t (v ∷ vs)) ≤ suc (length vs)
+    go true e h = rw (e, tileListed) (omega arith)
+    go false e h = rw (e, tileListed) (omega arith)
 
 abbrev countOf : Ran → ℕ
 countOf (All k) = k
@@ -127,8 +127,8 @@ count-of : (b : Bool) (k : ℕ) → countOf (ranOf b k) ≤ k
 count-of true k = omega arith
 count-of false k = omega arith
 
-pub run-count : (t : Table) (k j : ℕ) (vs : List Visit) (out o : List ℕ) (xs ys a b : List ℤ) → left (All j) o a b ≡ run t k vs out xs ys → j ≤ k + length vs
+pub run-count : (t : Table) (k j : ℕ) (vs : List Visit) (out o : List ℕ) (xs ys a b : List ℤ) → leftRuns (All j) o a b ≡ runTile t k vs out xs ys → j ≤ k + length vs
 run-count t k j vs out o xs ys a b e =
-    let f : left (All j) o a b ≡ _ = e ∙ run-sets t k vs out xs ys in
-    let g : All j ≡ ranOf (whole t vs) (k + length (listed t vs)) = cc in
-    omega (arith, ap countOf g, count-of (whole t vs) (k + length (listed t vs)), listed-length t vs)
+    let f : leftRuns (All j) o a b ≡ _ = e ∙ run-sets t k vs out xs ys in
+    let g : All j ≡ ranOf (wholeTile t vs) (k + length (tileListed t vs)) = cc in
+    omega (arith, ap countOf g, count-of (wholeTile t vs) (k + length (tileListed t vs)), listed-length t vs)

@@ -16,11 +16,11 @@ use Rattle.tables.specs.Entries.{Table}
 use Rattle.tiling.specs.declared.Search.{Search}
 use Rattle.tiling.specs.declared.Ran.{Ran}
 use Rattle.tiling.specs.declared.Ran.the-variants.{All, Spoiled}
-use Rattle.tiling.specs.Tile.{Visit, here, east, west, visits, visited, wraps}
+use Rattle.tiling.specs.Tile.{Visit, here, eastStrip, westStrip, visits, visited, wraps}
 use Rattle.tiling.specs.laws.Framed.{Framed, IsTile, here-framed, east-framed, west-framed}
 use Rattle.tiling.specs.laws.Finite.{here-fine, east-fine, west-fine}
-use Rattle.tiling.specs.laws.Runs.{Left, left, run, run-more, run-ends, run-count}
-use Rattle.tiling.specs.laws.Turns.{walked, walked-length, walked-whole}
+use Rattle.tiling.specs.laws.Runs.{Left, leftRuns, runTile, run-more, run-ends, run-count}
+use Rattle.tiling.specs.laws.Turns.{walkedTurns, walked-length, walked-whole}
 
 -- ---- each search: it may be made, and its walk is whole
 
@@ -28,30 +28,30 @@ module _ (o : Options) (z x y : ℕ) (b : InBounds o) (w : IsTile z x y) (g : Se
   pub here-may : g ≡ here o z x y → Framed g
   here-may e = subst Framed (sym e) (here-framed o z x y b w)
 
-  pub east-may : g ≡ east o z x y → Framed g
+  pub east-may : g ≡ eastStrip o z x y → Framed g
   east-may e = subst Framed (sym e) (east-framed o z x y b w)
 
-  pub west-may : g ≡ west o z x y → Framed g
+  pub west-may : g ≡ westStrip o z x y → Framed g
   west-may e = subst Framed (sym e) (west-framed o z x y b w)
 
   module _ (t : Table) (n : ℕ) (ids : List ℕ) (co : List Float) (l : length t ≡ n) (ok : coordsOk (o .«node_size») n (length co) ≡ true) where
     long : coordsOk (o .«node_size») (length t) (length co) ≡ true
     long = ap (λ (k : ℕ). coordsOk (o .«node_size») k (length co)) l ∙ ok
 
-    of : (h : Search) → g ≡ h → walked h (length t) ids co ≡ visits h t ids co → walked g n ids co ≡ visits h t ids co
-    of h e q = ap (λ (s : Search). walked s n ids co) e ∙ ap (λ (k : ℕ). walked h k ids co) (sym l) ∙ q
+    of : (h : Search) → g ≡ h → walkedTurns h (length t) ids co ≡ visits h t ids co → walkedTurns g n ids co ≡ visits h t ids co
+    of h e q = ap (λ (s : Search). walkedTurns s n ids co) e ∙ ap (λ (k : ℕ). walkedTurns h k ids co) (sym l) ∙ q
 
-    pub here-whole : g ≡ here o z x y → walked g n ids co ≡ visits (here o z x y) t ids co
+    pub here-whole : g ≡ here o z x y → walkedTurns g n ids co ≡ visits (here o z x y) t ids co
     unfolding here
     here-whole e = of (here o z x y) e (walked-whole (here o z x y) t ids co long (here-fine o b z x y w))
 
-    pub east-whole : g ≡ east o z x y → walked g n ids co ≡ visits (east o z x y) t ids co
-    unfolding east
-    east-whole e = of (east o z x y) e (walked-whole (east o z x y) t ids co long (east-fine o b z x y w))
+    pub east-whole : g ≡ eastStrip o z x y → walkedTurns g n ids co ≡ visits (eastStrip o z x y) t ids co
+    unfolding eastStrip
+    east-whole e = of (eastStrip o z x y) e (walked-whole (eastStrip o z x y) t ids co long (east-fine o b z x y w))
 
-    pub west-whole : g ≡ west o z x y → walked g n ids co ≡ visits (west o z x y) t ids co
-    unfolding west
-    west-whole e = of (west o z x y) e (walked-whole (west o z x y) t ids co long (west-fine o b z x y w))
+    pub west-whole : g ≡ westStrip o z x y → walkedTurns g n ids co ≡ visits (westStrip o z x y) t ids co
+    unfolding westStrip
+    west-whole e = of (westStrip o z x y) e (walked-whole (westStrip o z x y) t ids co long (west-fine o b z x y w))
 
 -- ---- a tile that has no strip finds what its own range finds
 
@@ -61,7 +61,7 @@ atEnd o z x = wraps o && (eqb x 0 || eqb (x + 1) (2 ^ z))
 
 pub own-range : (o : Options) (z x y : ℕ) (t : Table) (ids : List ℕ) (co : List Float)
     → atEnd o z x ≡ false → visited o z x y t ids co ≡ visits (here o z x y) t ids co
-unfolding visited east west
+unfolding visited eastStrip westStrip
 own-range o z x y t ids co = go (wraps o) (eqb x 0) (eqb (x + 1) (2 ^ z)) refl refl refl
   where
     none : true ≡ false → ⊥
@@ -83,21 +83,21 @@ no-strips o z x y t ids co e = own-range o z x y t ids co (ap (λ (w : Bool). w 
 
 -- a run that ended well has listed at most n more
 pub listed-few : (t : Table) (k j n : ℕ) (g : Search) (ids : List ℕ) (co : List Float) (r : Ran) (out o : List ℕ) (xs ys a b : List ℤ) → r ≡ All j
-    → left r o a b ≡ run t k (walked g n ids co) out xs ys → j ≤ k + n
+    → leftRuns r o a b ≡ runTile t k (walkedTurns g n ids co) out xs ys → j ≤ k + n
 listed-few t k j n g ids co r out o xs ys a b h e =
-    omega (arith, run-count t k j (walked g n ids co) out o xs ys a b (ap (λ (q : Ran). left q o a b) (sym h) ∙ e), walked-length g n ids co)
+    omega (arith, run-count t k j (walkedTurns g n ids co) out o xs ys a b (ap (λ (q : Ran). leftRuns q o a b) (sym h) ∙ e), walked-length g n ids co)
 
 module _ (t : Table) (A B C : List Visit) (out : List ℕ) (xs ys : List ℤ) where
-  pub first-ends : (r : Ran) (o : List ℕ) (a b : List ℤ) → r ≡ Spoiled → left r o a b ≡ run t 0 A out xs ys → left Spoiled o a b ≡ run t 0 (A ++ (B ++ C)) out xs ys
+  pub first-ends : (r : Ran) (o : List ℕ) (a b : List ℤ) → r ≡ Spoiled → leftRuns r o a b ≡ runTile t 0 A out xs ys → leftRuns Spoiled o a b ≡ runTile t 0 (A ++ (B ++ C)) out xs ys
   first-ends r o a b h e = run-ends t 0 A (B ++ C) out o xs ys a b (rw h at e)
 
-  module _ (r : Ran) (k : ℕ) (o : List ℕ) (a b : List ℤ) (h : r ≡ All k) (e : left r o a b ≡ run t 0 A out xs ys) where
-    rest : run t 0 (A ++ (B ++ C)) out xs ys ≡ run t k (B ++ C) o a b
+  module _ (r : Ran) (k : ℕ) (o : List ℕ) (a b : List ℤ) (h : r ≡ All k) (e : leftRuns r o a b ≡ runTile t 0 A out xs ys) where
+    rest : runTile t 0 (A ++ (B ++ C)) out xs ys ≡ runTile t k (B ++ C) o a b
     rest = run-more t 0 k A (B ++ C) out o xs ys a b (rw h at e)
 
-    pub second-ends : (s : Ran) (p : List ℕ) (u v : List ℤ) → s ≡ Spoiled → left s p u v ≡ run t k B o a b → left Spoiled p u v ≡ run t 0 (A ++ (B ++ C)) out xs ys
+    pub second-ends : (s : Ran) (p : List ℕ) (u v : List ℤ) → s ≡ Spoiled → leftRuns s p u v ≡ runTile t k B o a b → leftRuns Spoiled p u v ≡ runTile t 0 (A ++ (B ++ C)) out xs ys
     second-ends s p u v g d = run-ends t k B C o p a b u v (rw g at d) ∙ sym rest
 
-    pub third-ends : (s : Ran) (j : ℕ) (p : List ℕ) (u v : List ℤ) → s ≡ All j → left s p u v ≡ run t k B o a b
-        → (w : Left) → w ≡ run t j C p u v → w ≡ run t 0 (A ++ (B ++ C)) out xs ys
+    pub third-ends : (s : Ran) (j : ℕ) (p : List ℕ) (u v : List ℤ) → s ≡ All j → leftRuns s p u v ≡ runTile t k B o a b
+        → (w : Left) → w ≡ runTile t j C p u v → w ≡ runTile t 0 (A ++ (B ++ C)) out xs ys
     third-ends s j p u v g d w q = q ∙ sym (run-more t k j B C o p a b u v (rw g at d)) ∙ sym rest

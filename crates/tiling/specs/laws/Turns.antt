@@ -30,26 +30,26 @@ use Rattle.tiling.specs.declared.Named.the-variants.{At, Bad}
 use Rattle.tiling.specs.declared.Ran.the-variants.{All, Spoiled}
 use Rattle.tiling.specs.Tile.{Visit, visitsOf, visits, listable, itemOf, itemAt}
 use Rattle.tiling.specs.laws.Finite.{walk-whole}
-use Rattle.tiling.specs.laws.Runs.{Left, left, run}
+use Rattle.tiling.specs.laws.Runs.{Left, leftRuns, runTile}
 
 -- what the walk goes over for a search of a table of n entries
-abbrev pub walked : Search → ℕ → List ℕ → List Float → List Visit
-walked g n ids co = visitsOf g (when (g .made) (places ids (walk (g .query) (g .«node_size») n co)))
+abbrev pub walkedTurns : Search → ℕ → List ℕ → List Float → List Visit
+walkedTurns g n ids co = visitsOf g (when (g .made) (places ids (walk (g .query) (g .«node_size») n co)))
 
-pub walked-none : (g : Search) (n : ℕ) (ids : List ℕ) (co : List Float) → g .made ≡ false → walked g n ids co ≡ []
+pub walked-none : (g : Search) (n : ℕ) (ids : List ℕ) (co : List Float) → g .made ≡ false → walkedTurns g n ids co ≡ []
 walked-none g n ids co e = rw e
 
-pub walked-made : (g : Search) (n : ℕ) (ids : List ℕ) (co : List Float) → g .made ≡ true → walked g n ids co ≡ visitsOf g (places ids (walk (g .query) (g .«node_size») n co))
+pub walked-made : (g : Search) (n : ℕ) (ids : List ℕ) (co : List Float) → g .made ≡ true → walkedTurns g n ids co ≡ visitsOf g (places ids (walk (g .query) (g .«node_size») n co))
 walked-made g n ids co e = rw e
 
-pub walked-length : (g : Search) (n : ℕ) (ids : List ℕ) (co : List Float) → length (walked g n ids co) ≤ n
+pub walked-length : (g : Search) (n : ℕ) (ids : List ℕ) (co : List Float) → length (walkedTurns g n ids co) ≤ n
 walked-length g n ids co =
     let w = walk (g .query) (g .«node_size») n co in
     omega (arith, length-map {B = Visit} (when (g .made) (places ids w)) (λ p. record { by = g; place = p }), when-length (g .made) (places ids w), places-length ids w, walk-length (g .query) (g .«node_size») n co)
 
 -- it is what the search finds
 pub walked-whole : (g : Search) (t : Table) (ids : List ℕ) (co : List Float) → coordsOk (g .«node_size») (length t) (length co) ≡ true → queryOk (g .query) ≡ true
-    → walked g (length t) ids co ≡ visits g t ids co
+    → walkedTurns g (length t) ids co ≡ visits g t ids co
 walked-whole g t ids co a b =
     ap (λ (l : List ℕ). visitsOf g (when (g .made) (places ids l))) (walk-whole (g .query) (g .«node_size») (length t) co a b)
 
@@ -119,35 +119,35 @@ named-fine t p e h =
 
 -- ---- the turns
 
-run-bad : (t : Table) (k : ℕ) (v : Visit) (vs : List Visit) (out : List ℕ) (xs ys : List ℤ) → listable t (v .place) ≡ false → left Spoiled out xs ys ≡ run t k (v ∷ vs) out xs ys
-unfolding run
-run-bad t k v vs out xs ys e = rw (e, run)
+run-bad : (t : Table) (k : ℕ) (v : Visit) (vs : List Visit) (out : List ℕ) (xs ys : List ℤ) → listable t (v .place) ≡ false → leftRuns Spoiled out xs ys ≡ runTile t k (v ∷ vs) out xs ys
+unfolding runTile
+run-bad t k v vs out xs ys e = rw (e, runTile)
 
 run-one : (t : Table) (k : ℕ) (v : Visit) (vs : List Visit) (out : List ℕ) (xs ys : List ℤ) → listable t (v .place) ≡ true
-    → run t k (v ∷ vs) out xs ys ≡ run t (k + 1) vs (set out k (itemAt t v .place)) (set xs k (itemAt t v .x)) (set ys k (itemAt t v .y))
-unfolding run
-run-one t k v vs out xs ys e = rw (e, run)
+    → runTile t k (v ∷ vs) out xs ys ≡ runTile t (k + 1) vs (set out k (itemAt t v .place)) (set xs k (itemAt t v .x)) (set ys k (itemAt t v .y))
+unfolding runTile
+run-one t k v vs out xs ys e = rw (e, runTile)
 
-pub run-none : (t : Table) (k : ℕ) (out : List ℕ) (xs ys : List ℤ) → left (All k) out xs ys ≡ run t k [] out xs ys
-unfolding run
+pub run-none : (t : Table) (k : ℕ) (out : List ℕ) (xs ys : List ℤ) → leftRuns (All k) out xs ys ≡ runTile t k [] out xs ys
+unfolding runTile
 run-none t k out xs ys = refl
 
 module _ (t : Table) (g : Search) (ids : List ℕ) (k : ℕ) (l : List ℕ) (out : List ℕ) (xs ys : List ℤ) where
   -- what is still to be visited, k being listed
   abbrev pub still : Left
-  still = run t k (visitsOf g (places ids l)) out xs ys
+  still = runTile t k (visitsOf g (places ids l)) out xs ys
 
-  pub turn-end : l ≡ [] → left (All k) out xs ys ≡ still
-  unfolding run places
+  pub turn-end : l ≡ [] → leftRuns (All k) out xs ys ≡ still
+  unfolding runTile places
   turn-end e = rw e
 
-  pub turn-bad : (c : ℕ) (m : List ℕ) → l ≡ c ∷ m → namedAt t (getD ids c 0) ≡ Bad → left Spoiled out xs ys ≡ still
+  pub turn-bad : (c : ℕ) (m : List ℕ) → l ≡ c ∷ m → namedAt t (getD ids c 0) ≡ Bad → leftRuns Spoiled out xs ys ≡ still
   unfolding places
   turn-bad c m e h = rw e (run-bad t k (record { by = g; place = getD ids c 0 }) (visitsOf g (places ids m)) out xs ys (named-bad t (getD ids c 0) h))
 
   pub turn-next : (c : ℕ) (m : List ℕ) → l ≡ c ∷ m → (e : Entry) → namedAt t (getD ids c 0) ≡ At e → (i : Item) → i ≡ itemOf g (getD ids c 0) e
       → (o : List ℕ) (a b : List ℤ) → o ≡ set out k (i .place) → a ≡ set xs k (i .x) → b ≡ set ys k (i .y)
-      → run t (k + 1) (visitsOf g (places ids m)) o a b ≡ still
+      → runTile t (k + 1) (visitsOf g (places ids m)) o a b ≡ still
   unfolding places
   turn-next c m s e h i w o a b p q r =
       let f = named-at t (getD ids c 0) e h in

@@ -15,7 +15,7 @@ use Rattle.walks.specs.declared.Fate.{Fate}
 use Rattle.walks.specs.declared.Fate.the-variants.{Skipped, Entered, Listed}
 use Rattle.walks.specs.declared.Walk.{Walk}
 use Rattle.walks.specs.declared.Walk.the-variants.{Went, Broke, Childless}
-use Rattle.walks.specs.Leaves.{Trip, broke, went, enter, walk}
+use Rattle.walks.specs.Leaves.{Trip, broke, went, enter, leafWalk}
 
 -- what becomes of a child: so many are then skipped; or it is entered; or it is listed
 abbrev pub fateOf : ℕ → ℕ → ℕ → Fate
@@ -46,23 +46,23 @@ pub record Behind (base l : List ℕ) (k : ℕ) (out : List ℕ) : Type 0 where
   pub left : out ≡ filled l base
 
 -- the walk r, which leaves out where base was, is the trip x
-pub record Tells (base out : List ℕ) (r : Walk) (x : Trip) : Type 0 where
+pub record TellsColumn (base out : List ℕ) (r : Walk) (x : Trip) : Type 0 where
   pub lamps : List ℕ
   pub trip : x ≡ tripOf r lamps
   pub behind : Behind base lamps (listedOf r) out
 
 -- with k lamps listed, and out left by them, the walk r leaves out', and does with any lamps behind the column what the definition does
 abbrev pub Does : ℕ → List ℕ → Walk → List ℕ → (List ℕ → Trip) → Type 0
-Does k out r out' trip = (base l : List ℕ) → Behind base l k out → Tells base out' r (trip l)
+Does k out r out' trip = (base l : List ℕ) → Behind base l k out → TellsColumn base out' r (trip l)
 
 -- to enter the child cluster id from zoom t's table, with n skipped, whatever bounds the definition
 abbrev pub Opened : State → Columns → ℕ → ℕ → ℕ → ℕ → ℕ → ℕ → List ℕ → Walk → List ℕ → Type 0
 Opened s c limit offset t id n k out r out' =
-    (f : ℕ) → 32 ≤ f + 1 + t → Does k out r out' (enter (walk s c limit offset f) (onward s t id) id n)
+    (f : ℕ) → 32 ≤ f + 1 + t → Does k out r out' (enter (leafWalk s c limit offset f) (onward s t id) id n)
 
 -- a walk into the cluster id, whose origin is the entry o of zoom t's table, with n skipped
 pub record Walked (s : State) (c : Columns) (limit offset id t o n k : ℕ) (out : List ℕ) (r : Walk) (out' : List ℕ) : Type 0 where
-  pub trip : (f : ℕ) → 32 ≤ f + t → Does k out r out' (walk s c limit offset f id t o n)
+  pub trip : (f : ℕ) → 32 ≤ f + t → Does k out r out' (leafWalk s c limit offset f id t o n)
   pub empty : childlessOf r ≡ childless s c id t o
 
 -- ---- laws
@@ -70,7 +70,7 @@ pub record Walked (s : State) (c : Columns) (limit offset id t o n k : ℕ) (out
 -- the same by another name
 pub does-same : (k : ℕ) (out : List ℕ) (r : Walk) (out' : List ℕ) (f g : List ℕ → Trip) → ((l : List ℕ) → f l ≡ g l)
     → Does k out r out' f → Does k out r out' g
-does-same k out r out' f g e d base l b = subst (λ (x : Trip). Tells base out' r x) (e l) (d base l b)
+does-same k out r out' f g e d base l b = subst (λ (x : Trip). TellsColumn base out' r x) (e l) (d base l b)
 
 -- nothing is listed
 pub does-nothing : (k : ℕ) (out : List ℕ) (r : Walk) → k ≡ listedOf r → Does k out r out (tripOf r)

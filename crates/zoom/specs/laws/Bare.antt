@@ -12,7 +12,7 @@ use Rattle.tables.specs.Entries.{Table, entry, none, unseen, marked, under}
 use Rattle.tables.specs.Ids.{clusterId}
 use Rattle.zoom.specs.Zoom.{moreOf, more, numOf, Absorbed, absorbOne, absorb, started, centre, Scan, made, madeAt, copyOne, copyAll}
 use Rattle.zoom.specs.Zoom.{leftAt, enough, visit, markAt, scanOne, scanFrom, cluster}
-use Rattle.zoom.specs.laws.Steps.{joined, absorbOne-yes, absorbOne-no, copiedOne, copyOne-yes, copyOne-no, totalOf, visit-made}
+use Rattle.zoom.specs.laws.Steps.{joinedStep, absorbOne-yes, absorbOne-no, copiedOne, copyOne-yes, copyOne-no, totalOf, visit-made}
 use Rattle.zoom.specs.laws.Steps.{visit-left, scan-seen, scan-visit}
 
 -- without its energy

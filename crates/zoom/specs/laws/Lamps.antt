@@ -18,7 +18,7 @@ use Rattle.tables.specs.Ids.{clusterId}
 use Rattle.zoom.specs.Scanned.{unseenOf}
 use Rattle.zoom.specs.Zoom.{numOf, energyOf, adds, moreOf, Absorbed, absorbOne, absorb, started, centre, Scan, copyOne, copyAll}
 use Rattle.zoom.specs.Zoom.{enough, visit, markAt, scanOne, scanFrom, cluster}
-use Rattle.zoom.specs.laws.Steps.{joined, absorbOne-yes, absorbOne-no, copyOne-yes, copyOne-no, more-nil, more-yes, more-no, totalOf}
+use Rattle.zoom.specs.laws.Steps.{joinedStep, absorbOne-yes, absorbOne-no, copyOne-yes, copyOne-no, more-nil, more-yes, more-no, totalOf}
 use Rattle.zoom.specs.laws.Steps.{visit-made, visit-left, scan-seen, scan-visit}
 use Rattle.zoom.specs.laws.Unseen.{unseen-in, unseenOf-mark, unseenOf-under, more-same}
 
@@ -28,8 +28,8 @@ sumOf f [] = 0
 sumOf f (e ∷ t) = f e + sumOf f t
 
 -- the lamps that a table counts
-abbrev pub total : Table → ℕ
-total t = sumOf numOf t
+abbrev pub lampTotal : Table → ℕ
+lampTotal t = sumOf numOf t
 
 sum-snoc : (f : Entry → ℕ) (t : Table) (e : Entry) → sumOf f (t ++ (e ∷ [])) ≡ sumOf f t + f e
 unfolding sumOf
@@ -87,7 +87,7 @@ energy-by : (z p : ℕ) (s : Absorbed) (k : ℕ) (ks : List ℕ)
 energy-by z p s k ks ih o true e =
     let t = s .table in
     let m = more-same energyOf z t k (under p (marked z (entry t k))) ks o in
-    rw (absorbOne-yes z p s k e) (omega (arith, ih (joined z p s k), m, more-yes energyOf z t k ks e))
+    rw (absorbOne-yes z p s k e) (omega (arith, ih (joinedStep z p s k), m, more-yes energyOf z t k ks e))
 energy-by z p s k ks ih o false e = rw (absorbOne-no z p s k e) (omega (arith, ih s, more-no energyOf z (s .table) k ks e))
 
 absorb-energy : (z p : ℕ) (s : Absorbed) (l : List ℕ) → Distinct l → absorb z p s l .se ≡ s .se + moreOf energyOf z (s .table) l

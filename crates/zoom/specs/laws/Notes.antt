@@ -118,8 +118,8 @@ unfoldable pub Noted : ℕ → ℕ → (Float → Float → List ℕ) → List �
 Noted at len near notes t = (i : ℕ) → i < len → Tells i (getD notes (at + i) 0) (near (entry t i .x) (entry t i .y))
 
 -- the place of each slot of an index is answered at the slot's own coordinates
-abbrev pub Owned : ℕ → (Float → Float → List ℕ) → List ℕ → List Float → Type 0
-Owned len near ids co = (s : ℕ) → s < len → In (getD ids s 0) (near (key 0 co s) (key 1 co s))
+abbrev pub OwnNote : ℕ → (Float → Float → List ℕ) → List ℕ → List Float → Type 0
+OwnNote len near ids co = (s : ℕ) → s < len → In (getD ids s 0) (near (key 0 co s) (key 1 co s))
 
 -- and these are the coordinates of the entry at that place
 pub record Slotted (len : ℕ) (ids : List ℕ) (co : List Float) (t : Table) : Type 0 where
@@ -136,7 +136,7 @@ all-in n [] k post w = w .0
 all-in n (a ∷ pre) k post w = all-in n pre k post (w .1)
 
 -- the place of a slot is one of the table's
-pub owned-in : (size len : ℕ) (ids : List ℕ) (co : List Float) (r : Float) → Promised size len ids co → Owned len (nearOf size len ids co r) ids co
+pub owned-in : (size len : ℕ) (ids : List ℕ) (co : List Float) (r : Float) → Promised size len ids co → OwnNote len (nearOf size len ids co r) ids co
     → (s : ℕ) → s < len → getD ids s 0 < len
 owned-in size len ids co r P o s h =
     let m = o s h in

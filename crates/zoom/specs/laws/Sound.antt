@@ -20,12 +20,12 @@ use Rattle.tables.specs.Ids.{clusterId}
 use Rattle.zoom.specs.Scanned.{unseenOf, unseenNum}
 use Rattle.zoom.specs.Zoom.{numOf, energyOf, more, Absorbed, absorbOne, absorb, started, centre, Scan, copyOne, copyAll, enough}
 use Rattle.zoom.specs.Zoom.{visit, markAt, scanOne, scanFrom, cluster}
-use Rattle.zoom.specs.laws.Steps.{joined, absorbOne-yes, absorbOne-no, copyOne-yes, copyOne-no, more-nil, more-yes, more-no, totalOf}
+use Rattle.zoom.specs.laws.Steps.{joinedStep, absorbOne-yes, absorbOne-no, copyOne-yes, copyOne-no, more-nil, more-yes, more-no, totalOf}
 use Rattle.zoom.specs.laws.Steps.{visit-made, visit-left, scan-seen, scan-visit}
 use Rattle.zoom.specs.laws.Unseen.{unseen-in, unseenCount-length, unseenOf-mark, unseenOf-none, more-same}
 use Rattle.zoom.specs.laws.Keeps.{all-at, Keeps, kept-all, keep-copy, keep-one, keep-scan, kept-field, kept-length, scan-sees}
 use Rattle.zoom.specs.laws.Fewer.{from-fewer}
-use Rattle.zoom.specs.laws.Lamps.{sumOf, total, Carried, num-carried, energy-carried, absorb-weighs, scan-weighs-by, from-weighs}
+use Rattle.zoom.specs.laws.Lamps.{sumOf, lampTotal, Carried, num-carried, energy-carried, absorb-weighs, scan-weighs-by, from-weighs}
 
 -- a place from 0 to 1, and one lamp or more
 abbrev pub Body : Entry → Type 0
@@ -63,7 +63,7 @@ module _ (z p B : ℕ) (few : B ≤ 2 ^ 53) where
       let t = s .table in
       let u : z < entry t k .seen = ltb-true z (entry t k .seen) e in
       let f = all-at Body t k a (unseen-in z t k u) in
-      let s′ = joined z p s k in
+      let s′ = joinedStep z p s k in
       let m : more z (s′ .table) ks ≡ more z t ks = more-same numOf z t k (under p (marked z (entry t k))) ks d in
       let my = more-yes numOf z t k ks e in
       let q : S + entry t k .num + more z (s′ .table) ks ≡ S + more z t (k ∷ ks) = omega (arith, m, my) in
@@ -145,7 +145,7 @@ module _ (n least z B : ℕ) (few : B ≤ 2 ^ 53) (zs : z ≤ 255) where
         (omega (arith, hn, light, unseenOf-mark numOf z t i m hin u (le-refl z))) x _ refl)
     one-next s i a light x false e = rw (scan-seen n least z near s i (ltb-false z (entry (s .table) i .seen) e)) x
 
-    scan-next : (s : Scan) (i k : ℕ) → All Body (s .table) → unseenNum z (s .table) + total (s .next) ≤ B → All (Next z) (s .next)
+    scan-next : (s : Scan) (i k : ℕ) → All Body (s .table) → unseenNum z (s .table) + lampTotal (s .next) ≤ B → All (Next z) (s .next)
         → All (Next z) (scanFrom n least z near s i k .next)
     unfolding scanFrom
     scan-next s i zero a light x = x
@@ -168,8 +168,8 @@ sum-map f (e ∷ t) = ap (λ (q : ℕ). f e + q) (sum-map f t)
 pub record Sound (z : ℕ) (t : Table) (s : Scan) : Type 0 where
   pub body : All Body (s .table)
   pub next : All (Next z) (s .next)
-  pub lamps : total (s .next) ≡ total t
-  pub lamps-kept : total (s .table) ≡ total t
+  pub lamps : lampTotal (s .next) ≡ lampTotal t
+  pub lamps-kept : lampTotal (s .table) ≡ lampTotal t
   pub energies : sumOf energyOf (s .next) ≡ sumOf energyOf t
   pub energies-kept : sumOf energyOf (s .table) ≡ sumOf energyOf t
   pub xs : map (λ e. e .x) (s .table) ≡ map (λ e. e .x) t
@@ -177,7 +177,7 @@ pub record Sound (z : ℕ) (t : Table) (s : Scan) : Type 0 where
   pub shorter : length (s .next) ≤ length t
   pub long : length (s .table) ≡ length t
 
-module _ (n least z : ℕ) (near : Float → Float → List ℕ) (o : (qx qy : Float) → Distinct (near qx qy)) (t : Table) (a : All (Next (suc z)) t) (few : total t ≤ 2 ^ 53) (zs : z ≤ 255) where
+module _ (n least z : ℕ) (near : Float → Float → List ℕ) (o : (qx qy : Float) → Distinct (near qx qy)) (t : Table) (a : All (Next (suc z)) t) (few : lampTotal t ≤ 2 ^ 53) (zs : z ≤ 255) where
   first : Scan
   first = record { table = t; next = [] }
 
@@ -211,7 +211,7 @@ module _ (n least z : ℕ) (near : Float → Float → List ℕ) (o : (qx qy : F
       let hv = unseenOf-all numOf z t a in
       record {
         body = keep-scan z (λ q. All Body q) (kept-body z) n least near s₀ 0 (length t) b;
-        next = scan-next n least z (total t) few zs near o s₀ 0 (length t) b (omega (arith, hv)) tt;
+        next = scan-next n least z (lampTotal t) few zs near o s₀ 0 (length t) b (omega (arith, hv)) tt;
         lamps = carried-next numOf num-carried;
         lamps-kept = carried-table numOf num-carried;
         energies = carried-next energyOf energy-carried;

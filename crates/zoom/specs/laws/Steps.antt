@@ -16,8 +16,8 @@ use Rattle.zoom.specs.Zoom.{moreOf, more, Absorbed, absorbOne, Scan, cop
 -- ---- one neighbour
 
 -- it is marked, gets the parent p, and adds its products
-abbrev pub joined : ℕ → ℕ → Absorbed → ℕ → Absorbed
-joined z p s k =
+abbrev pub joinedStep : ℕ → ℕ → Absorbed → ℕ → Absorbed
+joinedStep z p s k =
     record {
       table = set (s .table) k (under p (marked z (entry (s .table) k)));
       sx = add binary64 (s .sx) (mul binary64 (entry (s .table) k .x) (float (entry (s .table) k .num)));
@@ -25,7 +25,7 @@ joined z p s k =
       se = s .se + entry (s .table) k .energy;
     }
 
-pub absorbOne-yes : (z p : ℕ) (s : Absorbed) (k : ℕ) → unseen z (entry (s .table) k) ≡ true → absorbOne z p s k ≡ joined z p s k
+pub absorbOne-yes : (z p : ℕ) (s : Absorbed) (k : ℕ) → unseen z (entry (s .table) k) ≡ true → absorbOne z p s k ≡ joinedStep z p s k
 unfolding absorbOne
 absorbOne-yes z p s k e = rw e
 

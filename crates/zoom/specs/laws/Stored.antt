@@ -109,26 +109,26 @@ module _ (f : Absorbed) (r : Table) (len d i p : ℕ) (e : Entry) (lf : length (
 
 module _ (t : Table) (len d i z n total : ℕ) (near : List ℕ) (hi : i < len) (room : len + d < length t) (b : AllBelow len near) where
   -- the sums begin with the origin's products
-  abbrev pub begun : Table → Absorbed
-  begun q = absorbed q (mul binary64 (entry t i .x) (float (entry t i .num))) (mul binary64 (entry t i .y) (float (entry t i .num))) (entry t i .energy)
+  abbrev pub zoomBegun : Table → Absorbed
+  zoomBegun q = absorbed q (mul binary64 (entry t i .x) (float (entry t i .num))) (mul binary64 (entry t i .y) (float (entry t i .num))) (entry t i .energy)
 
   lt : length (take len t) ≡ len
   lt = length-take-le len t (omega arith)
 
   -- the columns absorb what their table does
-  grown : absorb z (clusterId n z i) (begun t) near ≡ grow (absorb z (clusterId n z i) (begun (take len t)) near) (drop len t)
+  grown : absorb z (clusterId n z i) (zoomBegun t) near ≡ grow (absorb z (clusterId n z i) (zoomBegun (take len t)) near) (drop len t)
   grown =
-      ap (λ (q : Table). absorb z (clusterId n z i) (begun q) near) (sym (take-append-drop len t))
-      ∙ absorb-grow z (clusterId n z i) (begun (take len t)) (drop len t) near (rw lt b)
+      ap (λ (q : Table). absorb z (clusterId n z i) (zoomBegun q) near) (sym (take-append-drop len t))
+      ∙ absorb-grow z (clusterId n z i) (zoomBegun (take len t)) (drop len t) near (rw lt b)
 
-  made-leaves : (s : Absorbed) → s ≡ absorb z (clusterId n z i) (begun t) near
+  made-leaves : (s : Absorbed) → s ≡ absorb z (clusterId n z i) (zoomBegun t) near
       → Scanned len d (madeAt n z i total near (scanOf len d t)) t
       (set (set (s .table) i (under (clusterId n z i) (entry (s .table) i))) (len + d) (centre s (clusterId n z i) total)) (d + 1)
   made-leaves s e =
       let p = clusterId n z i in
-      let f = absorb z p (begun (take len t)) near in
+      let f = absorb z p (zoomBegun (take len t)) near in
       let g : s ≡ grow f (drop len t) = e ∙ grown in
-      let lf : length (f .table) ≡ len = absorb-length z p (begun (take len t)) near ∙ lt in
+      let lf : length (f .table) ≡ len = absorb-length z p (zoomBegun (take len t)) near ∙ lt in
       let q : d < length (drop len t) = rw (length-drop len t) (omega arith) in
       rw g
       (record {
@@ -139,8 +139,8 @@ module _ (t : Table) (len d i z n total : ℕ) (near : List ℕ) (hi : i < len) 
       })
 
   -- what is left after the origin's parent and the new entry are stored, for an id p that is the cluster's
-  pub made-with : (p : ℕ) → p ≡ clusterId n z i → (s : Absorbed) → s ≡ absorb z p (begun t) near
+  pub made-with : (p : ℕ) → p ≡ clusterId n z i → (s : Absorbed) → s ≡ absorb z p (zoomBegun t) near
       → Scanned len d (madeAt n z i total near (scanOf len d t)) t (set (set (s .table) i (under p (entry (s .table) i))) (len + d) (centre s p total)) (d + 1)
   made-with p q =
-      subst (λ (k : ℕ). (s : Absorbed) → s ≡ absorb z k (begun t) near
+      subst (λ (k : ℕ). (s : Absorbed) → s ≡ absorb z k (zoomBegun t) near
       → Scanned len d (madeAt n z i total near (scanOf len d t)) t (set (set (s .table) i (under k (entry (s .table) i))) (len + d) (centre s k total)) (d + 1)) (sym q) made-leaves

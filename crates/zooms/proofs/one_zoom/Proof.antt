@@ -8,7 +8,7 @@ use Rattle.tables.specs.Entries.{Table}
 use Rattle.tables.specs.Rows.{Cols, cols, rows}
 use Rattle.tables.specs.laws.Rows.{Even, Kept, even-kept}
 use Rattle.tables.specs.Lent.{given}
-use Rattle.zooms.specs.Zooms.{Plan, planOf}
+use Rattle.zooms.specs.Zooms.{Plan, zoomPlan}
 use Rattle.zoom.specs.laws.Near.{Radius}
 use Rattle.zooms.specs.laws.Running.{Running, cur-promised}
 use Rattle.zooms.specs.laws.OwnPlace.{cur-slotted, cur-owned}
@@ -20,7 +20,7 @@ use Rattle.zooms.proofs.one_zoom.Tie as tie
 -- ---- what is known at the start
 
 abbrev plan : tie.Start → Plan
-plan s = planOf (s .args .o) (s .args .n)
+plan s = zoomPlan (s .args .o) (s .args .n)
 
 abbrev columns : tie.Start → Cols
 columns s = let a = s .args in (given (a .x) (a .y) (a .seen) (a .id) (a .parent) (a .num) (a .energy))

@@ -11,9 +11,9 @@ use Rattle.tables.specs.Entries.{Table}
 use Rattle.tables.specs.Rows.{Cols, cols, rows}
 use Rattle.tables.specs.laws.Rows.{Even, Kept, even-kept, kept-even, rows-length}
 use Rattle.tables.specs.Lent.{given}
-use Rattle.zooms.specs.Zooms.{Plan, planOf, zoomsOf}
+use Rattle.zooms.specs.Zooms.{Plan, zoomPlan, zoomsOf}
 use Rattle.zooms.specs.laws.Running.{Running}
-use Rattle.zooms.specs.laws.Progress.{wholeOf, Progress}
+use Rattle.zooms.specs.laws.Progress.{wholeProgress, Progress}
 use Rattle.zooms.specs.laws.Turn.{turn-ready, turn-running, turn-progress, turn-start, turn-end}
 use Rattle.zooms.proofs.run_zooms.Statement.{statement}
 use Rattle.zooms.proofs.run_zooms.Tie as tie
@@ -21,8 +21,8 @@ use Rattle.zooms.proofs.run_zooms.Tie as tie
 abbrev Inv-loop : tie.InvT-loop
 Inv-loop x₀ y₀ seen₀ id₀ parent₀ num₀ energy₀ ids₀ coords₀ near₀ n o low st₀ z₀ start₀ len₀ x y seen id parent num energy ids coords near st z start len =
     Even (cols x y seen id parent num energy) × (length x ≡ length x₀) × (length near ≡ length near₀) × (o .«min_zoom» ≤ z) ×
-    Running (planOf o n) (length x₀) (z - o .«min_zoom») start len (rows (cols x y seen id parent num energy)) ids coords ×
-    Progress (planOf o n) (wholeOf (planOf o n) (z₀ - o .«min_zoom») (part 0 len₀ (rows (cols x₀ y₀ seen₀ id₀ parent₀ num₀ energy₀))) (st₀ .starts) (st₀ .lens))
+    Running (zoomPlan o n) (length x₀) (z - o .«min_zoom») start len (rows (cols x y seen id parent num energy)) ids coords ×
+    Progress (zoomPlan o n) (wholeProgress (zoomPlan o n) (z₀ - o .«min_zoom») (part 0 len₀ (rows (cols x₀ y₀ seen₀ id₀ parent₀ num₀ energy₀))) (st₀ .starts) (st₀ .lens))
     (rows (cols x₀ y₀ seen₀ id₀ parent₀ num₀ energy₀)) ids₀ coords₀ (z - o .«min_zoom») start len (rows (cols x y seen id parent num energy)) ids coords (st .starts) (st .lens) ×
     (st .options ≡ st₀ .options) × (st .count ≡ st₀ .count)
 
@@ -41,7 +41,7 @@ abbrev zoom-of : tie.After-slice-known20 Inv-loop μ-loop → tie.After-one-zoom
 zoom-of c = c .before .before .before .before .before .before .before .before .before .before .before .before .before .before .before .before .before .before .before .before
 
 abbrev plan : tie.Start Inv-loop μ-loop → Plan
-plan s = planOf (s .args .s .options) (s .args .n)
+plan s = zoomPlan (s .args .s .options) (s .args .n)
 
 abbrev columns : tie.Start Inv-loop μ-loop → Cols
 columns s = let a = s .args in (given (a .x) (a .y) (a .seen) (a .id) (a .parent) (a .num) (a .energy))
@@ -157,7 +157,7 @@ loop-again c =
       moved w,
       turn-progress (plan s) (length (a .x .now)) (l .z) (l .start) (l .len) (table (t .before)) (l .ids) (l .coords) (t .loop-test .taken) (l .inv .4)
           (z .result) (next w) (q .1 .1 .1 .1 .1 .1 .1 .0) (q .1 .1 .1 .1 .1 .1 .1 .1 .0) (z .ensures) (same w) (k .1 .1 .1 .1 .1 .1 .1 .0) (k .1 .1 .1 .1 .1 .1 .1 .1 .0)
-          (wholeOf (plan s) (zoomsOf (a .s .options)) (part 0 (a .n) (first s)) (a .s .starts) (a .s .lens)) (first s) (a .ids .now) (a .coords .now)
+          (wholeProgress (plan s) (zoomsOf (a .s .options)) (part 0 (a .n) (first s)) (a .s .starts) (a .s .lens)) (first s) (a .ids .now) (a .coords .now)
           (l .st .starts) (l .st .lens) (c .with-table .result .starts) (c .with-table .result .lens) (l .inv .5) (ap (λ (v : State). v .starts) e) (ap (λ (v : State). v .lens) e),
       ap (λ (v : State). v .options) e ∙ l .inv .6,
       ap (λ (v : State). v .count) e ∙ l .inv .7,

@@ -8,7 +8,7 @@ use borrow.Author.Needs.{needs}
 use Rattle.tables.specs.Rows.{Cols, cols, rows, each2}
 use Rattle.tables.specs.laws.Rows.{Kept, each}
 use Rattle.tables.specs.Lent.{given}
-use Rattle.tables.specs.laws.Columns.{from, back, from-length, rows-from, even-from}
+use Rattle.tables.specs.laws.Columns.{fromPart, back, from-length, rows-from, even-from}
 use Rattle.zooms.specs.laws.Step.{stepped, kept-back}
 use Rattle.zooms.proofs.zoom_step.Statement.{statement}
 use Rattle.zooms.proofs.zoom_step.Tie as tie
@@ -25,7 +25,7 @@ co-part s = omega arith
 
 -- the rows of the lent columns
 abbrev lent : tie.Start → Cols
-lent s = each (λ A l. from (s .args .start) l) (columns s)
+lent s = each (λ A l. fromPart (s .args .start) l) (columns s)
 
 lent-rows : (s : tie.Start) → rows (lent s) ≡ drop (s .args .start) (rows (columns s))
 lent-rows s = rows-from (s .args .start) (columns s)

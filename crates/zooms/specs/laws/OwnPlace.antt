@@ -16,15 +16,15 @@ use Rattle.kdbush.specs.Reply.{indexOf, found}
 use Rattle.tables.specs.Columns.{part}
 use Rattle.tables.specs.Entries.{Table, entry, none, xsOf, ysOf}
 use Rattle.zoom.specs.Near.{nearOf}
-use Rattle.zoom.specs.laws.Notes.{Owned, Slotted}
+use Rattle.zoom.specs.laws.Notes.{OwnNote, Slotted}
 use Rattle.zoom.specs.laws.Sound.{Body}
-use Rattle.zooms.specs.Zooms.{slotsOf, nearIn, Plan}
+use Rattle.zooms.specs.Zooms.{indexOfTable, nearIn, Plan}
 use Rattle.kdbush.specs.laws.Indexed.{slot-names, slot-x, slot-y, own-found}
 use Rattle.zooms.specs.laws.Running.{table-inside, Running, cur-long, cur-some, cur-body}
 
 module _ (size : ℕ) (t : Table) (n1 : 1 ≤ size) (some : 1 ≤ length t) (b : All Body t) (r : Float) (fr : T (finite r)) where
   pub own-answered : (i : ℕ) → i < length t → In i (nearIn size r t (entry t i .x) (entry t i .y))
-  unfolding slotsOf
+  unfolding indexOfTable
   own-answered i h =
       let lx = length-map t (λ e. e .x) in
       let ex = List·getD-map (λ e. e .x) t i none in
@@ -41,8 +41,8 @@ module _ (size : ℕ) (t : Table) (n1 : 1 ≤ size) (some : 1 ≤ length t) (b :
   some-x : 1 ≤ length (xsOf t)
   some-x = omega (arith, length-map t (λ e. e .x))
 
-  pub slots-slotted : Slotted (length t) (slotsOf size t .ids) (slotsOf size t .co) t
-  unfolding slotsOf
+  pub slots-slotted : Slotted (length t) (indexOfTable size t .ids) (indexOfTable size t .co) t
+  unfolding indexOfTable
   slots-slotted =
       let l = length-map t (λ e. e .x) in
       record {
@@ -50,13 +50,13 @@ module _ (size : ℕ) (t : Table) (n1 : 1 ≤ size) (some : 1 ≤ length t) (b :
         y-is = λ s h. slot-y size (xsOf t) (ysOf t) n1 some-x (table-inside t b) s (omega (arith, l, h)) ∙ List·getD-map (λ e. e .y) t _ none;
       }
 
-  pub slots-owned : (r : Float) → T (finite r) → Owned (length t) (nearIn size r t) (slotsOf size t .ids) (slotsOf size t .co)
-  unfolding slotsOf
+  pub slots-owned : (r : Float) → T (finite r) → OwnNote (length t) (nearIn size r t) (indexOfTable size t .ids) (indexOfTable size t .co)
+  unfolding indexOfTable
   slots-owned r fr s h =
       let l = length-map t (λ e. e .x) in
-      let i = getD (slotsOf size t .ids) s 0 in
+      let i = getD (indexOfTable size t .ids) s 0 in
       let k : i < length t = omega (arith, l, slot-names size (xsOf t) (ysOf t) n1 some-x (table-inside t b) s (omega (arith, l, h))) in
-      subst (λ (v : Float). In i (nearIn size r t v (key 1 (slotsOf size t .co) s))) (sym (slots-slotted .x-is s h))
+      subst (λ (v : Float). In i (nearIn size r t v (key 1 (indexOfTable size t .co) s))) (sym (slots-slotted .x-is s h))
       (subst (λ (v : Float). In i (nearIn size r t (entry t i .x) v)) (sym (slots-slotted .y-is s h)) (own-answered size t n1 some b r fr i k))
 
 -- of the table between two zooms
@@ -65,13 +65,13 @@ module _ (p : Plan) (M k start len : ℕ) (t : Table) (ids : List ℕ) (co : Lis
   cur-slotted =
       let size = p .options .«node_size» in
       let t₁ = part start len t in
-      rw (r .ids-at, r .co-at) (subst (λ (n : ℕ). Slotted n (slotsOf size t₁ .ids) (slotsOf size t₁ .co) t₁) (cur-long p M k start len t ids co r)
+      rw (r .ids-at, r .co-at) (subst (λ (n : ℕ). Slotted n (indexOfTable size t₁ .ids) (indexOfTable size t₁ .co) t₁) (cur-long p M k start len t ids co r)
       (slots-slotted size t₁ (r .able .size-from) (cur-some p M k start len t ids co r) (cur-body p M k start len t ids co r)))
 
   pub cur-owned : (rad : Float) → T (finite rad)
-      → Owned len (nearOf (p .options .«node_size») len (part start len ids) (part (start * 2) (len * 2) co) rad) (part start len ids) (part (start * 2) (len * 2) co)
+      → OwnNote len (nearOf (p .options .«node_size») len (part start len ids) (part (start * 2) (len * 2) co) rad) (part start len ids) (part (start * 2) (len * 2) co)
   cur-owned rad fr =
       let size = p .options .«node_size» in
       let t₁ = part start len t in
-      rw (r .ids-at, r .co-at) (subst (λ (n : ℕ). Owned n (nearOf size n (slotsOf size t₁ .ids) (slotsOf size t₁ .co) rad) (slotsOf size t₁ .ids) (slotsOf size t₁ .co)) (cur-long p M k start len t ids co r)
+      rw (r .ids-at, r .co-at) (subst (λ (n : ℕ). OwnNote n (nearOf size n (indexOfTable size t₁ .ids) (indexOfTable size t₁ .co) rad) (indexOfTable size t₁ .ids) (indexOfTable size t₁ .co)) (cur-long p M k start len t ids co r)
       (slots-owned size t₁ (r .able .size-from) (cur-some p M k start len t ids co r) (cur-body p M k start len t ids co r) rad fr))

@@ -7,13 +7,13 @@ use native.Mathlib.Nat.{add-suc}
 use lib.ListN.{length, set, take, drop, take-append-drop}
 use lib.Seq.{length-take-le, take-add, drop-drop, set-set}
 use lib.Ieee.{Float}
-use Rattle.kdsort.specs.Cols.{Cols}
+use Rattle.kdsort.specs.Cols.{IndexCols}
 use Rattle.tables.specs.Columns.{part}
 use Rattle.tables.specs.Entries.{Table}
 use Rattle.tables.specs.declared.State.{State}
 use Rattle.zoom.specs.laws.Keeps.{cluster-long}
 use Rattle.zoom.specs.Zoom.{Scan}
-use Rattle.zooms.specs.Zooms.{slotsOf, Plan, zoomed, run, joined, joinedIds, joinedCo, over, starts, lens}
+use Rattle.zooms.specs.Zooms.{indexOfTable, Plan, zoomed, runZooms, joined, joinedIds, joinedCo, laidOver, starts, lens}
 use Rattle.zooms.specs.laws.Parts.{take-put, drop-put}
 use Rattle.zooms.specs.laws.Running.{Running, Advanced, zoom-sound, cur-long, ids-fit, co-fit, ids-len, co-len}
 
@@ -25,9 +25,9 @@ pub record Whole : Type 0 where
   pub ss : List ℕ
   pub ll : List ℕ
 
-abbrev pub wholeOf : Plan → ℕ → Table → List ℕ → List ℕ → Whole
-wholeOf p k t ss ll =
-    record { rows = joined (run p k t); ids = joinedIds (p .options .«node_size») (run p k t); co = joinedCo (p .options .«node_size») (run p k t); ss = starts (p .options .«min_zoom» + k) 0 (run p k t) ss; ll = lens (p .options .«min_zoom» + k) (run p k t) ll }
+abbrev pub wholeProgress : Plan → ℕ → Table → List ℕ → List ℕ → Whole
+wholeProgress p k t ss ll =
+    record { rows = joined (runZooms p k t); ids = joinedIds (p .options .«node_size») (runZooms p k t); co = joinedCo (p .options .«node_size») (runZooms p k t); ss = starts (p .options .«min_zoom» + k) 0 (runZooms p k t) ss; ll = lens (p .options .«min_zoom» + k) (runZooms p k t) ll }
 
 -- a column of which the first n entries are written
 pub record Written {A : Type 0} (whole old : List A) (at n : ℕ) (rest l : List A) : Type 0 where
@@ -35,27 +35,27 @@ pub record Written {A : Type 0} (whole old : List A) (at n : ℕ) (rest l : List
   pub after : drop (at + n) l ≡ drop (at + n) old
 
 pub record Progress (p : Plan) (w : Whole) (t₀ : Table) (ids₀ : List ℕ) (co₀ : List Float) (k start len : ℕ) (t : Table) (ids : List ℕ) (co : List Float) (ss ll : List ℕ) : Type 0 where
-  pub of-rows : Written (w .rows) t₀ start len (joined (run p k (part start len t))) t
-  pub of-ids : Written (w .ids) ids₀ start len (joinedIds (p .options .«node_size») (run p k (part start len t))) ids
-  pub of-co : Written (w .co) co₀ (start * 2) (len * 2) (joinedCo (p .options .«node_size») (run p k (part start len t))) co
-  pub of-ss : starts (p .options .«min_zoom» + k) start (run p k (part start len t)) ss ≡ w .ss
-  pub of-ll : lens (p .options .«min_zoom» + k) (run p k (part start len t)) ll ≡ w .ll
+  pub of-rows : Written (w .rows) t₀ start len (joined (runZooms p k (part start len t))) t
+  pub of-ids : Written (w .ids) ids₀ start len (joinedIds (p .options .«node_size») (runZooms p k (part start len t))) ids
+  pub of-co : Written (w .co) co₀ (start * 2) (len * 2) (joinedCo (p .options .«node_size») (runZooms p k (part start len t))) co
+  pub of-ss : starts (p .options .«min_zoom» + k) start (runZooms p k (part start len t)) ss ≡ w .ss
+  pub of-ll : lens (p .options .«min_zoom» + k) (runZooms p k (part start len t)) ll ≡ w .ll
   pub ss-at : set ss (p .options .«min_zoom» + k) start ≡ ss
   pub ll-at : set ll (p .options .«min_zoom» + k) len ≡ ll
 
 -- ---- a start or a length that is recorded already is recorded again
 
-pub starts-again : (p : Plan) (k : ℕ) (t : Table) (z at : ℕ) (ss : List ℕ) → starts z at (run p k t) (set ss z at) ≡ starts z at (run p k t) ss
-unfolding run starts
+pub starts-again : (p : Plan) (k : ℕ) (t : Table) (z at : ℕ) (ss : List ℕ) → starts z at (runZooms p k t) (set ss z at) ≡ starts z at (runZooms p k t) ss
+unfolding runZooms starts
 starts-again p zero t z at ss = set-set ss z at at
 starts-again p (suc k) t z at ss =
-    ap (λ (l : List ℕ). starts (z - 1) (at + length (zoomed p (p .options .«min_zoom» + k) t .table)) (run p k (zoomed p (p .options .«min_zoom» + k) t .next)) l) (set-set ss z at at)
+    ap (λ (l : List ℕ). starts (z - 1) (at + length (zoomed p (p .options .«min_zoom» + k) t .table)) (runZooms p k (zoomed p (p .options .«min_zoom» + k) t .next)) l) (set-set ss z at at)
 
-pub lens-again : (p : Plan) (k : ℕ) (t : Table) (z n : ℕ) (ll : List ℕ) → length t ≡ n → lens z (run p k t) (set ll z n) ≡ lens z (run p k t) ll
-unfolding run lens
+pub lens-again : (p : Plan) (k : ℕ) (t : Table) (z n : ℕ) (ll : List ℕ) → length t ≡ n → lens z (runZooms p k t) (set ll z n) ≡ lens z (runZooms p k t) ll
+unfolding runZooms lens
 lens-again p zero t z n ll e = set-set ll z n (length t)
 lens-again p (suc k) t z n ll e =
-    ap (λ (l : List ℕ). lens (z - 1) (run p k (zoomed p (p .options .«min_zoom» + k) t .next)) l) (set-set ll z n (length (zoomed p (p .options .«min_zoom» + k) t .table)))
+    ap (λ (l : List ℕ). lens (z - 1) (runZooms p k (zoomed p (p .options .«min_zoom» + k) t .next)) l) (set-set ll z n (length (zoomed p (p .options .«min_zoom» + k) t .table)))
 
 starts-tail : (z z′ at n : ℕ) (a : Table) (ts : List Table) (ss : List ℕ) → set ss z at ≡ ss → z - 1 ≡ z′ → length a ≡ n → starts z at (a ∷ ts) ss ≡ starts z′ (at + n) ts ss
 unfolding starts
@@ -89,19 +89,19 @@ module _ (p : Plan) (M k start len : ℕ) (t : Table) (ids : List ℕ) (co : Lis
   abbrev made : Scan
   made = zoomed p (p .options .«min_zoom» + k) (part start len t)
 
-  slots-same : slotsOf (p .options .«node_size») (made .table) ≡ slotsOf (p .options .«node_size») cur
-  unfolding slotsOf
+  slots-same : indexOfTable (p .options .«node_size») (made .table) ≡ indexOfTable (p .options .«node_size») cur
+  unfolding indexOfTable
   slots-same = let s = zoom-sound p M k start len t ids co r in rw (s .xs, s .ys)
 
-  run-next : run p k (part (start + len) d t′) ≡ run p k (made .next)
-  run-next = ap (run p k) (v .made)
+  run-next : runZooms p k (part (start + len) d t′) ≡ runZooms p k (made .next)
+  run-next = ap (runZooms p k) (v .made)
 
   two : (start + len) * 2 ≡ start * 2 + len * 2
   two = omega arith
 
   pub progress-step : Progress p w t₀ ids₀ co₀ (suc k) start len t ids co ss ll
       → Progress p w t₀ ids₀ co₀ k (start + len) d t′ ids′ co′ (set ss (p .options .«min_zoom» + k) (start + len)) (set ll (p .options .«min_zoom» + k) d)
-  unfolding run joined joinedIds joinedCo starts lens
+  unfolding runZooms joined joinedIds joinedCo starts lens
   progress-step g =
       let zf = zoom-sound p M k start len t ids co r in
       let zl : length (made .table) ≡ len = cluster-long (p .count) (p .options .«min_points») (p .options .«min_zoom» + k) _ cur ∙ cur-long p M (suc k) start len t ids co r in
@@ -111,29 +111,29 @@ module _ (p : Plan) (M k start len : ℕ) (t : Table) (ids : List ℕ) (co : Lis
       let ids-lens = ids-len p M k start len t ids co r d t′ ids′ co′ v et ei ec in
       let co-lens = co-len p M k start len t ids co r d t′ ids′ co′ v et ei ec in
       let e1 : take (start + len) t′ ≡ take start t ++ made .table = take-add start len t′ ∙ rw (v .before, v .marked) in
-      let e2 : take (start + len) ids′ ≡ take start ids ++ slotsOf (p .options .«node_size») (made .table) .ids =
+      let e2 : take (start + len) ids′ ≡ take start ids ++ indexOfTable (p .options .«node_size») (made .table) .ids =
       ap (take (start + len)) (v .ids-put)
-      ∙ take-put (start + len) d (slotsOf (p .options .«node_size») (made .next) .ids) ids ids-fits ids-lens
-      ∙ take-add start len ids ∙ ap (λ (q : List ℕ). take start ids ++ q) (r .ids-at ∙ ap (λ (q : Cols). q .ids) (sym slots-same)) in
-      let e3 : take ((start + len) * 2) co′ ≡ take (start * 2) co ++ slotsOf (p .options .«node_size») (made .table) .co =
+      ∙ take-put (start + len) d (indexOfTable (p .options .«node_size») (made .next) .ids) ids ids-fits ids-lens
+      ∙ take-add start len ids ∙ ap (λ (q : List ℕ). take start ids ++ q) (r .ids-at ∙ ap (λ (q : IndexCols). q .ids) (sym slots-same)) in
+      let e3 : take ((start + len) * 2) co′ ≡ take (start * 2) co ++ indexOfTable (p .options .«node_size») (made .table) .co =
       ap (take ((start + len) * 2)) (v .co-put)
-      ∙ take-put ((start + len) * 2) (d * 2) (slotsOf (p .options .«node_size») (made .next) .co) co co-fits co-lens
+      ∙ take-put ((start + len) * 2) (d * 2) (indexOfTable (p .options .«node_size») (made .next) .co) co co-fits co-lens
       ∙ ap (λ (q : ℕ). take q co) two
-      ∙ take-add (start * 2) (len * 2) co ∙ ap (λ (q : List Float). take (start * 2) co ++ q) (r .co-at ∙ ap (λ (q : Cols). q .co) (sym slots-same)) in
+      ∙ take-add (start * 2) (len * 2) co ∙ ap (λ (q : List Float). take (start * 2) co ++ q) (r .co-at ∙ ap (λ (q : IndexCols). q .co) (sym slots-same)) in
       let f2 : drop (start + len + d) ids′ ≡ drop (start + len + d) ids =
-      ap (drop (start + len + d)) (v .ids-put) ∙ drop-put (start + len) d (slotsOf (p .options .«node_size») (made .next) .ids) ids ids-fits ids-lens in
+      ap (drop (start + len + d)) (v .ids-put) ∙ drop-put (start + len) d (indexOfTable (p .options .«node_size») (made .next) .ids) ids ids-fits ids-lens in
       let f3 : drop ((start + len) * 2 + d * 2) co′ ≡ drop ((start + len) * 2 + d * 2) co =
-      ap (drop ((start + len) * 2 + d * 2)) (v .co-put) ∙ drop-put ((start + len) * 2) (d * 2) (slotsOf (p .options .«node_size») (made .next) .co) co co-fits co-lens in
+      ap (drop ((start + len) * 2 + d * 2)) (v .co-put) ∙ drop-put ((start + len) * 2) (d * 2) (indexOfTable (p .options .«node_size») (made .next) .co) co co-fits co-lens in
       record {
-        of-rows = rw run-next (more-written (w .rows) t₀ start len d t t′ (made .table) (joined (run p k (made .next))) (g .of-rows) e1 (v .after));
-        of-ids = rw run-next (more-written (w .ids) ids₀ start len d ids ids′ (slotsOf (p .options .«node_size») (made .table) .ids) (joinedIds (p .options .«node_size») (run p k (made .next))) (g .of-ids) e2 f2);
-        of-co = rw (run-next, two) (more-written (w .co) co₀ (start * 2) (len * 2) (d * 2) co co′ (slotsOf (p .options .«node_size») (made .table) .co) (joinedCo (p .options .«node_size») (run p k (made .next))) (g .of-co) (rw two at e3) (rw two at f3));
+        of-rows = rw run-next (more-written (w .rows) t₀ start len d t t′ (made .table) (joined (runZooms p k (made .next))) (g .of-rows) e1 (v .after));
+        of-ids = rw run-next (more-written (w .ids) ids₀ start len d ids ids′ (indexOfTable (p .options .«node_size») (made .table) .ids) (joinedIds (p .options .«node_size») (runZooms p k (made .next))) (g .of-ids) e2 f2);
+        of-co = rw (run-next, two) (more-written (w .co) co₀ (start * 2) (len * 2) (d * 2) co co′ (indexOfTable (p .options .«node_size») (made .table) .co) (joinedCo (p .options .«node_size») (runZooms p k (made .next))) (g .of-co) (rw two at e3) (rw two at f3));
         of-ss =
             rw run-next (starts-again p k (made .next) (p .options .«min_zoom» + k) (start + len) ss
-            ∙ sym (starts-tail (p .options .«min_zoom» + suc k) (p .options .«min_zoom» + k) start len (made .table) (run p k (made .next)) ss (g .ss-at) zz zl) ∙ g .of-ss);
+            ∙ sym (starts-tail (p .options .«min_zoom» + suc k) (p .options .«min_zoom» + k) start len (made .table) (runZooms p k (made .next)) ss (g .ss-at) zz zl) ∙ g .of-ss);
         of-ll =
             rw run-next (lens-again p k (made .next) (p .options .«min_zoom» + k) d ll (sym (v .count))
-            ∙ sym (lens-tail (p .options .«min_zoom» + suc k) (p .options .«min_zoom» + k) len (made .table) (run p k (made .next)) ll (g .ll-at) zz zl) ∙ g .of-ll);
+            ∙ sym (lens-tail (p .options .«min_zoom» + suc k) (p .options .«min_zoom» + k) len (made .table) (runZooms p k (made .next)) ll (g .ll-at) zz zl) ∙ g .of-ll);
         ss-at = set-set ss (p .options .«min_zoom» + k) (start + len) (start + len);
         ll-at = set-set ll (p .options .«min_zoom» + k) d d;
       }
@@ -145,7 +145,7 @@ written-length whole old at n l w h =
     let e : take (at + n) l ≡ whole = take-add at n l ∙ w .joins in
     ap length (sym e) ∙ length-take-le (at + n) l h
 
-written-end : {A : Type 0} (whole old : List A) (at n : ℕ) (l : List A) → Written whole old at n (part at n l) l → at + n ≤ length l → l ≡ over whole old
+written-end : {A : Type 0} (whole old : List A) (at n : ℕ) (l : List A) → Written whole old at n (part at n l) l → at + n ≤ length l → l ≡ laidOver whole old
 written-end whole old at n l w h =
     let e : take (at + n) l ≡ whole = take-add at n l ∙ w .joins in
     let q : length whole ≡ at + n = ap length (sym e) ∙ length-take-le (at + n) l h in
@@ -153,54 +153,54 @@ written-end whole old at n l w h =
 
 module _ (p : Plan) (M start len : ℕ) (t : Table) (ids : List ℕ) (co : List Float) (r : Running p M 0 start len t ids co)
     (w : Whole) (t₀ : Table) (ids₀ : List ℕ) (co₀ : List Float) (ss ll : List ℕ) (g : Progress p w t₀ ids₀ co₀ 0 start len t ids co ss ll) where
-  pub rows-end : t ≡ over (w .rows) t₀
-  unfolding run joined
+  pub rows-end : t ≡ laidOver (w .rows) t₀
+  unfolding runZooms joined
   rows-end = written-end (w .rows) t₀ start len t (rw append-nil at (g .of-rows)) (omega (arith, r .room, r .long))
 
-  pub ids-end : ids ≡ over (w .ids) ids₀
-  unfolding run joinedIds
+  pub ids-end : ids ≡ laidOver (w .ids) ids₀
+  unfolding runZooms joinedIds
   ids-end = written-end (w .ids) ids₀ start len ids (rw (append-nil, ← (r .ids-at)) at (g .of-ids)) (omega (arith, r .room, r .ids-long))
 
-  pub co-end : co ≡ over (w .co) co₀
-  unfolding run joinedCo
+  pub co-end : co ≡ laidOver (w .co) co₀
+  unfolding runZooms joinedCo
   co-end = written-end (w .co) co₀ (start * 2) (len * 2) co (rw (append-nil, ← (r .co-at)) at (g .of-co)) (omega (arith, r .room, r .co-long))
 
   pub rows-length-end : length (w .rows) ≡ start + len
-  unfolding run joined
+  unfolding runZooms joined
   rows-length-end = written-length (w .rows) t₀ start len t (rw append-nil at (g .of-rows)) (omega (arith, r .room, r .long))
 
   pub ids-length-end : length (w .ids) ≡ start + len
-  unfolding run joinedIds
+  unfolding runZooms joinedIds
   ids-length-end = written-length (w .ids) ids₀ start len ids (rw (append-nil, ← (r .ids-at)) at (g .of-ids)) (omega (arith, r .room, r .ids-long))
 
   pub co-length-end : length (w .co) ≡ start * 2 + len * 2
-  unfolding run joinedCo
+  unfolding runZooms joinedCo
   co-length-end = written-length (w .co) co₀ (start * 2) (len * 2) co (rw (append-nil, ← (r .co-at)) at (g .of-co)) (omega (arith, r .room, r .co-long))
 
   pub ss-end : ss ≡ w .ss
-  unfolding run starts
+  unfolding runZooms starts
   ss-end = rw (g .ss-at) at (g .of-ss)
 
   pub ll-end : ll ≡ w .ll
-  unfolding run lens
+  unfolding runZooms lens
   ll-end = rw (cur-long p M 0 start len t ids co r, g .ll-at) at (g .of-ll)
 
 -- what the whole loop leaves: k zooms were done from the table t
 pub record Finished (p : Plan) (k : ℕ) (s s′ : State) (t : Table) (r r′ : Table) (ids ids′ : List ℕ) (co co′ : List Float) : Type 0 where
-  pub of-rows : r′ ≡ over (joined (run p k t)) r
-  pub of-ids : ids′ ≡ over (joinedIds (p .options .«node_size») (run p k t)) ids
-  pub of-co : co′ ≡ over (joinedCo (p .options .«node_size») (run p k t)) co
-  pub of-starts : s′ .starts ≡ starts (p .options .«min_zoom» + k) 0 (run p k t) (s .starts)
-  pub of-lens : s′ .lens ≡ lens (p .options .«min_zoom» + k) (run p k t) (s .lens)
+  pub of-rows : r′ ≡ laidOver (joined (runZooms p k t)) r
+  pub of-ids : ids′ ≡ laidOver (joinedIds (p .options .«node_size») (runZooms p k t)) ids
+  pub of-co : co′ ≡ laidOver (joinedCo (p .options .«node_size») (runZooms p k t)) co
+  pub of-starts : s′ .starts ≡ starts (p .options .«min_zoom» + k) 0 (runZooms p k t) (s .starts)
+  pub of-lens : s′ .lens ≡ lens (p .options .«min_zoom» + k) (runZooms p k t) (s .lens)
   pub of-options : s′ .options ≡ s .options
   pub of-count : s′ .count ≡ s .count
-  pub ids-long : length (joinedIds (p .options .«node_size») (run p k t)) ≡ length (joined (run p k t))
-  pub co-long : length (joinedCo (p .options .«node_size») (run p k t)) ≡ length (joined (run p k t)) * 2
+  pub ids-long : length (joinedIds (p .options .«node_size») (runZooms p k t)) ≡ length (joined (runZooms p k t))
+  pub co-long : length (joinedCo (p .options .«node_size») (runZooms p k t)) ≡ length (joined (runZooms p k t)) * 2
 
 -- ---- and the start: all zooms are left
 
 module _ (p : Plan) (k len : ℕ) (t : Table) (ids : List ℕ) (co : List Float) (ss ll : List ℕ) (ss-at : set ss (p .options .«min_zoom» + k) 0 ≡ ss) (ll-at : set ll (p .options .«min_zoom» + k) len ≡ ll) where
-  pub progress-start : Progress p (wholeOf p k (part 0 len t) ss ll) t ids co k 0 len t ids co ss ll
+  pub progress-start : Progress p (wholeProgress p k (part 0 len t) ss ll) t ids co k 0 len t ids co ss ll
   progress-start =
       record {
         of-rows = record { joins = refl; after = refl };

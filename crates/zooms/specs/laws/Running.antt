@@ -18,16 +18,16 @@ use Rattle.tables.specs.laws.Columns.{part-long}
 use Rattle.tables.specs.Entries.{Table, none, xsOf, ysOf}
 use Rattle.tables.specs.Radius.{radiusAt}
 use Rattle.zoom.specs.laws.Keeps.{all-at}
-use Rattle.zoom.specs.laws.Lamps.{sumOf, total}
+use Rattle.zoom.specs.laws.Lamps.{sumOf, lampTotal}
 use Rattle.zoom.specs.Zoom.{energyOf}
 use Rattle.zoom.specs.laws.Sound.{Body, Next, Sound, cluster-sound}
-use Rattle.zooms.specs.Zooms.{slotsOf, nearIn, Plan, zoomed}
+use Rattle.zooms.specs.Zooms.{indexOfTable, nearIn, Plan, zoomed}
 use Rattle.kdbush.specs.laws.Indexed.{Inside, Indexable, index-ids, index-co, index-promised}
 use Rattle.zooms.specs.laws.Parts.{putAt, part-put}
 
 -- ---- a table whose entries lie from 0 to 1 has an index that keeps its promises
 
-pub total-some : (t : Table) → 1 ≤ total t → 1 ≤ length t
+pub total-some : (t : Table) → 1 ≤ lampTotal t → 1 ≤ length t
 unfolding sumOf
 total-some [] h = absurd (omega arith)
 total-some (e ∷ t) h = omega arith
@@ -45,16 +45,16 @@ module _ (size : ℕ) (t : Table) (n1 : 1 ≤ size) (n2 : size ≤ 65535) (some 
       let m = length-map t (λ e. e .y) in
       record { size-from = n1; size-to = n2; some = omega (arith, l); most = omega (arith, l); paired = m ∙ sym l; inside = table-inside t a }
 
-  pub slots-ids : length (slotsOf size t .ids) ≡ length t
-  unfolding slotsOf
+  pub slots-ids : length (indexOfTable size t .ids) ≡ length t
+  unfolding indexOfTable
   slots-ids = index-ids size (xsOf t) (ysOf t) slots-indexable ∙ length-map t (λ e. e .x)
 
-  pub slots-co : length (slotsOf size t .co) ≡ length t * 2
-  unfolding slotsOf
+  pub slots-co : length (indexOfTable size t .co) ≡ length t * 2
+  unfolding indexOfTable
   slots-co = omega (arith, index-co size (xsOf t) (ysOf t) slots-indexable, length-map t (λ e. e .x))
 
-  pub slots-promised : Promised size (length t) (slotsOf size t .ids) (slotsOf size t .co)
-  unfolding slotsOf
+  pub slots-promised : Promised size (length t) (indexOfTable size t .ids) (indexOfTable size t .co)
+  unfolding indexOfTable
   slots-promised = rw (length-map t (λ e. e .x)) at (index-promised size (xsOf t) (ysOf t) slots-indexable)
 
 -- ---- between two zooms
@@ -76,15 +76,15 @@ pub record Running (p : Plan) (M k start len : ℕ) (t : Table) (ids : List ℕ)
   pub low-few : p .options .«min_zoom» + k ≤ 31
   pub M-few : M ≤ 33554432
   pub fine : All (Next (p .options .«min_zoom» + k)) (part start len t)
-  pub lamps : total (part start len t) ≡ p .count
+  pub lamps : lampTotal (part start len t) ≡ p .count
   pub watts : sumOf energyOf (part start len t) ≤ 2 ^ 60
   pub len-few : len ≤ p .count
   pub room : start + len + k * p .count ≤ M
   pub long : length t ≡ M
   pub ids-long : length ids ≡ M
   pub co-long : length co ≡ M * 2
-  pub ids-at : part start len ids ≡ slotsOf (p .options .«node_size») (part start len t) .ids
-  pub co-at : part (start * 2) (len * 2) co ≡ slotsOf (p .options .«node_size») (part start len t) .co
+  pub ids-at : part start len ids ≡ indexOfTable (p .options .«node_size») (part start len t) .ids
+  pub co-at : part (start * 2) (len * 2) co ≡ indexOfTable (p .options .«node_size») (part start len t) .co
 
 -- what a zoom does: z is the zoom, and d the new table's length
 pub record Advanced (p : Plan) (z start len d : ℕ) (t t′ : Table) (ids ids′ : List ℕ) (co co′ : List Float) : Type 0 where
@@ -93,8 +93,8 @@ pub record Advanced (p : Plan) (z start len d : ℕ) (t t′ : Table) (ids ids�
   pub made : part (start + len) d t′ ≡ zoomed p z (part start len t) .next
   pub after : drop (start + len + d) t′ ≡ drop (start + len + d) t
   pub count : d ≡ length (zoomed p z (part start len t) .next)
-  pub ids-put : ids′ ≡ putAt (start + len) d (slotsOf (p .options .«node_size») (zoomed p z (part start len t) .next) .ids) ids
-  pub co-put : co′ ≡ putAt ((start + len) * 2) (d * 2) (slotsOf (p .options .«node_size») (zoomed p z (part start len t) .next) .co) co
+  pub ids-put : ids′ ≡ putAt (start + len) d (indexOfTable (p .options .«node_size») (zoomed p z (part start len t) .next) .ids) ids
+  pub co-put : co′ ≡ putAt ((start + len) * 2) (d * 2) (indexOfTable (p .options .«node_size») (zoomed p z (part start len t) .next) .co) co
 
 module _ (p : Plan) (M k start len : ℕ) (t : Table) (ids : List ℕ) (co : List Float) (r : Running p M k start len t ids co) where
   cur : Table
@@ -112,13 +112,13 @@ module _ (p : Plan) (M k start len : ℕ) (t : Table) (ids : List ℕ) (co : Lis
   cur-most : length (part start len t) ≤ 1048576
   cur-most = omega (arith, cur-long, r .len-few, r .able .few)
 
-  slots-kept : Promised (p .options .«node_size») (length (part start len t)) (slotsOf (p .options .«node_size») (part start len t) .ids) (slotsOf (p .options .«node_size») (part start len t) .co)
+  slots-kept : Promised (p .options .«node_size») (length (part start len t)) (indexOfTable (p .options .«node_size») (part start len t) .ids) (indexOfTable (p .options .«node_size») (part start len t) .co)
   slots-kept = slots-promised (p .options .«node_size») (part start len t) (r .able .size-from) (r .able .size-to) cur-some cur-most cur-body
 
   pub cur-promised : Promised (p .options .«node_size») len (part start len ids) (part (start * 2) (len * 2) co)
   cur-promised =
       let size = p .options .«node_size» in
-      rw (r .ids-at, r .co-at) (subst (λ (n : ℕ). Promised size n (slotsOf size (part start len t) .ids) (slotsOf size (part start len t) .co)) cur-long slots-kept)
+      rw (r .ids-at, r .co-at) (subst (λ (n : ℕ). Promised size n (indexOfTable size (part start len t) .ids) (indexOfTable size (part start len t) .co)) cur-long slots-kept)
 
   pub cur-once : (rad qx qy : Float) → Distinct (nearIn (p .options .«node_size») rad (part start len t) qx qy)
   cur-once rad qx qy = slots-kept .once (Within qx qy rad)
@@ -126,7 +126,7 @@ module _ (p : Plan) (M k start len : ℕ) (t : Table) (ids : List ℕ) (co : Lis
 module _ (p : Plan) (M k start len : ℕ) (t : Table) (ids : List ℕ) (co : List Float) (r : Running p M (suc k) start len t ids co) where
   pub zoom-sound : Sound (p .options .«min_zoom» + k) (part start len t) (zoomed p (p .options .«min_zoom» + k) (part start len t))
   zoom-sound =
-      let few : total (part start len t) ≤ 1048576 = omega (arith, r .lamps, r .able .few) in
+      let few : lampTotal (part start len t) ≤ 1048576 = omega (arith, r .lamps, r .able .few) in
       cluster-sound (p .count) (p .options .«min_points») (p .options .«min_zoom» + k) (nearIn (p .options .«node_size») (radiusAt (p .options .radius) (p .options .extent) (p .options .«min_zoom» + k)) (part start len t))
       (cur-once p M (suc k) start len t ids co r (radiusAt (p .options .radius) (p .options .extent) (p .options .«min_zoom» + k)))
       (part start len t) (rw (add-suc (p .options .«min_zoom») k) at (r .fine))
@@ -161,10 +161,10 @@ module _ (p : Plan) (M k start len : ℕ) (t : Table) (ids : List ℕ) (co : Lis
     pub co-fit : (start + len) * 2 + d * 2 ≤ length co
     co-fit = omega (arith, more-room, r .co-long)
 
-    pub ids-len : length (slotsOf (p .options .«node_size») (zoomed p (p .options .«min_zoom» + k) (part start len t) .next) .ids) ≡ d
+    pub ids-len : length (indexOfTable (p .options .«node_size») (zoomed p (p .options .«min_zoom» + k) (part start len t) .next) .ids) ≡ d
     ids-len = slots-ids (p .options .«node_size») (zoomed p (p .options .«min_zoom» + k) (part start len t) .next) (r .able .size-from) (r .able .size-to) next-some next-most next-body ∙ sym (v .count)
 
-    pub co-len : length (slotsOf (p .options .«node_size») (zoomed p (p .options .«min_zoom» + k) (part start len t) .next) .co) ≡ d * 2
+    pub co-len : length (indexOfTable (p .options .«node_size») (zoomed p (p .options .«min_zoom» + k) (part start len t) .next) .co) ≡ d * 2
     co-len = slots-co (p .options .«node_size») (zoomed p (p .options .«min_zoom» + k) (part start len t) .next) (r .able .size-from) (r .able .size-to) next-some next-most next-body ∙ ap (λ (q : ℕ). q * 2) (sym (v .count))
 
     pub running-step : Running p M k (start + len) d t′ ids′ co′
@@ -174,7 +174,7 @@ module _ (p : Plan) (M k start len : ℕ) (t : Table) (ids : List ℕ) (co : Lis
           low-few = omega (arith, r .low-few);
           M-few = r .M-few;
           fine = rw (v .made) (zoom-sound .next);
-          lamps = ap total (v .made) ∙ zoom-sound .lamps ∙ r .lamps;
+          lamps = ap lampTotal (v .made) ∙ zoom-sound .lamps ∙ r .lamps;
           watts = rw (v .made, zoom-sound .energies) (r .watts);
           len-few = omega (arith, d-few, r .len-few);
           room = more-room;
@@ -183,10 +183,10 @@ module _ (p : Plan) (M k start len : ℕ) (t : Table) (ids : List ℕ) (co : Lis
           co-long = ec ∙ r .co-long;
           ids-at =
               ap (part (start + len) d) (v .ids-put)
-              ∙ part-put (start + len) d (slotsOf (p .options .«node_size») (zoomed p (p .options .«min_zoom» + k) (part start len t) .next) .ids) ids ids-fit ids-len
-              ∙ ap (λ (q : Table). slotsOf (p .options .«node_size») q .ids) (sym (v .made));
+              ∙ part-put (start + len) d (indexOfTable (p .options .«node_size») (zoomed p (p .options .«min_zoom» + k) (part start len t) .next) .ids) ids ids-fit ids-len
+              ∙ ap (λ (q : Table). indexOfTable (p .options .«node_size») q .ids) (sym (v .made));
           co-at =
               ap (part ((start + len) * 2) (d * 2)) (v .co-put)
-              ∙ part-put ((start + len) * 2) (d * 2) (slotsOf (p .options .«node_size») (zoomed p (p .options .«min_zoom» + k) (part start len t) .next) .co) co co-fit co-len
-              ∙ ap (λ (q : Table). slotsOf (p .options .«node_size») q .co) (sym (v .made));
+              ∙ part-put ((start + len) * 2) (d * 2) (indexOfTable (p .options .«node_size») (zoomed p (p .options .«min_zoom» + k) (part start len t) .next) .co) co co-fit co-len
+              ∙ ap (λ (q : Table). indexOfTable (p .options .«node_size») q .co) (sym (v .made));
         }

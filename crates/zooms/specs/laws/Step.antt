@@ -8,7 +8,7 @@ use lib.Ieee.{Float}
 use Rattle.tables.specs.Entries.{Table}
 use Rattle.tables.specs.Rows.{Cols, rows, each2}
 use Rattle.tables.specs.laws.Rows.{Even, Kept, each, each2-first, each2-second}
-use Rattle.tables.specs.laws.Columns.{from, back, take-back, drop-back, rows-take, rows-drop, rows-from}
+use Rattle.tables.specs.laws.Columns.{fromPart, back, take-back, drop-back, rows-take, rows-drop, rows-from}
 use Rattle.zoom.specs.Zoom.{Scan}
 use Rattle.zoom.specs.Scanned.{Scanned}
 use Rattle.zooms.specs.laws.Parts.{put-long}
@@ -20,7 +20,7 @@ pub record Stepped (start len : ℕ) (s : Scan) (old new : Table) (d : ℕ) : Ty
 
 -- the columns c are lent from s on, and come back there as d
 pub stepped : (s : ℕ) (c d : Cols) → Even c → s ≤ length (c .x) → (len k : ℕ) (sc : Scan)
-    → Scanned len 0 sc (rows (each (λ A l. from s l) c)) (rows d) k → Stepped s len sc (rows c) (rows (each2 (λ A l q. back s l q) c d)) k
+    → Scanned len 0 sc (rows (each (λ A l. fromPart s l) c)) (rows d) k → Stepped s len sc (rows c) (rows (each2 (λ A l q. back s l q) c d)) k
 stepped s c d v h len k sc l =
     let b = each2 (λ A l q. back s l q) c d in
     let e : drop s (rows b) ≡ rows d
@@ -34,7 +34,7 @@ stepped s c d v h len k sc l =
     }
 
 -- columns lent from s on that come back as long as they were
-pub kept-back : (s : ℕ) (c d : Cols) → Kept (each (λ A l. from s l) c) d → Kept c (each2 (λ A l q. back s l q) c d)
+pub kept-back : (s : ℕ) (c d : Cols) → Kept (each (λ A l. fromPart s l) c) d → Kept c (each2 (λ A l q. back s l q) c d)
 kept-back s c d k =
     record {
       kx = put-long s (length (c .x) - s) (d .x) (c .x) (k .kx);

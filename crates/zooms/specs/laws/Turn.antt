@@ -9,7 +9,7 @@ use Rattle.tables.specs.Columns.{part}
 use Rattle.tables.specs.Entries.{Table}
 use Rattle.tables.specs.declared.State.{State}
 use Rattle.zooms.specs.Zooms.{Plan}
-use Rattle.zooms.specs.laws.Progress.{Whole, wholeOf, Progress, Finished, progress-step, progress-start, rows-end, ids-end, co-end}
+use Rattle.zooms.specs.laws.Progress.{Whole, wholeProgress, Progress, Finished, progress-step, progress-start, rows-end, ids-end, co-end}
 use Rattle.zooms.specs.laws.Progress.{ss-end, ll-end, rows-length-end, ids-length-end, co-length-end}
 use Rattle.zooms.specs.laws.Running.{Running, Advanced, running-step}
 
@@ -43,19 +43,19 @@ module _ (p : Plan) (M z start len : ℕ) (t : Table) (ids : List ℕ) (co : Lis
         (subst (λ (q : List ℕ). Progress p w t₀ ids₀ co₀ (z - 1 - p .options .«min_zoom») (start + len) d t′ ids′ co′ (set ss (p .options .«min_zoom» + (z - 1 - p .options .«min_zoom»)) (start + len)) q) b′ h)
 
 pub turn-start : (p : Plan) (z len : ℕ) (t : Table) (ids : List ℕ) (co : List Float) (ss ll : List ℕ) → p .options .«min_zoom» ≤ z → set ss z 0 ≡ ss → set ll z len ≡ ll
-    → Progress p (wholeOf p (z - p .options .«min_zoom») (part 0 len t) ss ll) t ids co (z - p .options .«min_zoom») 0 len t ids co ss ll
+    → Progress p (wholeProgress p (z - p .options .«min_zoom») (part 0 len t) ss ll) t ids co (z - p .options .«min_zoom») 0 len t ids co ss ll
 turn-start p z len t ids co ss ll h a b =
     let e : p .options .«min_zoom» + (z - p .options .«min_zoom») ≡ z = omega arith in
     progress-start p (z - p .options .«min_zoom») len t ids co ss ll (rw e a) (rw e b)
 
 pub turn-end : (p : Plan) (M z k start len n : ℕ) (t : Table) (ids : List ℕ) (co : List Float) (t₀ : Table) (ids₀ : List ℕ) (co₀ : List Float) (s s′ : State) → z ≤ p .options .«min_zoom»
     → Running p M (z - p .options .«min_zoom») start len t ids co
-    → Progress p (wholeOf p k (part 0 n t₀) (s .starts) (s .lens)) t₀ ids₀ co₀ (z - p .options .«min_zoom») start len t ids co (s′ .starts) (s′ .lens)
+    → Progress p (wholeProgress p k (part 0 n t₀) (s .starts) (s .lens)) t₀ ids₀ co₀ (z - p .options .«min_zoom») start len t ids co (s′ .starts) (s′ .lens)
     → s′ .options ≡ s .options → s′ .count ≡ s .count
     → Finished p k s s′ (part 0 n t₀) t₀ t ids₀ ids co₀ co
 turn-end p M z k start len n t ids co t₀ ids₀ co₀ s s′ h r g eo ec =
     let e : z - p .options .«min_zoom» ≡ 0 = omega arith in
-    let w = wholeOf p k (part 0 n t₀) (s .starts) (s .lens) in
+    let w = wholeProgress p k (part 0 n t₀) (s .starts) (s .lens) in
     let r′ = subst (λ (q : ℕ). Running p M q start len t ids co) e r in
     let g′ = subst (λ (q : ℕ). Progress p w t₀ ids₀ co₀ q start len t ids co (s′ .starts) (s′ .lens)) e g in
     let lr = rows-length-end p M start len t ids co r′ w t₀ ids₀ co₀ (s′ .starts) (s′ .lens) g′ in

@@ -8,7 +8,7 @@ use lib.ListN.{length, take, drop, length-drop}
 use lib.Seq.{drop-drop, length-take-le}
 use lib.Ieee.{Float}
 use Rattle.floats.specs.laws.Unit.{In01-finite}
-use Rattle.kdsort.specs.Cols.{Cols}
+use Rattle.kdsort.specs.Cols.{IndexCols}
 use Rattle.kdslots.specs.laws.All.{All, all-map}
 use Rattle.tables.specs.Columns.{part}
 use Rattle.tables.specs.laws.Columns.{xs-part, ys-part}
@@ -24,7 +24,7 @@ use Rattle.zoom.specs.Scanned.{unseenOf}
 use Rattle.zoom.specs.laws.Sound.{Body}
 use Rattle.zoom.specs.Zoom.{numOf, energyOf, Scan, cluster}
 use Rattle.kdbush.specs.Reply.{indexOf}
-use Rattle.zooms.specs.Zooms.{slotsOf, nearIn, Plan, zoomed}
+use Rattle.zooms.specs.Zooms.{indexOfTable, nearIn, Plan, zoomed}
 use Rattle.kdbush.specs.laws.Indexed.{Inside}
 use Rattle.zooms.specs.laws.Parts.{putAt}
 use Rattle.zooms.specs.laws.Running.{Running, Advanced, next-some, next-few, cur-long, cur-body, table-inside, next-body}
@@ -77,8 +77,8 @@ module _ (p : Plan) (M z start len : ℕ) (t : Table) (ids : List ℕ) (co : Lis
         let size = p .options .«node_size» in
         let cur = part start len t in
         ap (λ (i : List ℕ). cluster (p .count) (p .options .«min_points») z (nearOf size len i (part (start * 2) (len * 2) co) rad) cur) (r .ids-at)
-        ∙ ap (λ (c : List Float). cluster (p .count) (p .options .«min_points») z (nearOf size len (slotsOf size cur .ids) c rad) cur) (r .co-at)
-        ∙ ap (λ (k : ℕ). cluster (p .count) (p .options .«min_points») z (nearOf size k (slotsOf size cur .ids) (slotsOf size cur .co) rad) cur) (sym (cur-long p M (suc (z - p .options .«min_zoom»)) start len t ids co r))
+        ∙ ap (λ (c : List Float). cluster (p .count) (p .options .«min_points») z (nearOf size len (indexOfTable size cur .ids) c rad) cur) (r .co-at)
+        ∙ ap (λ (k : ℕ). cluster (p .count) (p .options .«min_points») z (nearOf size k (indexOfTable size cur .ids) (indexOfTable size cur .co) rad) cur) (sym (cur-long p M (suc (z - p .options .«min_zoom»)) start len t ids co r))
         ∙ ap (λ (f : Float). cluster (p .count) (p .options .«min_points») z (nearIn size f cur) cur) er
 
     pub scanned : Zoomed p z start len d t t′
@@ -97,8 +97,8 @@ module _ (p : Plan) (M z start len : ℕ) (t : Table) (ids : List ℕ) (co : Lis
 
 -- the index of what was made
 module _ (p : Plan) (z start len d : ℕ) (t : Table) (c : TableCols) (v : Even c) (s : Zoomed p z start len d t (rows c)) where
-  pub index-made : indexOf (p .options .«node_size») (part (start + len) d (c .x)) (part (start + len) d (c .y)) ≡ slotsOf (p .options .«node_size») (zoomed p z (part start len t) .next)
-  unfolding slotsOf
+  pub index-made : indexOf (p .options .«node_size») (part (start + len) d (c .x)) (part (start + len) d (c .y)) ≡ indexOfTable (p .options .«node_size») (zoomed p z (part start len t) .next)
+  unfolding indexOfTable
   index-made =
       rw (xs-part (start + len) d c, ys-part (start + len) d c (v .ey), s .made)
 
@@ -117,10 +117,10 @@ module _ (p : Plan) (z start len d : ℕ) (t : Table) (c : TableCols) (v : Even 
         made = s .made;
         after = s .after;
         count = s .count;
-        ids-put = a ∙ ap (λ (q : Cols). putAt (start + len) d (q .ids) ids) index-made;
-        co-put = b ∙ ap (λ (q : Cols). putAt ((start + len) * 2) (d * 2) (q .co) co) index-made;
+        ids-put = a ∙ ap (λ (q : IndexCols). putAt (start + len) d (q .ids) ids) index-made;
+        co-put = b ∙ ap (λ (q : IndexCols). putAt ((start + len) * 2) (d * 2) (q .co) co) index-made;
       }
 
-pub part-index : (size a n : ℕ) (c : TableCols) → length (c .y) ≡ length (c .x) → indexOf size (part a n (c .x)) (part a n (c .y)) ≡ slotsOf size (part a n (rows c))
-unfolding slotsOf
+pub part-index : (size a n : ℕ) (c : TableCols) → length (c .y) ≡ length (c .x) → indexOf size (part a n (c .x)) (part a n (c .y)) ≡ indexOfTable size (part a n (rows c))
+unfolding indexOfTable
 part-index size a n c h = rw (xs-part a n c, ys-part a n c h)
