@@ -4,17 +4,17 @@ use mathlib.Core.List.{List}
 use Prim.Native.Nat.{ℕ}
 use lib.ListN.{length}
 use lib.IntN.{ℤ}
-use Rattle.tables.specs.declared.Options.{Options}
-use Rattle.tables.specs.declared.State.{State}
-use Rattle.tables.specs.State.{stateOf}
-use Rattle.asking.specs.declared.Answer.{Answer}
-use Rattle.asking.specs.Answers.{answerNumber, answerCarried}
-use Rattle.asking.specs.Asked.{Asked, answerOf, columnOf}
-use Rattle.spending.specs.declared.Effort.{Effort}
-use Rattle.spending.specs.declared.EffortReply.{EffortReply}
-use Rattle.spending.specs.Reply.{effortNumber, effortCarried}
-use Rattle.efforts.specs.Effort.{EffortAsked, effortReplyOf, effortColumnOf as effortColumn}
-use Rattle.tiles.specs.Asked.{TileOutcome, tileOutcome}
+use Rattle.build_tables.specs.declared.Options.{Options}
+use Rattle.build_tables.specs.declared.State.{State}
+use Rattle.build_tables.specs.State.{stateOf}
+use Rattle.ask_base.specs.declared.Answer.{Answer}
+use Rattle.ask_base.specs.Answers.{answerNumber, answerCarried}
+use Rattle.ask_base.specs.Asked.{Asked, answerOf, columnOf}
+use Rattle.ask_effort_tests.specs.declared.Effort.{Effort}
+use Rattle.ask_effort_tests.specs.declared.EffortReply.{EffortReply}
+use Rattle.ask_effort_tests.specs.Reply.{effortNumber, effortCarried}
+use Rattle.ask_effort.specs.Effort.{EffortAsked, effortReplyOf, effortColumnOf as effortColumn}
+use Rattle.ask_tile.specs.Asked.{TileOutcome, tileOutcome}
 use Rattle.exports.specs.Told.{said, toldC, toldOf, effortTold, repliedWith, effortToldOf, tileTold, tileOf}
 
 -- the state that is passed on

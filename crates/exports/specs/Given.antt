@@ -2,8 +2,8 @@
 use mathlib.Core.Bool.{Bool}
 use Prim.Native.Nat.{ℕ}
 use lib.Ieee.{Float}
-use Rattle.tables.specs.declared.Options.{Options}
-use Rattle.tables.specs.Given.{settingOf, systemOf}
+use Rattle.build_tables.specs.declared.Options.{Options}
+use Rattle.build_tables.specs.Given.{settingOf, systemOf}
 
 -- the options, in the order in which every function takes them
 abbrev pub givenOptions : ℕ → ℕ → ℕ → Float → Float → ℕ → Bool → Float → Float → Float → Float → Bool → Float → Bool → Float → Bool → Options

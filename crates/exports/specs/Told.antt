@@ -4,16 +4,16 @@ use mathlib.Core.List.{List}
 use Prim.Native.Nat.{ℕ}
 use lib.ListN.{length}
 use lib.IntN.{ℤ}
-use Rattle.asking.specs.Answers.{answerNumber, answerCarried}
-use Rattle.asking.specs.Asked.{Asked, answerOf, columnOf}
-use Rattle.spending.specs.declared.EffortReply.{EffortReply}
-use Rattle.spending.specs.Reply.{effortNumber, effortCarried}
-use Rattle.efforts.specs.Effort.{EffortAsked, effortReplyOf, effortColumnOf as effortColumn}
-use Rattle.walks.specs.declared.Expansion.{Expansion}
-use Rattle.walks.specs.Expansion.{expansionNumber, expansionCarried}
-use Rattle.tiling.specs.declared.Tally.{Tally}
-use Rattle.tiling.specs.Tally.{tallyNumber, tallyValue}
-use Rattle.tiles.specs.Asked.{TileOutcome}
+use Rattle.ask_base.specs.Answers.{answerNumber, answerCarried}
+use Rattle.ask_base.specs.Asked.{Asked, answerOf, columnOf}
+use Rattle.ask_effort_tests.specs.declared.EffortReply.{EffortReply}
+use Rattle.ask_effort_tests.specs.Reply.{effortNumber, effortCarried}
+use Rattle.ask_effort.specs.Effort.{EffortAsked, effortReplyOf, effortColumnOf as effortColumn}
+use Rattle.ask_cluster.specs.declared.Expansion.{Expansion}
+use Rattle.ask_cluster.specs.Expansion.{expansionNumber, expansionCarried}
+use Rattle.ask_tile_table.specs.declared.Tally.{Tally}
+use Rattle.ask_tile_table.specs.Tally.{tallyNumber, tallyValue}
+use Rattle.ask_tile.specs.Asked.{TileOutcome}
 
 -- of a question that has no output column
 pub record Said : Type 0 where

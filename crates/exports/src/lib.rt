@@ -2,11 +2,11 @@
 // a `&mut usize` or a `&[u32; 32]` as a pointer.
 // Each answers 01's number of the reply, 0 where there is no refusal, and leaves what the reply carries in `carried`, 0 where it
 // carries nothing. Proved: each tells what the public function promises, and writes nothing else. Assumed: nothing.
+use build_tables::Options;
+use build_tables::State;
 use kdslots::Query;
 use range::DataRange;
 use supercluster::Loaded;
-use tables::Options;
-use tables::State;
 ghost use mathlib.Core.Path.{_≡_};
 ghost use lib.ListN.{length};
 ghost use Rattle.kdbush.specs.Reply.{buildNumber, buildCarried, built, indexChecked, searchNumber, searchCarried, searched, columnAfter};
@@ -17,16 +17,16 @@ ghost use Rattle.exports.specs.Laid.{replied, repliedOf, laid, laidOf};
 ghost use Rattle.supercluster.specs.Build.{loaded};
 ghost use Rattle.supercluster.specs.Lent.{lentAll};
 ghost use Rattle.kdsort.specs.Cols.{indexCols};
-ghost use Rattle.tables.specs.State.{stateOf};
-ghost use Rattle.tables.specs.Lent.{lentColumns};
+ghost use Rattle.build_tables.specs.State.{stateOf};
+ghost use Rattle.build_tables.specs.Lent.{lentColumns};
 ghost use Rattle.lent.specs.Lent.{old, new};
-ghost use Rattle.boxes.specs.Lists.{boxAsked, ringAsked};
-ghost use Rattle.efforts.specs.Effort.{effortAsked};
-ghost use Rattle.walks.specs.Children.{childrenOf};
-ghost use Rattle.walks.specs.Leaves.{leavesOf};
-ghost use Rattle.walks.specs.Expansion.{zoomOf};
-ghost use Rattle.tiles.specs.Asked.{tiled};
-ghost use Rattle.tiles.specs.Tallied.{tallied};
+ghost use Rattle.ask_box.specs.Lists.{boxAsked, ringAsked};
+ghost use Rattle.ask_effort.specs.Effort.{effortAsked};
+ghost use Rattle.ask_cluster.specs.Children.{childrenOf};
+ghost use Rattle.ask_cluster.specs.Leaves.{leavesOf};
+ghost use Rattle.ask_cluster.specs.Expansion.{zoomOf};
+ghost use Rattle.ask_tile.specs.Asked.{tiled};
+ghost use Rattle.ask_tile.specs.Tallied.{tallied};
 
 #[no_mangle]
 pub extern "C" fn kdbush_build(
@@ -221,10 +221,10 @@ fn options(
         min_y,
         max_x,
         max_y,
-        offset: tables::setting(offset_given, offset),
-        scale: tables::setting(scale_given, scale),
+        offset: build_tables::setting(offset_given, offset),
+        scale: build_tables::setting(scale_given, scale),
     };
-    let coordinate_system = tables::system(cartesian, range);
+    let coordinate_system = build_tables::system(cartesian, range);
     Options {
         min_zoom,
         max_zoom,
@@ -410,7 +410,7 @@ pub extern "C" fn supercluster_box(
         longitude_strips_only,
     );
     let s = state(o, count, starts, lens);
-    let r = boxes::list_box(s, ids, coords, zoom, west, least_y, east, greatest_y, out);
+    let r = ask_box::list_box(s, ids, coords, zoom, west, least_y, east, greatest_y, out);
     *carried = r.carried();
     r.number()
 }
@@ -477,7 +477,7 @@ pub extern "C" fn supercluster_box_effort(
         longitude_strips_only,
     );
     let s = state(o, count, starts, lens);
-    let r = efforts::effort_box(
+    let r = ask_effort::effort_box(
         s,
         ids,
         coords,
@@ -552,7 +552,7 @@ pub extern "C" fn supercluster_ring(
         longitude_strips_only,
     );
     let s = state(o, count, starts, lens);
-    let r = boxes::list_ring(s, ids, coords, zoom, ring_x, ring_y, ring_radius, out);
+    let r = ask_box::list_ring(s, ids, coords, zoom, ring_x, ring_y, ring_radius, out);
     *carried = r.carried();
     r.number()
 }
@@ -618,7 +618,7 @@ pub extern "C" fn supercluster_children(
         longitude_strips_only,
     );
     let s = state(o, count, starts, lens);
-    let r = walks::children(
+    let r = ask_cluster::children(
         s,
         x,
         y,
@@ -699,7 +699,7 @@ pub extern "C" fn supercluster_leaves(
         longitude_strips_only,
     );
     let s = state(o, count, starts, lens);
-    let r = walks::leaves(
+    let r = ask_cluster::leaves(
         s,
         x,
         y,
@@ -779,7 +779,7 @@ pub extern "C" fn supercluster_expansion_zoom(
         longitude_strips_only,
     );
     let s = state(o, count, starts, lens);
-    let r = walks::expansion_zoom(s, x, y, seen, id, parent, num, energy, ids, coords, cid);
+    let r = ask_cluster::expansion_zoom(s, x, y, seen, id, parent, num, energy, ids, coords, cid);
     *carried = r.carried() as usize;
     r.number()
 }
@@ -849,7 +849,7 @@ pub extern "C" fn supercluster_tile(
         scale,
         longitude_strips_only,
     );
-    let r = tiles::tile_lent(
+    let r = ask_tile::tile_lent(
         o,
         count,
         starts,
@@ -935,7 +935,7 @@ pub extern "C" fn supercluster_tally(
         scale,
         longitude_strips_only,
     );
-    let r = tiles::tally_lent(
+    let r = ask_tile::tally_lent(
         o,
         count,
         starts,

@@ -248,7 +248,7 @@ pub fn build(
 }
 
 // Writes the places that a query answers over any lent index of n slots: first items, then old contents. No number of the query is
-// refused, so it never gives 9. Not part of the public surface, but for `boxes`: a box that is given in finite numbers may be normalised
+// refused, so it never gives 9. Not part of the public surface, but for `ask_box`: a box that is given in finite numbers may be normalised
 // to infinite ones, and is searched all the same.
 pub fn search(
     q: Query,

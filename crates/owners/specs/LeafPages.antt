@@ -6,15 +6,15 @@ use mathlib.Core.Bool.{true}
 use mathlib.Core.List.{List, [], _++_}
 use Prim.Native.Nat.{ℕ, _+_, _-_, _*_, _<_, _≤_, min}
 use lib.ListN.{length, drop}
-use Rattle.tables.specs.declared.State.{State}
-use Rattle.tables.specs.Entries.{entry}
-use Rattle.groups.specs.Sums.{count, range}
-use Rattle.asking.specs.declared.Answer.the-variants.{Listed}
-use Rattle.asking.specs.Asked.{Asked, refused, told, answerOf, columnOf}
-use Rattle.tables.specs.Room.{Columns}
-use Rattle.asking.specs.Columns.{tableAt}
-use Rattle.walks.specs.Leaves.{leavesOf}
-use Rattle.lamps.specs.Owner.{gather}
+use Rattle.build_tables.specs.declared.State.{State}
+use Rattle.build_tables.specs.Entries.{entry}
+use Rattle.law_groups.specs.Sums.{count, range}
+use Rattle.ask_base.specs.declared.Answer.the-variants.{Listed}
+use Rattle.ask_base.specs.Asked.{Asked, refused, told, answerOf, columnOf}
+use Rattle.build_tables.specs.Room.{Columns}
+use Rattle.ask_base.specs.Columns.{tableAt}
+use Rattle.ask_cluster.specs.Leaves.{leavesOf}
+use Rattle.law_lamps.specs.Owner.{gather}
 
 -- the items of an answer
 abbrev pub pageItems : Asked → List ℕ

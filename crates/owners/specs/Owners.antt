@@ -9,14 +9,14 @@ use mathlib.Core.List.{List, _++_}
 use Prim.Native.Nat.{ℕ, suc, _+_, _^_, _<_, _≤_}
 use lib.Dec.{eqb}
 use lib.ListN.{length, getD, take, drop}
-use Rattle.tables.specs.declared.State.{State}
-use Rattle.tables.specs.Entries.{entry}
-use Rattle.groups.specs.Sums.{gate, oneIf, sum, count, range}
-use Rattle.asking.specs.declared.Answer.the-variants.{Listed}
-use Rattle.asking.specs.Asked.{told, answerOf, columnOf}
-use Rattle.tables.specs.Room.{Columns}
-use Rattle.asking.specs.Columns.{tableAt}
-use Rattle.lamps.specs.Owner.{ownerUp}
+use Rattle.build_tables.specs.declared.State.{State}
+use Rattle.build_tables.specs.Entries.{entry}
+use Rattle.law_groups.specs.Sums.{gate, oneIf, sum, count, range}
+use Rattle.ask_base.specs.declared.Answer.the-variants.{Listed}
+use Rattle.ask_base.specs.Asked.{told, answerOf, columnOf}
+use Rattle.build_tables.specs.Room.{Columns}
+use Rattle.ask_base.specs.Columns.{tableAt}
+use Rattle.law_lamps.specs.Owner.{ownerUp}
 use Rattle.owners.specs.LeafPages.{numAt, pageAsked, LeafPages}
 
 -- the tables that the state names

@@ -4,21 +4,21 @@ use mathlib.Core.Path.{_≡_, refl, sym, ap, ap₂, _∙_, subst}
 use mathlib.Core.List.{List}
 use Prim.Native.Nat.{ℕ}
 use native.Mathlib.Omega.{arith}
-use Rattle.tables.specs.declared.State.{State}
-use Rattle.tables.specs.State.{stateOf}
+use Rattle.build_tables.specs.declared.State.{State}
+use Rattle.build_tables.specs.State.{stateOf}
 use Rattle.supercluster.specs.declared.LoadReply.{LoadReply}
 use Rattle.supercluster.specs.declared.LoadReply.the-variants.{Done, Options as No·Options, Count, Point, Energy, Tables}
 use Rattle.supercluster.specs.Build.{BuildColumns, loadNumber}
-use Rattle.answers.specs.Stored.{columnsOf}
-use Rattle.answers.specs.laws.Stored.{stateBy, loadedOf, of-load}
-use Rattle.lamps.specs.Owner.{owner}
+use Rattle.law_answers.specs.Stored.{columnsOf}
+use Rattle.law_answers.specs.laws.Stored.{stateBy, loadedOf, of-load}
+use Rattle.law_lamps.specs.Owner.{owner}
 use Rattle.owners.specs.Owners.{Owners}
 use Rattle.owners.specs.laws.Proved.{one-owner}
-use Rattle.listing.specs.Values.{optionsOf}
-use Rattle.listing.specs.Text.{Input, headIs, givenXs, givenYs, givenEnergies}
-use Rattle.report.specs.Report.{Lending, left}
+use Rattle.lister_text.specs.Values.{optionsOf}
+use Rattle.lister_text.specs.Text.{Input, headIs, givenXs, givenYs, givenEnergies}
+use Rattle.lister_report.specs.Report.{Lending, left}
 use Rattle.exports.specs.Laid.{Laid, unlessRefused, replied, laid, laidOf}
-use Rattle.builds.specs.Given.{Given, givenBuild, points}
+use Rattle.law_builds.specs.Given.{Given, givenBuild, points}
 
 -- only a build that is not refused has the number 0
 zero-done : (r : LoadReply) → loadNumber r ≡ 0 → r ≡ Done

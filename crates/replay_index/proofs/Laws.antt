@@ -14,7 +14,7 @@ use Rattle.kdbush.specs.declared.SearchReply.{SearchReply}
 use Rattle.kdbush.specs.Reply.{indexChecked, built, searched, columnAfter}
 use Rattle.kdwalk.specs.Reply.{firstStep, afterStep}
 use Rattle.kdsort.specs.Cols.{indexCols}
-use Rattle.vectors.specs.Same.{samePlaces, sameFloats, doneIs}
+use Rattle.replay_vectors.specs.Same.{samePlaces, sameFloats, doneIs}
 use Rattle.replay_index.specs.Same.{buildsTo, foundIs, indexListsTo, slotOf, overIs, walkedSlots, walksTo}
 
 -- a walk of m steps, before its step i, and the slot that this step has

@@ -5,9 +5,9 @@ use mathlib.Core.List.{List}
 use lib.Dec.{eqb, ltb}
 use lib.ListN.{length, getD}
 use lib.Ieee.{Float}
-use Rattle.vectors.specs.Same.{samePlaces, sameFloats, doneIs}
-use Rattle.vectors.specs.declared.Function.{Function}
-use Rattle.vectors.specs.declared.Function.the-variants.{Range as Function·Range, Within as Function·Within}
+use Rattle.replay_vectors.specs.Same.{samePlaces, sameFloats, doneIs}
+use Rattle.replay_vectors.specs.declared.Function.{Function}
+use Rattle.replay_vectors.specs.declared.Function.the-variants.{Range as Function·Range, Within as Function·Within}
 use Rattle.kdsort.specs.Cols.{indexCols}
 use Rattle.kdslots.specs.declared.Query.{Query}
 use Rattle.kdslots.specs.declared.Query.the-variants.{Range, Within}

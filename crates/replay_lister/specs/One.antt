@@ -6,11 +6,11 @@ use Prim.Native.Nat.{ℕ}
 use native.Mathlib.Omega.{arith}
 use lib.ListN.{length, take, drop}
 use lib.Seq.{take-at}
-use Rattle.zooms.specs.Zooms.{laidOver}
-use Rattle.listing.specs.laws.OneInput.{text-one}
-use Rattle.report.specs.Report.{linesOf, refusedLine, Lending, left, Reports, read, refusedReport}
-use Rattle.vectors.specs.Same.{samePlaces}
-use Rattle.vectors.specs.Equal.{places-equal, places-self}
+use Rattle.build_all_zooms.specs.Zooms.{laidOver}
+use Rattle.lister_text.specs.laws.OneInput.{text-one}
+use Rattle.lister_report.specs.Report.{linesOf, refusedLine, Lending, left, Reports, read, refusedReport}
+use Rattle.replay_vectors.specs.Same.{samePlaces}
+use Rattle.replay_vectors.specs.Equal.{places-equal, places-self}
 use Rattle.replay_lister.specs.Prints.{Prints, lines, noText, printsIs}
 
 pub prints-one : (s a b : List ℕ) → Prints s a → Prints s b → a ≡ b

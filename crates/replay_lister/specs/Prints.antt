@@ -3,8 +3,8 @@ use mathlib.Core.Bool.{Bool, true, false}
 use mathlib.Core.List.{List}
 use mathlib.Core.Path.{_≡_}
 use Prim.Native.Nat.{ℕ}
-use Rattle.listing.specs.Text.{Input, text, Valid}
-use Rattle.report.specs.Report.{linesOf, refusedLine}
+use Rattle.lister_text.specs.Text.{Input, text, Valid}
+use Rattle.lister_report.specs.Report.{linesOf, refusedLine}
 
 -- l is what is printed for the text s: the lines of the input that s is the writing of, or the refusal 12 where there is none
 pub data Prints (s l : List ℕ) : Type 0 where

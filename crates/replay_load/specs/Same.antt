@@ -5,15 +5,15 @@ use mathlib.Core.List.{List, _++_}
 use lib.Dec.{eqb}
 use lib.ListN.{length, drop, replicate}
 use lib.Ieee.{Float}
-use Rattle.vectors.specs.Words.{agreeing}
-use Rattle.vectors.specs.Same.{samePlaces, sameFloats}
+use Rattle.replay_vectors.specs.Words.{agreeing}
+use Rattle.replay_vectors.specs.Same.{samePlaces, sameFloats}
 use Rattle.range.specs.declared.Setting.{Setting}
 use Rattle.range.specs.declared.Setting.the-variants.{Given, Derived}
 use Rattle.range.specs.declared.DataRange.{DataRange}
 use Rattle.range.specs.declared.CoordinateSystem.{CoordinateSystem}
 use Rattle.range.specs.declared.CoordinateSystem.the-variants.{LatLng, Cartesian}
-use Rattle.tables.specs.declared.Options.{Options}
-use Rattle.tables.specs.declared.State.{State}
+use Rattle.build_tables.specs.declared.Options.{Options}
+use Rattle.build_tables.specs.declared.State.{State}
 use Rattle.supercluster.specs.Build.{BuildColumns, Outcome, loadNumber, loaded}
 
 -- a column with zeros in its first n

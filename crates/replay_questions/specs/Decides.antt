@@ -8,16 +8,16 @@ use lib.Dec.{eqb}
 use lib.IntN.{ℤ}
 use lib.ListN.{length}
 use Rattle.kdslots.specs.laws.Bounds.{and-both}
-use Rattle.asking.specs.declared.Answer.{Answer}
-use Rattle.asking.specs.Answers.{answerNumber, answerCarried}
-use Rattle.asking.specs.Asked.{Asked, answerOf, columnOf}
-use Rattle.walks.specs.declared.Expansion.{Expansion}
-use Rattle.walks.specs.Expansion.{expansionNumber, expansionCarried}
-use Rattle.tiling.specs.declared.Tally.{Tally}
-use Rattle.tiling.specs.Tally.{tallyNumber, tallyValue}
-use Rattle.tiles.specs.Asked.{TileOutcome}
-use Rattle.vectors.specs.Same.{samePlaces, sameLongs}
-use Rattle.vectors.specs.Equal.{places-equal, places-self, longs-equal, longs-self}
+use Rattle.ask_base.specs.declared.Answer.{Answer}
+use Rattle.ask_base.specs.Answers.{answerNumber, answerCarried}
+use Rattle.ask_base.specs.Asked.{Asked, answerOf, columnOf}
+use Rattle.ask_cluster.specs.declared.Expansion.{Expansion}
+use Rattle.ask_cluster.specs.Expansion.{expansionNumber, expansionCarried}
+use Rattle.ask_tile_table.specs.declared.Tally.{Tally}
+use Rattle.ask_tile_table.specs.Tally.{tallyNumber, tallyValue}
+use Rattle.ask_tile.specs.Asked.{TileOutcome}
+use Rattle.replay_vectors.specs.Same.{samePlaces, sameLongs}
+use Rattle.replay_vectors.specs.Equal.{places-equal, places-self, longs-equal, longs-self}
 use Rattle.replay_questions.specs.declared.Reply.{Reply}
 use Rattle.replay_questions.specs.Same.{sameReply, sameTile, listsTo, zoomsTo, tilesTo, sumsTo}
 

@@ -1,5 +1,5 @@
 -- The build, by 01's 'Tables' and the Rust's `load`: the refusals in order; otherwise the finest table, and each zoom from max_zoom down
--- to min_zoom, every table with its index, packed from position 0. The zooms and the packing are those of `Zooms`, in the crate zooms.
+-- to min_zoom, every table with its index, packed from position 0. The zooms and the packing are those of `Zooms`, in the crate build_all_zooms.
 -- Definitions only.
 use mathlib.Core.Bool.{Bool, true, false, cond, _&&_}
 use mathlib.Core.List.{List, [], _∷_, map}
@@ -13,15 +13,15 @@ use Rattle.range.specs.Range.{converted}
 use Rattle.kdbush.specs.declared.Outside.{Outside}
 use Rattle.kdbush.specs.declared.Outside.the-variants.{At, Nothing}
 use Rattle.kdbush.specs.Reply.{pairOk, firstOutside}
-use Rattle.tables.specs.declared.Options.{Options}
-use Rattle.tables.specs.declared.State.{State}
-use Rattle.tables.specs.declared.Entry.{Entry}
-use Rattle.tables.specs.Options.{optionsOk, tableCount}
-use Rattle.tables.specs.State.{newState}
-use Rattle.tables.specs.Entries.{Table, never, unset, xsOf, ysOf, seenOf, idsOf, parentsOf, numsOf, energiesOf}
-use Rattle.tables.specs.Rows.{Cols, cols, each2}
-use Rattle.tables.specs.Room.{columns, roomOf}
-use Rattle.zooms.specs.Zooms.{zoomPlan, runZooms, zoomsOf, joined, joinedIds, joinedCo, laidOver, starts, lens}
+use Rattle.build_tables.specs.declared.Options.{Options}
+use Rattle.build_tables.specs.declared.State.{State}
+use Rattle.build_tables.specs.declared.Entry.{Entry}
+use Rattle.build_tables.specs.Options.{optionsOk, tableCount}
+use Rattle.build_tables.specs.State.{newState}
+use Rattle.build_tables.specs.Entries.{Table, never, unset, xsOf, ysOf, seenOf, idsOf, parentsOf, numsOf, energiesOf}
+use Rattle.build_tables.specs.Rows.{Cols, cols, each2}
+use Rattle.build_tables.specs.Room.{columns, roomOf}
+use Rattle.build_all_zooms.specs.Zooms.{zoomPlan, runZooms, zoomsOf, joined, joinedIds, joinedCo, laidOver, starts, lens}
 use Rattle.supercluster.specs.declared.LoadReply.{LoadReply}
 use Rattle.supercluster.specs.declared.LoadReply.the-variants.{Done, Options as No·Options, Count, Point as No·Point, Energy, Tables}
 use Rattle.supercluster.specs.declared.Loaded.{Loaded}

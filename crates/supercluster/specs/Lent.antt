@@ -4,7 +4,7 @@ use lib.Ieee.{Float}
 use denote.Ref.{now}
 use denote.Triple.Both.{Both}
 use Rattle.lent.specs.Lent.{Slice as S, Lent as L}
-use Rattle.tables.specs.Lent.{given}
+use Rattle.build_tables.specs.Lent.{given}
 use Rattle.supercluster.specs.Build.{BuildColumns, buildColumns}
 
 -- in a `requires`

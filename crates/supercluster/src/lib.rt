@@ -1,11 +1,11 @@
 // The public build, `load` of the Rust: the finest table of the converted points, then each zoom from max_zoom down to min_zoom, every
 // table with its index. Nothing is asked of the caller: what 01 does not take is refused with its number, and then no column is written.
+use build_tables::Entry;
+use build_tables::Options;
+use build_tables::State;
 use kdbush::Outside;
 use range::CoordinateSystem;
 use range::Point;
-use tables::Entry;
-use tables::Options;
-use tables::State;
 ghost use mathlib.Core.Path.{_≡_};
 ghost use mathlib.Core.List.{map};
 ghost use Prim.Native.Nat.{_+_, _*_, _≤_};
@@ -13,12 +13,12 @@ ghost use lib.Dec.{leb};
 ghost use lib.ListN.{length, replicate};
 ghost use Rattle.kdbush.specs.Reply.{firstOutside};
 ghost use Rattle.lent.specs.Lent.{old, new};
-ghost use Rattle.tables.specs.Rows.{rows};
-ghost use Rattle.tables.specs.laws.Rows.{Even};
-ghost use Rattle.tables.specs.Lent.{given, lentCols};
-ghost use Rattle.tables.specs.Options.{optionsOk};
-ghost use Rattle.tables.specs.State.{newState};
-ghost use Rattle.zooms.specs.Zooms.{laidOver};
+ghost use Rattle.build_tables.specs.Rows.{rows};
+ghost use Rattle.build_tables.specs.laws.Rows.{Even};
+ghost use Rattle.build_tables.specs.Lent.{given, lentCols};
+ghost use Rattle.build_tables.specs.Options.{optionsOk};
+ghost use Rattle.build_tables.specs.State.{newState};
+ghost use Rattle.build_all_zooms.specs.Zooms.{laidOver};
 ghost use Rattle.supercluster.specs.Build.{convertedAll, finest, written, builtState, tablesOf, need, firstOver, tripleOk};
 ghost use Rattle.supercluster.specs.Build.{ordered, loadNumber, loadCarried, outcome, loaded};
 ghost use Rattle.supercluster.specs.Lent.{givenAll, lentAll};
@@ -104,13 +104,13 @@ fn fill(
         let e = Entry {
             x: p.x,
             y: p.y,
-            seen: tables::NEVER,
+            seen: build_tables::NEVER,
             id: place as u32,
-            parent: tables::UNSET,
+            parent: build_tables::UNSET,
             num: 1,
             energy: energies[place],
         };
-        tables::put_entry(x, y, seen, id, parent, num, energy, place, e);
+        build_tables::put_entry(x, y, seen, id, parent, num, energy, place, e);
         place += 1;
     }
 }
@@ -159,10 +159,10 @@ fn build_in(
     let c = o.coordinate_system;
     let size = o.node_size;
     fill(c, xs, ys, energies, x, y, seen, id, parent, num, energy);
-    zooms::index_part(x, y, ids, coords, size, 0, n);
-    let e = tables::new_state(o, n as u32);
-    let s = tables::with_table(e, o.max_zoom as usize + 1, 0, n as u32);
-    let st = zooms::run_zooms(
+    build_all_zooms::index_part(x, y, ids, coords, size, 0, n);
+    let e = build_tables::new_state(o, n as u32);
+    let s = build_tables::with_table(e, o.max_zoom as usize + 1, 0, n as u32);
+    let st = build_all_zooms::run_zooms(
         x,
         y,
         seen,
@@ -207,7 +207,7 @@ fn build_all(
 {
     let n = xs.len();
     let w = n + n;
-    let m = tables::table_count(o) * n;
+    let m = build_tables::table_count(o) * n;
     let c = m * 2;
     build_in(
         o,
@@ -292,7 +292,7 @@ fn check(o: Options, xs: &[f64], ys: &[f64], energies: &[u64], room: usize) -> L
     if let Outside::At(i) = first_over(energies) {
         return LoadReply::Energy(i);
     }
-    if room < tables::table_count(o) * n {
+    if room < build_tables::table_count(o) * n {
         return LoadReply::Tables;
     }
     LoadReply::Done
@@ -302,7 +302,7 @@ fn check(o: Options, xs: &[f64], ys: &[f64], energies: &[u64], room: usize) -> L
 fn refused(o: Options, reply: LoadReply) -> Loaded
     ensures { λ r. ⌜ (r .reply ≡ reply) × (r .state ≡ newState o 0) ⌝ }
 {
-    let state = tables::new_state(o, 0);
+    let state = build_tables::new_state(o, 0);
     Loaded { reply, state }
 }
 
@@ -327,8 +327,8 @@ pub fn load(
         let l = lentAll x y seen id parent num energy ids coords near in
         ⌜ outcome r (l .exit) ≡ loaded o (old xs) (old ys) (old energies) (l .entry) ⌝ }
 {
-    let index = tables::less(ids.len(), coords.len() / 2);
-    let held = tables::room_by(
+    let index = build_tables::less(ids.len(), coords.len() / 2);
+    let held = build_tables::room_by(
         x.len(),
         y.len(),
         seen.len(),
@@ -338,7 +338,7 @@ pub fn load(
         energy.len(),
         index,
     );
-    match check(o, xs, ys, energies, tables::less(held, near.len())) {
+    match check(o, xs, ys, energies, build_tables::less(held, near.len())) {
         LoadReply::Done => {
             let state = build_all(
                 o,

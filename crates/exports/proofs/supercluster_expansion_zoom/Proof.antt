@@ -3,10 +3,10 @@
 use mathlib.Core.Path.{_≡_, ap, _∙_}
 use denote.Ref.{now}
 use borrow.Author.Needs.{needs}
-use Rattle.tables.specs.declared.State.{State}
-use Rattle.tables.specs.State.{stateOf}
-use Rattle.tables.specs.Lent.{givenColumns}
-use Rattle.walks.specs.Expansion.{zoomOf}
+use Rattle.build_tables.specs.declared.State.{State}
+use Rattle.build_tables.specs.State.{stateOf}
+use Rattle.build_tables.specs.Lent.{givenColumns}
+use Rattle.ask_cluster.specs.Expansion.{zoomOf}
 use Rattle.exports.specs.Given.{givenOptions}
 use Rattle.exports.specs.Told.{zoomSaid}
 use Rattle.exports.proofs.Telling.{state-is, said-is}

@@ -4,7 +4,7 @@ use mathlib.Core.Path.{ap, _∙_}
 use native.Mathlib.Omega.{arith}
 use denote.Ref.{now}
 use borrow.Author.Needs.{needs}
-use Rattle.tables.specs.declared.Options.{Options}
+use Rattle.build_tables.specs.declared.Options.{Options}
 use Rattle.supercluster.specs.Build.{Outcome, BuildColumns, loaded}
 use Rattle.supercluster.specs.Lent.{givenAll}
 use Rattle.exports.proofs.Laying.{laid-is}

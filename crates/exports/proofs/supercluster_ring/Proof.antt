@@ -3,9 +3,9 @@
 use mathlib.Core.Path.{_≡_, ap}
 use denote.Ref.{now}
 use borrow.Author.Needs.{needs}
-use Rattle.tables.specs.declared.State.{State}
-use Rattle.tables.specs.State.{stateOf}
-use Rattle.boxes.specs.Lists.{ringAsked}
+use Rattle.build_tables.specs.declared.State.{State}
+use Rattle.build_tables.specs.State.{stateOf}
+use Rattle.ask_box.specs.Lists.{ringAsked}
 use Rattle.exports.specs.Given.{givenOptions}
 use Rattle.exports.proofs.Telling.{state-is, told-is}
 use Rattle.exports.proofs.supercluster_ring.Statement.{statement}

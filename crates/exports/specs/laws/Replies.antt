@@ -13,17 +13,17 @@ use Rattle.kdslots.specs.declared.Query.{Query}
 use Rattle.kdbush.specs.Reply.{buildNumber, buildCarried, built, indexChecked, searchNumber, searchCarried, searched, columnAfter}
 use Rattle.kdwalk.specs.declared.Step.{Step}
 use Rattle.kdwalk.specs.Reply.{stepNumber, firstStep, afterStep, stepCarried}
-use Rattle.tables.specs.declared.Options.{Options}
-use Rattle.tables.specs.declared.State.{State}
+use Rattle.build_tables.specs.declared.Options.{Options}
+use Rattle.build_tables.specs.declared.State.{State}
 use Rattle.supercluster.specs.Build.{BuildColumns, loaded}
-use Rattle.tables.specs.Room.{Columns}
-use Rattle.boxes.specs.Lists.{boxAsked, ringAsked}
-use Rattle.efforts.specs.Effort.{effortAsked}
-use Rattle.walks.specs.Children.{childrenOf}
-use Rattle.walks.specs.Leaves.{leavesOf}
-use Rattle.walks.specs.Expansion.{zoomOf}
-use Rattle.tiles.specs.Asked.{tiled}
-use Rattle.tiles.specs.Tallied.{tallied}
+use Rattle.build_tables.specs.Room.{Columns}
+use Rattle.ask_box.specs.Lists.{boxAsked, ringAsked}
+use Rattle.ask_effort.specs.Effort.{effortAsked}
+use Rattle.ask_cluster.specs.Children.{childrenOf}
+use Rattle.ask_cluster.specs.Leaves.{leavesOf}
+use Rattle.ask_cluster.specs.Expansion.{zoomOf}
+use Rattle.ask_tile.specs.Asked.{tiled}
+use Rattle.ask_tile.specs.Tallied.{tallied}
 use Rattle.exports.specs.Told.{Said, zoomSaid, tallySaid, Told, toldOf, EffortTold, effortToldOf, TileTold, tileOf}
 use Rattle.exports.specs.Laid.{Laid, laidOf}
 

@@ -8,9 +8,9 @@ use native.Mathlib.Nat.{zero-mul, suc-mul}
 use native.Mathlib.Omega.{arith}
 use lib.ListN.{length, take, drop, length-take, length-drop, take-append-drop, drop-of-length-le}
 use lib.Seq.{drop-drop}
-use Rattle.groups.specs.Sums.{count, range}
-use Rattle.groups.specs.laws.Sums.{sum-append}
-use Rattle.lamps.specs.Owner.{gather}
+use Rattle.law_groups.specs.Sums.{count, range}
+use Rattle.law_groups.specs.laws.Sums.{sum-append}
+use Rattle.law_lamps.specs.Owner.{gather}
 use Rattle.owners.specs.LeafPages.{OnPage}
 
 -- the items from k * size on, up to the size

@@ -10,28 +10,28 @@ use lib.Dec.{eqb}
 use lib.ListN.{length, take, drop, length-take, length-drop, drop-of-length-le}
 use lib.Seq.{take-all, take-take, take-nil}
 use Rattle.supercluster.specs.declared.LoadReply.the-variants.{Done}
-use Rattle.tables.specs.declared.State.{State}
-use Rattle.tables.specs.Entries.{Table, entry}
-use Rattle.groups.specs.Sums.{oneIf, sum, count, range, gate}
-use Rattle.groups.specs.laws.Sums.{below}
-use Rattle.asking.specs.declared.Answer.the-variants.{Listed}
-use Rattle.asking.specs.Asked.{Asked, told, answerOf, columnOf}
-use Rattle.tables.specs.Room.{Columns}
-use Rattle.asking.specs.Columns.{tableAt}
-use Rattle.walks.specs.Leaves.{leavesOf}
+use Rattle.build_tables.specs.declared.State.{State}
+use Rattle.build_tables.specs.Entries.{Table, entry}
+use Rattle.law_groups.specs.Sums.{oneIf, sum, count, range, gate}
+use Rattle.law_groups.specs.laws.Sums.{below}
+use Rattle.ask_base.specs.declared.Answer.the-variants.{Listed}
+use Rattle.ask_base.specs.Asked.{Asked, told, answerOf, columnOf}
+use Rattle.build_tables.specs.Room.{Columns}
+use Rattle.ask_base.specs.Columns.{tableAt}
+use Rattle.ask_cluster.specs.Leaves.{leavesOf}
 use Rattle.supercluster.specs.Build.{BuildColumns, Outcome, need}
 use Rattle.supercluster.specs.laws.Load.{Holds}
-use Rattle.builds.specs.Given.{Given, givenBuild, AcceptedBuild, points, minZ, maxZ, energyAt}
-use Rattle.builds.specs.Came.{tableOfZoom as built}
-use Rattle.builds.specs.Identities.{Known, identities}
-use Rattle.lamps.specs.Owner.{ownerUp, owner, lampsOf}
-use Rattle.lamps.specs.laws.Owners.{owner-first, owner-in, owns, owns-none, owners-share}
-use Rattle.lamps.specs.laws.Carries.{lamps-long, num-owned, nums-together, energy-owned, energies-together, energies-few}
-use Rattle.lamps.specs.laws.Climb.{owner-climbs}
-use Rattle.lamps.specs.laws.Gather.{gather-ext}
-use Rattle.answers.specs.Stored.{columnsOf}
-use Rattle.answers.specs.laws.Stored.{stateBy, columnsBy, loadedOf, table-is, of-load}
-use Rattle.answers.specs.laws.Leaves.{leaves-page, ones-few}
+use Rattle.law_builds.specs.Given.{Given, givenBuild, AcceptedBuild, points, minZ, maxZ, energyAt}
+use Rattle.law_builds.specs.Came.{tableOfZoom as built}
+use Rattle.law_builds.specs.Identities.{Known, identities}
+use Rattle.law_lamps.specs.Owner.{ownerUp, owner, lampsOf}
+use Rattle.law_lamps.specs.laws.Owners.{owner-first, owner-in, owns, owns-none, owners-share}
+use Rattle.law_lamps.specs.laws.Carries.{lamps-long, num-owned, nums-together, energy-owned, energies-together, energies-few}
+use Rattle.law_lamps.specs.laws.Climb.{owner-climbs}
+use Rattle.law_lamps.specs.laws.Gather.{gather-ext}
+use Rattle.law_answers.specs.Stored.{columnsOf}
+use Rattle.law_answers.specs.laws.Stored.{stateBy, columnsBy, loadedOf, table-is, of-load}
+use Rattle.law_answers.specs.laws.Leaves.{leaves-page, ones-few}
 use Rattle.owners.specs.LeafPages.{pageItems, numAt, pageAsked, lampsOfCluster, allLeaves, page as leafPage, OnPage, LeafPages}
 use Rattle.owners.specs.laws.Paging.{pageOf, page-length, pages-joined, none-on, one-page}
 use Rattle.owners.specs.Owners.{Between, IsCluster, Owned, Leaves, Owners}

@@ -8,9 +8,9 @@ use native.Mathlib.Omega.{arith}
 use lib.Dec.{eqb}
 use lib.ListN.{length}
 use lib.Ieee.{Float}
-use Rattle.tables.specs.declared.Options.{Options}
+use Rattle.build_tables.specs.declared.Options.{Options}
 use Rattle.supercluster.specs.Build.{BuildColumns, Outcome, loaded}
-use Rattle.vectors.specs.Chain.{_and_}
+use Rattle.replay_vectors.specs.Chain.{_and_}
 use Rattle.replay_load.specs.Same.{agreesWith, loadsTo}
 use Rattle.replay_load.proofs.loads.Statement.{statement}
 use Rattle.replay_load.proofs.loads.Tie as tie

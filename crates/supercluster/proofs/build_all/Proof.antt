@@ -6,9 +6,9 @@ use native.Mathlib.Omega.{arith}
 use lib.ListN.{length, take}
 use lib.Seq.{length-take-le}
 use borrow.Author.Needs.{needs}
-use Rattle.tables.specs.laws.Bounds.{InBounds, options-are}
-use Rattle.tables.specs.Rows.{Cols, cols, rows}
-use Rattle.tables.specs.laws.Rows.{Kept, each, even-kept}
+use Rattle.build_tables.specs.laws.Bounds.{InBounds, options-are}
+use Rattle.build_tables.specs.Rows.{Cols, cols, rows}
+use Rattle.build_tables.specs.laws.Rows.{Kept, each, even-kept}
 use Rattle.supercluster.specs.Build.{BuildColumns, buildColumns, need}
 use Rattle.supercluster.specs.Lent.{givenAll}
 use Rattle.supercluster.specs.laws.Over.{cut-long}

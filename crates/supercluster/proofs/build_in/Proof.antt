@@ -7,17 +7,17 @@ use lib.ListN.{length, set, replicate}
 use lib.Seq.{set-set}
 use borrow.Author.Needs.{needs}
 use Rattle.kdsort.specs.Cols.{IndexCols as Index}
-use Rattle.tables.specs.declared.State.{State}
-use Rattle.tables.specs.laws.Bounds.{InBounds, options-are}
-use Rattle.tables.specs.Columns.{part}
-use Rattle.tables.specs.Rows.{Cols, cols, rows}
-use Rattle.tables.specs.laws.Rows.{Even, Kept, even-kept, kept-then, rows-length}
-use Rattle.tables.specs.Lent.{given}
-use Rattle.tables.specs.State.{withTable}
+use Rattle.build_tables.specs.declared.State.{State}
+use Rattle.build_tables.specs.laws.Bounds.{InBounds, options-are}
+use Rattle.build_tables.specs.Columns.{part}
+use Rattle.build_tables.specs.Rows.{Cols, cols, rows}
+use Rattle.build_tables.specs.laws.Rows.{Even, Kept, even-kept, kept-then, rows-length}
+use Rattle.build_tables.specs.Lent.{given}
+use Rattle.build_tables.specs.State.{withTable}
 use Rattle.kdbush.specs.Reply.{indexOf}
-use Rattle.zooms.specs.Zooms.{indexOfTable}
-use Rattle.zooms.specs.laws.Parts.{putAt}
-use Rattle.zooms.specs.laws.Zooming.{part-index}
+use Rattle.build_all_zooms.specs.Zooms.{indexOfTable}
+use Rattle.build_all_zooms.specs.laws.Parts.{putAt}
+use Rattle.build_all_zooms.specs.laws.Zooming.{part-index}
 use Rattle.supercluster.specs.Build.{need}
 use Rattle.supercluster.specs.laws.Ready.{Accepted, need-some, firstState, first-inside, ready-at, made-at}
 use Rattle.supercluster.proofs.build_in.Statement.{statement}

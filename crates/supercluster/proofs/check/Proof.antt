@@ -12,9 +12,9 @@ use Rattle.supercluster.specs.declared.LoadReply.the-variants.{Done, Opt
 use Rattle.kdbush.specs.declared.Outside.{Outside}
 use Rattle.kdbush.specs.declared.Outside.the-variants.{At, Nothing}
 use Rattle.kdbush.specs.Reply.{firstOutside}
-use Rattle.tables.specs.declared.Options.{Options}
-use Rattle.tables.specs.Options.{optionsOk, tableCount}
-use Rattle.tables.specs.laws.Bounds.{options-are}
+use Rattle.build_tables.specs.declared.Options.{Options}
+use Rattle.build_tables.specs.Options.{optionsOk, tableCount}
+use Rattle.build_tables.specs.laws.Bounds.{options-are}
 use Rattle.supercluster.specs.Build.{convertedAll, need, tripleOk, firstOver, ordered}
 use Rattle.supercluster.specs.laws.Fill.{pxs, pys}
 use Rattle.supercluster.proofs.check.Statement.{statement}

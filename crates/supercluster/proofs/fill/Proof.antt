@@ -7,10 +7,10 @@ use native.Mathlib.Omega.{arith}
 use lib.ListN.{length, getD, take, drop}
 use borrow.Author.Needs.{needs}
 use Rattle.range.specs.declared.Point.{Point}
-use Rattle.tables.specs.Entries.{Table, none}
-use Rattle.tables.specs.Rows.{Cols, cols, rows}
-use Rattle.tables.specs.laws.Rows.{Even, Kept, even-kept, kept-even, rows-length}
-use Rattle.tables.specs.Lent.{given}
+use Rattle.build_tables.specs.Entries.{Table, none}
+use Rattle.build_tables.specs.Rows.{Cols, cols, rows}
+use Rattle.build_tables.specs.laws.Rows.{Even, Kept, even-kept, kept-even, rows-length}
+use Rattle.build_tables.specs.Lent.{given}
 use Rattle.supercluster.specs.Build.{lamp}
 use Rattle.supercluster.specs.laws.Fill.{lamps, lamps-at, lamps-length, fill-step, fill-end}
 use Rattle.supercluster.proofs.fill.Statement.{statement}

@@ -4,18 +4,18 @@ use mathlib.Core.Path.{_≡_, refl, ap, sym, _∙_, subst}
 use mathlib.Core.List.{List}
 use Prim.Native.Nat.{ℕ, min}
 use lib.Ieee.{Float}
-use Rattle.tables.specs.declared.State.{State}
+use Rattle.build_tables.specs.declared.State.{State}
 use lib.Dec.{leb}
 use lib.ListN.{length}
 use borrow.Author.Needs.{needs}
 use Rattle.supercluster.specs.declared.LoadReply.{LoadReply}
 use Rattle.supercluster.specs.declared.LoadReply.the-variants.{Done, Options as No·Options, Count, Point, Energy, Tables}
-use Rattle.tables.specs.declared.Options.{Options}
-use Rattle.tables.specs.State.{newState}
-use Rattle.tables.specs.Options.{optionsOk}
-use Rattle.tables.specs.Room.{roomBy}
+use Rattle.build_tables.specs.declared.Options.{Options}
+use Rattle.build_tables.specs.State.{newState}
+use Rattle.build_tables.specs.Options.{optionsOk}
+use Rattle.build_tables.specs.Room.{roomBy}
 use Rattle.kdbush.specs.Reply.{firstOutside}
-use Rattle.tables.specs.Rows.{cols}
+use Rattle.build_tables.specs.Rows.{cols}
 use Rattle.supercluster.specs.Lent.{givenAll}
 use Rattle.supercluster.specs.declared.Loaded.{Loaded}
 use Rattle.supercluster.specs.Build.{BuildColumns, buildColumns, need, roomIn, checked, outcome, refusedBuild, byReply, loaded, builtState, tablesOf, written}

@@ -19,11 +19,11 @@ use Rattle.range.specs.Range.{converted}
 use Rattle.kdbush.specs.declared.Outside.the-variants.{At, Nothing}
 use Rattle.kdslots.specs.laws.All.{All}
 use Rattle.kdbush.specs.Reply.{firstOutside}
-use Rattle.tables.specs.Entries.{Table, entry}
-use Rattle.zoom.specs.laws.Lamps.{sumOf, lampTotal}
-use Rattle.zoom.specs.Zoom.{energyOf}
-use Rattle.zoom.specs.laws.Sound.{Next}
-use Rattle.zooms.specs.Zooms.{laidOver}
+use Rattle.build_tables.specs.Entries.{Table, entry}
+use Rattle.build_one_zoom.specs.laws.Lamps.{sumOf, lampTotal}
+use Rattle.build_one_zoom.specs.Zoom.{energyOf}
+use Rattle.build_one_zoom.specs.laws.Sound.{Next}
+use Rattle.build_all_zooms.specs.Zooms.{laidOver}
 use Rattle.kdbush.specs.laws.Indexed.{Inside}
 use Rattle.supercluster.specs.Build.{convertedAll, lamp, finest, mostEnergy, firstOver}
 

@@ -9,12 +9,12 @@ use lib.Dec.{ltb}
 use lib.ListN.{length, getD, set, take, drop, length-append, length-drop, length-set, replicate, length-replicate}
 use lib.Seq.{getD-set-same, getD-set-other, drop-drop, drop-append-seam, take-append-seam}
 use lib.Ieee.{Float}
-use Rattle.tables.specs.Columns.{part, heldAt}
-use Rattle.tables.specs.Entries.{Table}
-use Rattle.tables.specs.laws.Bounds.{options-are}
-use Rattle.tables.specs.declared.Options.{Options}
-use Rattle.tables.specs.declared.State.{State}
-use Rattle.zooms.specs.Zooms.{joined, laidOver, starts, lens}
+use Rattle.build_tables.specs.Columns.{part, heldAt}
+use Rattle.build_tables.specs.Entries.{Table}
+use Rattle.build_tables.specs.laws.Bounds.{options-are}
+use Rattle.build_tables.specs.declared.Options.{Options}
+use Rattle.build_tables.specs.declared.State.{State}
+use Rattle.build_all_zooms.specs.Zooms.{joined, laidOver, starts, lens}
 use Rattle.supercluster.specs.Build.{tablesOf, builtState, BuildColumns, written}
 use Rattle.supercluster.specs.laws.Over.{rows-over}
 use Rattle.supercluster.specs.laws.Ready.{Accepted}

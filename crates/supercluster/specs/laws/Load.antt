@@ -18,17 +18,17 @@ use Rattle.kdbush.specs.declared.Outside.{Outside}
 use Rattle.kdbush.specs.declared.Outside.the-variants.{At, Nothing}
 use Rattle.supercluster.specs.declared.LoadReply.{LoadReply}
 use Rattle.supercluster.specs.declared.LoadReply.the-variants.{Done, Options as No·Options, Count, Point as No·Point, Energy, Tables}
-use Rattle.tables.specs.laws.Columns.{xs-rows, ys-rows, seen-rows, id-rows, parent-rows, num-rows, energy-rows}
-use Rattle.tables.specs.Entries.{Table}
-use Rattle.tables.specs.Options.{optionsOk}
-use Rattle.tables.specs.Room.{columns, roomOf}
-use Rattle.tables.specs.laws.Roomy.{low, high, each-roomy, room-index, index-roomy}
-use Rattle.tables.specs.Rows.{Cols, rows, each2}
-use Rattle.tables.specs.laws.Rows.{Even, each}
-use Rattle.tables.specs.declared.Entry.{Entry}
-use Rattle.tables.specs.declared.Options.{Options}
-use Rattle.tables.specs.declared.State.{State}
-use Rattle.zooms.specs.Zooms.{joined, joinedIds, joinedCo, laidOver}
+use Rattle.build_tables.specs.laws.Columns.{xs-rows, ys-rows, seen-rows, id-rows, parent-rows, num-rows, energy-rows}
+use Rattle.build_tables.specs.Entries.{Table}
+use Rattle.build_tables.specs.Options.{optionsOk}
+use Rattle.build_tables.specs.Room.{columns, roomOf}
+use Rattle.build_tables.specs.laws.Roomy.{low, high, each-roomy, room-index, index-roomy}
+use Rattle.build_tables.specs.Rows.{Cols, rows, each2}
+use Rattle.build_tables.specs.laws.Rows.{Even, each}
+use Rattle.build_tables.specs.declared.Entry.{Entry}
+use Rattle.build_tables.specs.declared.Options.{Options}
+use Rattle.build_tables.specs.declared.State.{State}
+use Rattle.build_all_zooms.specs.Zooms.{joined, joinedIds, joinedCo, laidOver}
 use Rattle.supercluster.specs.Build.{convertedAll, tablesOf, BuildColumns, buildColumns, written, need, roomy, tripleOk, ordered, firstOver}
 use Rattle.supercluster.specs.Build.{checked, byReply, loaded}
 use Rattle.supercluster.specs.laws.Fill.{pxs, pys, none-over}

@@ -6,13 +6,13 @@ use native.Mathlib.Omega.{arith}
 use lib.ListN.{length, take, drop, length-append, length-drop, length-map, take-append-drop}
 use lib.Seq.{drop-append-add, drop-drop, length-take-le, drop-append-le}
 use lib.Ieee.{Float}
-use Rattle.tables.specs.laws.Columns.{map-drop, rows-drop}
-use Rattle.tables.specs.Entries.{Table}
-use Rattle.tables.specs.Rows.{Cols, rows, each2}
-use Rattle.tables.specs.declared.Entry.{Entry}
-use Rattle.zoom.specs.laws.Keeps.{cluster-long}
+use Rattle.build_tables.specs.laws.Columns.{map-drop, rows-drop}
+use Rattle.build_tables.specs.Entries.{Table}
+use Rattle.build_tables.specs.Rows.{Cols, rows, each2}
+use Rattle.build_tables.specs.declared.Entry.{Entry}
+use Rattle.build_one_zoom.specs.laws.Keeps.{cluster-long}
 use Rattle.supercluster.specs.Build.{colsOf}
-use Rattle.zooms.specs.Zooms.{Plan, zoomed, runZooms, joined, laidOver}
+use Rattle.build_all_zooms.specs.Zooms.{Plan, zoomed, runZooms, joined, laidOver}
 
 -- what a longer front covers is gone
 pub over-over : {A : Type 0} (T F R : List A) → length F ≤ length T → laidOver T (laidOver F R) ≡ laidOver T R

@@ -10,23 +10,23 @@ use lib.ListN.{length, getD, set, take, drop, replicate}
 use lib.Seq.{take-append-seam}
 use lib.Ieee.{Float}
 use Rattle.kdslots.specs.laws.All.{All, all-map}
-use Rattle.tables.specs.laws.Bounds.{options-are}
-use Rattle.tables.specs.Columns.{part}
-use Rattle.tables.specs.laws.Columns.{xs-part, ys-part}
-use Rattle.tables.specs.Entries.{Table, xsOf, ysOf}
-use Rattle.tables.specs.Options.{optionsOk}
-use Rattle.tables.specs.Rows.{Cols, rows}
-use Rattle.tables.specs.State.{newState, withTable}
-use Rattle.tables.specs.declared.Options.{Options}
-use Rattle.tables.specs.declared.State.{State}
-use Rattle.zoom.specs.laws.Lamps.{sumOf, lampTotal}
-use Rattle.zoom.specs.Zoom.{energyOf}
-use Rattle.zoom.specs.laws.Sound.{Body, Next}
-use Rattle.zooms.specs.Zooms.{indexOfTable, zoomPlan, runZooms, zoomsOf, joined, joinedIds, joinedCo, laidOver, starts, lens}
+use Rattle.build_tables.specs.laws.Bounds.{options-are}
+use Rattle.build_tables.specs.Columns.{part}
+use Rattle.build_tables.specs.laws.Columns.{xs-part, ys-part}
+use Rattle.build_tables.specs.Entries.{Table, xsOf, ysOf}
+use Rattle.build_tables.specs.Options.{optionsOk}
+use Rattle.build_tables.specs.Rows.{Cols, rows}
+use Rattle.build_tables.specs.State.{newState, withTable}
+use Rattle.build_tables.specs.declared.Options.{Options}
+use Rattle.build_tables.specs.declared.State.{State}
+use Rattle.build_one_zoom.specs.laws.Lamps.{sumOf, lampTotal}
+use Rattle.build_one_zoom.specs.Zoom.{energyOf}
+use Rattle.build_one_zoom.specs.laws.Sound.{Body, Next}
+use Rattle.build_all_zooms.specs.Zooms.{indexOfTable, zoomPlan, runZooms, zoomsOf, joined, joinedIds, joinedCo, laidOver, starts, lens}
 use Rattle.kdbush.specs.laws.Indexed.{Inside}
-use Rattle.zooms.specs.laws.Parts.{putAt, part-put}
-use Rattle.zooms.specs.laws.Progress.{Finished, starts-again, lens-again}
-use Rattle.zooms.specs.laws.Running.{Able, Running, table-inside, slots-ids, slots-co}
+use Rattle.build_all_zooms.specs.laws.Parts.{putAt, part-put}
+use Rattle.build_all_zooms.specs.laws.Progress.{Finished, starts-again, lens-again}
+use Rattle.build_all_zooms.specs.laws.Running.{Able, Running, table-inside, slots-ids, slots-co}
 use Rattle.supercluster.specs.Build.{convertedAll, tablesOf, builtState, need, mostEnergy}
 use Rattle.supercluster.specs.laws.Fill.{lamps, lamps-length, converted-length, finest-fine, finest-total, finest-watts, pxs, pys}
 use Rattle.supercluster.specs.laws.Over.{over-over, run-long}

@@ -5,7 +5,7 @@ use mathlib.Core.List.{List}
 use Prim.Native.Nat.{ℕ}
 use lib.Ieee.{Float}
 use Rattle.floats.specs.laws.Replies.{same-reply}
-use Rattle.tables.specs.declared.Options.{Options}
+use Rattle.build_tables.specs.declared.Options.{Options}
 use Rattle.supercluster.specs.declared.LoadReply.{LoadReply}
 use Rattle.supercluster.specs.Build.{BuildColumns, Outcome, loaded, loadNumber, loadCarried}
 

@@ -11,15 +11,15 @@ use lib.Ieee.{Float}
 use Rattle.kdslots.specs.declared.Query.the-variants.{Within}
 use Rattle.kdslots.specs.laws.All.{All, all-map}
 use Rattle.kdslots.specs.laws.Members.{Distinct}
-use Rattle.tables.specs.laws.Bounds.{options-are}
-use Rattle.tables.specs.Entries.{Table}
-use Rattle.tables.specs.Radius.{radiusAt}
-use Rattle.tables.specs.declared.Options.{Options}
-use Rattle.zoom.specs.laws.Lamps.{sumOf, lampTotal}
-use Rattle.zoom.specs.Zoom.{energyOf}
-use Rattle.zoom.specs.laws.Sound.{Body, Next, cluster-sound}
-use Rattle.zooms.specs.Zooms.{nearIn, Plan, zoomPlan, zoomed, runZooms, zoomsOf, joined}
-use Rattle.zooms.specs.laws.Running.{Able, total-some, slots-promised}
+use Rattle.build_tables.specs.laws.Bounds.{options-are}
+use Rattle.build_tables.specs.Entries.{Table}
+use Rattle.build_tables.specs.Radius.{radiusAt}
+use Rattle.build_tables.specs.declared.Options.{Options}
+use Rattle.build_one_zoom.specs.laws.Lamps.{sumOf, lampTotal}
+use Rattle.build_one_zoom.specs.Zoom.{energyOf}
+use Rattle.build_one_zoom.specs.laws.Sound.{Body, Next, cluster-sound}
+use Rattle.build_all_zooms.specs.Zooms.{nearIn, Plan, zoomPlan, zoomed, runZooms, zoomsOf, joined}
+use Rattle.build_all_zooms.specs.laws.Running.{Able, total-some, slots-promised}
 use Rattle.supercluster.specs.Build.{convertedAll, tablesOf, need}
 use Rattle.supercluster.specs.laws.Fill.{lamps-length, finest-fine, finest-total, lamps}
 use Rattle.supercluster.specs.laws.Ready.{Accepted, need-some, able}

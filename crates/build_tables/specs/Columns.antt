@@ -1,0 +1,14 @@
+-- The columns of a table's rows are the columns; rows of parts are parts of the rows; and what becomes of a column whose part is lent and
+-- comes back. Assumes nothing.
+use mathlib.Core.List.{List}
+use Prim.Native.Nat.{ℕ}
+use lib.ListN.{getD, take, drop}
+use Rattle.build_tables.specs.Entries.{Table}
+
+-- a part of a column: n entries from a on
+abbrev pub part : {A : Type 0} → ℕ → ℕ → List A → List A
+part a n l = take n (drop a l)
+
+-- the table of the zoom z among the rows t, where starts and lengths stand in ss and ll
+abbrev pub heldAt : List ℕ → List ℕ → Table → ℕ → Table
+heldAt ss ll t z = part (getD ss z 0) (getD ll z 0) t
