@@ -1,5 +1,4 @@
--- The nine lent columns of a question, and the parts of them that hold the table of one zoom. Of a table that stands in them the parts are
--- as long as the table, and what is lent of the columns from its start to its end is the table. Assumes nothing.
+-- The parts of the nine lent columns that hold the table of one zoom and its index. Definitions only.
 use mathlib.Core.List.{List}
 use Prim.Native.Nat.{ℕ, _*_}
 use lib.Ieee.{Float}

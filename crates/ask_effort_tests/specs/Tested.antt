@@ -1,5 +1,4 @@
--- The slots that the definition of a search tests, in the order in which it tests them. The first two are definitions. What is answered
--- is what passes of them (`answers-tested`), over any coordinates. Assumes nothing.
+-- The slots that the definition of a search tests, in the order in which it tests them. Definitions only.
 use mathlib.Core.Bool.{true}
 use mathlib.Core.List.{List}
 use Prim.Native.Nat.{ℕ, _+_}

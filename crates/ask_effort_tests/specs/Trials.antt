@@ -1,5 +1,5 @@
 -- The tests of queries over an index, those of both halves of a box across the date line in one list, and what the first of them find.
--- The first are definitions. Assumes nothing.
+-- Definitions only.
 use mathlib.Core.Bool.{Bool}
 use mathlib.Core.List.{List, [], _∷_, flatMap}
 use Prim.Native.Nat.{ℕ}

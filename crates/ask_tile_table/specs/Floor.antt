@@ -1,12 +1,9 @@
 -- The tile of a zoom that holds a coordinate, along one axis: floor of c * 2^z on the exact value of c, 1.0 belonging to the last tile.
--- And the test that the code runs: x / 2^z <= c, and c < (x + 1) / 2^z but in the last tile. Both quotients are exact, so the test is
--- the floor. Definitions first. Assumes nothing.
+-- Definitions only.
 use Prim.Native.Nat.{ℕ, min, _-_, _*_, _/_, _^_}
 use lib.Ieee.{Float}
 use lib.Ieee.Positive.{den}
 use Rattle.floats.specs.Fraction.{plus}
-
--- ---- the tile that holds a coordinate
 
 -- floor of c * n, on the exact value of c, which is plus / den for a c that is not negative
 abbrev pub floorOf : ℕ → Float → ℕ

@@ -1,5 +1,4 @@
--- The neighbours of a place: what `within` answers around it, over the index of the table; and what a search that is not refused leaves
--- of them in the lent column. Assumes nothing.
+-- The neighbours of a place: what `within` answers around it, over the index of the table. Definitions only.
 use mathlib.Core.List.{List}
 use Prim.Native.Nat.{ℕ}
 use lib.Ieee.{Float}

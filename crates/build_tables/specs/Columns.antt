@@ -1,5 +1,4 @@
--- The columns of a table's rows are the columns; rows of parts are parts of the rows; and what becomes of a column whose part is lent and
--- comes back. Assumes nothing.
+-- A part of a column, and the table of a zoom among the rows. Definitions only.
 use mathlib.Core.List.{List}
 use Prim.Native.Nat.{ℕ}
 use lib.ListN.{getD, take, drop}

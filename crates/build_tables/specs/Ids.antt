@@ -1,5 +1,5 @@
--- The id of a cluster, origin * 32 + (zoom + 1) + N, and what is read from it: the origin and the table that it was made at. An id of a
--- build is at least N, is not the unset parent, and gives its origin and its table back. Assumes nothing.
+-- The id of a cluster, origin * 32 + (zoom + 1) + N, and what is read from it: the origin and the table that it was made at. Definitions
+-- only.
 use Prim.Native.Nat.{ℕ, _+_, _-_, _*_, _/_, _%_}
 
 -- the cluster made at the place i of the table z + 1, in a build of n points

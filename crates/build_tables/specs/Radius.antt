@@ -1,5 +1,4 @@
--- The radius of a zoom, by the table of powers; for the radius and the extent that a build takes it is finite and not below 0. Assumes
--- nothing.
+-- The radius of a zoom, in the tables' units. Definitions only.
 use Prim.Native.Nat.{ℕ, _^_}
 use lib.Ieee.{Float, binary64, mul, div}
 use Rattle.floats.specs.Numbers.{float}

@@ -1,14 +1,11 @@
--- The table that the lent columns hold, and how a store in them is in it: a whole entry, a mark, a parent. The columns go by one record,
--- and all that is said of them is said of that. Only x says how long the table is; the laws on stores ask that the others are as long as
--- it. Assumes nothing.
+-- The table that the lent columns hold. The columns go by one record, and all that is said of them is said of that. Only x says how long
+-- the table is. Definitions only.
 use mathlib.Core.List.{List, [], _∷_}
 use Prim.Native.Nat.{ℕ, zero, suc}
 use lib.ListN.{length, getD}
 use lib.Ieee.{Float, nan}
 use Rattle.build_tables.specs.declared.Entry.{Entry}
 use Rattle.build_tables.specs.Entries.{Table}
-
--- ---- the columns. A further column is named in this part, in `Even` and `Kept`, and in `putAll`, `rows-set` and the one-line laws on single columns
 
 pub record Cols : Type 0 where
   pub x : List Float
@@ -47,8 +44,6 @@ each2 f c d =
       num = f ℕ (c .num) (d .num);
       energy = f ℕ (c .energy) (d .energy);
     }
-
--- ---- the table
 
 -- the values of f at the first n numbers
 abbrev pub firsts : (ℕ → Entry) → ℕ → Table

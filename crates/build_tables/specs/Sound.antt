@@ -1,5 +1,5 @@
--- A sound state: what 01 asks of a state before a question goes by it, over columns of `cap` entries; any other is 01's 11. Each table of
--- a sound state stands within the columns, and its options and its count are within 01's bounds. Assumes nothing.
+-- A sound state: what is asked of a state before a question goes by it, over columns of `cap` entries; any other is refused 11. Definitions
+-- only.
 use mathlib.Core.Bool.{Bool, _&&_}
 use Prim.Native.Nat.{ℕ, zero, suc, _+_}
 use lib.Dec.{leb, eqb}

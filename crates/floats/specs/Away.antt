@@ -1,5 +1,4 @@
--- A float to the nearest whole number, halves away from zero, by its exact value: what Rust's `.round()` answers. Definition and examples.
--- How it is found with one truncation is in proofs/Truncation. Assumes nothing.
+-- A float to the nearest whole number, halves away from zero, by its exact value: what Rust's `.round()` answers. Definitions only.
 use mathlib.Core.Bool.{cond}
 use Prim.Native.Nat.{ℕ, _+_, _*_, _/_}
 use lib.IntN.{ℤ, pos, negℤ}

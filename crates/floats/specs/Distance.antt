@@ -1,5 +1,4 @@
--- The squared distance that a search tests against radius * radius: of finite places it is no NaN and not below 0, a place's own is 0 and
--- passes, and within the unit square it is from 0 to 2. Assumes nothing.
+-- The squared distance that a search tests against radius * radius, each operation rounded. Definitions only.
 use lib.Ieee.{Float, binary64, add, sub, mul}
 
 -- the squared distance of (ax, ay) from (bx, by), each operation rounded

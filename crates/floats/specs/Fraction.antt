@@ -1,10 +1,8 @@
--- A finite float is (plus - mins) / den, three natural numbers, so that no law goes by the cases of two signs: `le`, `lt` and `eq` of
--- finite values are the order of these fractions. The order's own laws are in Order. Assumes nothing.
+-- What a finite float has above 0: the number over its denominator. Definitions only.
 use Prim.Native.Nat.{ℕ, _*_}
 use mathlib.Core.Bool.{true, false}
 use lib.Ieee.{Float, nan, inf, fin, up}
 
--- ---- a finite value is (plus - mins) / den
 abbrev pub plus : Float → ℕ
 plus nan = 0
 plus (inf s) = 0

@@ -1,4 +1,4 @@
--- The values from 0 to 1: `In01`, and the test `in01` that code runs. Such a value is finite and no NaN. Assumes nothing.
+-- The test `in01` that code runs: whether a float lies from 0 to 1. Definitions only.
 use mathlib.Core.Bool.{Bool, _&&_}
 use lib.Ieee.{Float, le}
 use Rattle.floats.specs.Numbers.{zero, one}

@@ -1,4 +1,4 @@
--- What a search leaves: its count and the places in the lent column, 'first items, then old contents'. Assumes nothing.
+-- What a search leaves: the places that are sound, and the column, 'first items, then old contents'. Definitions only.
 use mathlib.Core.Bool.{Bool, true, false}
 use mathlib.Core.List.{List, [], _∷_, _++_, map}
 use Prim.Native.Nat.{ℕ, _+_}
@@ -8,8 +8,6 @@ use lib.ListN.{length, getD, take, drop}
 -- the places of the slots of a list
 unfoldable pub places : List ℕ → List ℕ → List ℕ
 places ids is = map (λ i. getD ids i 0) is
-
--- ---- the same, without the run
 
 -- the places before the first that is n or more
 unfoldable pub sound : ℕ → List ℕ → List ℕ

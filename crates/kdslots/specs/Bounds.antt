@@ -1,4 +1,4 @@
--- The bounds of a node size, a count and an index; what they say, as numbers, and what a test of two says of each. Assumes nothing.
+-- The bounds of a node size, a count and an index. Definitions only.
 use mathlib.Core.Bool.{Bool, _&&_}
 use Prim.Native.Nat.{ℕ, _*_}
 use lib.Dec.{leb}

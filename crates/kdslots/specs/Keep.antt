@@ -1,4 +1,4 @@
--- The places of a list that pass a test, in the list's order. Assumes nothing.
+-- The places of a list that pass a test, in the list's order. Definitions only.
 use mathlib.Core.Bool.{Bool, true, false}
 use mathlib.Core.List.{List, [], _∷_}
 use Prim.Native.Nat.{ℕ}

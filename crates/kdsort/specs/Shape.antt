@@ -1,5 +1,5 @@
--- How an interval of slots is split, whatever the slots hold: at its middle, until at most `most` slots are left. Build and searches go
--- by this one shape. Slots are counted from lo up to, not including, hi. Assumes nothing.
+-- How an interval of slots is split, whatever the slots hold: at its middle, until at most `most` slots are left. Build and searches go by
+-- this one shape. Slots are counted from lo up to, not including, hi. Definitions only.
 use mathlib.Core.Bool.{true, false}
 use Prim.Native.Nat.{ℕ, zero, suc, _+_, _-_, _/_}
 use lib.Dec.{leb}

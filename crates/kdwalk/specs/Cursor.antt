@@ -1,4 +1,4 @@
--- An answer walked one slot at a time: what is left of it after a slot. Assumes nothing.
+-- An answer walked one slot at a time: what is left of it after a slot. Definitions only.
 use mathlib.Core.Bool.{true, false}
 use mathlib.Core.List.{List, _++_}
 use Prim.Native.Nat.{ℕ, _+_, _-_}

@@ -1,5 +1,4 @@
--- Sums over a list of places and over those of it that pass a test, how often a place is in it, and the places from one on. Assumes
--- nothing.
+-- Sums over a list of places, how often a place is in it, and the places from one on. Definitions only.
 use mathlib.Core.List.{List, [], _∷_}
 use mathlib.Core.Bool.{Bool, true, false}
 use Prim.Native.Nat.{ℕ, zero, suc, _+_}
@@ -14,8 +13,6 @@ gate false n = 0
 abbrev pub oneIf : Bool → ℕ
 oneIf b = gate b 1
 
--- ---- sums
-
 -- f of each, added up
 abbrev pub sum : (ℕ → ℕ) → List ℕ → ℕ
 sum f [] = 0
@@ -24,8 +21,6 @@ sum f (x ∷ xs) = f x + sum f xs
 -- how often k is in the list
 abbrev pub count : ℕ → List ℕ → ℕ
 count k xs = sum (λ x. oneIf (eqb k x)) xs
-
--- ---- the places from one on
 
 -- n places from lo on
 abbrev pub range : ℕ → ℕ → List ℕ

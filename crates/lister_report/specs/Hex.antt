@@ -1,4 +1,4 @@
--- Numbers as hexadecimal digits of a given length, and how they grow by the last digit. Assumes nothing.
+-- Numbers as hexadecimal digits of a given length. Definitions only.
 use mathlib.Core.Bool.{cond}
 use mathlib.Core.List.{List, [], _∷_, _++_}
 use Prim.Native.Nat.{ℕ, zero, suc, _+_, _/_, _%_}

@@ -1,4 +1,5 @@
--- Laws of Columns. Assumes nothing.
+-- Of a table that stands in the lent columns the parts are as long as the table, and what is lent of the columns from its start to its end
+-- is the table. Assumes nothing.
 use mathlib.Core.Path.{_≡_, ap, sym, _∙_, subst}
 use mathlib.Core.List.{List}
 use Prim.Native.Nat.{ℕ, _+_, _-_, _*_, _<_}

@@ -1,4 +1,4 @@
--- Laws of Tested. Assumes nothing.
+-- What is answered is what passes of the slots that are tested (`answers-tested`), over any coordinates. Assumes nothing.
 use mathlib.Core.Bool.{Bool, true, false}
 use mathlib.Core.Path.{_≡_, refl, sym, ap, ap₂, _∙_}
 use mathlib.Core.List.{List, [], _∷_, _++_}

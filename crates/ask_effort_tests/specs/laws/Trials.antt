@@ -1,4 +1,5 @@
--- Laws of Trials. Assumes nothing.
+-- The tests of two lists of slots are those of the first and then those of the second, and so is what they find: the places of the slots
+-- that pass. Assumes nothing.
 use mathlib.Core.Bool.{Bool, true, false}
 use mathlib.Core.Path.{_≡_, refl, ap}
 use mathlib.Core.List.{List, [], _∷_, _++_}

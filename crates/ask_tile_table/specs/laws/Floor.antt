@@ -1,4 +1,5 @@
--- Laws of Floor. Assumes nothing.
+-- The test that the code runs for the tile of a coordinate: x / 2^z <= c, and c < (x + 1) / 2^z but in the last tile. Both quotients are
+-- exact, so the test is the floor. Assumes nothing.
 use mathlib.Core.Path.{_≡_, refl, sym, ap, _∙_, subst}
 use mathlib.Core.Bool.{Bool, true, false, not, cond, _&&_, true≢false}
 use Prim.Native.Nat.{ℕ, suc, min, _+_, _-_, _*_, _/_, _^_, _≤_, _<_}

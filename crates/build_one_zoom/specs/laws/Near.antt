@@ -1,4 +1,4 @@
--- Laws of Near. Assumes nothing.
+-- What a search that is not refused leaves of the neighbours in the lent column. Assumes nothing.
 use mathlib.Core.Path.{_≡_, refl}
 use mathlib.Core.Bool.{true}
 use mathlib.Core.List.{List, _++_}

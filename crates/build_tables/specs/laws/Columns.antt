@@ -1,4 +1,5 @@
--- Laws of Columns. Assumes nothing.
+-- The columns of a table's rows are the columns; rows of parts are parts of the rows; and what becomes of a column whose part is lent and
+-- comes back. Assumes nothing.
 use mathlib.Core.Path.{_≡_, refl, ap, sym, _∙_}
 use mathlib.Core.List.{List, [], _∷_, _++_, map, append-nil}
 use Prim.Native.Nat.{ℕ, zero, suc, _+_, _-_, _<_, _≤_, min}

@@ -1,4 +1,4 @@
--- Laws of Ids. Assumes nothing.
+-- An id of a build is at least N, is not the unset parent, and gives its origin and its table back. Assumes nothing.
 use mathlib.Core.Path.{_≡_}
 use Prim.Native.Nat.{ℕ, _+_, _-_, _<_, _≤_}
 use native.Mathlib.Omega.{arith}

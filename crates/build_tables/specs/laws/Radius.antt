@@ -1,4 +1,4 @@
--- Laws of Radius. Assumes nothing.
+-- For the radius and the extent that a build takes the radius of a zoom is finite and not below 0. Assumes nothing.
 use Prim.Native.Nat.{ℕ, _^_, _≤_}
 use lib.Dec.{T}
 use lib.Ieee.{Float, binary64, le, mul, div, fits}

@@ -1,4 +1,5 @@
--- Laws of Rows. Assumes nothing.
+-- How a store in the lent columns is in the table that they hold: a whole entry, a mark, a parent. The laws on stores ask that the other
+-- columns are as long as x. Assumes nothing.
 use mathlib.Core.Path.{_≡_, refl, ap, sym, _∙_}
 use mathlib.Core.List.{List, [], _∷_, map}
 use mathlib.Core.Bool.{Bool, true, false}

@@ -1,4 +1,4 @@
--- Laws of Sound. Assumes nothing.
+-- Each table of a sound state stands within the columns, and its options and its count are within their bounds. Assumes nothing.
 use mathlib.Core.Bool.{Bool, true, false, cond, _&&_}
 use mathlib.Core.Path.{_≡_, refl, subst}
 use Prim.Native.Nat.{ℕ, zero, suc, _+_, _-_, _<_, _≤_}

@@ -1,4 +1,4 @@
--- Laws of Away. Assumes nothing.
+-- The examples of rounding halves away from zero. How it is found with one truncation is in proofs/Truncation. Assumes nothing.
 use mathlib.Core.Path.{_≡_, refl}
 use mathlib.Core.Bool.{true, false}
 use lib.IntN.{pos, negsuc}

@@ -1,4 +1,5 @@
--- Laws of Distance. Assumes nothing.
+-- The squared distance of finite places is no NaN and not below 0; a place's own is 0 and passes; within the unit square it is from 0 to 2.
+-- Assumes nothing.
 use mathlib.Core.Path.{_≡_, refl, sym, ap, ap₂, _∙_, subst}
 use Prim.Native.Nat.{ℕ, _+_, _*_, _≤_}
 use native.Mathlib.Nat.{le-trans, le-of-eq, mul-pos, mul-one, one-mul, zero-lt-suc, mul-le-mul}

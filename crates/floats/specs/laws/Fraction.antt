@@ -1,4 +1,5 @@
--- Laws of Fraction. Assumes nothing.
+-- A finite float is (plus - mins) / den, three natural numbers, so that no law goes by the cases of two signs: `le`, `lt` and `eq` of
+-- finite values are the order of these fractions. The order's own laws are in Order. Assumes nothing.
 use mathlib.Core.Path.{_≡_, refl, sym, ap, _∙_, subst}
 use mathlib.Core.Logic.{_⊎_, inl, inr}
 use Prim.Native.Nat.{ℕ, _+_, _*_, _≤_, _<_}

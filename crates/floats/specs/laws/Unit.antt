@@ -1,4 +1,4 @@
--- Laws of Unit. Assumes nothing.
+-- The values from 0 to 1, `In01`: what the test passes is one, and such a value is finite and no NaN. Assumes nothing.
 use mathlib.Core.Bool.{not}
 use lib.Dec.{T}
 use lib.Ieee.{Float, isNan, le}

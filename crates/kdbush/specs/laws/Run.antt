@@ -1,4 +1,4 @@
--- Laws of Run. Assumes nothing.
+-- A search place by place, as the code makes it: its count and the lent column come to the definitions of Run. Assumes nothing.
 use mathlib.Core.Bool.{Bool, true, false}
 use mathlib.Core.Path.{_≡_, refl, sym, ap, _∙_}
 use mathlib.Core.List.{List, [], _∷_, _++_}

@@ -1,4 +1,4 @@
--- Laws of Bounds. Assumes nothing.
+-- What the tests of a node size, a count and an index say, as numbers, and what a test of two says of each. Assumes nothing.
 use mathlib.Core.Path.{_≡_, refl, sym}
 use mathlib.Core.Bool.{Bool, true, false, cond, _&&_, true≢false}
 use Prim.Native.Nat.{ℕ, _*_, _≤_}

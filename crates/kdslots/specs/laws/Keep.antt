@@ -1,4 +1,5 @@
--- Laws of Keep. Assumes nothing.
+-- The places of a list that pass a test: of two lists joined, by one test and then another, of none that pass; and what is in the list and
+-- passes is kept. Assumes nothing.
 use mathlib.Core.Bool.{Bool, true, false, _&&_}
 use mathlib.Core.Path.{_≡_, refl, ap, _∙_}
 use mathlib.Core.List.{List, [], _∷_, _++_}

@@ -1,4 +1,5 @@
--- Laws of Shape. Assumes nothing.
+-- An interval of at most `most` slots is a leaf and a longer one a node; a shape covers the slots of its interval, each once (`Spans`).
+-- Assumes nothing.
 use mathlib.Core.Bool.{Bool, true, false}
 use mathlib.Core.Path.{_≡_, refl}
 use Prim.Native.Nat.{ℕ, zero, suc, _+_, _-_, _≤_, _<_}

@@ -1,4 +1,4 @@
--- Laws of Cursor. Assumes nothing.
+-- The first of an answer, of two answers joined; and up to where the slots after one are answered one by one. Assumes nothing.
 use mathlib.Core.Bool.{true, false}
 use mathlib.Core.Path.{_≡_, refl}
 use mathlib.Core.List.{List, [], _∷_, _++_}

@@ -1,4 +1,5 @@
--- Laws of Stored. Assumes nothing.
+-- Of a build that is accepted, in columns that hold it: the state passes its check, and the table of each zoom and its index stand where
+-- the state says. Assumes nothing.
 use mathlib.Core.Path.{_≡_, refl, ap, ap₂, sym, _∙_, subst}
 use mathlib.Core.Logic.{⊎-elim}
 use mathlib.Core.Bool.{true}

@@ -1,4 +1,4 @@
--- Laws of Sums. Assumes nothing.
+-- Sums over a list of places and over those of it that pass a test: how they add up, and when they are equal. Assumes nothing.
 use mathlib.Core.Path.{_≡_, refl, sym, ap, ap₂, _∙_}
 use mathlib.Core.Logic.{_⊎_, inl, inr, ⊎-elim}
 use mathlib.Core.List.{List, [], _∷_, _++_}

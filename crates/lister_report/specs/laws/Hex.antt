@@ -1,4 +1,4 @@
--- Laws of Hex. Assumes nothing.
+-- How hexadecimal digits grow by the last digit. Assumes nothing.
 use mathlib.Core.List.{[], _∷_, _++_}
 use mathlib.Core.Path.{_≡_, refl}
 use Prim.Native.Nat.{ℕ, zero, suc, _+_, _-_, _/_, _%_, _<_, _≤_}
