@@ -1,4 +1,4 @@
--- The answer of a question that lists: 01's number of each case, what it carries, and how long an answer a column has room for.
+-- The answer of a question that lists: SCOPE's number of each case, what it carries, and how long an answer a column has room for.
 -- Definitions only.
 use mathlib.Core.Bool.{cond}
 use Prim.Native.Nat.{ℕ}
@@ -6,7 +6,7 @@ use lib.Dec.{leb}
 use Rattle.ask_base.specs.declared.Answer.{Answer}
 use Rattle.ask_base.specs.declared.Answer.the-variants.{Listed, NoTree, NoCluster, Tile, EmptyTile, Box, NoRoom, Spoiled}
 
--- 01's number of an answer; 0 where there is no refusal
+-- SCOPE's number of an answer; 0 where there is no refusal
 abbrev pub answerNumber : Answer → ℕ
 answerNumber (Listed k) = 0
 answerNumber NoTree = 5

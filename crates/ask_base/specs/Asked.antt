@@ -18,7 +18,7 @@ pub data AskedFor (R W A : Type 0) : Type 0 where
 abbrev pub Asked : Type 0
 Asked = AskedFor Answer Bool ℕ
 
--- the answer, for a column of so many: a walk that did not go to its end is 01's 11
+-- the answer, for a column of so many: a walk that did not go to its end is refusal 11
 abbrev pub answerOf : Asked → ℕ → Answer
 answerOf (refused a) room = a
 answerOf (told true l) room = fitted (length l) room

@@ -13,8 +13,8 @@ use Rattle.ask_base.specs.declared.Target.the-variants.{At, Spoiled, NoT
 abbrev pub isBuilt : State → ℕ → Bool
 isBuilt s t = leb (s .options .«min_zoom») t && leb t (s .options .«max_zoom» + 1)
 
--- the cluster that is asked for, with 01's refusals in 01's order: the state (11), id < N (6), its table is not built (5), it is the table
--- of min_zoom (6), the origin is past the table (6)
+-- the cluster that is asked for, with SCOPE's refusals in its order: the state (11), id < N (6), its table is not built (5), it is the
+-- table of min_zoom (6), the origin is past the table (6)
 unfoldable pub targetOf : State → ℕ → ℕ → Target
 targetOf s cap id =
     cond (not (stateOk s cap)) Spoiled

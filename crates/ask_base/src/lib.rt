@@ -24,7 +24,7 @@ ghost use Rattle.ask_base.specs.Ids.{isBuilt, targetOf, onward};
 ghost use Rattle.ask_base.specs.laws.Reached.{Reached};
 ghost use Rattle.ask_base.specs.laws.Around.{ringOf, InRing, aheadIn};
 
-// The answer of a question that lists, in 01's words: how many items, or a refusal. `Listed` and `NoRoom` carry the whole length.
+// The answer of a question that lists, in SCOPE's words: how many items, or a refusal. `Listed` and `NoRoom` carry the whole length.
 pub enum Answer {
     Listed(usize),
     NoTree,
@@ -37,7 +37,7 @@ pub enum Answer {
 }
 
 impl Answer {
-    // 01's number of the answer, 0 where there is no refusal.
+    // SCOPE's number of the answer, 0 where there is no refusal.
     pub fn number(self) -> u32
         ensures { λ r. ⌜ r ≡ answerNumber self ⌝ }
     {

@@ -31,7 +31,7 @@ planned qs size n ids co = flatMap (λ q. found q size n ids co) qs
 abbrev pub listedAt : State → List ℕ → List Float → ℕ → List Query → Asked
 listedAt s ids co z qs = walked (lenOf s z) (planned qs (s .options .«node_size») (lenOf s z) (idsAt s ids z) (coordsAt s co z))
 
--- refusals in 01's order: the state (11), then the numbers (9), then the walk in the table of the zoom used
+-- refusals in SCOPE's order: the state (11), then the numbers (9), then the walk in the table of the zoom used
 abbrev pub asked : State → List ℕ → List Float → ℕ → Bool → List Query → Asked
 asked s ids co zoom ok qs =
     cond (not (stateOk s (indexRoom ids co))) (refused Spoiled)

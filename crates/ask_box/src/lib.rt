@@ -1,4 +1,4 @@
-// Box and ring: the places of a table that a search finds. Nothing is asked of the caller: what 01 does not take is refused with its
+// Box and ring: the places of a table that a search finds. Nothing is asked of the caller: what SCOPE does not take is refused with its
 // number.
 use ask_base::Answer;
 use ask_box_plan::Plan;
@@ -29,7 +29,7 @@ enum Part {
     Past,
 }
 
-// Whether a ring is one that 01 takes.
+// Whether a ring is one that SCOPE takes.
 fn ring_ok(x: f64, y: f64, radius: f64) -> bool
     ensures { λ r. ⌜ r ≡ queryOk (Query.Within x y radius) ⌝ }
 {

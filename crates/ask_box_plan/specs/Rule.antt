@@ -1,4 +1,4 @@
--- A box of 01 as it is searched: the rule for its longitudes, its one or two queries, and the numbers that are taken. A box has four
+-- A box as it is searched: the rule for its longitudes, its one or two queries, and the numbers that are taken. A box has four
 -- numbers: west, the least y, east, the greatest y. y grows downwards on a mercator map, so that the least y is the northern edge of a
 -- longitude build; on a Cartesian plan it is the least y as given. Definitions only.
 use mathlib.Core.Bool.{Bool, true, cond, _&&_}
@@ -67,6 +67,6 @@ abbrev pub ysOk : CoordinateSystem → Float → Float → Bool
 ysOk LatLng least greatest = in01 least && in01 greatest
 ysOk (Cartesian d) least greatest = true
 
--- a box that is taken: each number is finite as given, and each y of longitudes in [0,1]; any other is 01's 9
+-- a box that is taken: each number is finite as given, and each y of longitudes in [0,1]; any other is refusal 9
 abbrev pub boxOk : CoordinateSystem → Float → Float → Float → Float → Bool
 boxOk c west least east greatest = queryOk (Range west least east greatest) && ysOk c least greatest

@@ -1,4 +1,4 @@
-// A box of 01 as it is searched: the rule for its longitudes, the one or two searches that it comes to, and whether it is one that 01
+// A box as it is searched: the rule for its longitudes, the one or two searches that it comes to, and whether it is one that SCOPE
 // takes. Every question about a box rests on it. Of its four numbers, y grows downwards on a mercator map, so that least_y is the northern
 // edge of a longitude build; on a Cartesian plan it is the least y as given.
 use kdslots::Query;
@@ -109,7 +109,7 @@ pub fn plan_box(c: CoordinateSystem, west: f64, least_y: f64, east: f64, greates
     }
 }
 
-// Whether a box is one that 01 takes.
+// Whether a box is one that SCOPE takes.
 pub fn box_ok(c: CoordinateSystem, west: f64, least_y: f64, east: f64, greatest_y: f64) -> bool
     ensures { λ r. ⌜ r ≡ boxOk c west «least_y» east «greatest_y» ⌝ }
 {

@@ -17,7 +17,7 @@ atTarget Target·Spoiled f = refused Spoiled
 atTarget Target·NoTree f = refused NoTree
 atTarget Target·NoCluster f = refused NoCluster
 
--- around the entry o of zoom z's table: no children is 01's 6, after a slot that names a place past the table, and before 10
+-- around the entry o of zoom z's table: no children is refusal 6, after a slot that names a place past the table, and before 10
 unfoldable pub childrenAt : State → Columns → ℕ → ℕ → ℕ → Asked
 childrenAt s c id z o = cond (childless s c id z o) (refused NoCluster) (told (cleanAt s c z o) (kidsAt s c id z o))
 

@@ -16,7 +16,7 @@ use Rattle.ask_child_walk.specs.Kids.{kidsAt, cleanAt}
 use Rattle.ask_cluster.specs.declared.Expansion.{Expansion}
 use Rattle.ask_cluster.specs.declared.Expansion.the-variants.{At, NoTree, NoCluster, Spoiled}
 
--- 01's number of a reply; 0 where there is no refusal
+-- SCOPE's number of a reply; 0 where there is no refusal
 abbrev pub expansionNumber : Expansion → ℕ
 expansionNumber (At z) = 0
 expansionNumber NoTree = 5
@@ -30,8 +30,8 @@ expansionCarried NoTree = 0
 expansionCarried NoCluster = 0
 expansionCarried Spoiled = 0
 
--- the children fetched at zoom z, places of the table t: none is 01's 6 for the cluster that is asked for (`first`), and 11 for another; on
--- with a sole one that is a cluster, by its id; otherwise z + 1
+-- the children fetched at zoom z, places of the table t: none is refusal 6 for the cluster that is asked for (`first`), and 11 for another;
+-- on with a sole one that is a cluster, by its id; otherwise z + 1
 abbrev pub fetched : Table → List ℕ → Bool → ℕ → (ℕ → Expansion) → Expansion
 fetched t [] first z on = cond first NoCluster Spoiled
 fetched t (p ∷ []) first z on = cond (ltb 1 (entry t p .num)) (on (entry t p .id)) (At (z + 1))

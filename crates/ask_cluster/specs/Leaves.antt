@@ -18,7 +18,7 @@ use Rattle.ask_base.specs.Ids.{targetOf, onward}
 use Rattle.ask_child_walk.specs.Kids.{kidsAt, cleanAt, childless}
 use Rattle.ask_cluster.specs.Children.{atTarget}
 
--- what a walk leaves: the lamps listed where it broke, which is 01's 11; or how many lamps are skipped, and those listed
+-- what a walk leaves: the lamps listed where it broke, which is refusal 11; or how many lamps are skipped, and those listed
 pub data Trip : Type 0 where
   broke : List ℕ → Trip
   went : ℕ → List ℕ → Trip
@@ -70,7 +70,7 @@ abbrev pub leavesListed : Trip → Asked
 leavesListed (broke l) = told false l
 leavesListed (went n l) = told true l
 
--- the lamps of the cluster id: at most limit of them, after the first offset; the cluster that is asked for with no children is 01's 6.
+-- the lamps of the cluster id: at most limit of them, after the first offset; the cluster that is asked for with no children is refusal 6.
 -- Limit 0 lists nothing: the whole search for the children is all that is looked at, and a slot that names a place past the table is met.
 unfoldable pub leavesAt : State → Columns → ℕ → ℕ → ℕ → ℕ → ℕ → Asked
 leavesAt s c id limit offset t o =

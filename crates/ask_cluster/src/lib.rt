@@ -84,7 +84,7 @@ pub enum Expansion {
 }
 
 impl Expansion {
-    // 01's number of the reply, 0 where there is no refusal.
+    // SCOPE's number of the reply, 0 where there is no refusal.
     pub fn number(self) -> u32
         ensures { λ r. ⌜ r ≡ expansionNumber self ⌝ }
     {

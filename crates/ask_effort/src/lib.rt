@@ -1,6 +1,6 @@
-// A box question with a stated effort: it tests at most as many slots as the caller allows, and replies what it found, how many it
-// tested, and whether it stopped with a test still due. Nothing is asked of the caller: what 01 does not take is refused with its number,
-// as for a box.
+// A box question with a stated effort: it tests at most as many slots as the caller allows, and replies what it found, how many it tested,
+// and whether it stopped with a test still due. Nothing is asked of the caller: what SCOPE does not take is refused with its number, as for
+// a box.
 use ask_box_plan::Plan;
 use ask_effort_tests::EffortReply;
 use build_tables::State;

@@ -1,4 +1,4 @@
--- What a search with an allowance replies and leaves in the lent column, by the tests of its definition; and 01's numbers of the reply.
+-- What a search with an allowance replies and leaves in the lent column, by the tests of its definition; and SCOPE's numbers of the reply.
 -- Definitions only.
 use mathlib.Core.Bool.{Bool, false, cond}
 use mathlib.Core.List.{List}
@@ -11,7 +11,7 @@ use Rattle.ask_effort_tests.specs.declared.EffortReply.{EffortReply}
 use Rattle.ask_effort_tests.specs.declared.EffortReply.the-variants.{Found, Box, NoRoom, Spoiled}
 use Rattle.ask_effort_tests.specs.Trials.{Mark, items}
 
--- ---- 01's number of a reply, and what it carries
+-- ---- SCOPE's number of a reply, and what it carries
 
 abbrev pub effortNumber : EffortReply → ℕ
 effortNumber (Found e) = 0

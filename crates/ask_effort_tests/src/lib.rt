@@ -26,7 +26,7 @@ pub struct Effort {
     pub stopped: bool,
 }
 
-// The reply, in 01's words: what was found within the allowance, or a refusal. `NoRoom` is judged on what was found before the stop, and
+// The reply, in SCOPE's words: what was found within the allowance, or a refusal. `NoRoom` is judged on what was found before the stop, and
 // carries it.
 pub enum EffortReply {
     Found(Effort),
@@ -36,7 +36,7 @@ pub enum EffortReply {
 }
 
 impl EffortReply {
-    // 01's number of the reply, 0 where nothing is refused.
+    // SCOPE's number of the reply, 0 where nothing is refused.
     pub fn number(self) -> u32
         ensures { λ r. ⌜ r ≡ effortNumber self ⌝ }
     {

@@ -31,7 +31,7 @@ visitsFor s c z x y =
 abbrev pub TileAsked : Type 0
 TileAsked = AskedFor Answer Bool Item
 
--- the refusals in 01's order: the state over the nine columns (11), no such tile (7)
+-- the refusals in SCOPE's order: the state over the nine columns (11), no such tile (7)
 unfoldable pub tileAsked : State → Columns → ℕ → ℕ → ℕ → TileAsked
 tileAsked s c z x y =
     cond (not (stateOk s (roomOf c))) (refused Spoiled)

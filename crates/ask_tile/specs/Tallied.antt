@@ -10,12 +10,12 @@ use Rattle.ask_tile_table.specs.Tile.{isTile, wholeTile}
 use Rattle.ask_tile_table.specs.Tally.{weightIn, tallyOf}
 use Rattle.ask_tile.specs.Asked.{tableFor, visitsFor}
 
--- this sum, and whether everything that was found could be listed: what cannot is 01's 11. A sum over no entry is 0.
+-- this sum, and whether everything that was found could be listed: what cannot is refusal 11. A sum over no entry is 0.
 abbrev pub tallySum : Bool → ℕ → Tally
 tallySum true sum = Sum sum
 tallySum false sum = Spoiled
 
--- the refusals in 01's order: the state over the nine columns (11), no such tile (7); otherwise, over the distinct entries listed, the
+-- the refusals in SCOPE's order: the state over the nine columns (11), no such tile (7); otherwise, over the distinct entries listed, the
 -- sum of num of those whose centre the tile holds
 unfoldable pub tallied : State → Columns → ℕ → ℕ → ℕ → Tally
 tallied s c z x y =

@@ -1,4 +1,4 @@
-// The questions 'tile' and 'tile tally' to a build. Nothing is asked of the caller: what 01 does not take is refused with its number.
+// The questions 'tile' and 'tile tally' to a build. Nothing is asked of the caller: what SCOPE does not take is refused with its number.
 use ask_base::Answer;
 use ask_tile_table::Ran;
 use ask_tile_table::Running;

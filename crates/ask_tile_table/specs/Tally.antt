@@ -11,7 +11,7 @@ use Rattle.ask_tile_table.specs.declared.Tally.the-variants.{Sum, Tile a
 use Rattle.ask_tile_table.specs.Floor.{homeOf}
 use Rattle.ask_tile_table.specs.Tile.{Visit, tileListed}
 
--- 01's number of an answer; 0 where there is no refusal
+-- SCOPE's number of an answer; 0 where there is no refusal
 abbrev pub tallyNumber : Tally → ℕ
 tallyNumber (Sum s) = 0
 tallyNumber No·Tile = 7

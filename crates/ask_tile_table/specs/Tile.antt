@@ -1,5 +1,5 @@
--- A tile (z, x, y), by 01's 'Tile': its three searches, what they find in a table with its index, and the item of each entry that is
--- listed. Definitions only.
+-- A tile (z, x, y), by SCOPE's 'Tile and tally': its three searches, what they find in a table with its index, and the item of each entry
+-- that is listed. Definitions only.
 use mathlib.Core.Bool.{Bool, true, false, cond, _&&_}
 use mathlib.Core.List.{List, [], _∷_, _++_, map}
 use Prim.Native.Nat.{ℕ, _+_, _^_}
@@ -65,7 +65,7 @@ abbrev pub goesRound : CoordinateSystem → Bool
 goesRound LatLng = true
 goesRound (Cartesian d) = false
 
--- whether the strips run (02, #114): always, or for longitude only
+-- whether the strips run (#114): always, or for longitude only
 unfoldable pub wraps : Options → Bool
 wraps o = cond (o .«longitude_strips_only») (goesRound (o .«coordinate_system»)) true
 

@@ -62,7 +62,7 @@ pub enum Named {
     Bad,
 }
 
-// The answer of a tally, in 01's words: the sum, or a refusal.
+// The answer of a tally, in SCOPE's words: the sum, or a refusal.
 pub enum Tally {
     Sum(u64),
     Tile,
@@ -70,7 +70,7 @@ pub enum Tally {
 }
 
 impl Tally {
-    // 01's number of the answer, 0 where there is no refusal.
+    // SCOPE's number of the answer, 0 where there is no refusal.
     pub fn number(self) -> u32
         ensures { λ r. ⌜ r ≡ tallyNumber self ⌝ }
     {

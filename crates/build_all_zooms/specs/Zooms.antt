@@ -1,5 +1,5 @@
--- The zooms of a build, by 01's 'Tables' and the Rust's `load`: the index of a table, zoom after zoom on tables as values, and how tables
--- are packed one after the other in columns and recorded in a state. Definitions only.
+-- The zooms of a build, by SCOPE's 'Tables and one zoom' and the Rust's `load`: the index of a table, zoom after zoom on tables as values,
+-- and how tables are packed one after the other in columns and recorded in a state. Definitions only.
 use mathlib.Core.List.{List, [], _∷_, _++_}
 use Prim.Native.Nat.{ℕ, zero, suc, _+_, _-_}
 use lib.ListN.{length, set, drop}

@@ -1,4 +1,4 @@
--- One zoom, by 01: the entries of a table in order, each passed by, or marked and then made a cluster with its unseen neighbours, or
+-- One zoom, by SCOPE: the entries of a table in order, each passed by, or marked and then made a cluster with its unseen neighbours, or
 -- copied with them. In every definition n is the number of points, least is min_points, z the zoom, and `near x y` are the places that
 -- `within` answers at (x, y). Definitions only.
 use mathlib.Core.Bool.{Bool, cond, _&&_}

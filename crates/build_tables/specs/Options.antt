@@ -1,4 +1,4 @@
--- 01's numbers that bound a build, and what the options say of its tables. Definitions only.
+-- SCOPE's numbers that bound a build, and what the options say of its tables. Definitions only.
 use mathlib.Core.Bool.{Bool, cond, _&&_}
 use Prim.Native.Nat.{ℕ, _+_, _-_}
 use lib.Dec.{leb, ltb}

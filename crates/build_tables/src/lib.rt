@@ -86,7 +86,7 @@ pub fn system(cartesian: bool, range: DataRange) -> CoordinateSystem
 }
 
 impl Options {
-    // Whether each option is within 01's bounds.
+    // Whether each option is within SCOPE's bounds.
     pub fn is_in_bounds(self) -> bool
         ensures { λ r. ⌜ r ≡ optionsOk self ⌝ }
     {
@@ -202,7 +202,7 @@ impl State {
         at <= cap
     }
 
-    // Whether a question may go by this state over columns of cap entries: 01's 11 is for any other.
+    // Whether a question may go by this state over columns of cap entries: refusal 11 is for any other.
     pub fn is_sound(self, cap: usize) -> bool
         ensures { λ r. ⌜ r ≡ stateOk self cap ⌝ }
     {

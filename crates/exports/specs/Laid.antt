@@ -1,4 +1,4 @@
--- A build as a C caller sees it: 01's number, what is carried, where the tables start and how long they are, and the lent columns
+-- A build as a C caller sees it: SCOPE's number, what is carried, where the tables start and how long they are, and the lent columns
 -- afterwards. Definitions only.
 use mathlib.Core.List.{List}
 use Prim.Native.Nat.{ℕ, zero, suc}

@@ -1,4 +1,4 @@
--- Replies to the questions as a C caller sees them: 01's number, what is carried, and the output columns afterwards. Definitions only.
+-- Replies to the questions as a C caller sees them: SCOPE's number, what is carried, and the output columns afterwards. Definitions only.
 use mathlib.Core.Bool.{Bool}
 use mathlib.Core.List.{List}
 use Prim.Native.Nat.{ℕ}

@@ -1,6 +1,6 @@
 // The public functions by C names, for Rust and C: numbers, slices, and arrays of 32. A slice is passed as a pointer and a length,
 // a `&mut usize` or a `&[u32; 32]` as a pointer.
-// Each answers 01's number of the reply, 0 where there is no refusal, and leaves what the reply carries in `carried`, 0 where it
+// Each answers SCOPE's number of the reply, 0 where there is no refusal, and leaves what the reply carries in `carried`, 0 where it
 // carries nothing. Proved: each tells what the public function promises, and writes nothing else. Assumed: nothing.
 use build_tables::Options;
 use build_tables::State;
@@ -259,7 +259,8 @@ fn store(state: State, starts: &mut [u32; 32], lens: &mut [u32; 32])
     *lens = long;
 }
 
-// The reply of a build, as numbers: 01's number is the answer, the rest goes behind pointers. A refusal leaves the two arrays as they were.
+// The reply of a build, as numbers: SCOPE's number is the answer, the rest goes behind pointers. A refusal leaves the two arrays as they
+// were.
 fn tell(loaded: Loaded, starts: &mut [u32; 32], lens: &mut [u32; 32], carried: &mut usize) -> u32
     ensures { λ r. ⌜ replied r (new carried) (new starts) (new lens) ≡ repliedOf loaded (old starts) (old lens) ⌝ }
 {

@@ -1,4 +1,4 @@
--- The replies of the public functions and what they leave in the lent columns, for every input: 01's refusals in 01's order, and
+-- The replies of the public functions and what they leave in the lent columns, for every input: SCOPE's refusals in its order, and
 -- otherwise the answer. Definitions only.
 use mathlib.Core.Bool.{Bool, true, false, cond, _&&_}
 use mathlib.Core.List.{List, [], _∷_}
@@ -21,7 +21,7 @@ use Rattle.kdslots.specs.Slots.{answers}
 use Rattle.kdslots.specs.Bounds.{nodeSizeOk, countOk, coordsOk}
 use Rattle.kdbush.specs.Run.{places, sound, whole, filled}
 
--- ---- 01's numbers of the replies, and what they carry
+-- ---- SCOPE's numbers of the replies, and what they carry
 
 abbrev pub buildNumber : BuildReply → ℕ
 buildNumber Build·Done = 0
@@ -61,7 +61,7 @@ abbrev pub indexPointed : Outside → BuildReply → BuildReply
 indexPointed (At i) r = Point i
 indexPointed Nothing r = r
 
--- refusals 1, 2, 3, 4, in this order: whether the options, the count, every point and the lent columns are as 01 asks
+-- refusals 1, 2, 3, 4, in this order: whether the options, the count, every point and the lent columns are as SCOPE asks
 abbrev pub inOrder : Bool → Bool → Outside → Bool → BuildReply
 inOrder options count points room = cond options (cond count (indexPointed points (cond room Build·Done Tables)) Count) Options
 

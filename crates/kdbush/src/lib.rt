@@ -1,5 +1,5 @@
 // The index: a static KD-tree over points, in two lent columns. It is built, and searched by a box (`range`) or a circle (`within`).
-// The names are the Rust's kdbush.rs. Nothing is asked of the caller: what 01 does not take is refused with its number.
+// The names are the Rust's kdbush.rs. Nothing is asked of the caller: what SCOPE does not take is refused with its number.
 use kdslots::Query;
 ghost use mathlib.Core.Path.{_≡_};
 ghost use mathlib.Core.List.{[], _∷_};
@@ -14,7 +14,7 @@ ghost use Rattle.kdbush.specs.Run.{places};
 ghost use Rattle.kdbush.specs.Reply.{buildNumber, buildCarried, searchNumber, searchCarried};
 ghost use Rattle.kdbush.specs.Reply.{firstOutside, indexChecked, built, listed, listedColumn, searched, columnAfter};
 
-// The reply of a build, in 01's words: done, or a refusal. `Point` carries the first point outside [0,1].
+// The reply of a build, in SCOPE's words: done, or a refusal. `Point` carries the first point outside [0,1].
 pub enum BuildReply {
     Done,
     Options,
@@ -24,7 +24,7 @@ pub enum BuildReply {
 }
 
 impl BuildReply {
-    // 01's number of the reply: 0 where nothing is refused.
+    // SCOPE's number of the reply: 0 where nothing is refused.
     pub fn number(self) -> u32
         ensures { λ r. ⌜ r ≡ buildNumber self ⌝ }
     {
@@ -60,7 +60,7 @@ pub enum SearchReply {
 }
 
 impl SearchReply {
-    // 01's number of the reply: 0 where nothing is refused.
+    // SCOPE's number of the reply: 0 where nothing is refused.
     pub fn number(self) -> u32
         ensures { λ r. ⌜ r ≡ searchNumber self ⌝ }
     {

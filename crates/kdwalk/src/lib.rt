@@ -1,5 +1,5 @@
 // A walk over the slots that a query answers, one at a time by a cursor: `first` and `after`. No stack, no scratch room.
-// Nothing is asked of the caller: what 01 does not take is refused with its number.
+// Nothing is asked of the caller: what SCOPE does not take is refused with its number.
 use kdslots::Query;
 ghost use mathlib.Core.Path.{_≡_};
 ghost use Prim.Native.Nat.{_+_, _-_, _*_, _≤_, _<_};
@@ -21,7 +21,7 @@ pub enum Step {
 }
 
 impl Step {
-    // 01's number of the step: 0 where nothing is refused.
+    // SCOPE's number of the step: 0 where nothing is refused.
     pub fn number(self) -> u32
         ensures { λ r. ⌜ r ≡ stepNumber self ⌝ }
     {

@@ -10,7 +10,7 @@ use Rattle.kdwalk.specs.Reply.{ending, walk}
 use Rattle.kdwalk_count.specs.declared.Counted.{Counted}
 use Rattle.kdwalk_count.specs.declared.Counted.the-variants.{Answers, Box as Counted·Box, Spoiled as Counted·Spoiled}
 
--- 01's number of the reply
+-- SCOPE's number of the reply
 abbrev pub countedNumber : Counted → ℕ
 countedNumber (Answers k) = 0
 countedNumber Counted·Box = 9

@@ -14,7 +14,7 @@ pub enum Counted {
 }
 
 impl Counted {
-    // 01's number of the reply: 0 where nothing is refused.
+    // SCOPE's number of the reply: 0 where nothing is refused.
     pub fn number(self) -> u32
         ensures { λ r. ⌜ r ≡ countedNumber self ⌝ }
     {

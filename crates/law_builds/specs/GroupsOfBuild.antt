@@ -1,5 +1,5 @@
 -- Of every build that is accepted: each zoom is one zoom of the groups. The own place of each entry is answered around it, each place of
--- the table is in one group, and a group is a copy of one entry or the cluster of its members by 01. Assumes nothing.
+-- the table is in one group, and a group is a copy of one entry or the cluster of its members by SCOPE. Assumes nothing.
 use mathlib.Core.Path.{_≡_, sym, ap, _∙_, subst}
 use mathlib.Core.List.{List, map}
 use Prim.Native.Nat.{ℕ, zero, suc, _+_, _≤_, _<_}

@@ -49,7 +49,7 @@ pub record Coming (p : Plan) (z : ℕ) (t : Table) : Type 0 where
   pub lone : All Lone t
 
 -- what the zoom z is on the table t: the own place of each entry is answered around it, no place is answered twice, each place is in one
--- group, each group is a copy or a cluster by 01, and the next table is the groups' entries
+-- group, each group is a copy or a cluster by SCOPE, and the next table is the groups' entries
 pub record Grouped (p : Plan) (z : ℕ) (t : Table) : Type 0 where
   pub own : (i : ℕ) → i < length t → In i (nearAt p z t (entry t i .x) (entry t i .y))
   pub once : (x y : Float) → Distinct (nearAt p z t x y)

@@ -1,4 +1,4 @@
--- #102, of a build that `load` accepts: a box that 01 takes is answered within every allowance, with the effort of its tests and by the
+-- #102, of a build that `load` accepts: a box that SCOPE takes is answered within every allowance, with the effort of its tests and by the
 -- room alone; any other is 9; and none is ever refused 11. The whole statement is `EffortOfBuild`, the last of this file. Proved shows
 -- that it holds. Definitions only.
 use mathlib.Core.Path.{_≡_}

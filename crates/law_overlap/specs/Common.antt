@@ -1,6 +1,6 @@
 -- The common part of two boxes: a point passes its test, with the corners normalised, just where it passes the tests of both; and no point
 -- passes the test of a box that is empty after normalising. The corners are picked before they are normalised, so that this rests on
--- (v - offset) / scale never falling as v grows. It asks of the range a finite offset and a scale above 0, which 01's bounds give.
+-- (v - offset) / scale never falling as v grows. It asks of the range a finite offset and a scale above 0, which SCOPE's bounds give.
 -- Assumes nothing.
 use mathlib.Core.Bool.{Bool, true, false, _&&_, not, cond}
 use mathlib.Core.Path.{_≡_, refl, sym, ap, _∙_}
@@ -46,7 +46,7 @@ and-turn true false false s = refl
 and-turn false q true s = refl
 and-turn false q false s = refl
 
--- ---- a range within 01's bounds
+-- ---- a range within SCOPE's bounds
 
 above-zero : (x : Float) → T (finite x) → T (lt fzero x) → T (positive x)
 above-zero nan f h = absurd f

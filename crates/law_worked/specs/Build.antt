@@ -1,4 +1,4 @@
--- 01's worked build as `load` leaves it: in columns of 12 entries or more, whatever they held, the build is accepted, and this is its
+-- SCOPE's worked build as `load` leaves it: in columns of 12 entries or more, whatever they held, the build is accepted, and this is its
 -- state and what stands in the columns of entries and of the index. The state is sound over them. Assumes nothing.
 use mathlib.Core.Path.{_≡_, refl, ap, _∙_}
 use mathlib.Core.Bool.{Bool, true, cond}
@@ -26,7 +26,7 @@ use Rattle.law_answers.specs.Stored.{columnsOf}
 
 -- ---- the build, and what a question is lent of it
 
--- what `load` replies and leaves of 01's four lamps, in these columns
+-- what `load` replies and leaves of SCOPE's four lamps, in these columns
 abbrev pub workedBuilt : BuildColumns → Outcome
 workedBuilt l = loaded (options 64) xs ys ws l
 
@@ -43,7 +43,7 @@ columnsIn l = columnsOf (workedBuilt l .columns)
 unfoldable pub state : State
 state = record { options = options 64; count = 4; starts = 6 ∷ 4 ∷ 0 ∷ replicate 29 0; lens = 1 ∷ 2 ∷ 4 ∷ replicate 29 0 }
 
--- the seven entries that 01 prints, column by column; the slots of each index name the places in order; past these the old contents
+-- the seven entries that SCOPE prints, column by column; the slots of each index name the places in order; past these the old contents
 unfoldable pub afterBuild : BuildColumns → BuildColumns
 afterBuild l =
     let h = b 0x3fe0000000000000 in
@@ -78,7 +78,7 @@ unfolding checked optionsOk systemInBounds inBounds firstOutside convertedAll co
     ofBits le lt options xs ys ws b firstOver
 accepted l h = ap (λ (c : Bool). cond c Done Tables) h
 
--- the tables that 01 prints, packed in the columns, each with its index
+-- the tables that SCOPE prints, packed in the columns, each with its index
 state-of-shown : builtState (options 64) 4 shown ≡ state
 unfolding starts lens shown state options
 state-of-shown = refl

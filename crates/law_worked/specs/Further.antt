@@ -1,5 +1,5 @@
--- 01's lines that are not marked P, computed from the definitions too: the largest max_zoom, options that are refused, a lone lamp at (1,
--- 0.5), which tile (0,0,0) lists twice and counts once, and lists once with the strips for longitude only (02, #114); and of 'Easy to get
+-- SCOPE's lines that are not marked P, computed from the definitions too: the largest max_zoom, options that are refused, a lone lamp at
+-- (1, 0.5), which tile (0,0,0) lists twice and counts once, and lists once with the strips for longitude only (#114); and of 'Easy to get
 -- wrong' the four lamps with min_points 3, and both edge strips at z = 0. Assumes nothing.
 use mathlib.Core.Path.{_≡_, refl, ap}
 use mathlib.Core.Bool.{Bool, true, cond}
@@ -42,7 +42,7 @@ use Rattle.law_answers.specs.Stored.{columnsOf}
 
 -- ---- max_zoom 30 built, 31 refused 1; node_size 0 refused 1
 
--- 01's options with another max_zoom and min_points
+-- SCOPE's options with another max_zoom and min_points
 unfoldable pub with : ℕ → ℕ → Options
 unfolding options
 with z k =
@@ -110,7 +110,7 @@ unfolding loaded checked firstOver zeros written joined joinedIds joinedCo start
     shape split scanned slots places rows options b
 tally-of-lone = refl
 
--- ---- the same lamp on a site plan, with the strips for longitude only: at (512,256) alone (02, #114)
+-- ---- the same lamp on a site plan, with the strips for longitude only: at (512,256) alone (#114)
 
 unfoldable pub onPlan : Options → Options
 onPlan o =

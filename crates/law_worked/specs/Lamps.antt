@@ -1,5 +1,5 @@
--- Each lamp's owner in each of the three tables of 01's worked build, and the lamps of each entry, computed from the definitions. Assumes
--- nothing.
+-- Each lamp's owner in each of the three tables of SCOPE's worked build, and the lamps of each entry, computed from the definitions.
+-- Assumes nothing.
 use mathlib.Core.Path.{_≡_, refl}
 use mathlib.Core.List.{[], _∷_, map}
 use lib.Ieee.{add, sub, mul, div, ofInt, ofBits, le, lt, eq}
@@ -22,7 +22,7 @@ use Rattle.law_builds.specs.GroupsOfBuild.{groupsBy}
 use Rattle.law_lamps.specs.Owner.{owner, ownerAt, lampsOf, lampsAt, membersOf}
 use Rattle.law_worked.specs.Tables.{b, options, xs, ys, ws}
 
--- 01's four lamps
+-- SCOPE's four lamps
 abbrev pub workedLamps : Given
 workedLamps = givenBuild (options 64) xs ys ws
 

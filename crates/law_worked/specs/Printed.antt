@@ -1,4 +1,4 @@
--- 01's example of the table lister, computed: the text that it gives is the writing of the example, and what is printed for it is its
+-- SCOPE's example of the table lister, computed: the text that it gives is the writing of the example, and what is printed for it is its
 -- seven lines. The tables are those of Tables. Assumes nothing.
 use mathlib.Core.List.{List, [], _∷_, _++_}
 use mathlib.Core.Path.{_≡_, refl, ap, _∙_}
@@ -20,7 +20,7 @@ use Rattle.law_worked.specs.Build.{workedBuilt, accepted}
 abbrev place : ℕ → ℕ → ℕ → Place
 place x y w = record { x = x; y = y; wh = w }
 
--- 01's input
+-- SCOPE's input
 unfoldable pub example : Input
 example =
     record {
@@ -48,7 +48,7 @@ exampleText =
     ++ bytes "x=26624\ny=32768\nwh=30\n"
     ++ bytes "x=26624\ny=32768\nwh=40\n"
 
--- and the seven lines that 01 prints for it
+-- and the seven lines that SCOPE prints for it
 unfoldable pub sevenLines : List ℕ
 sevenLines =
     bytes "2 0 3fd0000000000000 3fe0000000000000 1 0 6 1 10\n"

@@ -1,5 +1,6 @@
--- 01's worked build, computed from the definitions: the real index, the real search and the real distance test give the tables that 01
--- prints, at its node size and at node size 1, where the index is split; and columns one entry too short are refused 4. Assumes nothing.
+-- SCOPE's worked build, computed from the definitions: the real index, the real search and the real distance test give the tables that
+-- SCOPE prints, at its node size and at node size 1, where the index is split; and columns one entry too short are refused 4. Assumes
+-- nothing.
 use mathlib.Core.Path.{_≡_, refl}
 use mathlib.Core.Bool.{false}
 use mathlib.Core.List.{List, [], _∷_}
@@ -29,7 +30,7 @@ use Rattle.build_all_zooms.specs.Zooms.{indexOfTable, runZooms, starts}
 use Rattle.supercluster.specs.declared.LoadReply.the-variants.{Tables}
 use Rattle.supercluster.specs.Build.{convertedAll, finest, tablesOf, BuildColumns, buildColumns, firstOver, checked, loaded}
 
--- a float by its bits, as 01 prints it
+-- a float by its bits, as SCOPE prints it
 unfoldable pub b : ℕ → Float
 unfolding ofBits
 b n = ofBits binary64 n
@@ -62,7 +63,7 @@ ys = b 0x3fe0000000000000 ∷ b 0x3fe0000000000000 ∷ b 0x3fe0000000000000 ∷ 
 unfoldable pub ws : List ℕ
 ws = 10 ∷ 20 ∷ 30 ∷ 40 ∷ []
 
--- the three tables that 01 prints
+-- the three tables that SCOPE prints
 unfoldable pub shown : List Table
 shown =
     (at 0x3fd0000000000000 0x3fe0000000000000 1 0 6 1 10

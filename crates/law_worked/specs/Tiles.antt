@@ -1,4 +1,4 @@
--- 01's P line on a tile, over the state and the columns of the worked build (Build), computed from the definitions; what the tile leaves
+-- SCOPE's P line on a tile, over the state and the columns of the worked build (Build), computed from the definitions; what the tile leaves
 -- in output columns, and its tally. Assumes nothing.
 use mathlib.Core.Path.{_≡_, ap}
 use mathlib.Core.Bool.{Bool, true, cond, not}

@@ -1,4 +1,4 @@
--- 01's P lines on children, leaves, expansion zoom and refusals, over the state and the columns of the worked build (Build), computed
+-- SCOPE's P lines on children, leaves, expansion zoom and refusals, over the state and the columns of the worked build (Build), computed
 -- from the definitions. Assumes nothing.
 use mathlib.Core.Path.{_≡_, ap}
 use mathlib.Core.Bool.{Bool, true, cond, not}
@@ -27,7 +27,7 @@ use Rattle.supercluster.specs.Build.{BuildColumns}
 use Rattle.law_worked.specs.Tables.{b, options}
 use Rattle.law_worked.specs.Build.{state, afterBuild, workedHeld, sound}
 
--- children, leaves and expansion zoom of this id are refused with 01's number n, whatever limit, offset and column are given, and the
+-- children, leaves and expansion zoom of this id are refused with SCOPE's number n, whatever limit, offset and column are given, and the
 -- column stays as it was
 pub record Refused (s : State) (c : Columns) (id n : ℕ) : Type 0 where
   pub children : (out : List ℕ) → (answerNumber (answerOf (childrenOf s c id) (length out)) ≡ n) × (columnOf (childrenOf s c id) out ≡ out)

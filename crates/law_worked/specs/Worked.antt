@@ -1,6 +1,6 @@
--- 01's lines marked P as one proved table, in 01's order and words, before them the lines that the table lister prints. What is asked of
--- the worked build is asked of the state and the columns that `load` replies and leaves of 01's four lamps, in any columns that are long
--- enough. Assumes nothing.
+-- SCOPE's lines marked P as one proved table, in SCOPE's order and words, before them the lines that the table lister prints. What is asked
+-- of the worked build is asked of the state and the columns that `load` replies and leaves of SCOPE's four lamps, in any columns that are
+-- long enough. Assumes nothing.
 use mathlib.Core.Path.{_≡_, refl, sym, subst}
 use mathlib.Core.Bool.{true}
 use mathlib.Core.List.{[], _∷_}

@@ -1,1 +1,1 @@
-// 01's worked lines: definitions and laws only, in specs.
+// SCOPE's worked lines: definitions and laws only, in specs.

@@ -1,4 +1,4 @@
--- What the table lister prints for a text, by 01's 'The table lister' and 02's energies: the refusal 12, where the text is not of its
+-- What the table lister prints for a text, by SCOPE's 'The table lister' and the energies: the refusal 12, where the text is not of its
 -- form; or the refusal of the build; or every line of every table, the finest table first. Definitions only.
 use mathlib.Core.List.{List}
 use mathlib.Core.Path.{_≡_}

@@ -1,5 +1,5 @@
 // The table lister's whole answer to a text: every line of every table of the build, the finest table first, or the refusal.
-// Proved: for every text the bytes that 01 and 02 say, and how many there are. Nothing is asked of the caller. Assumed: nothing.
+// Proved: for every text the bytes that SCOPE says, and how many there are. Nothing is asked of the caller. Assumed: nothing.
 use build_tables::Entry;
 use build_tables::State;
 use lister_text::Head;

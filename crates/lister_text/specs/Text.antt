@@ -1,4 +1,4 @@
--- 01's text of the table lister, with 02's line of each point's energy: the writing of an input, key=value line by line, and what it is
+-- SCOPE's text of the table lister, with the line of each point's energy: the writing of an input, key=value line by line, and what it is
 -- to read a text. Definitions only.
 use mathlib.Core.List.{List, [], _∷_, _++_, map}
 use mathlib.Core.Path.{_≡_}
@@ -90,7 +90,7 @@ abbrev pub Small : List Place → Type 0
 Small [] = Unit
 Small (p ∷ ps) = ((p .x ≤ 9999999) × (p .y ≤ 9999999) × (p .wh ≤ 9999999)) × Small ps
 
--- 01's bounds of a text
+-- SCOPE's bounds of a text
 pub record Valid (i : Input) : Type 0 where
   pub minZoom : i .minZoom ≤ 255
   pub maxZoom : i .maxZoom ≤ 255
@@ -188,7 +188,7 @@ pub record Refuses (s : List ℕ) (c c′ : PointCols) : Type 0 where
   pub none : (i : Input) → Valid i → s ≡ text i → ⊥
   pub same : c′ ≡ c
 
--- 01's number of a reply; 0 where there is no refusal
+-- SCOPE's number of a reply; 0 where there is no refusal
 abbrev pub parsedNumber : Parsed → ℕ
 parsedNumber (Read h) = 0
 parsedNumber Refused = 12

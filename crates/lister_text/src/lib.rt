@@ -1,4 +1,4 @@
-// The text that the table lister reads: 01's lines of options and points, and 02's line of a point's energy. Proved: a text is accepted
+// The text that the table lister reads: SCOPE's lines of options and points, and the line of a point's energy. Proved: a text is accepted
 // with these values if and only if it is the writing of these values, and every other text is refused and leaves the columns as they
 // were. Nothing is asked of the caller. Assumed: nothing.
 use build_tables::Options;
@@ -38,7 +38,7 @@ pub struct Head {
     pub next: Cursor,
 }
 
-// What a text says, or 01's refusal 12.
+// What a text says, or refusal 12.
 pub enum Parsed {
     Read(Head),
     Refused,

@@ -1,4 +1,4 @@
--- 02, #112, leaf pages that join up: the page k of a size is what `leaves` answers with the size as limit and k * size as offset. What is
+-- #112, leaf pages that join up: the page k of a size is what `leaves` answers with the size as limit and k * size as offset. What is
 -- so of the pages of one size, of one cluster, is the record LeafPages, over a state and its columns. It is a field of Owners, so that
 -- `owners::load` ensures it of every build that it accepts, of every cluster and every size of 1 or more. Definitions only.
 use mathlib.Core.Path.{_≡_}

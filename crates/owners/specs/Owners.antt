@@ -1,4 +1,4 @@
--- Demand 3: one owner for every lamp; and the energies of 02, #108, by owner. What is said here is said of a state and its columns, as
+-- Demand 3: one owner for every lamp; and the energies of #108, by owner. What is said here is said of a state and its columns, as
 -- `load` replies and leaves them and as a question is lent them: their tables, `tableAt s c z` from the finest, max_zoom + 1, down to
 -- min_zoom, and what `leaves` answers of them. That it holds of every accepted build is shown in Proved, and is what this crate's `load`
 -- ensures. Definitions only.
@@ -82,5 +82,5 @@ pub record Owners (s : State) (c : Columns) (ws : List ℕ) (own : ℕ → ℕ �
   -- a larger limit never changes what a smaller one listed at the same offset; limit 0 lists the shortest list
   pub prefix : (z j m n offset : ℕ) → IsCluster s c z j → m ≤ n
       → (ls : List ℕ) × (pageAsked s c z j n offset ≡ told true ls) × (pageAsked s c z j m offset ≡ told true (take m ls))
-  -- pages of a size of 1 or more join up, and each lamp is on exactly one (02, #112)
+  -- pages of a size of 1 or more join up, and each lamp is on exactly one (#112)
   pub pages : (z j size : ℕ) → IsCluster s c z j → 1 ≤ size → LeafPages s c (own z) z j size

@@ -1,4 +1,4 @@
--- What it is for a case to agree: what is expected is what 01 has the lister print for the text. Definitions only.
+-- What it is for a case to agree: what is expected is what SCOPE has the lister print for the text. Definitions only.
 use mathlib.Core.Bool.{Bool, true, false}
 use mathlib.Core.List.{List}
 use mathlib.Core.Path.{_≡_}

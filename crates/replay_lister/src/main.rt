@@ -1,7 +1,7 @@
 // Replays stored texts on the crate `lister_report`, and says whether what is printed for each is what the Rust's tables come to.
 // A case is a line of two words, how long the text is and how long what is printed for it; then both, byte for byte, with nothing
 // between them.
-// Proved: a case agrees if and only if its second part is what 01 has the lister print for its first. Assumed: what io says of reading
+// Proved: a case agrees if and only if its second part is what SCOPE has the lister print for its first. Assumed: what io says of reading
 // and writing.
 use libc::STDIN_FILENO;
 use replay_vectors::Count;

@@ -1,4 +1,5 @@
-// What the programs share that replay builds and questions: how a case gives the options of a build, in words as `replay_vectors` reads them.
+// What the programs share that replay builds and questions: how a case gives the options of a build, in words as `replay_vectors` reads
+// them.
 //     min_points radius extent node_size cartesian min_x min_y max_x max_y offset_given offset scale_given scale
 //     longitude_strips_only
 // 0 stands for what is derived, and for longitude, and 1 for what is given, and for Cartesian; the last word is 1 where

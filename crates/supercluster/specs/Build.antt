@@ -1,6 +1,6 @@
--- The build, by 01's 'Tables' and the Rust's `load`: the refusals in order; otherwise the finest table, and each zoom from max_zoom down
--- to min_zoom, every table with its index, packed from position 0. The zooms and the packing are those of `Zooms`, in the crate build_all_zooms.
--- Definitions only.
+-- The build, by SCOPE's 'Tables and one zoom' and the Rust's `load`: the refusals in order; otherwise the finest table, and each zoom from
+-- max_zoom down to min_zoom, every table with its index, packed from position 0. The zooms and the packing are those of `Zooms`, in the
+-- crate build_all_zooms. Definitions only.
 use mathlib.Core.Bool.{Bool, true, false, cond, _&&_}
 use mathlib.Core.List.{List, [], _∷_, map}
 use Prim.Native.Nat.{ℕ, suc, _+_, _*_, min}
@@ -132,7 +132,7 @@ checked o xs ys ws l =
     ordered (optionsOk o) (tripleOk xs ys ws) (firstOutside (map (λ p. p .x) ps) (map (λ p. p .y) ps) 0) (firstOver ws 0)
     (roomy (need o (length xs)) l)
 
--- the number of a reply, 01's and 02's 15, and what it carries
+-- the number of a reply, SCOPE's, and what it carries
 abbrev pub loadNumber : LoadReply → ℕ
 loadNumber Done = 0
 loadNumber No·Options = 1

@@ -1,5 +1,5 @@
 // The public build, `load` of the Rust: the finest table of the converted points, then each zoom from max_zoom down to min_zoom, every
-// table with its index. Nothing is asked of the caller: what 01 does not take is refused with its number, and then no column is written.
+// table with its index. Nothing is asked of the caller: what SCOPE does not take is refused with its number, and then no column is written.
 use build_tables::Entry;
 use build_tables::Options;
 use build_tables::State;

@@ -1,5 +1,5 @@
--- `ask_child_walk::list_kids` meets its contract: the children that are listed and those ahead of the walk are all of them. The measure is what is
--- ahead. Assumes nothing.
+-- `ask_child_walk::list_kids` meets its contract: the children that are listed and those ahead of the walk are all of them. The measure is
+-- what is ahead. Assumes nothing.
 use mathlib.Core.Path.{_≡_, refl, ap, sym, _∙_}
 use mathlib.Core.List.{List}
 use Prim.Native.Nat.{ℕ, _+_, _*_, _≤_}

@@ -1,5 +1,5 @@
--- `ask_child_walk::next_child` meets its contract: what it has passed by has no child, so the next child of what is ahead is that of the whole. The
--- measure is what is ahead. Assumes nothing.
+-- `ask_child_walk::next_child` meets its contract: what it has passed by has no child, so the next child of what is ahead is that of the
+-- whole. The measure is what is ahead. Assumes nothing.
 use mathlib.Core.Path.{_≡_, refl, ap, sym, _∙_}
 use mathlib.Core.List.{List}
 use Prim.Native.Nat.{ℕ, _+_, _*_, _≤_}

@@ -1,5 +1,6 @@
--- `ask_cluster::enter` and `ask_cluster::walk_into` meet their contracts: each child is visited as the definition visits it, and what is ahead gives
--- what is left of the walk. A walk goes on into larger tables only; within a level the measure is what is ahead. Assumes nothing.
+-- `ask_cluster::enter` and `ask_cluster::walk_into` meet their contracts: each child is visited as the definition visits it, and what is
+-- ahead gives what is left of the walk. A walk goes on into larger tables only; within a level the measure is what is ahead. Assumes
+-- nothing.
 use mathlib.Core.Path.{_≡_, refl, ap, sym, _∙_}
 use mathlib.Core.Logic.{⊎-elim}
 use mathlib.Core.List.{List}

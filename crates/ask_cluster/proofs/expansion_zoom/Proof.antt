@@ -1,4 +1,5 @@
--- `ask_cluster::expansion_zoom` meets its contract: the id leads to a refusal, or to a place from which the cluster is expanded. Assumes nothing.
+-- `ask_cluster::expansion_zoom` meets its contract: the id leads to a refusal, or to a place from which the cluster is expanded. Assumes
+-- nothing.
 use mathlib.Core.Bool.{true}
 use mathlib.Core.Path.{_≡_, refl, sym, ap, _∙_}
 use Prim.Native.Nat.{_+_, _-_}

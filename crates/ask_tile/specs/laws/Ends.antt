@@ -1,5 +1,5 @@
 -- How a tile ends: the three columns, lent as far as the shortest of them reaches, hold the first items afterwards, and then what they
--- held; and the answer is 01's, by how far the listing came. Assumes nothing.
+-- held; and the answer is SCOPE's, by how far the listing came. Assumes nothing.
 use mathlib.Core.Path.{_≡_, refl, sym, ap, _∙_}
 use mathlib.Core.Bool.{Bool, true, false}
 use mathlib.Core.List.{List, [], _∷_, _++_, map}

@@ -1,4 +1,5 @@
--- `ask_tile_table::add_all` meets its contract: the marks that it lends are blank, and there is one for each place of the table. Assumes nothing.
+-- `ask_tile_table::add_all` meets its contract: the marks that it lends are blank, and there is one for each place of the table. Assumes
+-- nothing.
 use mathlib.Core.Path.{refl, sym}
 use mathlib.Core.Bool.{false}
 use Prim.Native.Nat.{ℕ, _≤_}

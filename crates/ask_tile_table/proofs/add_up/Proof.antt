@@ -1,5 +1,5 @@
--- `ask_tile_table::add_up` meets its contract: the marks that it lends are blank and enough, and what they leave unsure is tallied again with
--- all. Assumes nothing.
+-- `ask_tile_table::add_up` meets its contract: the marks that it lends are blank and enough, and what they leave unsure is tallied again
+-- with all. Assumes nothing.
 use mathlib.Core.Path.{_≡_, refl, sym}
 use mathlib.Core.Bool.{Bool, true, false, not, _&&_}
 use Prim.Native.Nat.{ℕ, _*_, _≤_}

@@ -1,4 +1,5 @@
--- `ask_tile_table::add_with` meets its contract: the walk of each search is its visits, and the three tallies follow each other. Assumes nothing.
+-- `ask_tile_table::add_with` meets its contract: the walk of each search is its visits, and the three tallies follow each other. Assumes
+-- nothing.
 use mathlib.Core.Path.{_≡_, refl, sym, ap, _∙_, subst}
 use mathlib.Core.Bool.{true}
 use mathlib.Core.List.{List}

@@ -1,5 +1,5 @@
--- `ask_tile_table::list_by` meets its contract: at the head of the loop what is ahead of the walk, listed after what the columns hold, gives the
--- whole run. The measure is what is ahead. Assumes nothing.
+-- `ask_tile_table::list_by` meets its contract: at the head of the loop what is ahead of the walk, listed after what the columns hold,
+-- gives the whole run. The measure is what is ahead. Assumes nothing.
 use mathlib.Core.Path.{_≡_, refl, sym, ap, _∙_, subst}
 use mathlib.Core.List.{List, _∷_}
 use Prim.Native.Nat.{ℕ, _+_, _<_, _≤_}

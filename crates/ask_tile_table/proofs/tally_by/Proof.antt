@@ -1,5 +1,5 @@
--- `ask_tile_table::tally_by` meets its contract: at the head of the loop what is ahead of the walk, counted after what is counted, gives the
--- whole tally. The measure is what is ahead. Assumes nothing.
+-- `ask_tile_table::tally_by` meets its contract: at the head of the loop what is ahead of the walk, counted after what is counted, gives
+-- the whole tally. The measure is what is ahead. Assumes nothing.
 use mathlib.Core.Path.{_≡_, refl, sym, ap, _∙_, subst}
 use mathlib.Core.Bool.{true}
 use mathlib.Core.List.{List, [], _∷_}

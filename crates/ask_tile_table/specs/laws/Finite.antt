@@ -1,5 +1,5 @@
--- Every number of a tile's ranges is finite, for options within 01's bounds: p = radius / extent is from 0 to 2 ^ 16, and what is divided
--- by 2 ^ z is from -2 ^ 16 to 2 ^ 32. So the walk goes over the whole answer of `range`. Assumes nothing.
+-- Every number of a tile's ranges is finite, for options within SCOPE's bounds: p = radius / extent is from 0 to 2 ^ 16, and what is
+-- divided by 2 ^ z is from -2 ^ 16 to 2 ^ 32. So the walk goes over the whole answer of `range`. Assumes nothing.
 use mathlib.Core.Path.{_≡_, refl, subst}
 use mathlib.Core.Bool.{Bool, true, false, _&&_}
 use mathlib.Core.List.{List}

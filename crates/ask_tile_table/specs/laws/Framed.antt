@@ -1,5 +1,5 @@
 -- A tile's searches give each entry in [0,1] a place that `round_away` takes: the scale is a power of the table, the extent is within
--- 01's bounds, and x and y are from -1 to 2 ^ 31. Assumes nothing.
+-- SCOPE's bounds, and x and y are from -1 to 2 ^ 31. Assumes nothing.
 use mathlib.Core.Path.{_≡_, refl, sym, subst}
 use mathlib.Core.Bool.{Bool, true}
 use Prim.Native.Nat.{ℕ, _^_, _≤_, _<_}

@@ -1,5 +1,5 @@
--- `build_all_zooms::index_part` meets its contract: the parts lent to the index's build have just room for it, so that it is not refused and what
--- it leaves is the index of the part's points. Assumes nothing.
+-- `build_all_zooms::index_part` meets its contract: the parts lent to the index's build have just room for it, so that it is not refused
+-- and what it leaves is the index of the part's points. Assumes nothing.
 use mathlib.Core.Path.{_≡_, ap, sym, _∙_}
 use mathlib.Core.List.{_++_}
 use Prim.Native.Nat.{ℕ, _+_, _-_, _*_}

@@ -1,5 +1,5 @@
--- `build_all_zooms::one_zoom` meets its contract: what holds between two zooms gives what the scan and the index ask, and the scan and the index
--- together advance the tables by one. Assumes nothing.
+-- `build_all_zooms::one_zoom` meets its contract: what holds between two zooms gives what the scan and the index ask, and the scan and the
+-- index together advance the tables by one. Assumes nothing.
 use Prim.Native.Nat.{ℕ, suc, _+_, _-_, _*_, _^_, _<_, _≤_}
 use native.Mathlib.Omega.{arith}
 use lib.ListN.{length, drop, take}

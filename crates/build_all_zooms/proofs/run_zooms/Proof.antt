@@ -1,5 +1,5 @@
--- `build_all_zooms::run_zooms` meets its contract: at the head of the loop the table of zoom z stands indexed, and what is written with what is
--- left to write is the whole. Assumes nothing.
+-- `build_all_zooms::run_zooms` meets its contract: at the head of the loop the table of zoom z stands indexed, and what is written with
+-- what is left to write is the whole. Assumes nothing.
 use mathlib.Core.Path.{_≡_, refl, ap, sym, _∙_, subst}
 use Prim.Native.Nat.{ℕ, suc, _+_, _-_, _*_, _^_, _<_, _≤_}
 use native.Mathlib.Omega.{arith}

@@ -1,5 +1,5 @@
--- `build_all_zooms::zoom_step` meets its contract: the columns are lent from `start` on, where the scan's table stands at 0, and the index's own
--- part of its columns is lent. Assumes nothing.
+-- `build_all_zooms::zoom_step` meets its contract: the columns are lent from `start` on, where the scan's table stands at 0, and the
+-- index's own part of its columns is lent. Assumes nothing.
 use mathlib.Core.Path.{_≡_, refl, ap, sym, _∙_, subst}
 use Prim.Native.Nat.{ℕ, suc, _+_, _-_, _*_, _^_, _<_, _≤_}
 use native.Mathlib.Omega.{arith}

@@ -1,5 +1,5 @@
--- `build_one_zoom::absorb_near` meets its contract: at the head of the loop the columns and the sums so far absorb the remaining neighbours to what
--- the first ones absorb all to. Assumes nothing.
+-- `build_one_zoom::absorb_near` meets its contract: at the head of the loop the columns and the sums so far absorb the remaining neighbours
+-- to what the first ones absorb all to. Assumes nothing.
 use mathlib.Core.Path.{_≡_, refl, ap, sym, _∙_, subst}
 use Prim.Native.Nat.{ℕ, _+_, _-_, _^_, _<_}
 use native.Mathlib.Omega.{arith}

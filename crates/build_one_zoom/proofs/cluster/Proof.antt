@@ -1,5 +1,5 @@
--- `build_one_zoom::cluster` meets its contract: at the head of the loop what is still to be scanned leads to the definition's scan, there is room for
--- what it can make, every entry of the table is at a finite place, and the notes are those of the table. Assumes nothing.
+-- `build_one_zoom::cluster` meets its contract: at the head of the loop what is still to be scanned leads to the definition's scan, there
+-- is room for what it can make, every entry of the table is at a finite place, and the notes are those of the table. Assumes nothing.
 use mathlib.Core.Path.{_≡_, refl, ap, sym, _∙_, subst}
 use mathlib.Core.List.{List}
 use Prim.Native.Nat.{ℕ, _-_}

@@ -1,5 +1,5 @@
--- `build_one_zoom::copy_near` meets its contract: at the head of the loop the copies so far and those that remain are the definition's, and there is
--- room for what can yet be copied. Assumes nothing.
+-- `build_one_zoom::copy_near` meets its contract: at the head of the loop the copies so far and those that remain are the definition's, and
+-- there is room for what can yet be copied. Assumes nothing.
 use mathlib.Core.Path.{_≡_, refl, sym, _∙_}
 use Prim.Native.Nat.{ℕ, _-_, _<_}
 use native.Mathlib.Omega.{arith}

@@ -1,5 +1,5 @@
--- `build_one_zoom::leave_one` meets its contract: row i is put after the next table's last, and then the copies of the neighbours follow. Assumes
--- nothing.
+-- `build_one_zoom::leave_one` meets its contract: row i is put after the next table's last, and then the copies of the neighbours follow.
+-- Assumes nothing.
 use mathlib.Core.Path.{_≡_, ap, _∙_}
 use Prim.Native.Nat.{_+_, _<_, _≤_}
 use native.Mathlib.Omega.{arith}

@@ -1,5 +1,5 @@
--- `build_one_zoom::make_one` meets its contract: what absorbing gives, the origin's parent, and the new entry after the table are a cluster made.
--- Assumes nothing.
+-- `build_one_zoom::make_one` meets its contract: what absorbing gives, the origin's parent, and the new entry after the table are a cluster
+-- made. Assumes nothing.
 use mathlib.Core.Path.{_≡_, refl, ap, sym, _∙_, subst}
 use Prim.Native.Nat.{ℕ, _+_, _<_}
 use native.Mathlib.Omega.{arith}

@@ -1,4 +1,5 @@
--- `build_one_zoom::neighbours` meets its contract: a note, where there is one, is the answer, and otherwise it is searched for. Assumes nothing.
+-- `build_one_zoom::neighbours` meets its contract: a note, where there is one, is the answer, and otherwise it is searched for. Assumes
+-- nothing.
 use mathlib.Core.Path.{_≡_, ap}
 use mathlib.Core.List.{List, [], _∷_}
 use Prim.Native.Nat.{ℕ, _-_, _/_, _≤_}

@@ -1,4 +1,5 @@
--- `build_one_zoom::note_all` meets its contract: at the head of the loop every note that there is, is the answer at its entry. Assumes nothing.
+-- `build_one_zoom::note_all` meets its contract: at the head of the loop every note that there is, is the answer at its entry. Assumes
+-- nothing.
 use mathlib.Core.Path.{_≡_, refl, _∙_}
 use mathlib.Core.List.{List}
 use Prim.Native.Nat.{ℕ, _+_, _-_, _<_, _≤_}

@@ -1,5 +1,5 @@
--- `build_one_zoom::note_at` meets its contract: the count is how many are answered at the slot, and the slot's own place is one of them. Assumes
--- nothing.
+-- `build_one_zoom::note_at` meets its contract: the count is how many are answered at the slot, and the slot's own place is one of them.
+-- Assumes nothing.
 use mathlib.Core.Path.{_≡_, sym, _∙_}
 use mathlib.Core.List.{List}
 use Prim.Native.Nat.{ℕ, _+_, _*_}

@@ -1,5 +1,5 @@
--- `build_one_zoom::note_two` meets its contract: where the search says that it found something, the column holds all that is answered. Assumes
--- nothing.
+-- `build_one_zoom::note_two` meets its contract: where the search says that it found something, the column holds all that is answered.
+-- Assumes nothing.
 use mathlib.Core.Path.{ap, sym, _∙_}
 use mathlib.Core.List.{List, [], _∷_}
 use Prim.Native.Nat.{ℕ}

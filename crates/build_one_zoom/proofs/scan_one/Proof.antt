@@ -1,5 +1,5 @@
--- `build_one_zoom::scan_one` meets its contract: one that is seen is passed by, and what the visit of a marked entry leaves is the definition's
--- scan. Assumes nothing.
+-- `build_one_zoom::scan_one` meets its contract: one that is seen is passed by, and what the visit of a marked entry leaves is the
+-- definition's scan. Assumes nothing.
 use mathlib.Core.Path.{_≡_, refl, ap, sym, subst}
 use mathlib.Core.List.{List}
 use Prim.Native.Nat.{ℕ, _+_, _^_, _<_, _≤_}

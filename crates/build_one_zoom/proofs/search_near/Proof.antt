@@ -1,5 +1,5 @@
--- `build_one_zoom::search_near` meets its contract: over an index that keeps its promises no search of a zoom is refused, and the column holds its
--- places. Assumes nothing.
+-- `build_one_zoom::search_near` meets its contract: over an index that keeps its promises no search of a zoom is refused, and the column
+-- holds its places. Assumes nothing.
 use mathlib.Core.Path.{_≡_, sym, ap, _∙_}
 use mathlib.Core.List.{List}
 use Prim.Native.Nat.{ℕ}

@@ -1,5 +1,5 @@
--- `build_one_zoom::total_near` meets its contract: at the head of the loop the total so far and what the remaining neighbours add are the whole
--- total. Assumes nothing.
+-- `build_one_zoom::total_near` meets its contract: at the head of the loop the total so far and what the remaining neighbours add are the
+-- whole total. Assumes nothing.
 use mathlib.Core.Path.{_≡_, refl, ap, _∙_}
 use Prim.Native.Nat.{ℕ, _+_, _-_, _<_}
 use native.Mathlib.Omega.{arith}

@@ -1,5 +1,5 @@
--- `build_one_zoom::visit_one` meets its contract: the total is the definition's, and so is the test of it; each branch is what its function leaves.
--- Assumes nothing.
+-- `build_one_zoom::visit_one` meets its contract: the total is the definition's, and so is the test of it; each branch is what its function
+-- leaves. Assumes nothing.
 use mathlib.Core.Path.{_≡_, ap, sym, _∙_}
 use mathlib.Core.Bool.{Bool, true, false}
 use Prim.Native.Nat.{ℕ, _+_, _≤_}

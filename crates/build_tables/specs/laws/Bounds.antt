@@ -1,4 +1,4 @@
--- What options within 01's bounds say, as numbers. Assumes nothing.
+-- What options within SCOPE's bounds say, as numbers. Assumes nothing.
 use mathlib.Core.Path.{_≡_}
 use mathlib.Core.Bool.{true, _&&_}
 use Prim.Native.Nat.{_≤_}

@@ -6,7 +6,7 @@ use lib.Ieee.{fin}
 use Rattle.floats.specs.Numbers.{half}
 use Rattle.floats.specs.Away.{away}
 
--- ---- 01's examples: 0.5 gives 1, -0.5 gives -1; and 0.49999999999999994, the float below 0.5, gives 0
+-- ---- SCOPE's examples: 0.5 gives 1, -0.5 gives -1; and 0.49999999999999994, the float below 0.5, gives 0
 pub half-away : away half ≡ pos 1
 unfolding away
 half-away = refl

@@ -89,7 +89,7 @@ module _ (size : ℕ) (xs ys : List Float) (s : IndexCols) (e : indexChecked siz
       let A = accepted in
       subst (Index size xs ys s) (sym built-is) (indexed-ok xs ys s size (A .size-from) (A .some) (A .ids-room) (A .co-room) points)
 
--- ---- and such points, a node size and columns as 01 asks are accepted
+-- ---- and such points, a node size and columns as SCOPE asks are accepted
 
 no-outside : (xs ys : List Float) (i : ℕ) → length ys ≡ length xs → ((p : ℕ) → p < length xs → In01 (getD xs p nan) × In01 (getD ys p nan)) → firstOutside xs ys i ≡ Nothing
 unfolding firstOutside

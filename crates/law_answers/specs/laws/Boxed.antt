@@ -1,7 +1,7 @@
 -- Of a build that is accepted, in columns that hold it, what a box and a ring answer: a Cartesian box lists exactly the entries between
 -- its normalised corners, each once; so does a box of longitudes between the edges after the rule, and each half of one that is split. A
 -- ring lists exactly the entries that pass the distance test, each once. Nothing is asked but that the numbers of the question are taken
--- (any other is 01's 9), and neither is ever refused 11. Assumes nothing.
+-- (any other is refusal 9), and neither is ever refused 11. Assumes nothing.
 use mathlib.Core.Path.{_≡_, refl, ap, ap₂, sym, _∙_, subst}
 use mathlib.Core.Bool.{Bool, true, false, cond, _&&_}
 use mathlib.Core.List.{List, _++_}

@@ -1,5 +1,5 @@
 -- Of a table whose entries are all unseen by the zoom and whose parents are all unset, a zoom is one zoom: each place is in one group,
--- once; each group is a copy of one entry, or the cluster of its members by 01. Assumes nothing.
+-- once; each group is a copy of one entry, or the cluster of its members by SCOPE. Assumes nothing.
 use mathlib.Core.Path.{_≡_, refl, sym, ap, _∙_, subst}
 use mathlib.Core.Logic.{inr, ⊎-elim}
 use mathlib.Core.List.{List, _∷_}

@@ -1,5 +1,5 @@
 -- What one zoom is, read off its groups: each place is in one group, once; a group is a copy of one entry, or the cluster of its members
--- by 01. And of any such zoom: the places of the groups are those of the table in another order, and the clusters it made have different
+-- by SCOPE. And of any such zoom: the places of the groups are those of the table in another order, and the clusters it made have different
 -- ids. Assumes nothing.
 use mathlib.Core.Path.{_≡_, sym, ap, _∙_, subst}
 use mathlib.Core.Logic.{⊎-elim}

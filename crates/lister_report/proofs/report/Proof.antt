@@ -1,5 +1,5 @@
--- `lister_report::report` meets its contract: what `parse` refuses is the writing of no input; what it reads is the input's head and points.
--- Assumes nothing.
+-- `lister_report::report` meets its contract: what `parse` refuses is the writing of no input; what it reads is the input's head and
+-- points. Assumes nothing.
 use mathlib.Core.List.{List, map}
 use mathlib.Core.Path.{_≡_, ap, sym, _∙_, subst}
 use Prim.Native.Nat.{ℕ}

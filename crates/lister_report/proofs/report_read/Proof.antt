@@ -1,5 +1,5 @@
--- `lister_report::report_read` meets its contract: what `load` leaves of an accepted build is printable, and a refusal has its line. Assumes
--- nothing.
+-- `lister_report::report_read` meets its contract: what `load` leaves of an accepted build is printable, and a refusal has its line.
+-- Assumes nothing.
 use mathlib.Core.List.{List}
 use mathlib.Core.Path.{_≡_, ap, sym, _∙_, subst}
 use Prim.Native.Nat.{ℕ}

@@ -1,4 +1,4 @@
--- No two inputs that 01 takes have one writing: `text-one`. Assumes nothing.
+-- No two inputs that SCOPE takes have one writing: `text-one`. Assumes nothing.
 use mathlib.Core.List.{List, [], _∷_, _++_}
 use mathlib.Core.Path.{_≡_, refl, ap, sym, _∙_}
 use Prim.Native.Nat.{ℕ, _+_, _≤_}

@@ -1,4 +1,5 @@
--- `replay_vectors::float_of` meets its contract: each pattern of a NaN is NaN, which 0 / 0 is, and the others are no NaN's. Assumes nothing.
+-- `replay_vectors::float_of` meets its contract: each pattern of a NaN is NaN, which 0 / 0 is, and the others are no NaN's. Assumes
+-- nothing.
 use Prim.Native.Nat.{ℕ, _/_, _%_}
 use mathlib.Core.Path.{_≡_, sym, _∙_}
 use mathlib.Core.Bool.{Bool, true, _&&_, not, and-eq-true-iff}

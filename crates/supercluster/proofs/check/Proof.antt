@@ -1,4 +1,4 @@
--- `supercluster::check` meets its contract: each test is one of 01's, in 01's order. Assumes nothing.
+-- `supercluster::check` meets its contract: each test is one of SCOPE's, in its order. Assumes nothing.
 use mathlib.Core.Path.{_≡_, refl, ap, sym, _∙_, subst}
 use mathlib.Core.Bool.{Bool, true, false}
 use Prim.Native.Nat.{ℕ, _+_, _-_, _*_, _<_, _≤_}
