@@ -71,7 +71,9 @@ abbrev step-of : tie.After-index-part → tie.After-zoom-step
 step-of c = c .before .before .before .before .before .before .before .before .before .before .before .before .before .before .before .before .before .before .before .before .before
 
 radius-at-requires : tie.Need-radius-at-requires
-radius-at-requires c κs = omega (arith, few (c .before .before .before .before .before .before .before .before .before .before))
+radius-at-requires c κs =
+    let s = c .before .before .before .before .before .before .before .before .before .before in
+    omega (arith, few s)
 
 zoom-step-requires : tie.Need-zoom-step-requires
 zoom-step-requires c κs =

@@ -72,10 +72,14 @@ kept-built : (c : tie.After-build-in) → Kept (front (count-of c)) (built c)
 kept-built c = let w = c .build-in in (record { kx = w .kept .1 .1 .1 .1 .0; ky = w .kept .1 .1 .1 .1 .1 .0; ks = w .kept .1 .1 .1 .1 .1 .1 .0; ki = w .kept .1 .1 .1 .1 .1 .1 .1 .0; kp = w .kept .1 .1 .1 .1 .1 .1 .1 .1 .0; kn = w .kept .1 .1 .1 .1 .1 .1 .1 .1 .1 .0; kw = w .kept .1 .1 .1 .1 .1 .1 .1 .1 .1 .1 .0 })
 
 add-w : tie.Need-add-w
-add-w c = omega (arith, accepted (c .before .before .before .before .before .before .before .before .before .before .before .before .before) .few)
+add-w c =
+    let s = c .before .before .before .before .before .before .before .before .before .before .before .before .before in
+    omega (arith, accepted s .few)
 
 table-count-requires : tie.Need-table-count-requires
-table-count-requires c κs = bounds (c .before .before .before .before .before .before .before .before .before .before .before .before .before) .zooms
+table-count-requires c κs =
+    let s = c .before .before .before .before .before .before .before .before .before .before .before .before .before in
+    bounds s .zooms
 
 mul-m : tie.Need-mul-m
 mul-m c = omega (arith, few c)
