@@ -7,8 +7,10 @@ use build_tables::Options;
 use build_tables::State;
 ghost use mathlib.Core.Path.{_≡_};
 ghost use mathlib.Core.Bool.{true};
+ghost use Prim.Native.Nat.{_<_};
 ghost use Rattle.lent.specs.Lent.{old, new};
-ghost use Rattle.build_tables.specs.State.{stateOf};
+ghost use Rattle.build_tables.specs.Options.{zoomUsed};
+ghost use Rattle.build_tables.specs.State.{startOf, lenOf, stateOf};
 ghost use Rattle.build_tables.specs.Sound.{stateOk};
 ghost use Rattle.build_tables.specs.Room.{roomOf};
 ghost use Rattle.build_tables.specs.Lent.{givenColumns, lentColumns};
@@ -41,6 +43,24 @@ fn some_of(k: usize, room: usize) -> Answer
     ask_base::fit(k, room)
 }
 
+// Where the table of the zoom used stands in the columns: its start and its length.
+struct Part {
+    start: usize,
+    len: usize,
+}
+
+fn part_used(s: State, starts: &[u32; 32], lens: &[u32; 32], z: u8) -> Part
+    requires { ⌜ (now starts ≡ s .starts) × (now lens ≡ s .lens) × (zoomUsed (s .options) z < 32) ⌝ }
+    ensures { λ r. let u = zoomUsed (s .options) z in ⌜ (r .start ≡ startOf s u) × (r .len ≡ lenOf s u) ⌝ }
+{
+    let o = s.options;
+    let u = index(o.zoom_used(z));
+    Part {
+        start: starts[u] as usize,
+        len: lens[u] as usize,
+    }
+}
+
 // Lists what a tile finds in the table of the zoom used. The state's arrays are lent beside it, so that they are read in place.
 fn list_used(
     s: State,
@@ -69,9 +89,9 @@ fn list_used(
         ⌜ leftRuns r (new out) (new px) (new py) ≡ runTile (tableFor s c z) 0 (visitsFor s c z tx ty) (old out) (old px) (old py) ⌝ }
 {
     let o = s.options;
-    let u = index(o.zoom_used(z));
-    let a = starts[u] as usize;
-    let e = a + lens[u] as usize;
+    let p = part_used(s, starts, lens, z);
+    let a = p.start;
+    let e = a + p.len;
     let c = 2 * a;
     let d = 2 * e;
     ask_tile_table::list(
@@ -238,9 +258,9 @@ fn tally_used(
         ⌜ r ≡ runningOf (weightIn z tx ty) (tableFor s c z) (visitsFor s c z tx ty) ⌝ }
 {
     let o = s.options;
-    let used = index(o.zoom_used(z));
-    let a = starts[used] as usize;
-    let e = a + lens[used] as usize;
+    let p = part_used(s, starts, lens, z);
+    let a = p.start;
+    let e = a + p.len;
     let c = 2 * a;
     let d = 2 * e;
     ask_tile_table::add_up(
