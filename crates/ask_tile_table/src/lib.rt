@@ -472,8 +472,8 @@ fn add_once(marks: &mut [u8], q: usize, num: u32, sum: u64) -> u64
 
 // The edges of a tile, between which it holds an entry's centre: the first of a pair is in, the second is not.
 pub struct Home {
-    pub westStrip: f64,
-    pub eastStrip: f64,
+    pub west: f64,
+    pub east: f64,
     pub least_y: f64,
     pub greatest_y: f64,
 }
@@ -495,11 +495,11 @@ fn home_of(z: u32, x: u32, y: u32) -> Home
     ensures { λ r. ⌜ r ≡ edgesOf z x y ⌝ }
 {
     let z2 = floats::power(z);
-    let eastStrip = end_of(z, z2, x);
+    let east = end_of(z, z2, x);
     let greatest_y = end_of(z, z2, y);
     Home {
-        westStrip: x as f64 / z2,
-        eastStrip,
+        west: x as f64 / z2,
+        east,
         least_y: y as f64 / z2,
         greatest_y,
     }
