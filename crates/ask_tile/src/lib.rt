@@ -7,7 +7,7 @@ use build_tables::Options;
 use build_tables::State;
 ghost use mathlib.Core.Path.{_≡_};
 ghost use mathlib.Core.Bool.{true};
-ghost use Prim.Native.Nat.{_<_};
+ghost use Prim.Native.Nat.{_+_, _<_};
 ghost use Rattle.lent.specs.Lent.{old, new};
 ghost use Rattle.build_tables.specs.Options.{zoomUsed};
 ghost use Rattle.build_tables.specs.State.{startOf, lenOf, stateOf};
@@ -50,15 +50,15 @@ struct Part {
 }
 
 fn part_used(s: State, starts: &[u32; 32], lens: &[u32; 32], z: u8) -> Part
-    requires { ⌜ (now starts ≡ s .starts) × (now lens ≡ s .lens) × (zoomUsed (s .options) z < 32) ⌝ }
+    requires { let u = zoomUsed (s .options) z in
+        ⌜ (now starts ≡ s .starts) × (now lens ≡ s .lens) × (u < 32) × (startOf s u + lenOf s u < 18446744073709551616) ⌝ }
     ensures { λ r. let u = zoomUsed (s .options) z in ⌜ (r .start ≡ startOf s u) × (r .len ≡ lenOf s u) ⌝ }
 {
     let o = s.options;
     let u = index(o.zoom_used(z));
-    Part {
-        start: starts[u] as usize,
-        len: lens[u] as usize,
-    }
+    let start = starts[u] as usize;
+    let len = lens[u] as usize;
+    Part { start, len }
 }
 
 // Lists what a tile finds in the table of the zoom used. The state's arrays are lent beside it, so that they are read in place.

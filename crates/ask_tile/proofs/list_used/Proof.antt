@@ -1,9 +1,8 @@
 -- `ask_tile::list_used` meets its contract: what is lent of the columns is the table of the zoom used, with its index. Assumes nothing.
 use mathlib.Core.Path.{_≡_, sym, ap, _∙_, subst}
 use mathlib.Core.List.{List}
-use Prim.Native.Nat.{ℕ, _+_, _*_, _<_}
+use Prim.Native.Nat.{ℕ, _+_, _*_}
 use native.Mathlib.Omega.{arith}
-use lib.ListN.{length, getD}
 use denote.Ref.{now}
 use borrow.Author.Needs.{needs}
 use Rattle.build_tables.specs.Options.{zoomUsed}
@@ -53,7 +52,8 @@ spot-of i =
 part-used-requires : tie.Need-part-used-requires
 part-used-requires c κs =
     let s : tie.Start = search in
-    (s .pre .1 .0, s .pre .1 .1, spot (s .args .s) (lent-columns s) (s .args .z) (s .pre .0 .0) .table)
+    let p = spot (s .args .s) (lent-columns s) (s .args .z) (s .pre .0 .0) in
+    (s .pre .1 .0, s .pre .1 .1, p .table, omega (arith, p .ids-held, s .good))
 
 add-e : tie.Need-add-e
 add-e c = let i : tie.After-part-used = search in omega (arith, spot-of i .ids-held, begin i .good)
