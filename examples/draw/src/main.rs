@@ -1,5 +1,6 @@
-//! Draws the tables that the lister prints, from standard input to standard output: a panel for each zoom,
-//! the finest first.
+//! Draws the tables that the lister prints, from standard input to standard output: a panel for each zoom, the
+//! finest first. Finds the owner of each entry in the next table, and fails where there is none. A large circle
+//! shows its cluster's energy in kWh below its count, and each panel the sum of its table, which is the same in all.
 
 mod panel;
 mod sheet;

@@ -1,5 +1,6 @@
-//! Makes the inputs of the examples, each from a fixed seed: `scenes street|village|city`. Only sums,
-//! products, quotients and square roots are taken, so that every machine makes the same.
+//! Makes the inputs of the examples, each from a fixed seed: `scenes street|village|city`. Only sums, products,
+//! quotients and square roots are taken, so that every machine makes the same. The energies are made up: what lamps
+//! use in a night.
 
 mod city;
 mod road;

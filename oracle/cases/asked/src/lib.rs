@@ -1,5 +1,14 @@
-//! What is asked in the comparison of the questions: builds, the questions to each, and tables that no build
-//! made.
+//! What is asked in the comparison of the questions: builds, the questions to each, and tables that no build made.
+//!
+//! A build is asked 32 boxes, 32 rings and 32 tiles of eight kinds each, with their tallies; all tiles of the zooms
+//! 0 to 3 where it has at most 8 points, and to 4 for 2; the children, the expansion zoom and some leaves of every
+//! cluster; the leaves of five clusters at 7 limits and 7 offsets each; and ids that are none. A large build is
+//! asked ten times as many boxes, rings and tiles, and for a thousand of its clusters. Half of all builds by chance
+//! have strips for longitude only.
+//!
+//! On the globe the Rust takes latitudes and makes y of them by a private function. So the corners of boxes are
+//! taken from latitudes of which its y is known, because they were loaded as points and stand in a finest table: the
+//! Rust is asked with the latitude, the reference and the port with that y.
 
 mod around;
 mod boxes;

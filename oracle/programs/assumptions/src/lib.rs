@@ -1,7 +1,30 @@
-//! A module in LLVM's text with its assumptions checked. In front of each operation that lets the compiler
-//! assume something stands a check, which calls `@broken`; that ends the process where the assumption does not
-//! hold. The assumptions themselves are left out. What is not known here is refused, so that no assumption goes
-//! through without a check.
+//! A module in LLVM's text with its assumptions checked. In front of each operation that lets the compiler assume
+//! something stands a check, which calls `@broken`; that ends the process where the assumption does not hold. The
+//! assumptions themselves are left out. What is not known here is refused, so that no assumption goes through
+//! without a check.
+//!
+//! The prover's module lets the compiler assume what is proved, such as that a sum does not overflow. If one of
+//! these did not hold, the plain library could do anything, and the comparison might not see it. So
+//! `tools/native-lib --checked exports` makes a library that checks, and `tools/compare` runs over it once more.
+//!
+//! | what may be assumed | what is checked |
+//! |---|---|
+//! | `nuw`, `nsw` of add, sub, mul | `llvm.*.with.overflow` of the same operands |
+//! | `nuw`, `nsw` of trunc and shl | the value made wide again, or shifted back, is the operand |
+//! | shift by as many bits as there are or more, division by zero | the second operand, where it is no constant |
+//! | `!range` of a load | the value is in the range |
+//! | `unreachable` | that it is not reached, unless a trap stands before it |
+//! | `align` of a load or store | the low bits of the address |
+//! | `inbounds nuw` of getelementptr | address and offset do not wrap around |
+//! | memory that is read or written is there | the address sanitizer |
+//! | `noundef` | by the fill: each slot of the stack begins with the byte a5 |
+//!
+//! What is read before it is written is then no truth value, which traps, or a wrong number, which the comparison
+//! sees. The address sanitizer is that of the machine's cc; where cc has none it is left out, and `tools/compare`
+//! says so. It sees the first byte past a lent column of the questions. It does not see the two entries behind an
+//! output column, which are compared afterwards, nor the room behind the columns of `index` and `tables`; an access
+//! that lands in another live object; or an address that is made outside and not used. Not checked: provenance, and
+//! that the functions do not unwind, which they cannot.
 
 mod checks;
 mod heads;

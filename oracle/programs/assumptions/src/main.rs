@@ -1,5 +1,6 @@
-//! Reads a module in LLVM's text on standard input and writes it with its assumptions checked; says on
-//! standard error how many checks of each kind there are. See ../../README.md.
+//! Reads a module in LLVM's text on standard input and writes it with its assumptions checked; says on standard
+//! error how many checks of each kind there are. A check that fails prints `line N of the module: an assumption does
+//! not hold` and traps.
 
 use std::{
     io::{self, Read},

@@ -1,5 +1,12 @@
-//! Test vectors for kdbush.rs, made by calling the patched Rust: one case a line. A word is 16 digits.
-//! `node_size n`, the points, the slots `id x y`, the number of queries, and the queries with their places.
+//! Test vectors for kdbush.rs, made by calling the patched Rust: one case a line, in words of 16 lowercase hex
+//! digits, each a number or the bits of a float.
+//!
+//!     node_size n   x y ..   id x y ..   k   kind a b c d m place ..
+//!
+//! The n points, the n slots of the arrangement, then k queries: kind 0 is `range` with least x, least y, greatest
+//! x, greatest y, kind 1 is `within` with x, y, the radius and 0; then the m places that are answered. There are 68
+//! cases of 1 to 601 points. The last ten are corners, 01's three points and the like on both axes and sides, in an
+//! index that is split and in one that is not; where it is split the untouched Rust skips something, or this stops.
 
 use crate::plain::{ABOVE_QUARTER, BELOW_QUARTER};
 use beside::judge::{Judge, Untouched};

@@ -1,5 +1,7 @@
 //! Test vectors for the table lister: texts, and what is printed for each. A case is a line of two words of 16
-//! hexadecimal digits, how long the text is and how long what is printed; then both, byte for byte.
+//! hexadecimal digits, how long the text is and how long what is printed; then both, byte for byte, with nothing
+//! between them. There are 596 cases, 478,079 bytes: 186 texts whose tables are listed, and 94, 7, 29, 6 and 274
+//! that are refused 1, 2, 3, 4 and 12.
 
 use lister_reference::{
     answer_to,

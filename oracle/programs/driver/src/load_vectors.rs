@@ -1,6 +1,17 @@
-//! Test vectors for the build of the tables, made by calling the patched Rust: one case a line. A word is 16
-//! digits. The options, `n`, the points as `x y`, their energies, `m` and the packed entries, each with the slot at
-//! its position, then `start len` for each zoom.
+//! Test vectors for the build of the tables, made by calling the patched Rust: one case a line, in words as those of
+//! the index. (The line is broken here to be read.)
+//!
+//!     min_zoom max_zoom min_points radius extent node_size
+//!     cartesian min_x min_y max_x max_y offset_given offset scale_given scale
+//!     longitude_strips_only
+//!     n   x y ..   energy ..   m   x y seen id parent num energy slot_id slot_x slot_y ..   start len ..
+//!
+//! `cartesian`, `offset_given`, `scale_given` and `longitude_strips_only` are 1 or 0; what is not given is 0. For
+//! longitude x is in degrees and y in [0,1]. The m entries are those of all tables, packed, the finest first, each
+//! with the slot at its position; start and length are of each table from min_zoom to max_zoom + 1. There are 77
+//! cases, of 1 to 60 points and at most 95 entries, all accepted. For longitude the Rust is asked for its x of each
+//! point on the equator, then for the tables of these and y: its y of a latitude comes by functions that differ from
+//! machine to machine in their last bits.
 
 use crate::plain::{
     columns, points as in_parts, Options, Plane, Range, ENERGIES, LAMPS, REACHED, REACHING, UNIT,

@@ -1,4 +1,19 @@
-//! The driver of the comparison: puts questions to the builds of the Rust. See ../../README.md.
+//! The driver of the comparison: puts questions to the builds of the Rust, and makes the vectors.
+//!
+//! - `worked`: 01's worked lines that the Rust can answer, against the untouched, the ringed and the patched build.
+//!   A line that it cannot answer, or that 02 changed, is counted as `not the Rust's`.
+//! - `differences PAGE`: every row of docs/DIFFERENCES.md, for the profile that the driver is built with. The page
+//!   holds the outcomes, `differences` the inputs, under the same codes. A case that could end its process, or not
+//!   end at all, runs in a process of its own (`case CODE BUILD`), with 20 seconds and 4 GiB.
+//! - `range-vectors`, `index-vectors`, `load-vectors`, `lister-vectors`, `question-vectors`: test vectors on
+//!   standard output, in the form that the head of their file says. With `--fresh N` there are N texts other than
+//!   are stored.
+//! - `lister`: what the reference prints for the text on standard input. `lister-program PROGRAM` runs a program of
+//!   the table lister, a process for each text, and compares what it prints.
+//! - `questions`: the reference of the questions beside the patched Rust.
+//!
+//! What compares prints a line for each thing or group, and last a line with the counts. The exit status is 1 if
+//! anything differs.
 
 mod attempt;
 mod differences;

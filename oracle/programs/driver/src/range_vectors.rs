@@ -1,4 +1,13 @@
-//! Test vectors for range.rs, made by calling the untouched Rust: one case a line.
+//! Test vectors for range.rs, made by calling the untouched Rust: one case a line, ten fields, a space between them,
+//! LF at the end.
+//!
+//!     min_x min_y max_x max_y offset scale v normalized denormalized longitude
+//!
+//! A field is the 16 lowercase hex digits of the number's bits, every NaN `7ff8000000000000`. Offset and scale are
+//! `----------------` where they are derived. `longitude` is the x that the Rust stores for a point at longitude v:
+//! its conversion is private, so one point is loaded and the finest table read. There are 4,000 lines, a systematic
+//! part and then random ones from seed 1; `--count N` gives N random ones instead. No case has zeros of both signs
+//! as its two minima or maxima: of these the Rust may take either.
 
 use crate::plain::{Options, Plane, Range, WORKED};
 use beside::judge::{Judge, Untouched};

@@ -1,5 +1,7 @@
-//! The comparison in one process: the proved library, linked in, beside the builds of the Rust. See
-//! ../../README.md.
+//! The comparison in one process: the proved library, linked in, beside the builds of the Rust. Differences are
+//! printed, the first five of each group; then come a line for each group with its counts and a last line for all.
+//! The exit status is 1 if anything differs. Every random case is from a fixed seed, so that two runs compare the
+//! same. The head of each part says who is the judge, and how it was tried that it can fail.
 
 mod effort;
 mod index;

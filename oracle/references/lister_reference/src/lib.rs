@@ -1,6 +1,13 @@
 //! The table lister, written from the words of 01's section on it and of 02's #108, and from nothing of the port:
 //! which text is of its form, and what is printed for it. The tables are the patched Rust's, the energies sums over
 //! the lamps that it lists, the refusals 1 to 4 those of the reference; seven digits never make a refusal by 15.
+//! What this and the port get wrong in the same way, by reading 01 in the same way, it cannot show.
+//!
+//! The tests hold it to 01's example; to 92 changes of it, to the order of the refusals and to both ends of a text,
+//! judged by hand; to a second reading, made another way, and to the writer, on 30,860 texts; and try the comparison
+//! on 23 ports that are wrong in one thing, each of which it notices. Of the 100,000 fresh texts of `tools/compare`,
+//! 29,988 differed with a program that prints num for the energy, and 17,308 with one that takes energies up to
+//! 9,999,998.
 
 mod compared;
 mod lines;

@@ -1,5 +1,9 @@
-//! The builds of the Rust, asked to load: the Rust's own values from plain ones, and its tables as the
-//! port packs them; and what only the untouched one skips.
+//! The builds of the Rust, asked to load: the Rust's own values from plain ones, and its tables as the port packs
+//! them; and what only the untouched one skips.
+//!
+//! Every input is a point with an empty properties object; its id is its number, by which the lamps in an answer are
+//! known. The Rust knows of no energy (02, #108): that of a cluster is the sum over the lamps that the Rust's own
+//! `get_leaves` lists for it.
 
 pub mod skipped;
 mod tables;

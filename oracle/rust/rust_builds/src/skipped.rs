@@ -1,5 +1,10 @@
 //! What only the untouched Rust skips. It passes by a part of a split by the rounded edges of a ring, and so leaves
 //! out entries that pass the distance test and lie outside such an edge. By the rule of #106 they are answered.
+//!
+//! So what it answers otherwise must come of that: a ring lacks only such entries, and has the others in the same
+//! order; its tables are alike down to one of which a zoom is made with such a ring; and children, leaves and
+//! expansion zoom differ only where such a ring is in the way, all asked over the same tables. This is counted under
+//! E2 to E6 of docs/DIFFERENCES.md; anything else is a difference.
 
 use crate::{ringed, untouched, Row, Table};
 use columns::Entry;

@@ -1,5 +1,9 @@
-//! The work of the four build scripts: find the Rust's five files, write the lines that make them
-//! modules of a crate, and apply our patches to a text kept in the build's folder.
+//! The work of the four build scripts: find the Rust's five files, write the lines that make them modules of a
+//! crate, and apply our patches to a text kept in the build's folder.
+//!
+//! No file of the Rust is kept here. The build reads it where it stands: in the folder that `SUPERCLUSTER_RS` names,
+//! otherwise in `shared/docs/src/src` beside the repository. A patch is a unified diff; the build fails if one line
+//! that it shows is not there to the letter.
 
 mod patch;
 

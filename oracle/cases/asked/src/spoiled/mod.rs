@@ -1,5 +1,9 @@
 //! States and columns that no build made: tables of clusters by chance, builds and such tables with something
 //! changed in them. Many are still in order as far as a question looks.
+//!
+//! There are 20,000 of them, in the full form 200,000, and two of 1,048,576 and 1,048,577 lamps; the large builds
+//! are asked again after changes of their slots, twelve changes one after the other. A test counts that every reply
+//! of every question is come to.
 
 mod chance;
 mod entries;

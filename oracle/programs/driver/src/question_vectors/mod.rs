@@ -1,6 +1,29 @@
-//! Test vectors for the questions, one case a line: a state with its columns, and what is asked of it. They are
-//! made by the reference; where the patched Rust can be asked over the same tables, its answer is held to it.
-//! A word is 16 digits. ../../../../README.md has the form of a line.
+//! Test vectors for the questions, one case a line: a state with its columns, and what is asked of it. They are made
+//! by the reference; where the patched Rust can be asked over the same tables, it is, and this stops where it says
+//! something else that is not listed. Words are as those of the index; a line is broken here to be read.
+//!
+//!     (options, as in the vectors of the build)
+//!     count   start ..   len ..   length x ..   length y ..   length seen ..   length id ..
+//!     length parent ..   length num ..   length energy ..   length ids ..   length coords ..   k   question ..
+//!
+//! `count` is N; starts and lengths are those of the zooms 0 to 31. A question is its kind, its numbers, the lengths
+//! of its output columns, and what is expected:
+//!
+//! | kind | question | numbers | and then |
+//! |---|---|---|---|
+//! | 0 | box | zoom, least x, least y, greatest x, greatest y | room number carried w, w places |
+//! | 1 | ring | zoom, x, y, radius | room number carried w, w places |
+//! | 2 | children | id | room number carried w, w places |
+//! | 3 | leaves | id, limit, offset | room number carried w, w ids of lamps |
+//! | 4 | expansion zoom | id | number carried |
+//! | 5 | tile | z, x, y | three rooms, number carried w, w places, w times x, w times y |
+//! | 6 | tally | z, x, y | number carried |
+//!
+//! `number` is that of the reply, 0 where nothing is refused, and `carried` what it carries. The w items are what is
+//! left at the front of the output columns; behind them the old contents stay. There are 86 cases with 902
+//! questions, of at most 64 entries, 64 questions and 64 items or room for items. y on the globe is given, and the
+//! Rust is asked only where it is that of a pole or of the equator, so that no number differs from machine to
+//! machine.
 
 mod cases;
 mod changed;

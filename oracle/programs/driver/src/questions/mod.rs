@@ -1,5 +1,8 @@
-//! The reference of the questions beside the patched Rust: every question to many builds. What they differ in
-//! must be listed in docs/DIFFERENCES.md, and is counted by its codes.
+//! The reference of the questions beside the patched Rust: every question to many builds. What they differ in must
+//! be listed in docs/DIFFERENCES.md, and is counted by its codes.
+//!
+//! The builds are those of `asked`; docs/COMPARISON.md has their number. Over lent tables, which are put into the
+//! Rust's public fields, the same is asked without the tally.
 
 mod lent;
 mod over;

@@ -1,5 +1,20 @@
-//! The index: its build, both searches and their cursors, what they refuse, rings at rounded edges, and columns
-//! that no build made.
+//! The index: its build, both searches and their cursors, what they refuse, rings at rounded edges, and columns that
+//! no build made.
+//!
+//! | group | judge |
+//! |---|---|
+//! | build | the patched Rust; up to 601 slots the untouched one too |
+//! | range, within | the patched Rust's searches |
+//! | cursor | the reference, and the list for the ids |
+//! | refusals | the reference; the patched Rust for what is not refused |
+//! | beside the untouched Rust | its searches over the same columns: a box is the same, a ring lacks only what is cut off |
+//! | rings at rounded edges | a plain scan by the rounded squared distance; for the order the patched Rust |
+//! | damaged columns | the reference |
+//! | 01's reference beside the Rust | the patched Rust's searches, on every query of the other groups |
+//!
+//! Held to it are every id, the bits of every coordinate, the reply, and the columns with their old contents, in
+//! columns that are longer than the answer, as long, one shorter, and empty. In 3,435 of the million rings the
+//! untouched Rust skips an entry.
 
 mod arrangement;
 mod damaged;

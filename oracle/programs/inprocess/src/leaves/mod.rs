@@ -1,5 +1,12 @@
 //! Leaves by limit and offset: of every cluster of many small builds, beside the Rust; and limit 0 over tables that
-//! no build made, beside the reference.
+//! no build made, beside the reference. The count as limit must list what the Rust lists at limit 0 and offset 0,
+//! which is all; limit 0 must list nothing (02, #101); every page of every size must be the Rust's, and all of a
+//! size its whole list (02, #112).
+//!
+//! That this can fail was tried in the short form: with a library that lists all at limit 0, 13,604 of 68,020 cases
+//! at limit 0 differed, as many as have offset 0, and 9,511 of 80,488 over spoiled tables; with the count less 1 as
+//! limit, 13,604 of 13,604. With an offset one larger every page differed, and with a column one entry short 287,733
+//! of 367,318; of pages past the end 120,050 of 600,250, where one offset was the count less 1.
 
 mod limits;
 mod pages;

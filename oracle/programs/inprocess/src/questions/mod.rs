@@ -1,6 +1,14 @@
 //! The questions: over builds, and over states and columns that no build made. Over builds the judges are the Rust
 //! and the reference written from 01's text; over the others the reference, which `driver questions` holds to the
 //! Rust there too.
+//!
+//! Beside the Rust nothing but the points and the questions is shared. The port loads the points and answers from
+//! the columns that this left, which are held to the Rust's tables first; each Rust loads them itself, and where the
+//! untouched one makes other tables for what its rings skip, it is given those of the patched one. Beside the
+//! reference the reply, the carried number and every output column to its end are compared, in columns that are
+//! longer than the answer, as long, shorter, and empty. Each question is asked twice; the second time every energy
+//! is any number of 64 bits, and the answer has to be the same. With leaves that look at the highest bit of an
+//! energy 54,824 cases differed, in the short form; with an energy column that 11 does not count 4,402.
 
 pub mod both;
 pub mod columns;

@@ -1,5 +1,13 @@
-//! Boxes inside boxes: what the port answers for the common part of two boxes and of three, beside what the Rust
-//! answers for each of them and for the common part.
+//! Boxes inside boxes (02, #111): what the port answers for the common part of two boxes and of three, beside what
+//! the Rust answers for each of them and for the common part. Over a table 16 boxes are laid, half of them by
+//! earlier ones: with the same numbers, numbers one step beside them, the other zero, or beginning where that one
+//! ends. All 256 pairs are asked for, and 160 triples, cut in all twelve ways. The patched Rust is asked, and the
+//! untouched one too where it made the same tables.
+//!
+//! That this can fail was tried in the short form of 518,400 cases: with the smaller of the least numbers in the
+//! common part 213,498 differ; with the order turned round 89,455; with the second box forgotten 291,737; if nothing
+//! is expected of a common part that is empty as it is given 1,407, all of which hold lamps after normalising; with
+//! the eastern edge one step less in the calls of the port 58,360.
 
 mod boxes;
 mod builds;
