@@ -91,7 +91,7 @@ fn read_line(line: &str) -> Option<(u32, usize, Entry)> {
 mod tests {
     use super::*;
 
-    /// 01's example.
+    /// SCOPE's example.
     const LINES: &str = include_str!("../../../crates/lister/stdout");
 
     #[test]

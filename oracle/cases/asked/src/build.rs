@@ -1,4 +1,4 @@
-//! The builds that are asked: every number of points up to 700, options at 01's bounds and ordinary ones; and a few
+//! The builds that are asked: every number of points up to 700, options at SCOPE's bounds and ordinary ones; and a few
 //! large ones.
 
 use crate::{edges, large, latitudes::latitudes, Form, Scene};

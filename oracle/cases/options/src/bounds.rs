@@ -1,4 +1,4 @@
-//! The bounds of the options, and of the points, written from 01's 'Numbers that bound a build'; that of an energy by 02's #108.
+//! The bounds of the options, and of the points, written from the scope's 'Bounds'; that of an energy by #108.
 
 use crate::{Options, Plane, Range};
 

@@ -1,4 +1,4 @@
-//! Options that 01 allows: its bounds, and usual numbers between them.
+//! Options that SCOPE allows: its bounds, and usual numbers between them.
 
 use crate::{Options, Plane, Range, UNIT};
 use splitmix::Splitmix;

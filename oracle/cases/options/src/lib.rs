@@ -67,7 +67,7 @@ impl Options {
     }
 }
 
-/// The options of 01's worked build.
+/// The options of SCOPE's worked build.
 pub const WORKED: Options = Options { max_zoom: 1, radius: 64.0, ..USUAL };
 
 /// What the Rust takes where nothing is said, but for the coordinate system; its strips run everywhere.

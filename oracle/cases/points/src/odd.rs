@@ -12,7 +12,7 @@ pub const NORMAL: f64 = f64::MIN_POSITIVE;
 pub const BELOW_1: f64 = f64::from_bits(0x3fef_ffff_ffff_ffff);
 pub const ABOVE_1: f64 = f64::from_bits(0x3ff0_0000_0000_0001);
 
-/// The numbers beside a quarter: 01's, which the rounded edge of a ring at 1 with radius 0.75 cuts off, and the one
+/// The numbers beside a quarter: SCOPE's, which the rounded edge of a ring at 1 with radius 0.75 cuts off, and the one
 /// above, which that of a ring at -1 with radius 1.25 does.
 pub const BELOW_QUARTER: f64 = 0.25 - 1.0 / (1_u64 << 55) as f64;
 pub const ABOVE_QUARTER: f64 = 0.25 + 1.0 / (1_u64 << 54) as f64;
@@ -20,7 +20,7 @@ pub const ABOVE_QUARTER: f64 = 0.25 + 1.0 / (1_u64 << 54) as f64;
 /// What is not finite.
 pub const NOT_FINITE: [f64; 3] = [NAN, INF, -INF];
 
-/// Numbers at the edges of [0,1] and of the format, and 01's number beside a quarter.
+/// Numbers at the edges of [0,1] and of the format, and SCOPE's number beside a quarter.
 pub const EDGES: [f64; 10] = [
     0.0,
     -0.0,

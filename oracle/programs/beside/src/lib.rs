@@ -6,14 +6,14 @@
 //! of its refusal, and for an id by the Rust's outcome too; it is counted under its codes. A test makes right
 //! answers wrong in one thing, and each must be a difference.
 //!
-//! - Tiles: where strips are for longitude only and the plan is Cartesian (02, #114), a tile is held to what the
+//! - Tiles: where strips are for longitude only and the plan is Cartesian (#114), a tile is held to what the
 //!   Rust's own `range` finds between the tile's edges, which are ours, and to the items that the Rust makes of it.
 //!   The Rust's `get_tile` must be that very list away from the ends of a row, and may have more behind it at the
 //!   ends: P1 to P3. In every other build the judge is `get_tile`.
-//! - Tallies (02, #104): the counts of the distinct features of `get_tile` whose centre, looked up by id in the
+//! - Tallies (#104): the counts of the distinct features of `get_tile` whose centre, looked up by id in the
 //!   Rust's own table, lies in the tile; that is found by whole numbers on its bits (`questions::home`).
-//! - Limit 0 (02, #101): the Rust lists all, which is counted under N1 where the answer lists nothing.
-//! - Over lent tables the Rust is not asked what 01 refuses by 11, since it would go on, panic or not end.
+//! - Limit 0 (#101): the Rust lists all, which is counted under N1 where the answer lists nothing.
+//! - Over lent tables the Rust is not asked what SCOPE refuses by 11, since it would go on, panic or not end.
 
 mod case;
 mod counted;

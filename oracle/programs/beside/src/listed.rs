@@ -1,4 +1,4 @@
-//! The differences that docs/DIFFERENCES.md lists, by their codes: what 01 refuses, why, and what the Rust says
+//! The differences that docs/DIFFERENCES.md lists, by their codes: what SCOPE refuses, why, and what the Rust says
 //! then.
 
 use crate::{judge::Judge, Rust, Said};

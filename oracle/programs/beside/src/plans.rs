@@ -1,4 +1,4 @@
-//! Tiles of a site plan whose strips are left out (02, #114): what is asked of the Rust there, and what its own tile
+//! Tiles of a site plan whose strips are left out (#114): what is asked of the Rust there, and what its own tile
 //! lists besides.
 
 use crate::{judge::Judge, Case, Rust, Said, Verdict};

@@ -68,7 +68,7 @@ impl<J: Judge> Rust<J> {
         said(self.0.tile(z, f64::from(x), f64::from(y)))
     }
 
-    /// The tally of a tile by 02's words (#104): the counts of the distinct features of its tile whose centre, as its own
+    /// The tally of a tile by the words of #104: the counts of the distinct features of its tile whose centre, as its own
     /// table has it, lies in this one. Where there is no such tile it is what the Rust's tile says.
     fn tally(&self, build: &Build, z: u8, x: u32, y: u32) -> Said {
         let is_tile = z < 32 && u64::from(x.max(y)) < 1 << z;

@@ -7,7 +7,7 @@ use points::odd::BELOW_QUARTER;
 use questions::{Answer, Outcome, Question};
 use rust_builds::skipped::{ring, Beside};
 
-/// 01's ring beside a quarter.
+/// SCOPE's ring beside a quarter.
 const RING: [f64; 3] = [1.0, 0.5, 0.75];
 
 /// A lamp at x = 1 and two beside a quarter, which it just reaches at zoom 0.

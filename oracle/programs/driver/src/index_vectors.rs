@@ -5,7 +5,7 @@
 //!
 //! The n points, the n slots of the arrangement, then k queries: kind 0 is `range` with least x, least y, greatest
 //! x, greatest y, kind 1 is `within` with x, y, the radius and 0; then the m places that are answered. There are 68
-//! cases of 1 to 601 points. The last ten are corners, 01's three points and the like on both axes and sides, in an
+//! cases of 1 to 601 points. The last ten are corners, SCOPE's three points and the like on both axes and sides, in an
 //! index that is split and in one that is not; where it is split the untouched Rust skips something, or this stops.
 
 use crate::plain::{ABOVE_QUARTER, BELOW_QUARTER};
@@ -52,7 +52,7 @@ pub fn write(out: &mut impl Write) -> io::Result<()> {
     out.flush()
 }
 
-/// 01's corner: a ring that three points pass, two of which lie outside its rounded edge. Then the like on both axes
+/// SCOPE's corner: a ring that three points pass, two of which lie outside its rounded edge. Then the like on both axes
 /// and on both sides, with more points, so that the index is split by either.
 fn corners(node_size: usize) -> Vec<String> {
     let below = [BELOW_QUARTER, BELOW_QUARTER, 0.5].map(|x| [x, 0.5]);

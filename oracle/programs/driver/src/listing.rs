@@ -1,4 +1,4 @@
-//! The table lister by 01's words alone: as a command, and as the judge of the proved program.
+//! The table lister by the scope's words alone: as a command, and as the judge of the proved program.
 
 use crate::report::Report;
 use lister_reference::{

@@ -54,7 +54,7 @@ const DEEP: [(usize, [u8; 2]); 7] = [
     (6, [0, 30]),
 ];
 
-/// Writes the cases: 01's worked build, small ones, larger ones, deep ones, the lamps of its corner, and the worked
+/// Writes the cases: SCOPE's worked build, small ones, larger ones, deep ones, the lamps of its corner, and the worked
 /// build with energies at their bounds.
 pub fn write(out: &mut impl Write) -> io::Result<()> {
     let mut source = Splitmix(SEED);

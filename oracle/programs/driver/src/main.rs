@@ -1,7 +1,7 @@
 //! The driver of the comparison: puts questions to the builds of the Rust, and makes the vectors.
 //!
-//! - `worked`: 01's worked lines that the Rust can answer, against the untouched, the ringed and the patched build.
-//!   A line that it cannot answer, or that 02 changed, is counted as `not the Rust's`.
+//! - `worked`: SCOPE's worked lines that the Rust can answer, against the untouched, the ringed and the patched build.
+//!   A line that it cannot answer, or that a request changed, is counted as `not the Rust's`.
 //! - `differences PAGE`: every row of docs/DIFFERENCES.md, for the profile that the driver is built with. The page
 //!   holds the outcomes, `differences` the inputs, under the same codes. A case that could end its process, or not
 //!   end at all, runs in a process of its own (`case CODE BUILD`), with 20 seconds and 4 GiB.
@@ -18,7 +18,7 @@
 mod attempt;
 mod differences;
 mod index_vectors;
-mod lines_of_01;
+mod worked_lines;
 mod lister_vectors;
 mod listing;
 mod load_vectors;
@@ -51,7 +51,7 @@ fn main() -> ExitCode {
     let words: Vec<String> = env::args().skip(1).collect();
     let words: Vec<&str> = words.iter().map(String::as_str).collect();
     match words.as_slice() {
-        ["worked"] => lines_of_01::run(),
+        ["worked"] => worked_lines::run(),
         ["differences", page] => match fs::read_to_string(page) {
             Ok(text) => differences::run(&text),
             Err(why) => fail(&format!("{page}: {why}")),

@@ -4,14 +4,14 @@ pub use beside::{Entry, Item};
 pub use options::{Options, Plane, Range, UNIT, WORKED};
 pub use points::odd::{ABOVE_QUARTER, BELOW_QUARTER};
 
-/// The four lamps of 01's worked build, in 65,536ths.
+/// The four lamps of SCOPE's worked build, in 65,536ths.
 pub const LAMPS: [[u32; 2]; 4] = [[16384, 32768], [20480, 32768], [26624, 32768], [26624, 32768]];
 
-/// Their energies, by 02's #108.
+/// Their energies, by #108.
 pub const ENERGIES: [u64; 4] = [10, 20, 30, 40];
 
 /// Options by which a lamp at x = 1 just reaches one below a quarter at zoom 0, in an index that is split; the
-/// three lamps of 01's corner.
+/// three lamps of SCOPE's corner.
 pub const REACHING: Options = Options { max_zoom: 0, radius: 384.0, node_size: 1, ..WORKED };
 pub const REACHED: [[f64; 2]; 3] = [[1.0, 0.5], [BELOW_QUARTER, 0.5], [BELOW_QUARTER, 0.5]];
 

@@ -10,7 +10,7 @@ mod questions;
 pub use load::{load, needed, Columns, Lengths, State, COLUMNS, ZOOMS};
 pub use questions::{Asked, EffortReply};
 
-/// A reply: 01's number of it, and the number that it carries.
+/// A reply: SCOPE's number of it, and the number that it carries.
 #[derive(Clone, Copy, Debug, PartialEq, Eq)]
 pub struct Reply {
     pub number: u32,

@@ -1,10 +1,10 @@
-//! A port of the lister beside what a text means by 01's words alone.
+//! A port of the lister beside what a text means by the scope's words alone.
 
 use crate::answer_to;
 
 /// How a port's answer to a text compares.
 pub struct Compared {
-    /// 01's number of the answer that is expected, 0 where the tables are listed.
+    /// SCOPE's number of the answer that is expected, 0 where the tables are listed.
     pub number: u32,
     /// The first line that differs, as expected and as found.
     pub difference: Option<[String; 2]>,

@@ -1,4 +1,4 @@
-//! The reading of a text: LF-ended lines and nothing more, key=value in 01's order, an energy after each y (02, #108).
+//! The reading of a text: LF-ended lines and nothing more, key=value in SCOPE's order, an energy after each y (#108).
 
 /// The most bytes of a text.
 const MOST_BYTES: usize = 65_536;

@@ -1,4 +1,4 @@
-//! Changes to 01's example with the first line that is to be printed, each judged by hand.
+//! Changes to SCOPE's example with the first line that is to be printed, each judged by hand.
 
 use lister_reference::{answer_to, WORKED};
 
@@ -105,7 +105,7 @@ const CHANGES: [(&str, &str, &str); 92] = [
     ("wh=40", "wh=9999999", LISTED),
 ];
 
-/// The six lines of 01's example before its count, and the rest of it.
+/// The six lines of SCOPE's example before its count, and the rest of it.
 fn parts() -> (&'static str, &'static str) {
     WORKED.split_at(WORKED.find("count=").unwrap())
 }

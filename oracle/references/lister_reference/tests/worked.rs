@@ -1,4 +1,4 @@
-//! 01's example with 02's energies (#108), and what 01 says of its refusals, word for word.
+//! SCOPE's example with the energies of #108, and what SCOPE says of its refusals, word for word.
 
 use lister_reference::{
     answer_to, lines, read, texts::example, Input, WORKED as TEXT, WORKED_TABLES as LINES,

@@ -1,6 +1,6 @@
 //! What a question comes to.
 
-/// A reply: 01's number of it, 0 where nothing is refused, and the number that it carries.
+/// A reply: SCOPE's number of it, 0 where nothing is refused, and the number that it carries.
 #[derive(Clone, Copy, Debug, PartialEq, Eq)]
 pub struct Reply {
     pub number: u32,
@@ -19,7 +19,7 @@ impl Reply {
     }
 }
 
-/// 01's refusals of a question, by their numbers. 10 is not among them: it depends on the room alone.
+/// SCOPE's refusals of a question, by their numbers. 10 is not among them: it depends on the room alone.
 #[derive(Clone, Copy, Debug, PartialEq, Eq)]
 pub enum Refusal {
     NoTree = 5,
@@ -39,7 +39,7 @@ impl Refusal {
     }
 }
 
-/// 01's refusal for want of room.
+/// SCOPE's refusal for want of room.
 const NO_ROOM: u32 = 10;
 
 /// All that a question lists, and what refuses it then, if anything does. What is refused before its walk

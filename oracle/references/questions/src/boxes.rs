@@ -52,7 +52,7 @@ pub fn searches(plane: &Plane, corners: Corners) -> usize {
     parts(plane, corners).len()
 }
 
-/// 01's rule of the longitudes: the whole row, or two halves that go through the rule again, or one box.
+/// SCOPE's rule of the longitudes: the whole row, or two halves that go through the rule again, or one box.
 fn around_the_globe([west, least_y, east, greatest_y]: Corners) -> Vec<Corners> {
     let (mut new_w, mut new_e) = (turned(west), if east == 180.0 { 180.0 } else { turned(east) });
     if east - west >= 360.0 {

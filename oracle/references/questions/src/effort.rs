@@ -1,4 +1,4 @@
-//! The entries in a box within a stated effort (02, #102).
+//! The entries in a box within a stated effort (#102).
 
 use crate::{
     boxes::{check, parts},

@@ -1,5 +1,5 @@
-//! An independent reference for the questions to a build, written from 01's text, 'Questions to a build', 'The
-//! index' and 'Numbered replies', and from 02's requests. It takes any state and any lent columns.
+//! An independent reference for the questions to a build, written from the scope: its questions, 'The
+//! index' and 'Numbered replies', and from the requests. It takes any state and any lent columns.
 //!
 //! A question is answered whole, as a list and perhaps a refusal behind it; what that leaves in output
 //! columns, and the reply, follow from the list and from the room that there is.

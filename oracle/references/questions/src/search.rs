@@ -1,4 +1,4 @@
-//! The search of an index, as 01's 'The index' says: of a split interval the median if it passes, then the
+//! The search of an index, as SCOPE's 'The index' says: of a split interval the median if it passes, then the
 //! right part, then the left; an unsplit interval slot by slot.
 
 use crate::{state::Index, Refusal};

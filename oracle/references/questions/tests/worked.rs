@@ -1,4 +1,4 @@
-//! 01's 'Worked on that build', and answers that its text fixes.
+//! SCOPE's worked example, and answers that its text fixes.
 
 mod common;
 
@@ -44,7 +44,7 @@ fn leaves_of_5() {
     assert_eq!(of_5(10, 0), [0, 1, 2, 3]);
     assert_eq!(of_5(3, 1), [1, 2, 3]);
     assert_eq!(of_5(4, 0), [0, 1, 2, 3]);
-    // 02, #101: limit 0 lists nothing, at every offset.
+    // #101: limit 0 lists nothing, at every offset.
     for offset in [0, 1, 4, u32::MAX] {
         assert!(of_5(0, offset).is_empty());
     }
@@ -63,7 +63,7 @@ fn expansion_zooms() {
 #[test]
 fn refused_ids() {
     let build = worked();
-    // 01's four lines, and the id 38, whose table and origin are built, and which has no children.
+    // SCOPE's four lines, and the id 38, whose table and origin are built, and which has no children.
     for (id, number) in [(3, 6), (4, 6), (7, 5), (134, 6), (38, 6)] {
         let mut out = [9; 4];
         assert_eq!(
@@ -103,7 +103,7 @@ fn a_lamp_at_the_fence_of_a_plan() {
     build.state.options.longitude_strips_only = true;
     assert_eq!(listed(tile(&build.state, &build.lent(), 0, 0, 0)), items(&[(0, 512, 256)]));
     assert_eq!(tally(&build.state, &build.lent(), 0, 0, 0), Ok(1));
-    // Its ghost is all that the first tile of zoom 1 would list. A tally over no entry is 0 (02, #104).
+    // Its ghost is all that the first tile of zoom 1 would list. A tally over no entry is 0 (#104).
     assert_eq!(tile(&build.state, &build.lent(), 1, 0, 0).told(&mut []), refused(8));
     assert_eq!(tally(&build.state, &build.lent(), 1, 0, 0), Ok(0));
 }
@@ -154,7 +154,7 @@ fn refused_tiles() {
         let answer = tile(&build.state, &build.lent(), z, x, y);
         assert_eq!(answer.told(&mut []), refused(number), "{z} {x} {y}");
         let tallied = tally(&build.state, &build.lent(), z, x, y);
-        // 8 is not a tally's: over no entry it is 0 (02, #104).
+        // 8 is not a tally's: over no entry it is 0 (#104).
         let expected = if number == 8 { Ok(0) } else { Err(number) };
         assert_eq!(tallied.map_err(|refusal| refusal as u32), expected, "{z} {x} {y}");
     }

@@ -1,5 +1,5 @@
-//! An independent reference for what a build refuses, written from 01's text, 'Numbers that bound a build' and
-//! 'Numbered replies', and from 02's #108.
+//! An independent reference for what a build refuses, written from the scope: 'Bounds' and
+//! 'Numbered replies', and from #108.
 
 use columns::Given;
 use options::{Options, Plane, MOST_ENERGY, MOST_POINTS};

@@ -2,7 +2,7 @@
 //! them; and what only the untouched one skips.
 //!
 //! Every input is a point with an empty properties object; its id is its number, by which the lamps in an answer are
-//! known. The Rust knows of no energy (02, #108): that of a cluster is the sum over the lamps that the Rust's own
+//! known. The Rust knows of no energy (#108): that of a cluster is the sum over the lamps that the Rust's own
 //! `get_leaves` lists for it.
 
 pub mod skipped;

@@ -1,4 +1,4 @@
-//! Box and search numbers that 01 refuses by 9.
+//! Box and search numbers that SCOPE refuses by 9.
 
 use super::{case, example, load, told, Case};
 use crate::plain::{ids, listed, Options, Plane, WORKED};
@@ -37,7 +37,7 @@ fn searches<J: Judge>() -> Vec<Case> {
     ]
 }
 
-/// A box at zoom 2 of 01's worked build.
+/// A box at zoom 2 of SCOPE's worked build.
 fn plan<J: Judge>(corners: [f64; 4]) -> String {
     told(example::<J>().in_box(corners, 2), ids)
 }

@@ -1,4 +1,4 @@
-//! Ids that are no cluster: 01 refuses 5 or 6, the Rust answers an empty list or a number.
+//! Ids that are no cluster: SCOPE refuses 5 or 6, the Rust answers an empty list or a number.
 
 use super::{case, example, lamps, told, Case};
 use crate::plain::{ids, Options, WORKED};
@@ -21,7 +21,7 @@ pub fn cases<J: Judge>() -> Vec<Case> {
     ]
 }
 
-/// 01's lamps with every table that 01 allows.
+/// SCOPE's lamps with every table that SCOPE allows.
 fn deep<J: Judge>() -> J {
     lamps(Options { max_zoom: 30, ..WORKED })
 }

@@ -1,4 +1,4 @@
-//! Tables changed after the build: 01 checks what it is lent and refuses 11, the Rust trusts it.
+//! Tables changed after the build: SCOPE checks what it is lent and refuses 11, the Rust trusts it.
 
 use super::{apart, case, example, load, told, Case};
 use crate::plain::{ids, points, spots, Entry, LAMPS, WORKED};
@@ -33,7 +33,7 @@ fn child_id<J: Judge>(id: f64) -> String {
     ids(&build.leaves(5, 10, 0))
 }
 
-/// 01's first three lamps; cluster 4 holds cluster 5 and lamp 2, and both slots name cluster 5.
+/// SCOPE's first three lamps; cluster 4 holds cluster 5 and lamp 2, and both slots name cluster 5.
 fn one_child_twice<J: Judge>() -> String {
     let mut build = load::<J>(WORKED, &points(&LAMPS[..3]));
     build.set_slot(1, 1, 0);

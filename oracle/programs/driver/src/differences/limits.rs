@@ -1,4 +1,4 @@
-//! Leaves with limit 0: 02 lists nothing, the Rust lists all where nothing is skipped.
+//! Leaves with limit 0: SCOPE lists nothing, the Rust lists all where nothing is skipped.
 
 use super::{case, example, Case};
 use crate::plain::{ids, Entry};

@@ -1,7 +1,7 @@
-//! The inputs on which 01 and the Rust differ: each is run against the untouched Rust and the patched one, and must
-//! give what its row in docs/DIFFERENCES.md says. Where a patch of ours has the Rust follow 01, the untouched Rust must
-//! give what the row says of the Rust, and the others what it says of 01. Of the tiles of a site plan, the Rust's search
-//! of a tile's own range must give what the row says of 02.
+//! The inputs on which SCOPE and the Rust differ: each is run against the untouched Rust and the patched one, and must
+//! give what its row in docs/DIFFERENCES.md says. Where a patch of ours has the Rust follow SCOPE, the untouched Rust must
+//! give what the row says of the Rust, and the others what it says of SCOPE. Of the tiles of a site plan, the Rust's search
+//! of a tile's own range must give what the row says of SCOPE.
 
 mod boxes;
 mod child;
@@ -137,12 +137,12 @@ pub fn run_one(code: &str, build: &str) -> ExitCode {
     }
 }
 
-/// 01's worked build with other options.
+/// SCOPE's worked build with other options.
 fn lamps<J: Judge>(options: Options) -> J {
     load(options, &in_parts(&LAMPS))
 }
 
-/// 01's worked build.
+/// SCOPE's worked build.
 fn example<J: Judge>() -> J {
     lamps(WORKED)
 }

@@ -1,4 +1,4 @@
-//! Options outside 01's bounds: 01 refuses 1, the Rust builds or panics.
+//! Options outside SCOPE's bounds: SCOPE refuses 1, the Rust builds or panics.
 
 use super::{apart, case, lamps, lengths, load, told, Case};
 use crate::{

@@ -1,5 +1,5 @@
 //! Reads the rows of docs/DIFFERENCES.md: code, input, what the Rust does in a release build, what it
-//! does with overflow checks, what 01 says.
+//! does with overflow checks, what SCOPE says.
 
 /// One row.
 pub struct Row<'a> {
@@ -15,7 +15,7 @@ pub struct Row<'a> {
 pub enum Held {
     /// What the Rust does, by whether overflow is checked.
     ToTheRust,
-    /// What 01 says: of a build that is patched to follow it.
+    /// What SCOPE says: of a build that is patched to follow it.
     ToTheScope,
 }
 

@@ -1,4 +1,4 @@
-//! Tiles of a site plan: the Rust runs its strips there, and 02 leaves them out where the option says so.
+//! Tiles of a site plan: the Rust runs its strips there, and SCOPE leaves them out where the option says so.
 
 use super::{case, load, told, Case};
 use crate::plain::{spots, Item, WORKED};

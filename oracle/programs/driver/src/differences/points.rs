@@ -1,4 +1,4 @@
-//! Counts and points outside 01's bounds: 01 refuses 2 and 3.
+//! Counts and points outside SCOPE's bounds: SCOPE refuses 2 and 3.
 
 use super::{apart, case, lengths, load, spread, Case};
 use crate::plain::{listed, Options, Plane, WORKED};
@@ -18,7 +18,7 @@ pub fn cases<J: Judge>() -> Vec<Case> {
 
 const GLOBE: Options = Options { plane: Plane::Globe, ..WORKED };
 
-/// One point more than 01 takes, with radius 0.
+/// One point more than SCOPE takes, with radius 0.
 fn many<J: Judge>() -> String {
     let options = Options { max_zoom: 0, radius: 0.0, ..WORKED };
     lengths(&load::<J>(options, &spread(1_048_577)))

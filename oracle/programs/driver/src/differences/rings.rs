@@ -6,7 +6,7 @@ use asked::Build;
 use beside::{judge::Judge, Rust, Said};
 use questions::Question;
 
-/// What 01 refuses, and the untouched Rust answers by crossed edges: the other builds have none.
+/// What SCOPE refuses, and the untouched Rust answers by crossed edges: the other builds have none.
 pub fn refused<J: Judge>() -> Vec<Case> {
     vec![case("S6", || listed(&J::index_within(1, &LINE, [0.5, 0.5, -1.0])))]
 }
@@ -22,7 +22,7 @@ pub fn cases<J: Judge>() -> Vec<Case> {
     ]
 }
 
-/// 01's example on an axis: three points that pass the distance test.
+/// SCOPE's example on an axis: three points that pass the distance test.
 fn beside_a_quarter<J: Judge>(node_size: usize, axis: usize) -> String {
     let turned = |[v, w]: [f64; 2]| if axis == 0 { [v, w] } else { [w, v] };
     let [qx, qy] = turned([1.0, 0.5]);

@@ -1,4 +1,4 @@
-//! Tiles that are none: 01 refuses 7 or has no such question, the Rust takes any numbers.
+//! Tiles that are none: SCOPE refuses 7 or has no such question, the Rust takes any numbers.
 
 use super::{case, example, load, told, Case};
 use crate::plain::{spots, WORKED};

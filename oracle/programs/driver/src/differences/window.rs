@@ -1,4 +1,4 @@
-//! The window block of `select`: it runs from 602 slots on, and 01 takes it out.
+//! The window block of `select`: it runs from 602 slots on, and SCOPE takes it out.
 
 use super::{case, load, spread, Case};
 use crate::plain::{Entry, Options, WORKED};

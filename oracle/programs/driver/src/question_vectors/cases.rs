@@ -1,4 +1,4 @@
-//! What is asked in the vectors: 01's worked build, the same with changes, builds of a few points, and states
+//! What is asked in the vectors: SCOPE's worked build, the same with changes, builds of a few points, and states
 //! that no build made, as many as it takes to come to every reply.
 
 use super::{changed, fences};
@@ -62,12 +62,12 @@ pub fn with_rooms(build: Build, questions: Vec<Question>, source: &mut Splitmix)
     Case { build, questions }
 }
 
-/// The build of 01's first lamps, so many of them.
+/// The build of SCOPE's first lamps, so many of them.
 pub fn lamps(count: usize) -> Build {
     built("worked", WORKED, columns(&in_parts(&LAMPS[..count])))
 }
 
-/// 01's 'Worked on that build'.
+/// SCOPE's worked example.
 fn worked(source: &mut Splitmix) -> Case {
     let mut questions: Vec<Question> = [5, 6, 70, 3, 4, 7, 134, 38]
         .iter()
@@ -89,7 +89,7 @@ fn worked(source: &mut Splitmix) -> Case {
     with_rooms(lamps(LAMPS.len()), questions, source)
 }
 
-/// 01's lamp at (1, 0.5).
+/// SCOPE's lamp at (1, 0.5).
 fn lamp_at_the_edge(options: Options, source: &mut Splitmix) -> Case {
     let tiles = [(0, 0, 0), (1, 0, 0), (1, 1, 0), (1, 0, 1), (31, 0, 1 << 30)];
     let both = |(z, x, y)| [Question::Tile { z, x, y }, Question::Tally { z, x, y }];
@@ -104,7 +104,7 @@ fn lamps_at_both_edges(source: &mut Splitmix) -> Case {
 }
 
 /// Lamps on the borders of tiles, one step beside them and at the ends, and the tally of every tile of the zooms 0 to 2,
-/// of which each zoom's add up to N (02, #104).
+/// of which each zoom's add up to N (#104).
 fn on_borders(source: &mut Splitmix) -> Case {
     let half = 0.5_f64;
     let lamps = [
@@ -131,7 +131,7 @@ fn on_borders(source: &mut Splitmix) -> Case {
     with_rooms(build, (0..=2).flat_map(tallies).collect(), source)
 }
 
-/// 01's corner: a lamp at x = 1 and two beside a quarter, which a rounded edge cuts off where the index is split. By
+/// SCOPE's corner: a lamp at x = 1 and two beside a quarter, which a rounded edge cuts off where the index is split. By
 /// the rule of #106 all are one cluster, whose children and leaves they are.
 fn beside_a_quarter(node_size: usize, source: &mut Splitmix) -> Case {
     let options = Options { node_size, ..REACHING };

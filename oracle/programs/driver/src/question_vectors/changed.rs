@@ -1,4 +1,4 @@
-//! 01's worked build with something changed in its columns: what a walk goes on into, what a slot names, what a
+//! SCOPE's worked build with something changed in its columns: what a walk goes on into, what a slot names, what a
 //! tile finds. Its tables stand at the positions 0 to 3, 4 and 5, and 6.
 
 use super::cases::{lamps, with_rooms, Case};

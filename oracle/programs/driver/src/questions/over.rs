@@ -1,4 +1,4 @@
-//! Lent tables put into the Rust's public fields, whoever made them. What 01 refuses by 11 is not asked of the
+//! Lent tables put into the Rust's public fields, whoever made them. What SCOPE refuses by 11 is not asked of the
 //! Rust, since it trusts its tables: it would go on, panic or not end.
 
 use crate::{attempt::attempt, plain};
@@ -63,7 +63,7 @@ fn is_refused_without_a_limit(build: &Build, question: &Question) -> bool {
     walk.answered(&build.state, &build.columns.lent()).refusal() == Some(Refusal::Spoiled)
 }
 
-/// Whether a question is by an id whose table is that of min_zoom, which 01 refuses.
+/// Whether a question is by an id whose table is that of min_zoom, which SCOPE refuses.
 fn is_of_the_smallest_table(state: &State, question: &Question) -> bool {
     match *question {
         Question::Children { id }

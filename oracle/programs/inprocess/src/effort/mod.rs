@@ -1,4 +1,4 @@
-//! A box within a stated effort (02, #102): every allowance of small builds beside the Rust that counts its tests;
+//! A box within a stated effort (#102): every allowance of small builds beside the Rust that counts its tests;
 //! and over tables that no build made, beside the reference. The judge is the first so many of the tests that the
 //! counted Rust tells of; its patch names the slot's place, so that places are compared. Before a call `stopped`
 //! says either, so that a reply that does not tell it shows.

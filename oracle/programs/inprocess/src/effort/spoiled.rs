@@ -1,4 +1,4 @@
-//! A box within an effort over states and columns that no build made: the judge is the reference, written from 02.
+//! A box within an effort over states and columns that no build made: the judge is the reference, written from the scope.
 
 use super::{effort_box, Found, Group, Replies, Scene};
 use crate::Form;

@@ -1,6 +1,6 @@
 //! Columns that no build made: ids past the end, repeated ids, coordinates out of order, not finite or
 //! no numbers, another node size or fewer slots than the index was built with. The judge is the
-//! reference written from 01's text; the Rust's searches, which trust every column, are held to it too.
+//! reference written from the scope's text; the Rust's searches, which trust every column, are held to it too.
 
 use super::{
     arrangement::Columns,

@@ -10,7 +10,7 @@
 //! | beside the untouched Rust | its searches over the same columns: a box is the same, a ring lacks only what is cut off |
 //! | rings at rounded edges | a plain scan by the rounded squared distance; for the order the patched Rust |
 //! | damaged columns | the reference |
-//! | 01's reference beside the Rust | the patched Rust's searches, on every query of the other groups |
+//! | the reference beside the Rust | the patched Rust's searches, on every query of the other groups |
 //!
 //! Held to it are every id, the bits of every coordinate, the reply, and the columns with their old contents, in
 //! columns that are longer than the answer, as long, one shorter, and empty. In 3,435 of the million rings the
@@ -48,7 +48,7 @@ pub fn run(form: Form) -> ExitCode {
     let mut source = Splitmix(1);
     let mut built = Group::new("index, build");
     let mut searches = Searches::new("index, range", "index, within", "index, cursor");
-    let mut judged = Group::new("index, 01's reference beside the Rust");
+    let mut judged = Group::new("index, the reference beside the Rust");
     let mut untouched = BesideUntouched::new("index, searches beside the untouched Rust");
     for (counts, queries) in sizes(form) {
         for count in counts {

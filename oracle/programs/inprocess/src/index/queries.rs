@@ -75,7 +75,7 @@ fn circle(lent: &Lent, kind: usize, source: &mut Splitmix) -> [f64; 3] {
             let radius = source.pick(&[other_x - x, other_y - y]).abs();
             [x, y, radius]
         }
-        // 01's rounded edge.
+        // SCOPE's rounded edge.
         4 => [1.0, y, 0.75],
         5 => [3.0 * source.unit() - 1.0, 3.0 * source.unit() - 1.0, 3.0 * source.unit()],
         6 => source.pick(&[

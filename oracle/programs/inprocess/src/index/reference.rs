@@ -1,4 +1,4 @@
-//! An independent reference for the index, written from 01's text: what is refused and in which order,
+//! An independent reference for the index, written from the scope's text: what is refused and in which order,
 //! the slots that a search answers and their order, and what then stands in the output column. It takes
 //! any columns.
 

@@ -1,7 +1,7 @@
 //! Leaves by limit and offset: of every cluster of many small builds, beside the Rust; and limit 0 over tables that
 //! no build made, beside the reference. The count as limit must list what the Rust lists at limit 0 and offset 0,
-//! which is all; limit 0 must list nothing (02, #101); every page of every size must be the Rust's, and all of a
-//! size its whole list (02, #112).
+//! which is all; limit 0 must list nothing (#101); every page of every size must be the Rust's, and all of a
+//! size its whole list (#112).
 //!
 //! That this can fail was tried in the short form: with a library that lists all at limit 0, 13,604 of 68,020 cases
 //! at limit 0 differed, as many as have offset 0, and 9,511 of 80,488 over spoiled tables; with the count less 1 as

@@ -1,4 +1,4 @@
-//! Limit 0 over states and columns that no build made: the judge is the reference, written from 02.
+//! Limit 0 over states and columns that no build made: the judge is the reference, written from the scope.
 
 use crate::{questions::both::differs, report::Group, Form};
 use asked::{few, rooms, spoiled, Scene};

@@ -1,5 +1,5 @@
 //! The questions: over builds, and over states and columns that no build made. Over builds the judges are the Rust
-//! and the reference written from 01's text; over the others the reference, which `driver questions` holds to the
+//! and the reference written from the scope's text; over the others the reference, which `driver questions` holds to the
 //! Rust there too.
 //!
 //! Beside the Rust nothing but the points and the questions is shared. The port loads the points and answers from

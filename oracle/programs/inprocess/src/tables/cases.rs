@@ -1,4 +1,4 @@
-//! The builds that are compared: options at 01's bounds crossed, every number of points up to 700, and points at
+//! The builds that are compared: options at SCOPE's bounds crossed, every number of points up to 700, and points at
 //! the rounded edges of rings.
 
 use crate::Form;

@@ -1,4 +1,4 @@
-//! Tallies that add up over the tiles (02, #104): of many builds every tile of the zooms up to 6, beside the entries
+//! Tallies that add up over the tiles (#104): of many builds every tile of the zooms up to 6, beside the entries
 //! whose centre it holds, and all tiles of a zoom beside N; and tables so large that few marks are tried first, as
 //! they are and spoiled.
 //!

@@ -38,7 +38,7 @@ const ENERGIES: [u64; 12] = [
     4_294_967_296,
 ];
 
-/// 01's example with one number at a bound or past it; both zooms; numbers of points; each coordinate and each energy.
+/// SCOPE's example with one number at a bound or past it; both zooms; numbers of points; each coordinate and each energy.
 pub fn at_bounds() -> Vec<Draft> {
     let mut all = vec![example()];
     for (key, values) in VALUES.iter().enumerate() {
@@ -85,7 +85,7 @@ pub fn rooms() -> impl Iterator<Item = Draft> {
     })
 }
 
-/// 01's example with an option changed.
+/// SCOPE's example with an option changed.
 fn with_option(key: usize, value: u64) -> Draft {
     let mut draft = example();
     draft.options[key] = value;

@@ -1,4 +1,4 @@
-//! A text in the making: values as they will be written, within 01's bounds or not.
+//! A text in the making: values as they will be written, within SCOPE's bounds or not.
 
 use std::fmt::Write;
 
@@ -45,7 +45,7 @@ impl Draft {
     }
 }
 
-/// 01's example, with 02's energies.
+/// SCOPE's example, with the energies.
 pub fn example() -> Draft {
     let lamps =
         [[16_384, 32_768, 10], [20_480, 32_768, 20], [26_624, 32_768, 30], [26_624, 32_768, 40]];

@@ -1,4 +1,4 @@
-//! 01's rounded edge, reached by a text: there the untouched Rust skips an entry that passes the distance test if the
+//! SCOPE's rounded edge, reached by a text: there the untouched Rust skips an entry that passes the distance test if the
 //! index is split, and so makes other tables. By #106 nothing is skipped, and an index that is not split makes the same.
 
 use super::Draft;

@@ -94,7 +94,7 @@ fn usual(source: &mut Splitmix) -> [u64; 6] {
     [min_zoom, max_zoom, min_points, radius, extent, source.pick(&[1, 2, 3, 8, 64])]
 }
 
-/// Options at 01's bounds and between.
+/// Options at SCOPE's bounds and between.
 fn corner(source: &mut Splitmix) -> [u64; 6] {
     let [min_zoom, max_zoom] = source.pick(&ZOOMS).map(u64::from);
     let (min_points, node_size) = (source.pick(&MIN_POINTS), source.pick(&NODE_SIZES));

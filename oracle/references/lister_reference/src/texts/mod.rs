@@ -1,5 +1,5 @@
 //! Texts to try the lister with, all from seeds: at every bound and one past it, of every shape and refusal, and
-//! damaged copies of these. No text of the form is longer than 35,812 bytes, so that 01's bound on the whole input
+//! damaged copies of these. No text of the form is longer than 35,812 bytes, so that SCOPE's bound on the whole input
 //! refuses nothing that the rest of the form would take.
 
 mod bounds;

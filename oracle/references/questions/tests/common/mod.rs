@@ -41,7 +41,7 @@ impl Build {
     }
 }
 
-/// 01's worked build. Not every test asks it.
+/// SCOPE's worked build. Not every test asks it.
 #[allow(dead_code)]
 pub fn worked() -> Build {
     let finest = [

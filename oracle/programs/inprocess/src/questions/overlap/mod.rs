@@ -1,4 +1,4 @@
-//! Boxes inside boxes (02, #111): what the port answers for the common part of two boxes and of three, beside what
+//! Boxes inside boxes (#111): what the port answers for the common part of two boxes and of three, beside what
 //! the Rust answers for each of them and for the common part. Over a table 16 boxes are laid, half of them by
 //! earlier ones: with the same numbers, numbers one step beside them, the other zero, or beginning where that one
 //! ends. All 256 pairs are asked for, and 160 triples, cut in all twelve ways. The patched Rust is asked, and the

@@ -98,7 +98,7 @@ pub fn point_less(text: &[u8], source: &mut Splitmix) -> Vec<u8> {
     lines.concat()
 }
 
-/// No energies, as before 02's #108, or one of them missing.
+/// No energies, as before #108, or one of them missing.
 pub fn without_energy(text: &[u8], source: &mut Splitmix) -> Vec<u8> {
     let (mut lines, energies) = apart(text);
     if source.below(2) == 0 && !energies.is_empty() {

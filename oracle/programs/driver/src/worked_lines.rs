@@ -1,5 +1,5 @@
-//! 01's worked lines, each put to the builds of the Rust: the table lister, 'Worked on that build',
-//! 'Easy to get wrong', and a few more answers that 01's text fixes.
+//! SCOPE's worked lines, each put to the builds of the Rust: the table lister, 'The worked example',
+//! 'Easy to get wrong', and a few more answers that SCOPE's text fixes.
 
 use crate::{
     attempt::attempt,
@@ -11,11 +11,11 @@ use crate::{
 use beside::judge::{Judge, Patched, Ringed, Untouched};
 use std::{hint::black_box, process::ExitCode};
 
-/// What is compared, what 01 says, and the question to the Rust.
+/// What is compared, what SCOPE says, and the question to the Rust.
 type Line = (&'static str, &'static str, fn() -> String);
 
 /// Lines of 'Worked on that build' that the Rust does not have: it refuses no option and no id, and lists all at
-/// limit 0 where 02 lists nothing.
+/// limit 0 where SCOPE lists nothing.
 const NOT_THE_RUSTS: [&str; 4] = [
     "id 3 refused 6",
     "max_zoom 31 refused 1",
@@ -23,7 +23,7 @@ const NOT_THE_RUSTS: [&str; 4] = [
     "leaves of 5: limit 0 offset 0 lists nothing",
 ];
 
-/// The seven lines of 'The table lister', with 02's energies.
+/// The seven lines of 'The table lister', with the energies.
 const LISTER: &str = lister_reference::WORKED_TABLES;
 
 /// Runs every line against every build; that of the rings only where the Rust has the rule of #106.
@@ -106,7 +106,7 @@ fn easy_to_get_wrong<J: Judge>() -> Vec<Line> {
     ]
 }
 
-/// Answers outside those sections that 01's text fixes.
+/// Answers outside those sections that SCOPE's text fixes.
 fn further<J: Judge>() -> Vec<Line> {
     vec![
         ("id 38 has no children: refused 6", "ClusterNotFound", || children::<J>(38)),
@@ -116,7 +116,7 @@ fn further<J: Judge>() -> Vec<Line> {
     ]
 }
 
-/// 01's corner, as #106 has it: no entry that passes is skipped. The untouched Rust's answers are on the page of the
+/// SCOPE's corner, as #106 has it: no entry that passes is skipped. The untouched Rust's answers are on the page of the
 /// differences.
 fn rings<J: Judge>() -> Vec<Line> {
     vec![
@@ -125,7 +125,7 @@ fn rings<J: Judge>() -> Vec<Line> {
     ]
 }
 
-/// 01's worked build.
+/// SCOPE's worked build.
 fn example<J: Judge>() -> J {
     load(WORKED, &points(&LAMPS))
 }
@@ -155,7 +155,7 @@ fn answered(answer: Result<Vec<Item>, String>) -> Vec<Item> {
     answer.unwrap_or_else(|error| panic!("{error}"))
 }
 
-/// The tables of 01's build in the form of the table lister.
+/// The tables of SCOPE's build in the form of the table lister.
 fn lister<J: Judge>() -> String {
     let build = example::<J>();
     let mut text = String::new();
@@ -287,7 +287,7 @@ fn copied<J: Judge>() -> String {
     table_ids(&load::<J>(Options { min_points: 4, ..NEAR }, &points(&lamps)), 0)
 }
 
-/// The members of 01's example of a rounded edge: each of the three passes the distance test.
+/// The members of SCOPE's example of a rounded edge: each of the three passes the distance test.
 fn rounded_edge<J: Judge>(node_size: usize) -> String {
     let points = [BELOW_QUARTER, BELOW_QUARTER, 0.5].map(|x| [x, 0.5]);
     let mut places = J::index_within(node_size, &points, [1.0, 0.5, 0.75]);
