@@ -32,7 +32,7 @@ use Rattle.supercluster.specs.laws.Load.{Holds}
 use Rattle.law_builds.specs.Given.{Given, AcceptedBuild, points}
 use Rattle.law_builds.specs.RightAt.{right-at}
 use Rattle.law_answers.specs.laws.Boxed.{usedBy, between}
-use Rattle.law_answers.specs.laws.Tiled.{tileBy, tallyBy, tile-every, tally-told}
+use Rattle.law_answers.specs.laws.Tiled.{tileBy, tallyBy, tile-every, tally-told, told-same}
 use Rattle.law_answers.specs.laws.Sums.{sumTo, sum-same, sum-swap, sum-pick, sum-places, total-members}
 
 -- ---- one home for each entry
@@ -93,9 +93,6 @@ member-at (i ∷ pre) j post = go (eqb (j .place) (i .place)) refl (member-at pr
         → member (j .place) (i .place ∷ map (λ i. i .place) (pre ++ j ∷ post)) ≡ true
     go true e h = rw (e, member)
     go false e h = rw (e, member) h
-
-told-same : {a b : List Item} → told true a ≡ told true b → a ≡ b
-told-same e = cc
 
 -- ---- of a build that is accepted
 

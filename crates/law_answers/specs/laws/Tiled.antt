@@ -203,7 +203,8 @@ module _ (o : Options) (z x y : ℕ) (t : Table) where
       (strip-all (westStrip o z x y) _ _ _ _ P (wraps o && eqb (x + 1) (2 ^ z)) (q .c) (q .western)
       (λ e i f. let d = and-both (wraps o) (eqb (x + 1) (2 ^ z)) e in western (d .0) (eqb-true (x + 1) (2 ^ z) (d .1)) f))))
 
-told-same : {a b : List Item} → told true a ≡ told true b → a ≡ b
+-- a tile that comes to two lists comes to one
+pub told-same : {a b : List Item} → _≡_ {A = TileAsked} (told true a) (told true b) → a ≡ b
 told-same e = cc
 
 some-somehow : (k room : ℕ) → someOf k room ≡ Spoiled → ⊥
