@@ -8,11 +8,11 @@ use crate::{
     table::{self, Times},
     Size,
 };
-use builds::Row;
 use columns::Entry;
 use geojson::{Feature, JsonObject, JsonValue};
 use options::{Options, USUAL};
 use ported::{needed, Columns, State, ZOOMS};
+use rust_builds::Row;
 use std::{cell::Cell, iter};
 
 /// The sides whose memory is measured too; of the last one each feature carries its energy as a property.
@@ -136,7 +136,7 @@ fn features_with_energies(points: &Points) -> Vec<Feature> {
 
 /// The points as features.
 fn features(points: &Points) -> Vec<Feature> {
-    builds::features(&points.xs, &points.ys)
+    rust_builds::features(&points.xs, &points.ys)
 }
 
 macro_rules! rust_load {
@@ -145,11 +145,11 @@ macro_rules! rust_load {
         fn $side(points: &Points) -> (Found, u64) {
             let features = $features(points);
             let (rust, nanoseconds) = timed(|| {
-                let mut rust = builds::$module::unloaded(&USUAL);
+                let mut rust = rust_builds::$module::unloaded(&USUAL);
                 rust.load(features).expect("points that are loaded");
                 rust
             });
-            let tables: Vec<_> = builds::$module::tables_of(&rust).collect();
+            let tables: Vec<_> = rust_builds::$module::tables_of(&rust).collect();
             let rows = tables.iter().flat_map(|table| table.rows());
             (found(rows, points.xs.len(), $in_order), nanoseconds)
         }
@@ -210,7 +210,7 @@ pub fn peak(side: &str, shape: &str, count: &str) -> Option<Peak> {
             };
             drop(points);
             Some(memory::peak(features, |features| {
-                let mut rust = builds::untouched::unloaded(&USUAL);
+                let mut rust = rust_builds::untouched::unloaded(&USUAL);
                 rust.load(features).expect("points that are loaded");
                 rust
             }))

@@ -10,14 +10,14 @@ use crate::{
     table::Times,
     Size,
 };
-use builds::{
-    data,
-    untouched::{unloaded, Supercluster},
-};
 use columns::Columns;
 use options::USUAL;
 use oracle_untouched::KDBush;
 use ported::{needed, Asked, Lent, State, ZOOMS};
+use rust_builds::{
+    data,
+    untouched::{unloaded, Supercluster},
+};
 use splitmix::Splitmix;
 use std::f64::consts::PI;
 
@@ -80,7 +80,7 @@ impl Both {
         assert_eq!(reply.number, 0, "a build that is accepted");
         let columns = columns.tables;
         let mut rust = unloaded(&USUAL);
-        rust.points = builds::features(&points.xs, &points.ys);
+        rust.points = rust_builds::features(&points.xs, &points.ys);
         for zoom in usize::from(USUAL.min_zoom)..=usize::from(FINEST) {
             rust.trees.insert(zoom, tree(&columns, starts[zoom] as usize, lens[zoom] as usize));
         }

@@ -2,12 +2,12 @@
 use mathlib.Core.Bool.{Bool}
 use Prim.Native.Nat.{ℕ}
 use lib.Ieee.{Float}
-use Rattle.tables.specs.declared.Options.{Options}
-use Rattle.tables.specs.Given.{settingOf, systemOf}
+use Rattle.build_tables.specs.declared.Options.{Options}
+use Rattle.build_tables.specs.Given.{settingOf, systemOf}
 
 -- the options, in the order in which every function takes them
-abbrev pub given : ℕ → ℕ → ℕ → Float → Float → ℕ → Bool → Float → Float → Float → Float → Bool → Float → Bool → Float → Bool → Options
-given low high least radius extent size cartesian a b c d offsetGiven offset scaleGiven scale stripsOnly =
+abbrev pub givenOptions : ℕ → ℕ → ℕ → Float → Float → ℕ → Bool → Float → Float → Float → Float → Bool → Float → Bool → Float → Bool → Options
+givenOptions low high least radius extent size cartesian a b c d offsetGiven offset scaleGiven scale stripsOnly =
     record {
       «min_zoom» = low;
       «max_zoom» = high;

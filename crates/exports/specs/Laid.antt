@@ -1,9 +1,9 @@
--- A build as a C caller sees it: 01's number, what is carried, where the tables start and how long they are, and the lent columns
+-- A build as a C caller sees it: SCOPE's number, what is carried, where the tables start and how long they are, and the lent columns
 -- afterwards. Definitions only.
 use mathlib.Core.List.{List}
 use Prim.Native.Nat.{ℕ, zero, suc}
 use Rattle.supercluster.specs.declared.Loaded.{Loaded}
-use Rattle.supercluster.specs.Build.{Lent, Outcome, loadNumber, loadCarried}
+use Rattle.supercluster.specs.Build.{BuildColumns, Outcome, loadNumber, loadCarried}
 
 -- the reply, as numbers
 pub record Replied : Type 0 where
@@ -29,9 +29,9 @@ repliedOf l starts lens =
 -- the reply with the columns
 pub record Laid : Type 0 where
   pub told : Replied
-  pub columns : Lent
+  pub columns : BuildColumns
 
-abbrev pub laid : Replied → Lent → Laid
+abbrev pub laid : Replied → BuildColumns → Laid
 laid r c = record { told = r; columns = c }
 
 abbrev pub laidOf : Outcome → List ℕ → List ℕ → Laid

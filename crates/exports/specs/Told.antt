@@ -1,19 +1,19 @@
--- Replies to the questions as a C caller sees them: 01's number, what is carried, and the output columns afterwards. Definitions only.
+-- Replies to the questions as a C caller sees them: SCOPE's number, what is carried, and the output columns afterwards. Definitions only.
 use mathlib.Core.Bool.{Bool}
 use mathlib.Core.List.{List}
 use Prim.Native.Nat.{ℕ}
 use lib.ListN.{length}
 use lib.IntN.{ℤ}
-use Rattle.asking.specs.Answers.{answerNumber, answerCarried}
-use Rattle.asking.specs.Asked.{Asked, answerOf, columnOf}
-use Rattle.spending.specs.declared.EffortReply.{EffortReply}
-use Rattle.spending.specs.Reply.{effortNumber, effortCarried}
-use Rattle.efforts.specs.Effort.{Sought, replyOf, columnOf as effortColumn}
-use Rattle.walks.specs.declared.Expansion.{Expansion}
-use Rattle.walks.specs.Expansion.{expansionNumber, expansionCarried}
-use Rattle.tiling.specs.declared.Tally.{Tally}
-use Rattle.tiling.specs.Tally.{tallyNumber, tallyValue}
-use Rattle.tiles.specs.Asked.{Outcome}
+use Rattle.ask_base.specs.Answers.{answerNumber, answerCarried}
+use Rattle.ask_base.specs.Asked.{Asked, answerOf, columnOf}
+use Rattle.ask_effort_tests.specs.declared.EffortReply.{EffortReply}
+use Rattle.ask_effort_tests.specs.Reply.{effortNumber, effortCarried}
+use Rattle.ask_effort.specs.Effort.{EffortAsked, effortReplyOf, effortColumnOf as effortColumn}
+use Rattle.ask_cluster.specs.declared.Expansion.{Expansion}
+use Rattle.ask_cluster.specs.Expansion.{expansionNumber, expansionCarried}
+use Rattle.ask_tile_table.specs.declared.Tally.{Tally}
+use Rattle.ask_tile_table.specs.Tally.{tallyNumber, tallyValue}
+use Rattle.ask_tile.specs.Asked.{TileOutcome}
 
 -- of a question that has no output column
 pub record Said : Type 0 where
@@ -35,12 +35,12 @@ pub record Told : Type 0 where
   pub carried : ℕ
   pub column : List ℕ
 
-abbrev pub told : ℕ → ℕ → List ℕ → Told
-told n k out = record { number = n; carried = k; column = out }
+abbrev pub toldC : ℕ → ℕ → List ℕ → Told
+toldC n k out = record { number = n; carried = k; column = out }
 
 -- what it comes to, with an output column of these old contents
 abbrev pub toldOf : Asked → List ℕ → Told
-toldOf a out = told (answerNumber (answerOf a (length out))) (answerCarried (answerOf a (length out))) (columnOf a out)
+toldOf a out = toldC (answerNumber (answerOf a (length out))) (answerCarried (answerOf a (length out))) (columnOf a out)
 
 -- of a box within an effort: carried is how many were found
 pub record EffortTold : Type 0 where
@@ -57,8 +57,8 @@ effortTold n k t b out = record { number = n; carried = k; tested = t; stopped =
 abbrev pub repliedWith : EffortReply → List ℕ → EffortTold
 repliedWith r out = effortTold (effortNumber r) (effortCarried r .items) (effortCarried r .tested) (effortCarried r .stopped) out
 
-abbrev pub effortToldOf : Sought → ℕ → List ℕ → EffortTold
-effortToldOf x a out = repliedWith (replyOf x a (length out)) (effortColumn x a out)
+abbrev pub effortToldOf : EffortAsked → ℕ → List ℕ → EffortTold
+effortToldOf x a out = repliedWith (effortReplyOf x a (length out)) (effortColumn x a out)
 
 -- of a tile
 pub record TileTold : Type 0 where
@@ -71,5 +71,5 @@ pub record TileTold : Type 0 where
 abbrev pub tileTold : ℕ → ℕ → List ℕ → List ℤ → List ℤ → TileTold
 tileTold n k places xs ys = record { number = n; carried = k; places = places; xs = xs; ys = ys }
 
-abbrev pub tileOf : Outcome → TileTold
+abbrev pub tileOf : TileOutcome → TileTold
 tileOf o = tileTold (answerNumber (o .answer)) (answerCarried (o .answer)) (o .places) (o .xs) (o .ys)

@@ -1,32 +1,32 @@
 // The public functions by C names, for Rust and C: numbers, slices, and arrays of 32. A slice is passed as a pointer and a length,
 // a `&mut usize` or a `&[u32; 32]` as a pointer.
-// Each answers 01's number of the reply, 0 where there is no refusal, and leaves what the reply carries in `carried`, 0 where it
+// Each answers SCOPE's number of the reply, 0 where there is no refusal, and leaves what the reply carries in `carried`, 0 where it
 // carries nothing. Proved: each tells what the public function promises, and writes nothing else. Assumed: nothing.
+use build_tables::Options;
+use build_tables::State;
 use kdslots::Query;
 use range::DataRange;
 use supercluster::Loaded;
-use tables::Options;
-use tables::State;
 ghost use mathlib.Core.Path.{_≡_};
 ghost use lib.ListN.{length};
-ghost use Rattle.kdbush.specs.Reply.{buildNumber, buildCarried, built, checked, searchNumber, searchCarried, searched, columnAfter};
+ghost use Rattle.kdbush.specs.Reply.{buildNumber, buildCarried, built, indexChecked, searchNumber, searchCarried, searched, columnAfter};
 ghost use Rattle.kdwalk.specs.Reply.{stepNumber, stepCarried, firstStep, afterStep};
-ghost use Rattle.exports.specs.Given.{given};
-ghost use Rattle.exports.specs.Told.{said, zoomSaid, tallySaid, told, toldOf, effortTold, effortToldOf, tileTold, tileOf};
+ghost use Rattle.exports.specs.Given.{givenOptions};
+ghost use Rattle.exports.specs.Told.{said, zoomSaid, tallySaid, toldC, toldOf, effortTold, effortToldOf, tileTold, tileOf};
 ghost use Rattle.exports.specs.Laid.{replied, repliedOf, laid, laidOf};
 ghost use Rattle.supercluster.specs.Build.{loaded};
 ghost use Rattle.supercluster.specs.Lent.{lentAll};
-ghost use Rattle.kdsort.specs.Cols.{cols};
-ghost use Rattle.tables.specs.State.{stateOf};
-ghost use Rattle.asking.specs.Lent.{lentColumns};
+ghost use Rattle.kdsort.specs.Cols.{indexCols};
+ghost use Rattle.build_tables.specs.State.{stateOf};
+ghost use Rattle.build_tables.specs.Lent.{lentColumns};
 ghost use Rattle.lent.specs.Lent.{old, new};
-ghost use Rattle.boxes.specs.Lists.{boxAsked, ringAsked};
-ghost use Rattle.efforts.specs.Effort.{effortAsked};
-ghost use Rattle.walks.specs.Children.{childrenOf};
-ghost use Rattle.walks.specs.Leaves.{leavesOf};
-ghost use Rattle.walks.specs.Expansion.{zoomOf};
-ghost use Rattle.tiles.specs.Asked.{tiled};
-ghost use Rattle.tiles.specs.Tallied.{tallied};
+ghost use Rattle.ask_box.specs.Lists.{boxAsked, ringAsked};
+ghost use Rattle.ask_effort.specs.Effort.{effortAsked};
+ghost use Rattle.ask_cluster.specs.Children.{childrenOf};
+ghost use Rattle.ask_cluster.specs.Leaves.{leavesOf};
+ghost use Rattle.ask_cluster.specs.Expansion.{zoomOf};
+ghost use Rattle.ask_tile.specs.Asked.{tiled};
+ghost use Rattle.ask_tile.specs.Tallied.{tallied};
 
 #[no_mangle]
 pub extern "C" fn kdbush_build(
@@ -37,9 +37,9 @@ pub extern "C" fn kdbush_build(
     coords: &mut [f64],
     carried: &mut usize,
 ) -> u32
-    ensures { λ r. ⌜ r ≡ buildNumber (checked «node_size» (old xs) (old ys) (cols (old ids) (old coords))) ⌝ }
-    ensures { λ _. ⌜ new carried ≡ buildCarried (checked «node_size» (old xs) (old ys) (cols (old ids) (old coords))) ⌝ }
-    ensures { λ _. ⌜ cols (new ids) (new coords) ≡ built «node_size» (old xs) (old ys) (cols (old ids) (old coords)) ⌝ }
+    ensures { λ r. ⌜ r ≡ buildNumber (indexChecked «node_size» (old xs) (old ys) (indexCols (old ids) (old coords))) ⌝ }
+    ensures { λ _. ⌜ new carried ≡ buildCarried (indexChecked «node_size» (old xs) (old ys) (indexCols (old ids) (old coords))) ⌝ }
+    ensures { λ _. ⌜ indexCols (new ids) (new coords) ≡ built «node_size» (old xs) (old ys) (indexCols (old ids) (old coords)) ⌝ }
 {
     let r = kdbush::build(node_size, xs, ys, ids, coords);
     *carried = r.carried();
@@ -213,7 +213,7 @@ fn options(
     longitude_strips_only: bool,
 ) -> Options
     ensures { λ r.
-        ⌜ r ≡ given «min_zoom» «max_zoom» «min_points» radius extent «node_size» cartesian «min_x» «min_y» «max_x» «max_y»
+        ⌜ r ≡ givenOptions «min_zoom» «max_zoom» «min_points» radius extent «node_size» cartesian «min_x» «min_y» «max_x» «max_y»
         «offset_given» offset «scale_given» scale «longitude_strips_only» ⌝ }
 {
     let range = DataRange {
@@ -221,10 +221,10 @@ fn options(
         min_y,
         max_x,
         max_y,
-        offset: tables::setting(offset_given, offset),
-        scale: tables::setting(scale_given, scale),
+        offset: build_tables::setting(offset_given, offset),
+        scale: build_tables::setting(scale_given, scale),
     };
-    let coordinate_system = tables::system(cartesian, range);
+    let coordinate_system = build_tables::system(cartesian, range);
     Options {
         min_zoom,
         max_zoom,
@@ -259,7 +259,8 @@ fn store(state: State, starts: &mut [u32; 32], lens: &mut [u32; 32])
     *lens = long;
 }
 
-// The reply of a build, as numbers: 01's number is the answer, the rest goes behind pointers. A refusal leaves the two arrays as they were.
+// The reply of a build, as numbers: SCOPE's number is the answer, the rest goes behind pointers. A refusal leaves the two arrays as they
+// were.
 fn tell(loaded: Loaded, starts: &mut [u32; 32], lens: &mut [u32; 32], carried: &mut usize) -> u32
     ensures { λ r. ⌜ replied r (new carried) (new starts) (new lens) ≡ repliedOf loaded (old starts) (old lens) ⌝ }
 {
@@ -309,7 +310,7 @@ pub extern "C" fn supercluster_load(
     carried: &mut usize,
 ) -> u32
     ensures { λ r.
-        let o = given «min_zoom» «max_zoom» «min_points» radius extent «node_size» cartesian «min_x» «min_y» «max_x» «max_y»
+        let o = givenOptions «min_zoom» «max_zoom» «min_points» radius extent «node_size» cartesian «min_x» «min_y» «max_x» «max_y»
         «offset_given» offset «scale_given» scale «longitude_strips_only» in
         let l = lentAll x y seen id parent num energy ids coords near in
         ⌜ laid (replied r (new carried) (new starts) (new lens)) (l .exit)
@@ -386,10 +387,10 @@ pub extern "C" fn supercluster_box(
     carried: &mut usize,
 ) -> u32
     ensures { λ r.
-        let o = given «min_zoom» «max_zoom» «min_points» radius extent «node_size» cartesian «min_x» «min_y» «max_x» «max_y»
+        let o = givenOptions «min_zoom» «max_zoom» «min_points» radius extent «node_size» cartesian «min_x» «min_y» «max_x» «max_y»
         «offset_given» offset «scale_given» scale «longitude_strips_only» in
         let s = stateOf o count (old starts) (old lens) in
-        ⌜ told r (new carried) (new out) ≡ toldOf (boxAsked s (old ids) (old coords) zoom west «least_y» east «greatest_y») (old out) ⌝ }
+        ⌜ toldC r (new carried) (new out) ≡ toldOf (boxAsked s (old ids) (old coords) zoom west «least_y» east «greatest_y») (old out) ⌝ }
 {
     let o = options(
         min_zoom,
@@ -410,7 +411,7 @@ pub extern "C" fn supercluster_box(
         longitude_strips_only,
     );
     let s = state(o, count, starts, lens);
-    let r = boxes::list_box(s, ids, coords, zoom, west, least_y, east, greatest_y, out);
+    let r = ask_box::list_box(s, ids, coords, zoom, west, least_y, east, greatest_y, out);
     *carried = r.carried();
     r.number()
 }
@@ -452,7 +453,7 @@ pub extern "C" fn supercluster_box_effort(
     carried: &mut usize,
 ) -> u32
     ensures { λ r.
-        let o = given «min_zoom» «max_zoom» «min_points» radius extent «node_size» cartesian «min_x» «min_y» «max_x» «max_y»
+        let o = givenOptions «min_zoom» «max_zoom» «min_points» radius extent «node_size» cartesian «min_x» «min_y» «max_x» «max_y»
         «offset_given» offset «scale_given» scale «longitude_strips_only» in
         let s = stateOf o count (old starts) (old lens) in
         ⌜ effortTold r (new carried) (new tested) (new stopped) (new out)
@@ -477,7 +478,7 @@ pub extern "C" fn supercluster_box_effort(
         longitude_strips_only,
     );
     let s = state(o, count, starts, lens);
-    let r = efforts::effort_box(
+    let r = ask_effort::effort_box(
         s,
         ids,
         coords,
@@ -528,10 +529,10 @@ pub extern "C" fn supercluster_ring(
     carried: &mut usize,
 ) -> u32
     ensures { λ r.
-        let o = given «min_zoom» «max_zoom» «min_points» radius extent «node_size» cartesian «min_x» «min_y» «max_x» «max_y»
+        let o = givenOptions «min_zoom» «max_zoom» «min_points» radius extent «node_size» cartesian «min_x» «min_y» «max_x» «max_y»
         «offset_given» offset «scale_given» scale «longitude_strips_only» in
         let s = stateOf o count (old starts) (old lens) in
-        ⌜ told r (new carried) (new out) ≡ toldOf (ringAsked s (old ids) (old coords) zoom «ring_x» «ring_y» «ring_radius») (old out) ⌝ }
+        ⌜ toldC r (new carried) (new out) ≡ toldOf (ringAsked s (old ids) (old coords) zoom «ring_x» «ring_y» «ring_radius») (old out) ⌝ }
 {
     let o = options(
         min_zoom,
@@ -552,7 +553,7 @@ pub extern "C" fn supercluster_ring(
         longitude_strips_only,
     );
     let s = state(o, count, starts, lens);
-    let r = boxes::list_ring(s, ids, coords, zoom, ring_x, ring_y, ring_radius, out);
+    let r = ask_box::list_ring(s, ids, coords, zoom, ring_x, ring_y, ring_radius, out);
     *carried = r.carried();
     r.number()
 }
@@ -593,11 +594,11 @@ pub extern "C" fn supercluster_children(
     carried: &mut usize,
 ) -> u32
     ensures { λ r.
-        let o = given «min_zoom» «max_zoom» «min_points» radius extent «node_size» cartesian «min_x» «min_y» «max_x» «max_y»
+        let o = givenOptions «min_zoom» «max_zoom» «min_points» radius extent «node_size» cartesian «min_x» «min_y» «max_x» «max_y»
         «offset_given» offset «scale_given» scale «longitude_strips_only» in
         let s = stateOf o count (old starts) (old lens) in
         let c = lentColumns x y seen id parent num energy ids coords in
-        ⌜ told r (new carried) (new out) ≡ toldOf (childrenOf s c cid) (old out) ⌝ }
+        ⌜ toldC r (new carried) (new out) ≡ toldOf (childrenOf s c cid) (old out) ⌝ }
 {
     let o = options(
         min_zoom,
@@ -618,7 +619,7 @@ pub extern "C" fn supercluster_children(
         longitude_strips_only,
     );
     let s = state(o, count, starts, lens);
-    let r = walks::children(
+    let r = ask_cluster::children(
         s,
         x,
         y,
@@ -674,11 +675,11 @@ pub extern "C" fn supercluster_leaves(
     carried: &mut usize,
 ) -> u32
     ensures { λ r.
-        let o = given «min_zoom» «max_zoom» «min_points» radius extent «node_size» cartesian «min_x» «min_y» «max_x» «max_y»
+        let o = givenOptions «min_zoom» «max_zoom» «min_points» radius extent «node_size» cartesian «min_x» «min_y» «max_x» «max_y»
         «offset_given» offset «scale_given» scale «longitude_strips_only» in
         let s = stateOf o count (old starts) (old lens) in
         let c = lentColumns x y seen id parent num energy ids coords in
-        ⌜ told r (new carried) (new out) ≡ toldOf (leavesOf s c cid limit skip) (old out) ⌝ }
+        ⌜ toldC r (new carried) (new out) ≡ toldOf (leavesOf s c cid limit skip) (old out) ⌝ }
 {
     let o = options(
         min_zoom,
@@ -699,7 +700,7 @@ pub extern "C" fn supercluster_leaves(
         longitude_strips_only,
     );
     let s = state(o, count, starts, lens);
-    let r = walks::leaves(
+    let r = ask_cluster::leaves(
         s,
         x,
         y,
@@ -754,7 +755,7 @@ pub extern "C" fn supercluster_expansion_zoom(
     carried: &mut usize,
 ) -> u32
     ensures { λ r.
-        let o = given «min_zoom» «max_zoom» «min_points» radius extent «node_size» cartesian «min_x» «min_y» «max_x» «max_y»
+        let o = givenOptions «min_zoom» «max_zoom» «min_points» radius extent «node_size» cartesian «min_x» «min_y» «max_x» «max_y»
         «offset_given» offset «scale_given» scale «longitude_strips_only» in
         let s = stateOf o count (old starts) (old lens) in
         let c = lentColumns x y seen id parent num energy ids coords in
@@ -779,7 +780,7 @@ pub extern "C" fn supercluster_expansion_zoom(
         longitude_strips_only,
     );
     let s = state(o, count, starts, lens);
-    let r = walks::expansion_zoom(s, x, y, seen, id, parent, num, energy, ids, coords, cid);
+    let r = ask_cluster::expansion_zoom(s, x, y, seen, id, parent, num, energy, ids, coords, cid);
     *carried = r.carried() as usize;
     r.number()
 }
@@ -824,7 +825,7 @@ pub extern "C" fn supercluster_tile(
     carried: &mut usize,
 ) -> u32
     ensures { λ r.
-        let o = given «min_zoom» «max_zoom» «min_points» radius extent «node_size» cartesian «min_x» «min_y» «max_x» «max_y»
+        let o = givenOptions «min_zoom» «max_zoom» «min_points» radius extent «node_size» cartesian «min_x» «min_y» «max_x» «max_y»
         «offset_given» offset «scale_given» scale «longitude_strips_only» in
         let s = stateOf o count (old starts) (old lens) in
         let c = lentColumns x y seen id parent num energy ids coords in
@@ -849,7 +850,7 @@ pub extern "C" fn supercluster_tile(
         scale,
         longitude_strips_only,
     );
-    let r = tiles::tile_lent(
+    let r = ask_tile::tile_lent(
         o,
         count,
         starts,
@@ -911,7 +912,7 @@ pub extern "C" fn supercluster_tally(
     carried: &mut usize,
 ) -> u32
     ensures { λ r.
-        let o = given «min_zoom» «max_zoom» «min_points» radius extent «node_size» cartesian «min_x» «min_y» «max_x» «max_y»
+        let o = givenOptions «min_zoom» «max_zoom» «min_points» radius extent «node_size» cartesian «min_x» «min_y» «max_x» «max_y»
         «offset_given» offset «scale_given» scale «longitude_strips_only» in
         let s = stateOf o count (old starts) (old lens) in
         let c = lentColumns x y seen id parent num energy ids coords in
@@ -935,7 +936,7 @@ pub extern "C" fn supercluster_tally(
         scale,
         longitude_strips_only,
     );
-    let r = tiles::tally_lent(
+    let r = ask_tile::tally_lent(
         o,
         count,
         starts,

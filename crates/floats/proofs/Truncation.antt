@@ -16,14 +16,14 @@ use lib.Ieee.Exact.{HasValue}
 use lib.Ieee.Order.{transfer, le-of-values}
 use lib.Ieee.Nearest.{div-mono}
 use lib.Ieee.Scale.{finite, round-same}
-use Rattle.floats.specs.Fraction.{le→cross, cross→le}
-use Rattle.floats.specs.Order.{lt-not-le, between-finite}
-use Rattle.floats.specs.Rounding.{round-zero}
-use Rattle.floats.specs.Signs.{nonneg-mins}
+use Rattle.floats.specs.laws.Fraction.{le→cross, cross→le}
+use Rattle.floats.specs.laws.Order.{lt-not-le, between-finite}
+use Rattle.floats.specs.laws.Rounding.{round-zero}
+use Rattle.floats.specs.laws.Signs.{nonneg-mins}
 use Rattle.floats.specs.Numbers.{zero as fzero, half, pow48}
 use Rattle.floats.specs.Away.{awayN, away}
-use Rattle.floats.specs.Whole.{ofInt-value}
-use Rattle.floats.specs.Exact.{held, unit-exact}
+use Rattle.floats.specs.laws.Whole.{ofInt-value}
+use Rattle.floats.specs.laws.Exact.{held, unit-exact}
 
 -- ---- on numbers: with q * d + r for the size, the rule turns on twice the remainder
 up-case : (q r d : ℕ) → r < d → d ≤ r * 2 → (2 * (q * d + r) + d) / (2 * d) ≡ q + 1

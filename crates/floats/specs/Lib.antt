@@ -1,24 +1,14 @@
--- Definitions that contracts cite: Numbers, Unit, Powers, Away, Distance (its first). All else is laws, in the order in which they rest
--- on each other.
+-- The definitions of floats, a line a module; what is true of them is in laws. Written by tools/modules.
+
+-- Numbers: the floats that the laws and the code name: each definition once.
 pub mod Numbers
+-- Fraction: what a finite float has above 0: the number over its denominator.
 pub mod Fraction
-pub mod Order
-pub mod NotAbove
-pub mod Rounding
-pub mod Operations
-pub mod Signs
-pub mod Monotone
-pub mod Whole
-pub mod Exact
-pub mod Infinities
-pub mod Edges
+-- Unit: the test `in01` that code runs: whether a float lies from 0 to 1.
 pub mod Unit
-pub mod Centre
-pub mod Table
-pub mod Powers
-pub mod Radius
+-- Away: a float to the nearest whole number, halves away from zero, by its exact value: what Rust's `.round()` answers.
 pub mod Away
-pub mod Tile
+-- Distance: the squared distance that a search tests against radius * radius, each operation rounded.
 pub mod Distance
-pub mod Skip
-pub mod Replies
+-- What is true of these: laws, and what contracts below the surface of floats cite beside them.
+pub mod laws

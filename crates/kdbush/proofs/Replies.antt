@@ -11,7 +11,7 @@ use lib.ListN.{length, getD, drop}
 use lib.Seq.{drop-cons}
 use lib.Ieee.{Float, nan}
 use Rattle.floats.specs.Unit.{in01}
-use Rattle.kdsort.specs.Cols.{Cols}
+use Rattle.kdsort.specs.Cols.{IndexCols}
 use Rattle.kdsort.specs.Sort.{indexed}
 use Rattle.kdslots.specs.declared.Query.{Query}
 use Rattle.kdbush.specs.declared.Found.the-variants.{All, Spoiled as Came·Spoiled}
@@ -22,9 +22,11 @@ use Rattle.kdbush.specs.declared.SearchReply.the-variants.{Found, Box, N
 use Rattle.kdbush.specs.declared.Outside.{Outside}
 use Rattle.kdbush.specs.declared.Outside.the-variants.{At, Nothing}
 use Rattle.kdslots.specs.Query.{queryOk}
-use Rattle.kdslots.specs.Bounds.{nodeSizeOk, countOk, yes, no}
-use Rattle.kdbush.specs.Run.{ran, run, pickReply, sound, whole, filled}
-use Rattle.kdbush.specs.Reply.{firstOutside, pointed, checked, builtBy, built, found, told, indexOk, listed, listedColumn, searched}
+use Rattle.kdslots.specs.Bounds.{nodeSizeOk, countOk}
+use Rattle.kdslots.specs.laws.Bounds.{yes, no}
+use Rattle.kdbush.specs.laws.Run.{ran, run, pickReply}
+use Rattle.kdbush.specs.Run.{sound, whole, filled}
+use Rattle.kdbush.specs.Reply.{firstOutside, indexPointed, indexChecked, builtBy, built, found, toldSearch, indexOk, listed, listedColumn, searched}
 use Rattle.kdbush.specs.Reply.{columnAfter}
 use Rattle.kdbush.proofs.Runs.{ends}
 
@@ -37,9 +39,9 @@ module _ (q : Query) (size n : ℕ) (ids : List ℕ) (co : List Float) (out : Li
   search-spoiled e = (sym (no _ _ _ e), sym (no _ _ _ e))
 
   module _ (e : indexOk size n ids co ≡ true) where
-    listed-told : (b : Bool) → whole n (found q size n ids co) ≡ b → listed q size n ids co (length out) ≡ told b (length (found q size n ids co)) (length out)
+    listed-told : (b : Bool) → whole n (found q size n ids co) ≡ b → listed q size n ids co (length out) ≡ toldSearch b (length (found q size n ids co)) (length out)
     unfolding listed
-    listed-told b g = yes _ _ _ e ∙ ap (λ (x : Bool). told x (length (found q size n ids co)) (length out)) g
+    listed-told b g = yes _ _ _ e ∙ ap (λ (x : Bool). toldSearch x (length (found q size n ids co)) (length out)) g
 
     column-is : listedColumn q size n ids co out ≡ filled (sound n (found q size n ids co)) out
     unfolding listedColumn
@@ -114,34 +116,34 @@ pub outside-here : (xs ys : List Float) (i : ℕ) → i < length xs → i < leng
 unfolding firstOutside
 outside-here xs ys i h k e = rw (drop-cons xs i nan h, drop-cons ys i nan k, e, firstOutside)
 
-module _ (size : ℕ) (xs ys : List Float) (s : Cols) where
-  leaves : (r : BuildReply) → checked size xs ys s ≡ r → builtBy r size xs ys s ≡ built size xs ys s
+module _ (size : ℕ) (xs ys : List Float) (s : IndexCols) where
+  leaves : (r : BuildReply) → indexChecked size xs ys s ≡ r → builtBy r size xs ys s ≡ built size xs ys s
   leaves r e = ap (λ (x : BuildReply). builtBy x size xs ys s) (sym e)
 
-  pub build-options : nodeSizeOk size ≡ false → (Options ≡ checked size xs ys s) × (s ≡ built size xs ys s)
-  unfolding checked
-  build-options e = let c : checked size xs ys s ≡ Options = no _ _ _ e in (sym c, leaves Options c)
+  pub build-options : nodeSizeOk size ≡ false → (Options ≡ indexChecked size xs ys s) × (s ≡ built size xs ys s)
+  unfolding indexChecked
+  build-options e = let c : indexChecked size xs ys s ≡ Options = no _ _ _ e in (sym c, leaves Options c)
 
-  pub build-count : nodeSizeOk size ≡ true → (countOk (length xs) && eqb (length ys) (length xs)) ≡ false → (Count ≡ checked size xs ys s) × (s ≡ built size xs ys s)
-  unfolding checked
-  build-count e f = let c : checked size xs ys s ≡ Count = yes _ _ _ e ∙ no _ _ _ f in (sym c, leaves Count c)
+  pub build-count : nodeSizeOk size ≡ true → (countOk (length xs) && eqb (length ys) (length xs)) ≡ false → (Count ≡ indexChecked size xs ys s) × (s ≡ built size xs ys s)
+  unfolding indexChecked
+  build-count e f = let c : indexChecked size xs ys s ≡ Count = yes _ _ _ e ∙ no _ _ _ f in (sym c, leaves Count c)
 
   module _ (e : nodeSizeOk size ≡ true) (f : (countOk (length xs) && eqb (length ys) (length xs)) ≡ true) where
-    past-count : checked size xs ys s ≡ pointed (firstOutside xs ys 0) (cond (leb (length xs) (length (s .ids)) && leb (2 * length xs) (length (s .co))) Build·Done Tables)
-    unfolding checked
+    past-count : indexChecked size xs ys s ≡ indexPointed (firstOutside xs ys 0) (cond (leb (length xs) (length (s .ids)) && leb (2 * length xs) (length (s .co))) Build·Done Tables)
+    unfolding indexChecked
     past-count = yes _ _ _ e ∙ yes _ _ _ f
 
-    pub build-point : (i : ℕ) → At i ≡ firstOutside xs ys 0 → (Point i ≡ checked size xs ys s) × (s ≡ built size xs ys s)
+    pub build-point : (i : ℕ) → At i ≡ firstOutside xs ys 0 → (Point i ≡ indexChecked size xs ys s) × (s ≡ built size xs ys s)
     build-point i g =
-        let c : checked size xs ys s ≡ Point i = past-count ∙ ap (λ (x : Outside). pointed x (cond (leb (length xs) (length (s .ids)) && leb (2 * length xs) (length (s .co))) Build·Done Tables)) (sym g) in
+        let c : indexChecked size xs ys s ≡ Point i = past-count ∙ ap (λ (x : Outside). indexPointed x (cond (leb (length xs) (length (s .ids)) && leb (2 * length xs) (length (s .co))) Build·Done Tables)) (sym g) in
         (sym c, leaves (Point i) c)
 
-    past-points : Nothing ≡ firstOutside xs ys 0 → checked size xs ys s ≡ cond (leb (length xs) (length (s .ids)) && leb (2 * length xs) (length (s .co))) Build·Done Tables
-    past-points g = past-count ∙ ap (λ (x : Outside). pointed x (cond (leb (length xs) (length (s .ids)) && leb (2 * length xs) (length (s .co))) Build·Done Tables)) (sym g)
+    past-points : Nothing ≡ firstOutside xs ys 0 → indexChecked size xs ys s ≡ cond (leb (length xs) (length (s .ids)) && leb (2 * length xs) (length (s .co))) Build·Done Tables
+    past-points g = past-count ∙ ap (λ (x : Outside). indexPointed x (cond (leb (length xs) (length (s .ids)) && leb (2 * length xs) (length (s .co))) Build·Done Tables)) (sym g)
 
-    pub build-tables : Nothing ≡ firstOutside xs ys 0 → (leb (length xs) (length (s .ids)) && leb (2 * length xs) (length (s .co))) ≡ false → (Tables ≡ checked size xs ys s) × (s ≡ built size xs ys s)
-    build-tables g h = let c : checked size xs ys s ≡ Tables = past-points g ∙ no _ _ _ h in (sym c, leaves Tables c)
+    pub build-tables : Nothing ≡ firstOutside xs ys 0 → (leb (length xs) (length (s .ids)) && leb (2 * length xs) (length (s .co))) ≡ false → (Tables ≡ indexChecked size xs ys s) × (s ≡ built size xs ys s)
+    build-tables g h = let c : indexChecked size xs ys s ≡ Tables = past-points g ∙ no _ _ _ h in (sym c, leaves Tables c)
 
     pub build-done : Nothing ≡ firstOutside xs ys 0 → (leb (length xs) (length (s .ids)) && leb (2 * length xs) (length (s .co))) ≡ true
-        → (Build·Done ≡ checked size xs ys s) × (indexed size xs ys s ≡ built size xs ys s)
-    build-done g h = let c : checked size xs ys s ≡ Build·Done = past-points g ∙ yes _ _ _ h in (sym c, leaves Build·Done c)
+        → (Build·Done ≡ indexChecked size xs ys s) × (indexed size xs ys s ≡ built size xs ys s)
+    build-done g h = let c : indexChecked size xs ys s ≡ Build·Done = past-points g ∙ yes _ _ _ h in (sym c, leaves Build·Done c)

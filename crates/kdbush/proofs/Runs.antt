@@ -11,11 +11,13 @@ use lib.Seq.{set-out}
 use borrow.Author.Tests.{le-ltb, lt-ltb}
 use Rattle.kdbush.specs.declared.Found.{Found}
 use Rattle.kdbush.specs.declared.Found.the-variants.{All, Spoiled}
-use Rattle.kdsort.specs.Shape.{shape, mid, spans}
+use Rattle.kdsort.specs.Shape.{shape, mid}
+use Rattle.kdsort.specs.laws.Shape.{spans}
 use Rattle.kdslots.specs.Slots.{Search, when, scanned, slots}
-use Rattle.kdslots.specs.Intervals.{below}
-use Rattle.kdslots.specs.Intervals.{scanned-suc, slots-leaf, slots-node, when-length, slots-length}
-use Rattle.kdbush.specs.Run.{Ran, ran, run, run-append, places, places-length, reply, sound, filled, run-filled}
+use Rattle.kdslots.specs.laws.Intervals.{below}
+use Rattle.kdslots.specs.laws.Intervals.{scanned-suc, slots-leaf, slots-node, when-length, slots-length}
+use Rattle.kdbush.specs.laws.Run.{Ran, ran, run, run-append, places-length, reply, run-filled}
+use Rattle.kdbush.specs.Run.{places, sound, filled}
 
 -- ---- one slot
 

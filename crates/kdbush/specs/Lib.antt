@@ -1,8 +1,9 @@
--- Definitions that contracts cite: Run (its first), Reply; in the crates above also Promise's `Promised`. All else is laws and theorems
--- about them.
+-- The definitions of kdbush, a line a module; what is true of them is in laws. Written by tools/modules.
+
+-- Run: what a search leaves: the places that are sound, and the column, 'first items, then old contents'.
 pub mod Run
+-- Reply: the replies of the public functions and what they leave in the lent columns, for every input: SCOPE's refusals in its order, and
+-- otherwise the answer.
 pub mod Reply
-pub mod Built
-pub mod Promise
-pub mod Indexed
-pub mod Replies
+-- What is true of these: laws, and what contracts below the surface of kdbush cite beside them.
+pub mod laws

@@ -1,19 +1,20 @@
 // The index: a static KD-tree over points, in two lent columns. It is built, and searched by a box (`range`) or a circle (`within`).
-// The names are the Rust's kdbush.rs. Nothing is asked of the caller: what 01 does not take is refused with its number.
+// The names are the Rust's kdbush.rs. Nothing is asked of the caller: what SCOPE does not take is refused with its number.
 use kdslots::Query;
 ghost use mathlib.Core.Path.{_≡_};
 ghost use mathlib.Core.List.{[], _∷_};
 ghost use Prim.Native.Nat.{_+_, _-_, _*_, _^_, _≤_, _<_};
 ghost use lib.ListN.{length};
 ghost use Rattle.lent.specs.Lent.{old, new};
-ghost use Rattle.kdsort.specs.Cols.{cols};
+ghost use Rattle.kdsort.specs.Cols.{indexCols};
 ghost use Rattle.kdsort.specs.Shape.{shape};
 ghost use Rattle.kdslots.specs.Slots.{over, when, scanned, slots};
-ghost use Rattle.kdbush.specs.Run.{ran, run, places};
+ghost use Rattle.kdbush.specs.laws.Run.{ran, run};
+ghost use Rattle.kdbush.specs.Run.{places};
 ghost use Rattle.kdbush.specs.Reply.{buildNumber, buildCarried, searchNumber, searchCarried};
-ghost use Rattle.kdbush.specs.Reply.{firstOutside, checked, built, listed, listedColumn, searched, columnAfter};
+ghost use Rattle.kdbush.specs.Reply.{firstOutside, indexChecked, built, listed, listedColumn, searched, columnAfter};
 
-// The reply of a build, in 01's words: done, or a refusal. `Point` carries the first point outside [0,1].
+// The reply of a build, in SCOPE's words: done, or a refusal. `Point` carries the first point outside [0,1].
 pub enum BuildReply {
     Done,
     Options,
@@ -23,7 +24,7 @@ pub enum BuildReply {
 }
 
 impl BuildReply {
-    // 01's number of the reply: 0 where nothing is refused.
+    // SCOPE's number of the reply: 0 where nothing is refused.
     pub fn number(self) -> u32
         ensures { λ r. ⌜ r ≡ buildNumber self ⌝ }
     {
@@ -59,7 +60,7 @@ pub enum SearchReply {
 }
 
 impl SearchReply {
-    // 01's number of the reply: 0 where nothing is refused.
+    // SCOPE's number of the reply: 0 where nothing is refused.
     pub fn number(self) -> u32
         ensures { λ r. ⌜ r ≡ searchNumber self ⌝ }
     {
@@ -220,8 +221,8 @@ pub fn build(
     ids: &mut [u32],
     coords: &mut [f64],
 ) -> BuildReply
-    ensures { λ r. ⌜ r ≡ checked «node_size» (old xs) (old ys) (cols (old ids) (old coords)) ⌝ }
-    ensures { λ _. ⌜ cols (new ids) (new coords) ≡ built «node_size» (old xs) (old ys) (cols (old ids) (old coords)) ⌝ }
+    ensures { λ r. ⌜ r ≡ indexChecked «node_size» (old xs) (old ys) (indexCols (old ids) (old coords)) ⌝ }
+    ensures { λ _. ⌜ indexCols (new ids) (new coords) ≡ built «node_size» (old xs) (old ys) (indexCols (old ids) (old coords)) ⌝ }
 {
     if !kdslots::node_size_ok(node_size) {
         return BuildReply::Options;
@@ -247,7 +248,7 @@ pub fn build(
 }
 
 // Writes the places that a query answers over any lent index of n slots: first items, then old contents. No number of the query is
-// refused, so it never gives 9. Not part of the public surface, but for `boxes`: a box that is given in finite numbers may be normalised
+// refused, so it never gives 9. Not part of the public surface, but for `ask_box`: a box that is given in finite numbers may be normalised
 // to infinite ones, and is searched all the same.
 pub fn search(
     q: Query,

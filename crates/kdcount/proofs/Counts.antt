@@ -7,9 +7,10 @@ use native.Mathlib.Nat.{le-refl}
 use native.Mathlib.Omega.{arith}
 use mir.Val.{boolByte}
 use lib.ListN.{length, length-append}
-use Rattle.kdsort.specs.Shape.{shape, mid, spans}
+use Rattle.kdsort.specs.Shape.{shape, mid}
+use Rattle.kdsort.specs.laws.Shape.{spans}
 use Rattle.kdslots.specs.Slots.{Search, when, scanned, slots}
-use Rattle.kdslots.specs.Intervals.{scanned-suc, slots-leaf, slots-node, when-length, slots-length}
+use Rattle.kdslots.specs.laws.Intervals.{scanned-suc, slots-leaf, slots-node, when-length, slots-length}
 
 -- one slot counts one or nothing
 one : (b : Bool) (i : ℕ) → length (when b (i ∷ [])) ≡ boolByte b

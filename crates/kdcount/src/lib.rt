@@ -1,5 +1,5 @@
 // How many slots an index answers a query with, and no list of them: for the notes of a zoom, which go on by that number. Below the
-// public surface: a function may ask something of its caller. `counting` counts the same by the public cursor.
+// public surface: a function may ask something of its caller. `kdwalk_count` counts the same by the public cursor.
 use kdslots::Query;
 ghost use mathlib.Core.Path.{_≡_};
 ghost use Prim.Native.Nat.{_-_, _*_, _≤_, _<_};

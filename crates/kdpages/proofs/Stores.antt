@@ -11,9 +11,9 @@ use lib.ListN.{length, set, take, length-set}
 use lib.Seq.{take-suc-set, append-snoc}
 use Rattle.kdsort.specs.Shape.{shape, mid}
 use Rattle.kdslots.specs.Slots.{Search, when, scanned, slots}
-use Rattle.kdslots.specs.Intervals.{below}
+use Rattle.kdslots.specs.laws.Intervals.{below}
 use Rattle.kdpages.specs.Pages.{Stored, stored, store}
-use Rattle.kdslots.specs.Intervals.{scanned-suc, slots-leaf, slots-node}
+use Rattle.kdslots.specs.laws.Intervals.{scanned-suc, slots-leaf, slots-node}
 
 -- ---- one slot, and one list after another
 

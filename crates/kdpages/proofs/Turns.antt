@@ -17,7 +17,8 @@ use Rattle.kdpages.specs.declared.Onward.the-variants.{Start, After, Not
 use Rattle.kdpages.specs.declared.Pages.{Pages}
 use Rattle.kdpages.specs.declared.Turned.{Turned}
 use Rattle.kdslots.specs.Query.{queryOk}
-use Rattle.kdslots.specs.Bounds.{coordsOk, both-true, second-false}
+use Rattle.kdslots.specs.Bounds.{coordsOk}
+use Rattle.kdslots.specs.laws.Bounds.{both-true, second-false}
 use Rattle.kdwalk.specs.Reply.{nextStep, walk, walkAfter, firstStep, afterStep}
 use Rattle.kdslots.specs.Slots.{answers}
 use Rattle.kdwalk.specs.Cursor.{restOf}

@@ -18,7 +18,8 @@ use lib.Dec.{ltb, eqb}
 use lib.Ieee.{Float}
 use lib.ListN.{length, set, take, drop}
 use lib.Seq.{append-snoc}
-use Rattle.kdsort.specs.Shape.{Shape, node, shape, Spans, all, both, spans}
+use Rattle.kdsort.specs.Shape.{Shape, node, shape}
+use Rattle.kdsort.specs.laws.Shape.{Spans, all, both, spans}
 use Rattle.kdslots.specs.declared.Query.{Query}
 use Rattle.kdwalk.specs.declared.Step.{Step}
 use Rattle.kdwalk.specs.declared.Step.the-variants.{Slot, Done, Box, Spoiled}
@@ -27,13 +28,13 @@ use Rattle.kdpages.specs.declared.Onward.the-variants.{Start, After, Not
 use Rattle.kdpages.specs.declared.Pages.{Pages}
 use Rattle.kdpages.specs.declared.Turned.{Turned}
 use Rattle.kdslots.specs.Query.{queryOk}
-use Rattle.kdslots.specs.All.{All, AllBelow}
+use Rattle.kdslots.specs.laws.All.{All, AllBelow}
 use Rattle.kdslots.specs.Slots.{Search, when, scanned, slots, over}
 use Rattle.kdwalk.specs.Cursor.{rest, restOf}
 use Rattle.kdslots.specs.Bounds.{coordsOk}
 use Rattle.kdwalk.specs.Reply.{nextStep, walk, walkAfter}
-use Rattle.kdslots.specs.Members.{split, no-nil, when-all}
-use Rattle.kdwalk.specs.Walk.{rest-follows, scanned-rest, walk-follows, goes}
+use Rattle.kdslots.specs.laws.Members.{split, no-nil, when-all}
+use Rattle.kdwalk.specs.laws.Walk.{rest-follows, scanned-rest, walk-follows, goes}
 
 -- ---- what is ahead
 

@@ -3,7 +3,7 @@
 use mathlib.Core.Path.{_≡_}
 use mathlib.Core.List.{List}
 use Prim.Native.Nat.{ℕ}
-use Rattle.floats.specs.Replies.{same-reply}
+use Rattle.floats.specs.laws.Replies.{same-reply}
 use Rattle.kdwalk.specs.declared.Step.{Step}
 use Rattle.kdwalk.specs.declared.Step.the-variants.{Done}
 use Rattle.kdwalk.specs.Reply.{nextStep}

@@ -10,7 +10,7 @@ ghost use lib.ListN.{length};
 ghost use Rattle.lent.specs.Lent.{old, new};
 ghost use Rattle.kdsort.specs.Shape.{shape};
 ghost use Rattle.kdslots.specs.Slots.{over, when, scanned, slots};
-ghost use Rattle.kdslots.specs.Intervals.{below};
+ghost use Rattle.kdslots.specs.laws.Intervals.{below};
 ghost use Rattle.kdwalk.specs.Cursor.{rest};
 ghost use Rattle.kdwalk.specs.Reply.{nextStep};
 ghost use Rattle.kdpages.specs.Pages.{begun, onwardOf, aheadOf, tailOf, steppedOf, loneOf, stored, store};

@@ -10,9 +10,9 @@ use Rattle.kdsort.specs.Shape.{shape, mid}
 use Rattle.kdslots.specs.declared.Query.{Query}
 use Rattle.kdslots.specs.Query.{goesLeft, goesRight}
 use Rattle.kdslots.specs.Slots.{Search, slots, over}
-use Rattle.kdslots.specs.Bounds.{both-true}
-use Rattle.kdslots.specs.Reaches.{on-axis, median-reached}
-use Rattle.kdslots.specs.Intervals.{slots-node}
+use Rattle.kdslots.specs.laws.Bounds.{both-true}
+use Rattle.kdslots.specs.laws.Reaches.{on-axis, median-reached}
+use Rattle.kdslots.specs.laws.Intervals.{slots-node}
 
 and-no-more : (l : List ℕ) → l ++ [] ≡ l
 and-no-more [] = refl

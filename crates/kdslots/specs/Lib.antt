@@ -1,14 +1,14 @@
--- Definitions that contracts cite: Query, Slots, Bounds (its first); in the crates above also All (its first two). All else is laws and
--- theorems about them.
+-- The definitions of kdslots, a line a module; what is true of them is in laws. Written by tools/modules.
+
+-- Query: the tests of a search on the two coordinates of a slot, and of the coordinate at which an interval is split, one rounding an
+-- operation, and SCOPE's bounds of a query.
 pub mod Query
+-- Slots: the slots that a search answers, in the order in which it answers them: of an interval that is split the median if it passes, then
+-- the right part, then the left; an unsplit interval slot by slot.
 pub mod Slots
+-- Bounds: the bounds of a node size, a count and an index.
 pub mod Bounds
-pub mod Intervals
-pub mod All
-pub mod Members
-pub mod Sound
+-- Keep: the places of a list that pass a test, in the list's order.
 pub mod Keep
-pub mod Order
-pub mod Reaches
-pub mod Complete
-pub mod Corner
+-- What is true of these: laws, and what contracts below the surface of kdslots cite beside them.
+pub mod laws

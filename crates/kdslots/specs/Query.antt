@@ -1,5 +1,5 @@
 -- The tests of a search on the two coordinates of a slot, and of the coordinate at which an interval is split, one rounding an operation,
--- and 01's bounds of a query. Definitions only.
+-- and SCOPE's bounds of a query. Definitions only.
 use mathlib.Core.Bool.{Bool, _&&_, not, cond}
 use Prim.Native.Nat.{ℕ}
 use lib.Dec.{eqb}
@@ -34,7 +34,7 @@ abbrev pub goesRight : Query → ℕ → Float → Bool
 goesRight (Range a b c d) ax v = le v (onAxis ax c d)
 goesRight (Within qx qy r) ax v = not (lt (onAxis ax qx qy) v && tooFar v (onAxis ax qx qy) r)
 
--- 01's bounds of a query: its numbers are finite, and a radius is not negative
+-- SCOPE's bounds of a query: its numbers are finite, and a radius is not negative
 abbrev pub queryOk : Query → Bool
 queryOk (Range a b c d) = (finite a && finite b) && (finite c && finite d)
 queryOk (Within qx qy r) = (finite qx && finite qy) && (finite r && le zero r)

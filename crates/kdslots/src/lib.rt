@@ -1,4 +1,4 @@
-// What is asked of an index, and what is tested at a slot of it: the tests of a search, the interval that a search begins with, and 01's
+// What is asked of an index, and what is tested at a slot of it: the tests of a search, the interval that a search begins with, and SCOPE's
 // bounds of an index and of a query. Below `kdbush` and `kdwalk`, which search by them: a function may ask something of its caller.
 ghost use mathlib.Core.Path.{_≡_};
 ghost use Prim.Native.Nat.{_+_, _*_, _≤_, _<_};
@@ -176,7 +176,7 @@ pub fn coords_ok(node_size: usize, n: usize, coords: usize) -> bool
     2 * n <= coords
 }
 
-// Whether a query is one that 01 takes.
+// Whether a query is one that SCOPE takes.
 pub fn query_ok(q: Query) -> bool
     ensures { λ r. ⌜ r ≡ queryOk q ⌝ }
 {

@@ -6,16 +6,16 @@ use lib.ListN.{getD, set, replicate}
 use lib.Ieee.{Float, nan}
 
 -- the two lent columns
-pub record Cols : Type 0 where
+pub record IndexCols : Type 0 where
   pub ids : List ℕ
   pub co : List Float
 
-abbrev pub cols : List ℕ → List Float → Cols
-cols l c = record { ids = l; co = c }
+abbrev pub indexCols : List ℕ → List Float → IndexCols
+indexCols l c = record { ids = l; co = c }
 
 -- columns that hold n slots and nothing yet
-abbrev pub blank : ℕ → Cols
-blank n = cols (replicate n 0) (replicate (2 * n) nan)
+abbrev pub blank : ℕ → IndexCols
+blank n = indexCols (replicate n 0) (replicate (2 * n) nan)
 
 -- the coordinate of the slot p on the axis a
 abbrev pub key : ℕ → List Float → ℕ → Float
@@ -32,5 +32,5 @@ unfoldable pub swapCo : List Float → ℕ → ℕ → List Float
 swapCo c i j = swap nan (swap nan c (2 * i) (2 * j)) (2 * i + 1) (2 * j + 1)
 
 -- the slots i and j exchanged: the id and both coordinates
-abbrev pub swapItem : Cols → ℕ → ℕ → Cols
-swapItem s i j = cols (swapIds (s .ids) i j) (swapCo (s .co) i j)
+abbrev pub swapItem : IndexCols → ℕ → ℕ → IndexCols
+swapItem s i j = indexCols (swapIds (s .ids) i j) (swapCo (s .co) i j)

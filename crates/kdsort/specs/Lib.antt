@@ -1,18 +1,19 @@
--- Definitions that contracts cite: Cols, Room, Shape (its first), Select, Sort, Tree, and what Passes and Batches define; Worked is an
--- example of them. All else is laws about them, in the order in which they rest on each other.
+-- The definitions of kdsort, a line a module; what is true of them is in laws. Written by tools/modules.
+
+-- Cols: the index's two columns, and the exchange of two slots.
 pub mod Cols
+-- Room: what the steps of the build ask of their caller: the slots lie within the columns, and there is a coordinate of each axis for a
+-- slot.
 pub mod Room
+-- Shape: how an interval of slots is split, whatever the slots hold: at its middle, until at most `most` slots are left.
 pub mod Shape
+-- Select: the selection as the Rust's `select` makes it, without the block for more than 600 slots: the two scans, the passes of a
+-- partition, and the partition again on the side of k.
 pub mod Select
+-- Sort: the build of the index: the slots filled from the points, then sorted by the shape, axis x first, then alternating.
 pub mod Sort
-pub mod Worked
+-- Tree: what is said of a built index: its slots are those that it was built from, each with its id and its two coordinates, and they are
+-- in the order of the tree.
 pub mod Tree
-pub mod Swaps
-pub mod Perms
-pub mod Scans
-pub mod Passes
-pub mod Batches
-pub mod Cuts
-pub mod Selects
-pub mod Trees
-pub mod Indexes
+-- What is true of these: laws, and what contracts below the surface of kdsort cite beside them.
+pub mod laws

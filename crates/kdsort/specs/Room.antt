@@ -2,10 +2,10 @@
 -- Definitions only.
 use Prim.Native.Nat.{ℕ, _+_, _*_, _<_, _≤_}
 use lib.ListN.{length}
-use Rattle.kdsort.specs.Cols.{Cols}
+use Rattle.kdsort.specs.Cols.{IndexCols}
 
 -- the slots from l to r of the columns, on the axis a
-pub record Room (s : Cols) (l r a : ℕ) : Type 0 where
+pub record Room (s : IndexCols) (l r a : ℕ) : Type 0 where
   pub below : r < length (s .ids)
   pub pairs : 2 * r + 1 < length (s .co)
   pub order : l ≤ r

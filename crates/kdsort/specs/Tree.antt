@@ -7,11 +7,11 @@ use Prim.Native.Nat.{ℕ, _+_, _-_, _*_, _<_, _≤_}
 use lib.Dec.{T}
 use lib.ListN.{length, getD}
 use lib.Ieee.{Float, nan, le, isNan}
-use Rattle.kdsort.specs.Cols.{Cols, key}
+use Rattle.kdsort.specs.Cols.{IndexCols, key}
 use Rattle.kdsort.specs.Shape.{Shape, leaf, node, shape}
 
 -- s' has the slots of s, those from l to r in another order and every other in its place: slot p of s' is slot `from p` of s
-pub record Permuted (l r : ℕ) (s s' : Cols) : Type 0 where
+pub record Permuted (l r : ℕ) (s s' : IndexCols) : Type 0 where
   pub from : ℕ → ℕ
   pub to : ℕ → ℕ
   pub there : (p : ℕ) → to (from p) ≡ p
@@ -25,7 +25,7 @@ pub record Permuted (l r : ℕ) (s s' : Cols) : Type 0 where
   pub co-long : length (s' .co) ≡ length (s .co)
 
 -- no coordinate from l to r is a NaN
-unfoldable pub Numbers : ℕ → ℕ → Cols → Type 0
+unfoldable pub Numbers : ℕ → ℕ → IndexCols → Type 0
 Numbers l r s = (a p : ℕ) → a < 2 → l ≤ p → p ≤ r → T (not (isNan (key a (s .co) p)))
 
 -- on the axis a, what stands from lo up to m is at most the coordinate at m, and what stands after m up to hi at least that
@@ -44,7 +44,7 @@ Points xs ys = (p : ℕ) → p < length xs → T (not (isNan (getD xs p nan))) �
 
 -- what a built index of the points (x, y) is: each slot holds one point, by its id, each point has one slot, the slots are in the tree's
 -- order, and what lies past them is as it was
-pub record Index (n : ℕ) (xs ys : List Float) (s S : Cols) : Type 0 where
+pub record Index (n : ℕ) (xs ys : List Float) (s S : IndexCols) : Type 0 where
   pub id-in : (p : ℕ) → p < length xs → getD (S .ids) p 0 < length xs
   pub x-of : (p : ℕ) → p < length xs → key 0 (S .co) p ≡ getD xs (getD (S .ids) p 0) nan
   pub y-of : (p : ℕ) → p < length xs → key 1 (S .co) p ≡ getD ys (getD (S .ids) p 0) nan

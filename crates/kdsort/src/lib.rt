@@ -5,17 +5,17 @@ ghost use mathlib.Core.Path.{_≡_};
 ghost use Prim.Native.Nat.{_+_, _-_, _*_, _≤_, _<_};
 ghost use lib.ListN.{length};
 ghost use Rattle.lent.specs.Lent.{old, new};
-ghost use Rattle.kdsort.specs.Cols.{cols, swapItem};
+ghost use Rattle.kdsort.specs.Cols.{indexCols, swapItem};
 ghost use Rattle.kdsort.specs.Shape.{shape};
 ghost use Rattle.kdsort.specs.Select.{cut, parted, selected};
 ghost use Rattle.kdsort.specs.Sort.{sorted, indexed};
 ghost use Rattle.kdsort.specs.Room.{Here, Room};
-ghost use Rattle.kdsort.specs.Batches.{entry, Ups, Downs, Slots, exchanged, Nearer};
+ghost use Rattle.kdsort.specs.laws.Batches.{batchEntry, Ups, Downs, Slots, exchanged, Nearer};
 
 // Exchanges the slots i and j.
 fn swap_item(ids: &mut [u32], coords: &mut [f64], i: usize, j: usize)
     requires { ⌜ (i < length (now ids)) × (j < length (now ids)) × (2 * i + 1 < length (now coords)) × (2 * j + 1 < length (now coords)) ⌝ }
-    ensures { λ _. ⌜ cols (new ids) (new coords) ≡ swapItem (cols (old ids) (old coords)) i j ⌝ }
+    ensures { λ _. ⌜ indexCols (new ids) (new coords) ≡ swapItem (indexCols (old ids) (old coords)) i j ⌝ }
 {
     let a = ids[i];
     ids[i] = ids[j];
@@ -49,7 +49,7 @@ fn stops_up(
     t: f64,
 ) -> usize
     requires { ⌜ (2 * (from + len) ≤ length (now coords)) × (len < length (now found)) × (axis < 2) ⌝ }
-    ensures { λ r. ⌜ Ups axis t (old coords) from (from + len) (entry (new found)) r ⌝ }
+    ensures { λ r. ⌜ Ups axis t (old coords) from (from + len) (batchEntry (new found)) r ⌝ }
 {
     let end = from + len;
     let mut n = 0;
@@ -73,7 +73,7 @@ fn stops_down(
     t: f64,
 ) -> usize
     requires { ⌜ (2 * from + 1 < length (now coords)) × (len ≤ from) × (len < length (now found)) × (axis < 2) ⌝ }
-    ensures { λ r. ⌜ Downs axis t (old coords) from (from - len) (entry (new found)) r ⌝ }
+    ensures { λ r. ⌜ Downs axis t (old coords) from (from - len) (batchEntry (new found)) r ⌝ }
 {
     let end = from - len;
     let mut n = 0;
@@ -90,8 +90,8 @@ fn stops_down(
 // Exchanges the slots of two lists, the first with the first, the second with the second, and so on.
 fn exchange(ids: &mut [u32], coords: &mut [f64], ups: &[usize], downs: &[usize], count: usize)
     requires { ⌜ (count ≤ length (now ups)) × (count ≤ length (now downs))
-        × Slots (entry (now ups)) (entry (now downs)) count (length (now ids)) (length (now coords)) ⌝ }
-    ensures { λ _. ⌜ cols (new ids) (new coords) ≡ exchanged (cols (old ids) (old coords)) (entry (old ups)) (entry (old downs)) count ⌝ }
+        × Slots (batchEntry (now ups)) (batchEntry (now downs)) count (length (now ids)) (length (now coords)) ⌝ }
+    ensures { λ _. ⌜ indexCols (new ids) (new coords) ≡ exchanged (indexCols (old ids) (old coords)) (batchEntry (old ups)) (batchEntry (old downs)) count ⌝ }
 {
     let mut k = 0;
     while k < count {
@@ -114,7 +114,7 @@ fn lesser(m: usize, n: usize) -> usize
 // from j down, are written down first and then exchanged in pairs. Answers where the scans go on.
 fn batch(ids: &mut [u32], coords: &mut [f64], i: usize, j: usize, axis: usize, t: f64) -> Ends
     requires { ⌜ (i ≤ j + 1) × (j < length (now ids)) × (2 * j + 1 < length (now coords)) × (axis < 2) ⌝ }
-    ensures { λ r. ⌜ Nearer axis t (cols (old ids) (old coords)) (cols (new ids) (new coords)) i j (r .up) (r .down) ⌝ }
+    ensures { λ r. ⌜ Nearer axis t (indexCols (old ids) (old coords)) (indexCols (new ids) (new coords)) i j (r .up) (r .down) ⌝ }
 {
     if j < i + 32 {
         return Ends { up: i, down: j };
@@ -142,7 +142,7 @@ fn partition(
     axis: usize,
 ) -> usize
     requires { ⌜ Here k left right axis (length (now ids)) (length (now coords)) ⌝ }
-    ensures { λ r. ⌜ cut (cols (new ids) (new coords)) r ≡ parted axis k (cols (old ids) (old coords)) left right ⌝ }
+    ensures { λ r. ⌜ cut (indexCols (new ids) (new coords)) r ≡ parted axis k (indexCols (old ids) (old coords)) left right ⌝ }
     ensures { λ r. ⌜ (left ≤ r) × (r ≤ right) ⌝ }
 {
     let t = coords[2 * k + axis];
@@ -183,9 +183,9 @@ fn partition(
 // Brings to slot k the coordinate that belongs there among the slots from first to last: what stands left of k is not above it, what stands
 // right not below.
 fn select(ids: &mut [u32], coords: &mut [f64], k: usize, first: usize, last: usize, axis: usize)
-    requires { ⌜ Room (cols (now ids) (now coords)) first last axis ⌝ }
+    requires { ⌜ Room (indexCols (now ids) (now coords)) first last axis ⌝ }
     requires { ⌜ (first ≤ k) × (k ≤ last) × (1 ≤ k) ⌝ }
-    ensures { λ _. ⌜ cols (new ids) (new coords) ≡ selected axis k (cols (old ids) (old coords)) first last ⌝ }
+    ensures { λ _. ⌜ indexCols (new ids) (new coords) ≡ selected axis k (indexCols (old ids) (old coords)) first last ⌝ }
 {
     let mut left = first;
     let mut right = last;
@@ -204,7 +204,7 @@ fn select(ids: &mut [u32], coords: &mut [f64], k: usize, first: usize, last: usi
 // side on the other axis.
 fn sort(ids: &mut [u32], coords: &mut [f64], most: usize, lo: usize, hi: usize, axis: usize)
     requires { ⌜ (lo ≤ hi) × (hi ≤ length (now ids)) × (2 * hi ≤ length (now coords)) × (axis < 2) × (2 ≤ most) ⌝ }
-    ensures { λ _. ⌜ cols (new ids) (new coords) ≡ sorted axis lo hi (shape most lo hi) (cols (old ids) (old coords)) ⌝ }
+    ensures { λ _. ⌜ indexCols (new ids) (new coords) ≡ sorted axis lo hi (shape most lo hi) (indexCols (old ids) (old coords)) ⌝ }
 {
     if hi - lo <= most {
         return;
@@ -220,7 +220,7 @@ pub fn build_index(node_size: usize, xs: &[f64], ys: &[f64], ids: &mut [u32], co
     requires { ⌜ (1 ≤ length (now xs)) × (length (now xs) ≤ 1048576) × (length (now ys) ≡ length (now xs)) ⌝ }
     requires { ⌜ (length (now xs) ≤ length (now ids)) × (2 * length (now xs) ≤ length (now coords))
         × (1 ≤ «node_size») × («node_size» ≤ 65535) ⌝ }
-    ensures { λ _. ⌜ cols (new ids) (new coords) ≡ indexed «node_size» (old xs) (old ys) (cols (old ids) (old coords)) ⌝ }
+    ensures { λ _. ⌜ indexCols (new ids) (new coords) ≡ indexed «node_size» (old xs) (old ys) (indexCols (old ids) (old coords)) ⌝ }
 {
     let n = xs.len();
     let mut i = 0;

@@ -5,13 +5,15 @@ use mathlib.Core.List.{List, _++_}
 use Prim.Native.Nat.{ℕ, _+_, _-_, _≤_, _<_}
 use native.Mathlib.Omega.{arith}
 use borrow.Author.Tests.{lt-ltb, le-ltb, eq-eqb, ne-eqb}
-use Rattle.kdsort.specs.Shape.{shape, mid, shape-leaf, shape-node}
+use Rattle.kdsort.specs.Shape.{shape, mid}
+use Rattle.kdsort.specs.laws.Shape.{shape-leaf, shape-node}
 use Rattle.kdwalk.specs.declared.Next.{Next}
 use Rattle.kdwalk.specs.declared.Next.the-variants.{Slot, Done}
 use Rattle.kdslots.specs.Slots.{Search, when, scanned, slots}
-use Rattle.kdslots.specs.Intervals.{below}
-use Rattle.kdwalk.specs.Cursor.{headOf, head-append, rest}
-use Rattle.kdslots.specs.Intervals.{scanned-suc, slots-leaf, slots-node}
+use Rattle.kdslots.specs.laws.Intervals.{below}
+use Rattle.kdwalk.specs.laws.Cursor.{headOf, head-append}
+use Rattle.kdwalk.specs.Cursor.{rest}
+use Rattle.kdslots.specs.laws.Intervals.{scanned-suc, slots-leaf, slots-node}
 
 -- ---- slot after slot
 

@@ -6,10 +6,12 @@ use Prim.Native.Nat.{ℕ, _+_, _-_, _≤_, _<_}
 use native.Mathlib.Omega.{arith}
 use borrow.Author.Tests.{lt-ltb, le-ltb, eq-eqb, ne-eqb, ltb-false, eqb-false}
 use lib.Dec.{ltb, eqb}
-use Rattle.kdsort.specs.Shape.{Shape, leaf, node, shape, mid, Spans, all, both, shape-leaf, shape-node}
+use Rattle.kdsort.specs.Shape.{Shape, leaf, node, shape, mid}
+use Rattle.kdsort.specs.laws.Shape.{Spans, all, both, shape-leaf, shape-node}
 use Rattle.kdwalk.specs.declared.Next.the-variants.{Slot, Done}
 use Rattle.kdslots.specs.Slots.{Search, when, scanned, slots}
-use Rattle.kdwalk.specs.Cursor.{headOf, rest, leafEnd}
+use Rattle.kdwalk.specs.laws.Cursor.{headOf, leafEnd}
+use Rattle.kdwalk.specs.Cursor.{rest}
 use Rattle.kdwalk.proofs.Firsts.{picks, none}
 
 -- ---- where it ends

@@ -8,13 +8,15 @@ use lib.ListN.{length}
 use lib.Ieee.{Float}
 use Rattle.kdslots.specs.declared.Query.{Query}
 use Rattle.kdslots.specs.Query.{queryOk}
-use Rattle.kdslots.specs.Bounds.{coordsOk, yes, no, first-false, second-false, both-true}
+use Rattle.kdslots.specs.Bounds.{coordsOk}
+use Rattle.kdslots.specs.laws.Bounds.{yes, no, first-false, second-false, both-true}
 use Rattle.kdslots.specs.Slots.{answers}
 use Rattle.kdwalk.specs.declared.Next.{Next}
 use Rattle.kdwalk.specs.declared.Next.the-variants.{Slot as Next·Slot, Done as Next·Done}
 use Rattle.kdwalk.specs.declared.Step.{Step}
 use Rattle.kdwalk.specs.declared.Step.the-variants.{Slot, Done, Box, Spoiled}
-use Rattle.kdwalk.specs.Cursor.{headOf, restOf}
+use Rattle.kdwalk.specs.laws.Cursor.{headOf}
+use Rattle.kdwalk.specs.Cursor.{restOf}
 use Rattle.kdwalk.specs.Reply.{nextStep, ending, firstStep, afterStep}
 
 -- what an interval's search answers, as a step

@@ -1,4 +1,4 @@
--- The steps of a walk over the answered slots, for every input: 01's refusals in 01's order, and otherwise the answer, one slot at a
+-- The steps of a walk over the answered slots, for every input: SCOPE's refusals in its order, and otherwise the answer, one slot at a
 -- time. Definitions only.
 use mathlib.Core.Bool.{cond, _&&_}
 use mathlib.Core.List.{List, [], _∷_}
@@ -14,7 +14,7 @@ use Rattle.kdwalk.specs.declared.Step.{Step}
 use Rattle.kdwalk.specs.declared.Step.the-variants.{Slot, Done, Box, Spoiled}
 use Rattle.kdwalk.specs.Cursor.{restOf}
 
--- 01's number of a step
+-- SCOPE's number of a step
 abbrev pub stepNumber : Step → ℕ
 stepNumber (Slot i) = 0
 stepNumber Done = 0

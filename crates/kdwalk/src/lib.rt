@@ -1,5 +1,5 @@
 // A walk over the slots that a query answers, one at a time by a cursor: `first` and `after`. No stack, no scratch room.
-// Nothing is asked of the caller: what 01 does not take is refused with its number.
+// Nothing is asked of the caller: what SCOPE does not take is refused with its number.
 use kdslots::Query;
 ghost use mathlib.Core.Path.{_≡_};
 ghost use Prim.Native.Nat.{_+_, _-_, _*_, _≤_, _<_};
@@ -7,8 +7,9 @@ ghost use lib.ListN.{length};
 ghost use Rattle.lent.specs.Lent.{old};
 ghost use Rattle.kdsort.specs.Shape.{shape};
 ghost use Rattle.kdslots.specs.Slots.{over, when, scanned, slots};
-ghost use Rattle.kdslots.specs.Intervals.{below};
-ghost use Rattle.kdwalk.specs.Cursor.{headOf, rest, leafEnd};
+ghost use Rattle.kdslots.specs.laws.Intervals.{below};
+ghost use Rattle.kdwalk.specs.laws.Cursor.{headOf, leafEnd};
+ghost use Rattle.kdwalk.specs.Cursor.{rest};
 ghost use Rattle.kdwalk.specs.Reply.{stepNumber, stepCarried, firstStep, afterStep};
 
 // A step of a walk over the answered slots: the next slot, the end, or a refusal.
@@ -20,7 +21,7 @@ pub enum Step {
 }
 
 impl Step {
-    // 01's number of the step: 0 where nothing is refused.
+    // SCOPE's number of the step: 0 where nothing is refused.
     pub fn number(self) -> u32
         ensures { λ r. ⌜ r ≡ stepNumber self ⌝ }
     {

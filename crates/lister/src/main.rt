@@ -1,6 +1,6 @@
-// The table lister: reads 01's text from standard input, and writes its answer to standard output, the lines of every table of the
-// build or a refusal.
-// Proved: it never fails. What is written is what `report::report` promises of what was read. Assumed: what io says of reading and writing.
+// The table lister: reads SCOPE's text from standard input, and writes its answer to standard output, the lines of every table of the build
+// or a refusal. Proved: it never fails. What is written is what `lister_report::report` promises of what was read. Assumed: what io says of
+// reading and writing.
 use libc::STDIN_FILENO;
 use libc::STDOUT_FILENO;
 
@@ -18,7 +18,7 @@ fn main() {
     let mut near = [0u32; 1152];
     let mut out = [0u8; 156672];
     let n = io::read_full(STDIN_FILENO, &mut text);
-    let k = report::report(
+    let k = lister_report::report(
         &text[..n],
         &mut x,
         &mut y,

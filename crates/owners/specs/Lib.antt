@@ -1,6 +1,8 @@
--- Demand 3, for a reader of 01: what is said stands in Owners, that it holds of every accepted build in Proved. Pages of leaves, for a
--- reader of 02: LeafPages.
+-- The definitions of owners, a line a module; what is true of them is in laws. Written by tools/modules.
+
+-- LeafPages: #112, leaf pages that join up: the page k of a size is what `leaves` answers with the size as limit and k * size as offset.
 pub mod LeafPages
-pub mod Paging
+-- Owners: demand 3: one owner for every lamp; and the energies of #108, by owner.
 pub mod Owners
-pub mod Proved
+-- What is true of these: laws, and what contracts below the surface of owners cite beside them.
+pub mod laws

@@ -1,13 +1,13 @@
 // One owner for every lamp, as what a build ensures: demand 3 in the contract of the code that runs. The statement is in specs/Owners.
+use build_tables::Options;
 use supercluster::Loaded;
-use tables::Options;
 ghost use mathlib.Core.Path.{_≡_};
 ghost use Prim.Native.Nat.{ℕ};
 ghost use Rattle.supercluster.specs.declared.LoadReply.the-variants.{Done};
 ghost use Rattle.lent.specs.Lent.{old};
 ghost use Rattle.supercluster.specs.Build.{outcome, loaded};
 ghost use Rattle.supercluster.specs.Lent.{lentAll};
-ghost use Rattle.answers.specs.Stored.{columnsOf};
+ghost use Rattle.law_answers.specs.Stored.{columnsOf};
 ghost use Rattle.owners.specs.Owners.{Owners};
 
 // `supercluster::load`, which has one owner for every lamp in what it replies and leaves, where it refuses nothing.

@@ -9,22 +9,22 @@
 use kdbush::SearchReply;
 use kdslots::Query;
 use kdwalk::Step;
-use vectors::Count;
-use vectors::Ending;
-use vectors::First;
-use vectors::Function;
-use vectors::Pattern;
-use vectors::Tally;
-use vectors::Verdict;
-use vectors::Word;
+use replay_vectors::Count;
+use replay_vectors::Ending;
+use replay_vectors::First;
+use replay_vectors::Function;
+use replay_vectors::Pattern;
+use replay_vectors::Tally;
+use replay_vectors::Verdict;
+use replay_vectors::Word;
 ghost use mathlib.Core.Path.{_≡_};
 ghost use Prim.Native.Nat.{_*_, _≤_};
 ghost use lib.ListN.{length};
 ghost use Rattle.lent.specs.Lent.{old, new};
-ghost use Rattle.vectors.specs.Tallies.{endingIs};
+ghost use Rattle.replay_vectors.specs.Tallies.{endingIs};
 ghost use Rattle.kdbush.specs.Reply.{searched, columnAfter};
-ghost use Rattle.replay_index.specs.Read.{queryOf};
-ghost use Rattle.replay_index.specs.Same.{buildsTo, foundIs, listsTo, slotOf, overIs, walksTo, functionOf};
+ghost use Rattle.replay_index.specs.Read.{queryRead};
+ghost use Rattle.replay_index.specs.Same.{buildsTo, foundIs, indexListsTo, slotOf, overIs, walksTo, functionOf};
 
 // A query, or words that are none.
 enum Asked {
@@ -41,7 +41,7 @@ fn read_slots(n: usize, ids: &mut [u32], coords: &mut [f64]) -> bool
 {
     let mut i = 0;
     while i < n {
-        if !vectors::read_slot(ids, coords, i) {
+        if !replay_vectors::read_slot(ids, coords, i) {
             return false;
         }
         i += 1;
@@ -51,17 +51,17 @@ fn read_slots(n: usize, ids: &mut [u32], coords: &mut [f64]) -> bool
 
 // The query of a kind, 0 or 1, and its numbers.
 fn query_of(kind: usize, a: u64, b: u64, c: u64, d: u64) -> Query
-    ensures { λ r. ⌜ r ≡ queryOf kind a b c d ⌝ }
+    ensures { λ r. ⌜ r ≡ queryRead kind a b c d ⌝ }
 {
-    let x = vectors::float_of(a);
-    let y = vectors::float_of(b);
-    let u = vectors::float_of(c);
+    let x = replay_vectors::float_of(a);
+    let y = replay_vectors::float_of(b);
+    let u = replay_vectors::float_of(c);
     if kind == 0 {
         return Query::Range {
             min_x: x,
             min_y: y,
             max_x: u,
-            max_y: vectors::float_of(d),
+            max_y: replay_vectors::float_of(d),
         };
     }
     Query::Within {
@@ -73,19 +73,19 @@ fn query_of(kind: usize, a: u64, b: u64, c: u64, d: u64) -> Query
 
 // Reads a query.
 fn read_query() -> Asked {
-    let Count::Is(kind) = vectors::next_count(1, false) else {
+    let Count::Is(kind) = replay_vectors::next_count(1, false) else {
         return Asked::Bad;
     };
-    let Pattern::Bits(a) = vectors::next_bits(false) else {
+    let Pattern::Bits(a) = replay_vectors::next_bits(false) else {
         return Asked::Bad;
     };
-    let Pattern::Bits(b) = vectors::next_bits(false) else {
+    let Pattern::Bits(b) = replay_vectors::next_bits(false) else {
         return Asked::Bad;
     };
-    let Pattern::Bits(c) = vectors::next_bits(false) else {
+    let Pattern::Bits(c) = replay_vectors::next_bits(false) else {
         return Asked::Bad;
     };
-    let Pattern::Bits(d) = vectors::next_bits(false) else {
+    let Pattern::Bits(d) = replay_vectors::next_bits(false) else {
         return Asked::Bad;
     };
     Asked::Query(query_of(kind, a, b, c, d))
@@ -104,13 +104,13 @@ fn builds(
     ensures { λ r.
         ⌜ r ≡ buildsTo «node_size» (old xs) (old ys) (old «want_ids») (old «want_coords») (old ids) (old coords) ⌝ }
 {
-    if !vectors::is_done(kdbush::build(node_size, xs, ys, ids, coords)) {
+    if !replay_vectors::is_done(kdbush::build(node_size, xs, ys, ids, coords)) {
         return false;
     }
-    if !vectors::same_places(want_ids, ids) {
+    if !replay_vectors::same_places(want_ids, ids) {
         return false;
     }
-    vectors::same_floats(want_coords, coords)
+    replay_vectors::same_floats(want_coords, coords)
 }
 
 // Reads the points and the slots of a case, and builds the index of its points in the lent columns.
@@ -119,7 +119,7 @@ fn replay_build(node_size: usize, n: usize, ids: &mut [u32], coords: &mut [f64])
 {
     let mut xs = [0.0; 1024];
     let mut ys = [0.0; 1024];
-    if !vectors::read_points(n, &mut xs, &mut ys) {
+    if !replay_vectors::read_points(n, &mut xs, &mut ys) {
         return Verdict::Malformed;
     }
     let mut want_ids = [OLD; 1032];
@@ -189,12 +189,12 @@ fn lists(
     want: &[u32],
     out: &mut [u32],
 ) -> bool
-    ensures { λ r. ⌜ r ≡ listsTo q «node_size» n (old ids) (old coords) m (old want) (old out) ⌝ }
+    ensures { λ r. ⌜ r ≡ indexListsTo q «node_size» n (old ids) (old coords) m (old want) (old out) ⌝ }
 {
     if !is_found(ask(q, node_size, n, ids, coords, out), m) {
         return false;
     }
-    vectors::same_places(want, out)
+    replay_vectors::same_places(want, out)
 }
 
 // The slot of a step, or this number where it has none.
@@ -270,11 +270,11 @@ fn replay_query(node_size: usize, n: usize, ids: &[u32], coords: &[f64], last: b
     let Asked::Query(q) = read_query() else {
         return Verdict::Malformed;
     };
-    let Count::Is(m) = vectors::next_count(1024, last) else {
+    let Count::Is(m) = replay_vectors::next_count(1024, last) else {
         return Verdict::Malformed;
     };
     let mut want = [OLD; 1032];
-    if !vectors::read_places(m, last, &mut want) {
+    if !replay_vectors::read_places(m, last, &mut want) {
         return Verdict::Malformed;
     }
     let mut out = [OLD; 1032];
@@ -301,7 +301,7 @@ fn replay_queries(
     while i < k {
         match replay_query(node_size, n, ids, coords, i + 1 == k) {
             Verdict::Agrees => {}
-            Verdict::Differs(function) => verdict = vectors::earlier(verdict, function),
+            Verdict::Differs(function) => verdict = replay_vectors::earlier(verdict, function),
             Verdict::Malformed => return Verdict::Malformed,
             Verdict::End => return Verdict::Malformed,
         }
@@ -312,7 +312,7 @@ fn replay_queries(
 
 // Replays the case that begins with this node size.
 fn replay_case(node_size: usize) -> Verdict {
-    let Count::Is(n) = vectors::next_count(1024, false) else {
+    let Count::Is(n) = replay_vectors::next_count(1024, false) else {
         return Verdict::Malformed;
     };
     let mut ids = [OLD; 1032];
@@ -321,7 +321,7 @@ fn replay_case(node_size: usize) -> Verdict {
     if let Verdict::Malformed = built {
         return Verdict::Malformed;
     }
-    let Count::Is(k) = vectors::next_count(64, true) else {
+    let Count::Is(k) = replay_vectors::next_count(64, true) else {
         return Verdict::Malformed;
     };
     replay_queries(built, node_size, n, &ids, &coords, k)
@@ -329,7 +329,7 @@ fn replay_case(node_size: usize) -> Verdict {
 
 // Replays the next case of standard input.
 fn next_case() -> Verdict {
-    match vectors::next_word() {
+    match replay_vectors::next_word() {
         Word::Inner(bits) => replay_case(bits as usize),
         Word::Last(bits) => Verdict::Malformed,
         Word::Bad => Verdict::Malformed,
@@ -346,7 +346,7 @@ fn replay_all() -> Ending
         differences: 0,
         first: First::Nothing,
     };
-    while tally.cases <= vectors::MOST {
+    while tally.cases <= replay_vectors::MOST {
         match next_case() {
             Verdict::Agrees => tally = tally.agreed(),
             Verdict::Differs(function) => tally = tally.differed(function),
@@ -359,5 +359,5 @@ fn replay_all() -> Ending
 
 // Replays standard input, and writes how that ended.
 fn main() {
-    vectors::say_ending(replay_all());
+    replay_vectors::say_ending(replay_all());
 }

@@ -1,20 +1,20 @@
-// Replays stored texts on the crate `report`, and says whether what is printed for each is what the Rust's tables come to.
+// Replays stored texts on the crate `lister_report`, and says whether what is printed for each is what the Rust's tables come to.
 // A case is a line of two words, how long the text is and how long what is printed for it; then both, byte for byte, with nothing
 // between them.
-// Proved: a case agrees if and only if its second part is what 01 has the lister print for its first. Assumed: what io says of reading
+// Proved: a case agrees if and only if its second part is what SCOPE has the lister print for its first. Assumed: what io says of reading
 // and writing.
 use libc::STDIN_FILENO;
-use vectors::Count;
-use vectors::Ending;
-use vectors::First;
-use vectors::Function;
-use vectors::Pattern;
-use vectors::Tally;
-use vectors::Verdict;
-use vectors::Word;
+use replay_vectors::Count;
+use replay_vectors::Ending;
+use replay_vectors::First;
+use replay_vectors::Function;
+use replay_vectors::Pattern;
+use replay_vectors::Tally;
+use replay_vectors::Verdict;
+use replay_vectors::Word;
 ghost use Rattle.lent.specs.Lent.{old};
 ghost use Rattle.replay_lister.specs.Prints.{printsIs};
-ghost use Rattle.vectors.specs.Tallies.{endingIs};
+ghost use Rattle.replay_vectors.specs.Tallies.{endingIs};
 
 // Whether what is printed for the text is what is expected.
 fn prints(text: &[u8], want: &[u8]) -> bool
@@ -31,7 +31,7 @@ fn prints(text: &[u8], want: &[u8]) -> bool
     let mut coords = [0.0f64; 2304];
     let mut near = [0u32; 1152];
     let mut out = [0u8; 156672];
-    let k = report::report(
+    let k = lister_report::report(
         text,
         &mut x,
         &mut y,
@@ -45,7 +45,7 @@ fn prints(text: &[u8], want: &[u8]) -> bool
         &mut near,
         &mut out,
     );
-    vectors::same_bytes(want, &out[..k])
+    replay_vectors::same_bytes(want, &out[..k])
 }
 
 // Fills the column from standard input. Whether there was enough.
@@ -69,13 +69,13 @@ fn replay_case(text: &mut [u8], want: &mut [u8]) -> Verdict {
 
 // Replays the case that begins with this number.
 fn replay_from(bits: u64) -> Verdict {
-    let Count::Is(n) = vectors::count_of(bits, 65537) else {
+    let Count::Is(n) = replay_vectors::count_of(bits, 65537) else {
         return Verdict::Malformed;
     };
-    let Pattern::Bits(rest) = vectors::next_bits(true) else {
+    let Pattern::Bits(rest) = replay_vectors::next_bits(true) else {
         return Verdict::Malformed;
     };
-    let Count::Is(m) = vectors::count_of(rest, 156672) else {
+    let Count::Is(m) = replay_vectors::count_of(rest, 156672) else {
         return Verdict::Malformed;
     };
     let mut text = [0u8; 65537];
@@ -85,7 +85,7 @@ fn replay_from(bits: u64) -> Verdict {
 
 // Replays the next case.
 fn next_case() -> Verdict {
-    match vectors::next_word() {
+    match replay_vectors::next_word() {
         Word::Inner(bits) => replay_from(bits),
         Word::Last(bits) => Verdict::Malformed,
         Word::Bad => Verdict::Malformed,
@@ -102,7 +102,7 @@ fn replay_all() -> Ending
         differences: 0,
         first: First::Nothing,
     };
-    while tally.cases <= vectors::MOST {
+    while tally.cases <= replay_vectors::MOST {
         match next_case() {
             Verdict::Agrees => tally = tally.agreed(),
             Verdict::Differs(function) => tally = tally.differed(function),
@@ -114,5 +114,5 @@ fn replay_all() -> Ending
 }
 
 fn main() {
-    vectors::say_ending(replay_all());
+    replay_vectors::say_ending(replay_all());
 }

@@ -5,16 +5,16 @@ use mathlib.Core.List.{List, _++_}
 use lib.Dec.{eqb}
 use lib.ListN.{length, drop, replicate}
 use lib.Ieee.{Float}
-use Rattle.vectors.specs.Words.{agreeing}
-use Rattle.vectors.specs.Same.{samePlaces, sameFloats}
+use Rattle.replay_vectors.specs.Words.{agreeing}
+use Rattle.replay_vectors.specs.Same.{samePlaces, sameFloats}
 use Rattle.range.specs.declared.Setting.{Setting}
 use Rattle.range.specs.declared.Setting.the-variants.{Given, Derived}
 use Rattle.range.specs.declared.DataRange.{DataRange}
 use Rattle.range.specs.declared.CoordinateSystem.{CoordinateSystem}
 use Rattle.range.specs.declared.CoordinateSystem.the-variants.{LatLng, Cartesian}
-use Rattle.tables.specs.declared.Options.{Options}
-use Rattle.tables.specs.declared.State.{State}
-use Rattle.supercluster.specs.Build.{Lent, Outcome, loadNumber, loaded}
+use Rattle.build_tables.specs.declared.Options.{Options}
+use Rattle.build_tables.specs.declared.State.{State}
+use Rattle.supercluster.specs.Build.{BuildColumns, Outcome, loadNumber, loaded}
 
 -- a column with zeros in its first n
 abbrev pub zerosIn : ℕ → List ℕ → List ℕ
@@ -58,7 +58,7 @@ unfoldable pub sameState : Options → ℕ → List ℕ → List ℕ → State �
 sameState o n starts lens s = samePlaces starts (s .starts) && samePlaces lens (s .lens) && eqb n (s .count) && sameOptions o (s .options)
 
 -- what a build replied and left: it was not refused, and its state and its columns are those expected, to their ends
-unfoldable pub agreesWith : Options → ℕ → List ℕ → List ℕ → Lent → Outcome → Bool
+unfoldable pub agreesWith : Options → ℕ → List ℕ → List ℕ → BuildColumns → Outcome → Bool
 agreesWith o n starts lens want got =
     let w = want .table in
     let g = got .columns in
@@ -70,5 +70,5 @@ agreesWith o n starts lens want got =
     && samePlaces (want .ids) (g .ids) && sameFloats (want .coords) (g .coords) && samePlaces (want .near) (g .near)
 
 -- the build of these points in these columns
-unfoldable pub loadsTo : Options → List Float → List Float → List ℕ → List ℕ → List ℕ → Lent → Lent → Bool
+unfoldable pub loadsTo : Options → List Float → List Float → List ℕ → List ℕ → List ℕ → BuildColumns → BuildColumns → Bool
 loadsTo o xs ys energies starts lens want columns = agreesWith o (length xs) starts lens want (loaded o xs ys energies columns)

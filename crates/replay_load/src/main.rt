@@ -8,31 +8,31 @@
 // a case beyond is not of the form, nor is one with a max_zoom that is past 30 or below min_zoom. Proved: nothing here reads or writes
 // outside its columns, the verdict of a case is the equation `loadsTo` of specs/, and the tally is right. Assumed: what standard input
 // gives is not modelled, so that the loops that read are only proved to be safe.
+use build_tables::Entry;
+use build_tables::Options;
+use build_tables::State;
 use range::CoordinateSystem;
 use range::DataRange;
 use range::Setting;
-use stored::Chosen;
+use replay_options::Chosen;
+use replay_vectors::Byte;
+use replay_vectors::Count;
+use replay_vectors::Ending;
+use replay_vectors::First;
+use replay_vectors::Function;
+use replay_vectors::Pattern;
+use replay_vectors::Place;
+use replay_vectors::Tally;
+use replay_vectors::Verdict;
+use replay_vectors::Word;
 use supercluster::Loaded;
-use tables::Entry;
-use tables::Options;
-use tables::State;
-use vectors::Byte;
-use vectors::Count;
-use vectors::Ending;
-use vectors::First;
-use vectors::Function;
-use vectors::Pattern;
-use vectors::Place;
-use vectors::Tally;
-use vectors::Verdict;
-use vectors::Word;
 ghost use mathlib.Core.Path.{_≡_};
 ghost use Prim.Native.Nat.{_*_, _≤_};
 ghost use lib.ListN.{length};
-ghost use Rattle.vectors.specs.Tallies.{endingIs};
+ghost use Rattle.replay_vectors.specs.Tallies.{endingIs};
 ghost use Rattle.lent.specs.Lent.{old, new};
-ghost use Rattle.tables.specs.Rows.{Even};
-ghost use Rattle.tables.specs.Lent.{given};
+ghost use Rattle.build_tables.specs.laws.Rows.{Even};
+ghost use Rattle.build_tables.specs.Lent.{given};
 ghost use Rattle.supercluster.specs.Lent.{lentAll};
 ghost use Rattle.replay_load.specs.Same.{sameSetting, sameRange, sameSystem, sameOptions, sameState, loadsTo, zerosIn};
 
@@ -51,30 +51,30 @@ const OLD_LONG: u64 = 0xa5a5_a5a5_a5a5_a5a5;
 
 // Reads an entry.
 fn read_entry() -> Given {
-    let Pattern::Bits(x) = vectors::next_bits(false) else {
+    let Pattern::Bits(x) = replay_vectors::next_bits(false) else {
         return Given::Bad;
     };
-    let Pattern::Bits(y) = vectors::next_bits(false) else {
+    let Pattern::Bits(y) = replay_vectors::next_bits(false) else {
         return Given::Bad;
     };
-    let Byte::Is(seen) = vectors::next_byte(false) else {
+    let Byte::Is(seen) = replay_vectors::next_byte(false) else {
         return Given::Bad;
     };
-    let Place::Is(id) = vectors::next_place(false) else {
+    let Place::Is(id) = replay_vectors::next_place(false) else {
         return Given::Bad;
     };
-    let Place::Is(parent) = vectors::next_place(false) else {
+    let Place::Is(parent) = replay_vectors::next_place(false) else {
         return Given::Bad;
     };
-    let Place::Is(num) = vectors::next_place(false) else {
+    let Place::Is(num) = replay_vectors::next_place(false) else {
         return Given::Bad;
     };
-    let Pattern::Bits(energy) = vectors::next_bits(false) else {
+    let Pattern::Bits(energy) = replay_vectors::next_bits(false) else {
         return Given::Bad;
     };
     Given::Entry(Entry {
-        x: vectors::float_of(x),
-        y: vectors::float_of(y),
+        x: replay_vectors::float_of(x),
+        y: replay_vectors::float_of(y),
         seen,
         id,
         parent,
@@ -105,8 +105,8 @@ fn read_entries(
         let Given::Entry(e) = read_entry() else {
             return false;
         };
-        tables::put_entry(x, y, seen, id, parent, num, energy, i, e);
-        good = good & vectors::read_slot(ids, coords, i);
+        build_tables::put_entry(x, y, seen, id, parent, num, energy, i, e);
+        good = good & replay_vectors::read_slot(ids, coords, i);
         i += 1;
     }
     good
@@ -119,10 +119,10 @@ fn read_tables(min_zoom: usize, max_zoom: usize, starts: &mut [u32], lens: &mut 
     let end = max_zoom + 1;
     let mut z = min_zoom;
     while z <= end {
-        if !vectors::read_place(starts, z, false) {
+        if !replay_vectors::read_place(starts, z, false) {
             return false;
         }
-        if !vectors::read_place(lens, z, z == end) {
+        if !replay_vectors::read_place(lens, z, z == end) {
             return false;
         }
         z += 1;
@@ -148,7 +148,7 @@ fn same_setting(a: Setting, b: Setting) -> bool
 {
     match a {
         Setting::Given(v) => match b {
-            Setting::Given(w) => vectors::agree(v, w),
+            Setting::Given(w) => replay_vectors::agree(v, w),
             Setting::Derived => false,
         },
         Setting::Derived => match b {
@@ -166,10 +166,10 @@ fn same_range(a: DataRange, b: DataRange) -> bool
     let other_offset = b.offset;
     let scale = a.scale;
     let other_scale = b.scale;
-    vectors::agree(a.min_x, b.min_x)
-        & vectors::agree(a.min_y, b.min_y)
-        & vectors::agree(a.max_x, b.max_x)
-        & vectors::agree(a.max_y, b.max_y)
+    replay_vectors::agree(a.min_x, b.min_x)
+        & replay_vectors::agree(a.min_y, b.min_y)
+        & replay_vectors::agree(a.max_x, b.max_x)
+        & replay_vectors::agree(a.max_y, b.max_y)
         & same_setting(offset, other_offset)
         & same_setting(scale, other_scale)
 }
@@ -201,8 +201,8 @@ fn same_options(a: Options, b: Options) -> bool
         & (a.min_points == b.min_points)
         & (a.node_size == b.node_size)
         & (a.longitude_strips_only == b.longitude_strips_only)
-        & vectors::agree(a.radius, b.radius)
-        & vectors::agree(a.extent, b.extent)
+        & replay_vectors::agree(a.radius, b.radius)
+        & replay_vectors::agree(a.extent, b.extent)
         & same_system(system, other)
 }
 
@@ -214,8 +214,8 @@ fn same_state(o: Options, n: usize, starts: &[u32], lens: &[u32], s: State) -> b
     let a = s.starts;
     let b = s.lens;
     let made = s.options;
-    vectors::same_places(starts, &a)
-        & vectors::same_places(lens, &b)
+    replay_vectors::same_places(starts, &a)
+        & replay_vectors::same_places(lens, &b)
         & (n == s.count as usize)
         & same_options(o, made)
 }
@@ -276,16 +276,16 @@ fn loads(
     let state = built.state;
     (reply.number() == 0)
         & same_state(o, xs.len(), starts, lens, state)
-        & vectors::same_floats(want_x, x)
-        & vectors::same_floats(want_y, y)
-        & vectors::same_bytes(want_seen, seen)
-        & vectors::same_places(want_id, id)
-        & vectors::same_places(want_parent, parent)
-        & vectors::same_places(want_num, num)
-        & vectors::same_numbers(want_energy, energy)
-        & vectors::same_places(want_ids, ids)
-        & vectors::same_floats(want_coords, coords)
-        & vectors::same_places(want_near, near)
+        & replay_vectors::same_floats(want_x, x)
+        & replay_vectors::same_floats(want_y, y)
+        & replay_vectors::same_bytes(want_seen, seen)
+        & replay_vectors::same_places(want_id, id)
+        & replay_vectors::same_places(want_parent, parent)
+        & replay_vectors::same_places(want_num, num)
+        & replay_vectors::same_numbers(want_energy, energy)
+        & replay_vectors::same_places(want_ids, ids)
+        & replay_vectors::same_floats(want_coords, coords)
+        & replay_vectors::same_places(want_near, near)
 }
 
 // Builds the tables of points in columns of old contents, and says whether that comes out as expected.
@@ -408,7 +408,7 @@ fn replay_tables(
 ) -> Verdict
     requires { ⌜ («max_zoom» ≤ 30) × (length (now xs) ≤ 64) ⌝ }
 {
-    let Count::Is(m) = vectors::next_count(1152, false) else {
+    let Count::Is(m) = replay_vectors::next_count(1152, false) else {
         return Verdict::Malformed;
     };
     let mut x = [-1.5; 1152];
@@ -457,10 +457,10 @@ fn replay_tables(
 fn replay_points(min_zoom: usize, max_zoom: usize) -> Verdict
     requires { ⌜ («min_zoom» ≤ «max_zoom») × («max_zoom» ≤ 30) ⌝ }
 {
-    let Chosen::Options(o) = stored::read_options(min_zoom as u8, max_zoom as u8) else {
+    let Chosen::Options(o) = replay_options::read_options(min_zoom as u8, max_zoom as u8) else {
         return Verdict::Malformed;
     };
-    let Count::Is(n) = vectors::next_count(64, false) else {
+    let Count::Is(n) = replay_vectors::next_count(64, false) else {
         return Verdict::Malformed;
     };
     if 1152 < (max_zoom - min_zoom + 2) * n {
@@ -469,10 +469,10 @@ fn replay_points(min_zoom: usize, max_zoom: usize) -> Verdict
     let mut xs = [0.0; 64];
     let mut ys = [0.0; 64];
     let mut energies = [0u64; 64];
-    if !vectors::read_points(n, &mut xs, &mut ys) {
+    if !replay_vectors::read_points(n, &mut xs, &mut ys) {
         return Verdict::Malformed;
     }
-    if !vectors::read_numbers(n, &mut energies) {
+    if !replay_vectors::read_numbers(n, &mut energies) {
         return Verdict::Malformed;
     }
     replay_tables(o, min_zoom, max_zoom, &xs[..n], &ys[..n], &energies[..n])
@@ -480,10 +480,10 @@ fn replay_points(min_zoom: usize, max_zoom: usize) -> Verdict
 
 // Replays the case that begins with this word.
 fn replay_case(bits: u64) -> Verdict {
-    let Count::Is(min_zoom) = vectors::count_of(bits, 30) else {
+    let Count::Is(min_zoom) = replay_vectors::count_of(bits, 30) else {
         return Verdict::Malformed;
     };
-    let Count::Is(max_zoom) = vectors::next_count(30, false) else {
+    let Count::Is(max_zoom) = replay_vectors::next_count(30, false) else {
         return Verdict::Malformed;
     };
     if max_zoom < min_zoom {
@@ -494,7 +494,7 @@ fn replay_case(bits: u64) -> Verdict {
 
 // Replays the next case of standard input.
 fn next_case() -> Verdict {
-    match vectors::next_word() {
+    match replay_vectors::next_word() {
         Word::Inner(bits) => replay_case(bits),
         Word::Last(bits) => Verdict::Malformed,
         Word::Bad => Verdict::Malformed,
@@ -511,7 +511,7 @@ fn replay_all() -> Ending
         differences: 0,
         first: First::Nothing,
     };
-    while tally.cases <= vectors::MOST {
+    while tally.cases <= replay_vectors::MOST {
         match next_case() {
             Verdict::Agrees => tally = tally.agreed(),
             Verdict::Differs(function) => tally = tally.differed(function),
@@ -524,5 +524,5 @@ fn replay_all() -> Ending
 
 // Replays standard input, and writes how that ended.
 fn main() {
-    vectors::say_ending(replay_all());
+    replay_vectors::say_ending(replay_all());
 }

@@ -5,18 +5,18 @@ use mathlib.Core.Path.{_≡_, ap, sym, _∙_}
 use Prim.Native.Nat.{ℕ}
 use lib.IntN.{ℤ}
 use lib.ListN.{length}
-use Rattle.tables.specs.declared.State.{State}
-use Rattle.asking.specs.declared.Answer.{Answer}
-use Rattle.asking.specs.Answers.{answerNumber, answerCarried}
-use Rattle.asking.specs.Asked.{Asked, answerOf, columnOf}
-use Rattle.asking.specs.Columns.{Columns}
-use Rattle.walks.specs.declared.Expansion.{Expansion}
-use Rattle.walks.specs.Expansion.{expansionNumber, expansionCarried}
-use Rattle.tiling.specs.declared.Tally.{Tally}
-use Rattle.tiling.specs.Tally.{tallyNumber, tallyValue}
-use Rattle.tiles.specs.Asked.{Outcome, outcome}
-use Rattle.vectors.specs.Chain.{_and_}
-use Rattle.vectors.specs.Same.{samePlaces}
+use Rattle.build_tables.specs.declared.State.{State}
+use Rattle.ask_base.specs.declared.Answer.{Answer}
+use Rattle.ask_base.specs.Answers.{answerNumber, answerCarried}
+use Rattle.ask_base.specs.Asked.{Asked, answerOf, columnOf}
+use Rattle.build_tables.specs.Room.{Columns}
+use Rattle.ask_cluster.specs.declared.Expansion.{Expansion}
+use Rattle.ask_cluster.specs.Expansion.{expansionNumber, expansionCarried}
+use Rattle.ask_tile_table.specs.declared.Tally.{Tally}
+use Rattle.ask_tile_table.specs.Tally.{tallyNumber, tallyValue}
+use Rattle.ask_tile.specs.Asked.{TileOutcome, tileOutcome}
+use Rattle.replay_vectors.specs.Chain.{_and_}
+use Rattle.replay_vectors.specs.Same.{samePlaces}
 use Rattle.replay_questions.specs.declared.Listing.{Listing}
 use Rattle.replay_questions.specs.declared.Reply.{Reply}
 use Rattle.replay_questions.specs.Same.{askedOf, sameReply, sameTile, listsTo, zoomsTo, tilesTo, sumsTo}
@@ -54,7 +54,7 @@ module _ (reply : Reply) (n k : ℕ) (r : Bool) (h : r ≡ sameReply reply n k) 
     lists-told want a out got q g e p = listed (answerOf a (length out)) g and (p ∙ ap (samePlaces want) e)
 
     -- a tile left these columns
-    pub tile-told : (want : List ℕ) (wx wy : List ℤ) (places : List ℕ) (xs ys : List ℤ) (o : Outcome) (q : Bool)
-        → outcome w places xs ys ≡ o → q ≡ sameTile want wx wy places xs ys → (r && q) ≡ tilesTo reply want wx wy o
+    pub tile-told : (want : List ℕ) (wx wy : List ℤ) (places : List ℕ) (xs ys : List ℤ) (o : TileOutcome) (q : Bool)
+        → tileOutcome w places xs ys ≡ o → q ≡ sameTile want wx wy places xs ys → (r && q) ≡ tilesTo reply want wx wy o
     unfolding tilesTo
     tile-told want wx wy places xs ys o q e p = (answered and p) ∙ ap (tilesTo reply want wx wy) e

@@ -7,17 +7,17 @@ use borrow.Author.Tests.{eqb-true, eq-eqb}
 use lib.Dec.{eqb}
 use lib.IntN.{ℤ}
 use lib.ListN.{length}
-use Rattle.kdslots.specs.Bounds.{and-both}
-use Rattle.asking.specs.declared.Answer.{Answer}
-use Rattle.asking.specs.Answers.{answerNumber, answerCarried}
-use Rattle.asking.specs.Asked.{Asked, answerOf, columnOf}
-use Rattle.walks.specs.declared.Expansion.{Expansion}
-use Rattle.walks.specs.Expansion.{expansionNumber, expansionCarried}
-use Rattle.tiling.specs.declared.Tally.{Tally}
-use Rattle.tiling.specs.Tally.{tallyNumber, tallyValue}
-use Rattle.tiles.specs.Asked.{Outcome}
-use Rattle.vectors.specs.Same.{samePlaces, sameLongs}
-use Rattle.vectors.specs.Equal.{places-equal, places-self, longs-equal, longs-self}
+use Rattle.kdslots.specs.laws.Bounds.{and-both}
+use Rattle.ask_base.specs.declared.Answer.{Answer}
+use Rattle.ask_base.specs.Answers.{answerNumber, answerCarried}
+use Rattle.ask_base.specs.Asked.{Asked, answerOf, columnOf}
+use Rattle.ask_cluster.specs.declared.Expansion.{Expansion}
+use Rattle.ask_cluster.specs.Expansion.{expansionNumber, expansionCarried}
+use Rattle.ask_tile_table.specs.declared.Tally.{Tally}
+use Rattle.ask_tile_table.specs.Tally.{tallyNumber, tallyValue}
+use Rattle.ask_tile.specs.Asked.{TileOutcome}
+use Rattle.replay_vectors.specs.Same.{samePlaces, sameLongs}
+use Rattle.replay_vectors.specs.Equal.{places-equal, places-self, longs-equal, longs-self}
 use Rattle.replay_questions.specs.declared.Reply.{Reply}
 use Rattle.replay_questions.specs.Same.{sameReply, sameTile, listsTo, zoomsTo, tilesTo, sumsTo}
 
@@ -70,7 +70,7 @@ lists-self a out =
     rw (reply-self (answerNumber v) (answerCarried v)) (places-self (columnOf a out))
 
 -- a tile
-pub tile-one : (r : Reply) (want : List ℕ) (wx wy : List ℤ) (o : Outcome) → tilesTo r want wx wy o ≡ true → (r ≡ answerReply (o .answer)) × (want ≡ o .places) × (wx ≡ o .xs) × (wy ≡ o .ys)
+pub tile-one : (r : Reply) (want : List ℕ) (wx wy : List ℤ) (o : TileOutcome) → tilesTo r want wx wy o ≡ true → (r ≡ answerReply (o .answer)) × (want ≡ o .places) × (wx ≡ o .xs) × (wy ≡ o .ys)
 unfolding tilesTo sameTile
 tile-one r want wx wy o e =
     let n = answerNumber (o .answer) in
@@ -80,7 +80,7 @@ tile-one r want wx wy o e =
     let v = and-both (samePlaces want (o .places)) (sameLongs wx (o .xs)) (u .0) in
     (reply-one r n k (w .0), places-equal want (o .places) (v .0), longs-equal wx (o .xs) (v .1), longs-equal wy (o .ys) (u .1))
 
-pub tile-self : (o : Outcome) → tilesTo (answerReply (o .answer)) (o .places) (o .xs) (o .ys) o ≡ true
+pub tile-self : (o : TileOutcome) → tilesTo (answerReply (o .answer)) (o .places) (o .xs) (o .ys) o ≡ true
 unfolding tilesTo sameTile
 tile-self o =
     rw (reply-self (answerNumber (o .answer)) (answerCarried (o .answer))) (rw (places-self (o .places)) (rw (longs-self (o .xs)) (longs-self (o .ys))))

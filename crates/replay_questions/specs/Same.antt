@@ -6,22 +6,22 @@ use mathlib.Core.List.{List}
 use lib.Dec.{eqb}
 use lib.IntN.{ℤ}
 use lib.ListN.{length}
-use Rattle.tables.specs.declared.State.{State}
-use Rattle.asking.specs.Answers.{answerNumber, answerCarried}
-use Rattle.asking.specs.Asked.{Asked, answerOf, columnOf}
-use Rattle.asking.specs.Columns.{Columns}
-use Rattle.boxes.specs.Lists.{boxAsked, ringAsked}
-use Rattle.walks.specs.declared.Expansion.{Expansion}
-use Rattle.walks.specs.Children.{childrenOf}
-use Rattle.walks.specs.Leaves.{leavesOf}
-use Rattle.walks.specs.Expansion.{expansionNumber, expansionCarried}
-use Rattle.tiling.specs.declared.Tally.{Tally}
-use Rattle.tiling.specs.Tally.{tallyNumber, tallyValue}
-use Rattle.tiles.specs.Asked.{Outcome}
-use Rattle.vectors.specs.declared.Question.{Question}
-use Rattle.vectors.specs.declared.Question.the-variants.{Box as Question·Box, Ring as Question·Ring, Children as Question·Children}
-use Rattle.vectors.specs.declared.Question.the-variants.{Leaves as Question·Leaves}
-use Rattle.vectors.specs.Same.{samePlaces, sameLongs}
+use Rattle.build_tables.specs.declared.State.{State}
+use Rattle.ask_base.specs.Answers.{answerNumber, answerCarried}
+use Rattle.ask_base.specs.Asked.{Asked, answerOf, columnOf}
+use Rattle.build_tables.specs.Room.{Columns}
+use Rattle.ask_box.specs.Lists.{boxAsked, ringAsked}
+use Rattle.ask_cluster.specs.declared.Expansion.{Expansion}
+use Rattle.ask_cluster.specs.Children.{childrenOf}
+use Rattle.ask_cluster.specs.Leaves.{leavesOf}
+use Rattle.ask_cluster.specs.Expansion.{expansionNumber, expansionCarried}
+use Rattle.ask_tile_table.specs.declared.Tally.{Tally}
+use Rattle.ask_tile_table.specs.Tally.{tallyNumber, tallyValue}
+use Rattle.ask_tile.specs.Asked.{TileOutcome}
+use Rattle.replay_vectors.specs.declared.Question.{Question}
+use Rattle.replay_vectors.specs.declared.Question.the-variants.{Box as Question·Box, Ring as Question·Ring, Children as Question·Children}
+use Rattle.replay_vectors.specs.declared.Question.the-variants.{Leaves as Question·Leaves}
+use Rattle.replay_vectors.specs.Same.{samePlaces, sameLongs}
 use Rattle.replay_questions.specs.declared.Listing.{Listing}
 use Rattle.replay_questions.specs.declared.Listing.the-variants.{Box, Ring, Children, Leaves}
 use Rattle.replay_questions.specs.declared.Reply.{Reply}
@@ -60,6 +60,6 @@ sumsTo reply t = sameReply reply (tallyNumber t) (tallyValue t)
 unfoldable pub sameTile : List ℕ → List ℤ → List ℤ → List ℕ → List ℤ → List ℤ → Bool
 sameTile want wx wy places xs ys = samePlaces want places && sameLongs wx xs && sameLongs wy ys
 
-unfoldable pub tilesTo : Reply → List ℕ → List ℤ → List ℤ → Outcome → Bool
+unfoldable pub tilesTo : Reply → List ℕ → List ℤ → List ℤ → TileOutcome → Bool
 tilesTo reply want wx wy o =
     sameReply reply (answerNumber (o .answer)) (answerCarried (o .answer)) && sameTile want wx wy (o .places) (o .xs) (o .ys)

@@ -12,31 +12,31 @@
 // Proved: nothing here reads or writes outside its columns, the verdict on a question is the equation of specs/ (`listsTo`, `zoomsTo`,
 // `tilesTo`, `sumsTo`): it agrees if and only if what is stored is what the definition says (specs/Decides). The tally is right.
 // Assumed: what standard input gives is not modelled, so that the functions that read are only proved to be safe.
-use asking::Answer;
-use stored::Chosen;
-use tables::Options;
-use tables::State;
-use vectors::Byte;
-use vectors::Count;
-use vectors::Ending;
-use vectors::First;
-use vectors::Function;
-use vectors::Pattern;
-use vectors::Place;
-use vectors::Question;
-use vectors::Tally;
-use vectors::Verdict;
-use vectors::Word;
+use ask_base::Answer;
+use build_tables::Options;
+use build_tables::State;
+use replay_options::Chosen;
+use replay_vectors::Byte;
+use replay_vectors::Count;
+use replay_vectors::Ending;
+use replay_vectors::First;
+use replay_vectors::Function;
+use replay_vectors::Pattern;
+use replay_vectors::Place;
+use replay_vectors::Question;
+use replay_vectors::Tally;
+use replay_vectors::Verdict;
+use replay_vectors::Word;
 ghost use mathlib.Core.Path.{_≡_};
 ghost use Prim.Native.Nat.{_≤_};
 ghost use lib.ListN.{length};
 ghost use Rattle.lent.specs.Lent.{old, new};
-ghost use Rattle.asking.specs.Asked.{answerOf, columnOf};
-ghost use Rattle.asking.specs.Lent.{lentColumns};
-ghost use Rattle.walks.specs.Expansion.{zoomOf};
-ghost use Rattle.tiles.specs.Asked.{tiled};
-ghost use Rattle.tiles.specs.Tallied.{tallied};
-ghost use Rattle.vectors.specs.Tallies.{endingIs};
+ghost use Rattle.ask_base.specs.Asked.{answerOf, columnOf};
+ghost use Rattle.build_tables.specs.Lent.{lentColumns};
+ghost use Rattle.ask_cluster.specs.Expansion.{zoomOf};
+ghost use Rattle.ask_tile.specs.Asked.{tiled};
+ghost use Rattle.ask_tile.specs.Tallied.{tallied};
+ghost use Rattle.replay_vectors.specs.Tallies.{endingIs};
 ghost use Rattle.replay_questions.specs.Same.{askedOf, questionOf, sameReply, sameTile, listsTo, zoomsTo, tilesTo, sumsTo};
 
 // A question that lists places, or lamps.
@@ -144,15 +144,15 @@ fn ask(
             least_y,
             east,
             greatest_y,
-        } => { boxes::list_box(s, ids, coords, zoom, west, least_y, east, greatest_y, out) }
+        } => { ask_box::list_box(s, ids, coords, zoom, west, least_y, east, greatest_y, out) }
         Listing::Ring {
             zoom,
             x: cx,
             y: cy,
             radius,
-        } => { boxes::list_ring(s, ids, coords, zoom, cx, cy, radius, out) }
+        } => { ask_box::list_ring(s, ids, coords, zoom, cx, cy, radius, out) }
         Listing::Children(cid) => {
-            walks::children(
+            ask_cluster::children(
                 s,
                 x,
                 y,
@@ -172,7 +172,7 @@ fn ask(
             limit,
             offset,
         } => {
-            walks::leaves(
+            ask_cluster::leaves(
                 s,
                 x,
                 y,
@@ -214,7 +214,7 @@ fn lists(
         ⌜ r ≡ listsTo reply (old want) (askedOf q s c) (old out) ⌝ }
 {
     let a = ask(q, s, x, y, seen, id, parent, num, energy, ids, coords, out);
-    same_reply(reply, a.number(), long(a.carried())) & vectors::same_places(want, out)
+    same_reply(reply, a.number(), long(a.carried())) & replay_vectors::same_places(want, out)
 }
 
 // Whether the expansion zoom of a cluster is the one expected.
@@ -236,7 +236,7 @@ fn finds_zoom(
         let c = lentColumns x y seen id parent num energy ids coords in
         ⌜ r ≡ zoomsTo reply (zoomOf s c cid) ⌝ }
 {
-    let e = walks::expansion_zoom(s, x, y, seen, id, parent, num, energy, ids, coords, cid);
+    let e = ask_cluster::expansion_zoom(s, x, y, seen, id, parent, num, energy, ids, coords, cid);
     same_reply(reply, e.number(), wide(e.carried()))
 }
 
@@ -259,7 +259,7 @@ fn adds_up(
         let c = lentColumns x y seen id parent num energy ids coords in
         ⌜ r ≡ sumsTo reply (tallied s c (t .z) (t .x) (t .y)) ⌝ }
 {
-    let a = tiles::tally(
+    let a = ask_tile::tally(
         s,
         x,
         y,
@@ -288,9 +288,9 @@ fn same_tile(
 ) -> bool
     ensures { λ r. ⌜ r ≡ sameTile (old want) (old «want_x») (old «want_y») (old places) (old px) (old py) ⌝ }
 {
-    vectors::same_places(want, places)
-        & vectors::same_longs(want_x, px)
-        & vectors::same_longs(want_y, py)
+    replay_vectors::same_places(want, places)
+        & replay_vectors::same_longs(want_x, px)
+        & replay_vectors::same_longs(want_y, py)
 }
 
 // Whether a tile is answered as expected, and leaves the columns expected.
@@ -319,7 +319,7 @@ fn lists_tile(
         let a = tiled s c (t .z) (t .x) (t .y) (old places) (old px) (old py) in
         ⌜ r ≡ tilesTo reply (old want) (old «want_x») (old «want_y») a ⌝ }
 {
-    let a = tiles::tile(
+    let a = ask_tile::tile(
         s,
         x,
         y,
@@ -343,10 +343,10 @@ fn lists_tile(
 
 // Reads a reply; what it carries ends its line where `last`.
 fn read_reply(last: bool) -> Told {
-    let Place::Is(number) = vectors::next_place(false) else {
+    let Place::Is(number) = replay_vectors::next_place(false) else {
         return Told::Bad;
     };
-    let Pattern::Bits(carried) = vectors::next_bits(last) else {
+    let Pattern::Bits(carried) = replay_vectors::next_bits(last) else {
         return Told::Bad;
     };
     Told::Reply(Reply { number, carried })
@@ -354,55 +354,55 @@ fn read_reply(last: bool) -> Told {
 
 // Reads the numbers of a box.
 fn read_box() -> Asked {
-    let Byte::Is(zoom) = vectors::next_byte(false) else {
+    let Byte::Is(zoom) = replay_vectors::next_byte(false) else {
         return Asked::Bad;
     };
-    let Pattern::Bits(west) = vectors::next_bits(false) else {
+    let Pattern::Bits(west) = replay_vectors::next_bits(false) else {
         return Asked::Bad;
     };
-    let Pattern::Bits(least_y) = vectors::next_bits(false) else {
+    let Pattern::Bits(least_y) = replay_vectors::next_bits(false) else {
         return Asked::Bad;
     };
-    let Pattern::Bits(east) = vectors::next_bits(false) else {
+    let Pattern::Bits(east) = replay_vectors::next_bits(false) else {
         return Asked::Bad;
     };
-    let Pattern::Bits(greatest_y) = vectors::next_bits(false) else {
+    let Pattern::Bits(greatest_y) = replay_vectors::next_bits(false) else {
         return Asked::Bad;
     };
     Asked::Listing(Listing::Box {
         zoom,
-        west: vectors::float_of(west),
-        least_y: vectors::float_of(least_y),
-        east: vectors::float_of(east),
-        greatest_y: vectors::float_of(greatest_y),
+        west: replay_vectors::float_of(west),
+        least_y: replay_vectors::float_of(least_y),
+        east: replay_vectors::float_of(east),
+        greatest_y: replay_vectors::float_of(greatest_y),
     })
 }
 
 // Reads the numbers of a ring.
 fn read_ring() -> Asked {
-    let Byte::Is(zoom) = vectors::next_byte(false) else {
+    let Byte::Is(zoom) = replay_vectors::next_byte(false) else {
         return Asked::Bad;
     };
-    let Pattern::Bits(x) = vectors::next_bits(false) else {
+    let Pattern::Bits(x) = replay_vectors::next_bits(false) else {
         return Asked::Bad;
     };
-    let Pattern::Bits(y) = vectors::next_bits(false) else {
+    let Pattern::Bits(y) = replay_vectors::next_bits(false) else {
         return Asked::Bad;
     };
-    let Pattern::Bits(radius) = vectors::next_bits(false) else {
+    let Pattern::Bits(radius) = replay_vectors::next_bits(false) else {
         return Asked::Bad;
     };
     Asked::Listing(Listing::Ring {
         zoom,
-        x: vectors::float_of(x),
-        y: vectors::float_of(y),
-        radius: vectors::float_of(radius),
+        x: replay_vectors::float_of(x),
+        y: replay_vectors::float_of(y),
+        radius: replay_vectors::float_of(radius),
     })
 }
 
 // Reads the id of a question for children.
 fn read_children() -> Asked {
-    let Place::Is(id) = vectors::next_place(false) else {
+    let Place::Is(id) = replay_vectors::next_place(false) else {
         return Asked::Bad;
     };
     Asked::Listing(Listing::Children(id))
@@ -410,13 +410,13 @@ fn read_children() -> Asked {
 
 // Reads the numbers of a question for leaves.
 fn read_leaves() -> Asked {
-    let Place::Is(id) = vectors::next_place(false) else {
+    let Place::Is(id) = replay_vectors::next_place(false) else {
         return Asked::Bad;
     };
-    let Place::Is(limit) = vectors::next_place(false) else {
+    let Place::Is(limit) = replay_vectors::next_place(false) else {
         return Asked::Bad;
     };
-    let Place::Is(offset) = vectors::next_place(false) else {
+    let Place::Is(offset) = replay_vectors::next_place(false) else {
         return Asked::Bad;
     };
     Asked::Listing(Listing::Leaves { id, limit, offset })
@@ -438,13 +438,13 @@ fn read_listing(kind: usize) -> Asked {
 
 // Reads a tile.
 fn read_tile() -> Named {
-    let Byte::Is(z) = vectors::next_byte(false) else {
+    let Byte::Is(z) = replay_vectors::next_byte(false) else {
         return Named::Bad;
     };
-    let Place::Is(x) = vectors::next_place(false) else {
+    let Place::Is(x) = replay_vectors::next_place(false) else {
         return Named::Bad;
     };
-    let Place::Is(y) = vectors::next_place(false) else {
+    let Place::Is(y) = replay_vectors::next_place(false) else {
         return Named::Bad;
     };
     Named::Tile(Tile { z, x, y })
@@ -497,11 +497,11 @@ fn replay_listed(
     let Told::Reply(reply) = read_reply(false) else {
         return Verdict::Malformed;
     };
-    let Count::Is(m) = vectors::next_count(room, last) else {
+    let Count::Is(m) = replay_vectors::next_count(room, last) else {
         return Verdict::Malformed;
     };
     let mut want = [OLD; 64];
-    if !vectors::read_places(m, last, &mut want) {
+    if !replay_vectors::read_places(m, last, &mut want) {
         return Verdict::Malformed;
     }
     let mut out = [OLD; 64];
@@ -544,7 +544,7 @@ fn replay_listing(
     let Asked::Listing(q) = read_listing(kind) else {
         return Verdict::Malformed;
     };
-    let Count::Is(room) = vectors::next_count(64, false) else {
+    let Count::Is(room) = replay_vectors::next_count(64, false) else {
         return Verdict::Malformed;
     };
     replay_listed(
@@ -578,7 +578,7 @@ fn replay_zoom(
     coords: &[f64],
     last: bool,
 ) -> Verdict {
-    let Place::Is(cid) = vectors::next_place(false) else {
+    let Place::Is(cid) = replay_vectors::next_place(false) else {
         return Verdict::Malformed;
     };
     let Told::Reply(reply) = read_reply(last) else {
@@ -716,20 +716,22 @@ fn replay_tiled(
     let Told::Reply(reply) = read_reply(false) else {
         return Verdict::Malformed;
     };
-    let Count::Is(m) = vectors::next_count(asking::less(room, asking::less(room_x, room_y)), last)
-    else {
+    let Count::Is(m) = replay_vectors::next_count(
+        build_tables::less(room, build_tables::less(room_x, room_y)),
+        last,
+    ) else {
         return Verdict::Malformed;
     };
     let mut want = [OLD; 64];
     let mut want_x = [OLD_LONG; 64];
     let mut want_y = [OLD_LONG; 64];
-    if !vectors::read_places(m, false, &mut want) {
+    if !replay_vectors::read_places(m, false, &mut want) {
         return Verdict::Malformed;
     }
-    if !vectors::read_longs(m, false, &mut want_x) {
+    if !replay_vectors::read_longs(m, false, &mut want_x) {
         return Verdict::Malformed;
     }
-    if !vectors::read_longs(m, last, &mut want_y) {
+    if !replay_vectors::read_longs(m, last, &mut want_y) {
         return Verdict::Malformed;
     }
     ask_tile(
@@ -768,13 +770,13 @@ fn replay_tile(
     let Named::Tile(t) = read_tile() else {
         return Verdict::Malformed;
     };
-    let Count::Is(room) = vectors::next_count(64, false) else {
+    let Count::Is(room) = replay_vectors::next_count(64, false) else {
         return Verdict::Malformed;
     };
-    let Count::Is(room_x) = vectors::next_count(64, false) else {
+    let Count::Is(room_x) = replay_vectors::next_count(64, false) else {
         return Verdict::Malformed;
     };
-    let Count::Is(room_y) = vectors::next_count(64, false) else {
+    let Count::Is(room_y) = replay_vectors::next_count(64, false) else {
         return Verdict::Malformed;
     };
     replay_tiled(
@@ -810,7 +812,7 @@ fn replay_question(
     coords: &[f64],
     last: bool,
 ) -> Verdict {
-    let Count::Is(kind) = vectors::next_count(6, false) else {
+    let Count::Is(kind) = replay_vectors::next_count(6, false) else {
         return Verdict::Malformed;
     };
     if kind < 4 {
@@ -851,7 +853,7 @@ fn replay_questions(
     ids: &[u32],
     coords: &[f64],
 ) -> Verdict {
-    let Count::Is(k) = vectors::next_count(64, true) else {
+    let Count::Is(k) = replay_vectors::next_count(64, true) else {
         return Verdict::Malformed;
     };
     let mut verdict = Verdict::Agrees;
@@ -871,7 +873,7 @@ fn replay_questions(
             i + 1 == k,
         ) {
             Verdict::Agrees => {}
-            Verdict::Differs(function) => verdict = vectors::earlier(verdict, function),
+            Verdict::Differs(function) => verdict = replay_vectors::earlier(verdict, function),
             Verdict::Malformed => return Verdict::Malformed,
             Verdict::End => return Verdict::Malformed,
         }
@@ -893,13 +895,13 @@ fn replay_index(
     let mut energy = [0u64; 64];
     let mut ids = [0u32; 64];
     let mut coords = [0.0; 128];
-    let Count::Is(a) = vectors::next_numbers(&mut energy) else {
+    let Count::Is(a) = replay_vectors::next_numbers(&mut energy) else {
         return Verdict::Malformed;
     };
-    let Count::Is(b) = vectors::next_places(&mut ids) else {
+    let Count::Is(b) = replay_vectors::next_places(&mut ids) else {
         return Verdict::Malformed;
     };
-    let Count::Is(c) = vectors::next_floats(&mut coords) else {
+    let Count::Is(c) = replay_vectors::next_floats(&mut coords) else {
         return Verdict::Malformed;
     };
     replay_questions(
@@ -921,13 +923,13 @@ fn replay_ids(s: State, x: &[f64], y: &[f64], seen: &[u8]) -> Verdict {
     let mut id = [0u32; 64];
     let mut parent = [0u32; 64];
     let mut num = [0u32; 64];
-    let Count::Is(a) = vectors::next_places(&mut id) else {
+    let Count::Is(a) = replay_vectors::next_places(&mut id) else {
         return Verdict::Malformed;
     };
-    let Count::Is(b) = vectors::next_places(&mut parent) else {
+    let Count::Is(b) = replay_vectors::next_places(&mut parent) else {
         return Verdict::Malformed;
     };
-    let Count::Is(c) = vectors::next_places(&mut num) else {
+    let Count::Is(c) = replay_vectors::next_places(&mut num) else {
         return Verdict::Malformed;
     };
     replay_index(s, x, y, seen, &id[..a], &parent[..b], &num[..c])
@@ -938,13 +940,13 @@ fn replay_columns(s: State) -> Verdict {
     let mut x = [0.0; 64];
     let mut y = [0.0; 64];
     let mut seen = [0u8; 64];
-    let Count::Is(a) = vectors::next_floats(&mut x) else {
+    let Count::Is(a) = replay_vectors::next_floats(&mut x) else {
         return Verdict::Malformed;
     };
-    let Count::Is(b) = vectors::next_floats(&mut y) else {
+    let Count::Is(b) = replay_vectors::next_floats(&mut y) else {
         return Verdict::Malformed;
     };
-    let Count::Is(c) = vectors::next_bytes(&mut seen) else {
+    let Count::Is(c) = replay_vectors::next_bytes(&mut seen) else {
         return Verdict::Malformed;
     };
     replay_ids(s, &x[..a], &y[..b], &seen[..c])
@@ -952,15 +954,15 @@ fn replay_columns(s: State) -> Verdict {
 
 // Reads the state of a build by these options, and then the rest.
 fn replay_state(options: Options) -> Verdict {
-    let Place::Is(count) = vectors::next_place(false) else {
+    let Place::Is(count) = replay_vectors::next_place(false) else {
         return Verdict::Malformed;
     };
     let mut starts = [0u32; 32];
     let mut lens = [0u32; 32];
-    if !vectors::read_places(32, false, &mut starts) {
+    if !replay_vectors::read_places(build_tables::ZOOMS as usize, false, &mut starts) {
         return Verdict::Malformed;
     }
-    if !vectors::read_places(32, false, &mut lens) {
+    if !replay_vectors::read_places(build_tables::ZOOMS as usize, false, &mut lens) {
         return Verdict::Malformed;
     }
     replay_columns(State {
@@ -973,13 +975,13 @@ fn replay_state(options: Options) -> Verdict {
 
 // Replays the case that begins with this word.
 fn replay_case(bits: u64) -> Verdict {
-    let Count::Is(min_zoom) = vectors::count_of(bits, 255) else {
+    let Count::Is(min_zoom) = replay_vectors::count_of(bits, 255) else {
         return Verdict::Malformed;
     };
-    let Byte::Is(max_zoom) = vectors::next_byte(false) else {
+    let Byte::Is(max_zoom) = replay_vectors::next_byte(false) else {
         return Verdict::Malformed;
     };
-    let Chosen::Options(options) = stored::read_options(min_zoom as u8, max_zoom) else {
+    let Chosen::Options(options) = replay_options::read_options(min_zoom as u8, max_zoom) else {
         return Verdict::Malformed;
     };
     replay_state(options)
@@ -987,7 +989,7 @@ fn replay_case(bits: u64) -> Verdict {
 
 // Replays the next case of standard input.
 fn next_case() -> Verdict {
-    match vectors::next_word() {
+    match replay_vectors::next_word() {
         Word::Inner(bits) => replay_case(bits),
         Word::Last(bits) => Verdict::Malformed,
         Word::Bad => Verdict::Malformed,
@@ -1004,7 +1006,7 @@ fn replay_all() -> Ending
         differences: 0,
         first: First::Nothing,
     };
-    while tally.cases <= vectors::MOST {
+    while tally.cases <= replay_vectors::MOST {
         match next_case() {
             Verdict::Agrees => tally = tally.agreed(),
             Verdict::Differs(function) => tally = tally.differed(function),
@@ -1017,5 +1019,5 @@ fn replay_all() -> Ending
 
 // Replays standard input, and writes how that ended.
 fn main() {
-    vectors::say_ending(replay_all());
+    replay_vectors::say_ending(replay_all());
 }

@@ -6,7 +6,7 @@ use mathlib.Core.Path.{_≡_}
 use lib.Dec.{eqb}
 use lib.ListN.{getD}
 use lib.Ieee.{binary64, ofBits}
-use Rattle.vectors.specs.Words.{Spelt}
+use Rattle.replay_vectors.specs.Words.{Spelt}
 use Rattle.range.specs.declared.Setting.{Setting}
 use Rattle.range.specs.declared.Setting.the-variants.{Given, Derived as Setting·Derived}
 use Rattle.range.specs.declared.DataRange.{DataRange}

@@ -5,18 +5,18 @@
 // An offset or a scale may be 16 dashes, for one that is derived from the range.
 // Expected of the range are normalize(v) and denormalize(v), and of longitude/latitude the point (v, v) converted: (longitude, v).
 use libc::STDIN_FILENO;
-use vectors::Ending;
-use vectors::First;
-use vectors::Function;
-use vectors::Pattern;
-use vectors::Tally;
-use vectors::Verdict;
+use replay_vectors::Ending;
+use replay_vectors::First;
+use replay_vectors::Function;
+use replay_vectors::Pattern;
+use replay_vectors::Tally;
+use replay_vectors::Verdict;
 ghost use mathlib.Core.Path.{_≡_};
 ghost use Prim.Native.Nat.{_+_, _≤_, _<_};
 ghost use Rattle.lent.specs.Lent.{old};
 ghost use Rattle.replay_range.specs.Text.{dashesIs, separatorOf, fieldIs, settledIs, rangedIs, parsedIs};
 ghost use Rattle.replay_range.specs.Judge.{convertsTo, verdictOf};
-ghost use Rattle.vectors.specs.Tallies.{endingIs};
+ghost use Rattle.replay_vectors.specs.Tallies.{endingIs};
 
 // What a field holds: a number, 16 dashes, or neither.
 enum Field {
@@ -86,8 +86,8 @@ fn read_field(line: &[u8; 170], k: usize) -> Field
     if dashes(line, at) {
         return Field::Derived;
     }
-    match vectors::read_pattern(line, at) {
-        Pattern::Bits(bits) => Field::Number(vectors::float_of(bits)),
+    match replay_vectors::read_pattern(line, at) {
+        Pattern::Bits(bits) => Field::Number(replay_vectors::float_of(bits)),
         Pattern::Bad => Field::Bad,
     }
 }
@@ -169,8 +169,8 @@ fn converts(v: f64, longitude: f64) -> bool
     ensures { λ r. ⌜ r ≡ convertsTo v longitude ⌝ }
 {
     let p = range::CoordinateSystem::LatLng.convert(range::Point { x: v, y: v });
-    if vectors::agree(p.x, longitude) {
-        return vectors::agree(p.y, v);
+    if replay_vectors::agree(p.x, longitude) {
+        return replay_vectors::agree(p.y, v);
     }
     false
 }
@@ -180,10 +180,10 @@ fn replay(c: Case) -> Verdict
     ensures { λ r. ⌜ r ≡ verdictOf c ⌝ }
 {
     let range = c.range;
-    if !vectors::agree(range.normalize(c.v), c.normalized) {
+    if !replay_vectors::agree(range.normalize(c.v), c.normalized) {
         return Verdict::Differs(Function::Normalize);
     }
-    if !vectors::agree(range.denormalize(c.v), c.denormalized) {
+    if !replay_vectors::agree(range.denormalize(c.v), c.denormalized) {
         return Verdict::Differs(Function::Denormalize);
     }
     if !converts(c.v, c.longitude) {
@@ -217,7 +217,7 @@ fn replay_all() -> Ending
         differences: 0,
         first: First::Nothing,
     };
-    while tally.cases <= vectors::MOST {
+    while tally.cases <= replay_vectors::MOST {
         match next_case() {
             Verdict::Agrees => tally = tally.agreed(),
             Verdict::Differs(function) => tally = tally.differed(function),
@@ -230,5 +230,5 @@ fn replay_all() -> Ending
 
 // Replays standard input, and writes how that ended.
 fn main() {
-    vectors::say_ending(replay_all());
+    replay_vectors::say_ending(replay_all());
 }

@@ -1,9 +1,9 @@
--- The build, by 01's 'Tables' and the Rust's `load`: the refusals in order; otherwise the finest table, and each zoom from max_zoom down
--- to min_zoom, every table with its index, packed from position 0. The zooms and the packing are those of `Zooms`, in the crate zooms.
--- Definitions only.
+-- The build, by SCOPE's 'Tables and one zoom' and the Rust's `load`: the refusals in order; otherwise the finest table, and each zoom from
+-- max_zoom down to min_zoom, every table with its index, packed from position 0. The zooms and the packing are those of `Zooms`, in the
+-- crate build_all_zooms. Definitions only.
 use mathlib.Core.Bool.{Bool, true, false, cond, _&&_}
 use mathlib.Core.List.{List, [], _∷_, map}
-use Prim.Native.Nat.{ℕ, suc, _+_, _*_}
+use Prim.Native.Nat.{ℕ, suc, _+_, _*_, min}
 use lib.Dec.{leb, eqb}
 use lib.ListN.{length, getD, replicate}
 use lib.Ieee.{Float}
@@ -13,14 +13,15 @@ use Rattle.range.specs.Range.{converted}
 use Rattle.kdbush.specs.declared.Outside.{Outside}
 use Rattle.kdbush.specs.declared.Outside.the-variants.{At, Nothing}
 use Rattle.kdbush.specs.Reply.{pairOk, firstOutside}
-use Rattle.tables.specs.declared.Options.{Options}
-use Rattle.tables.specs.declared.State.{State}
-use Rattle.tables.specs.declared.Entry.{Entry}
-use Rattle.tables.specs.Options.{optionsOk, tableCount}
-use Rattle.tables.specs.State.{newState}
-use Rattle.tables.specs.Entries.{Table, never, unset, xsOf, ysOf, seenOf, idsOf, parentsOf, numsOf, energiesOf}
-use Rattle.tables.specs.Rows.{Cols, cols, each2}
-use Rattle.zooms.specs.Zooms.{planOf, run, zoomsOf, joined, joinedIds, joinedCo, over, starts, lens}
+use Rattle.build_tables.specs.declared.Options.{Options}
+use Rattle.build_tables.specs.declared.State.{State}
+use Rattle.build_tables.specs.declared.Entry.{Entry}
+use Rattle.build_tables.specs.Options.{optionsOk, tableCount}
+use Rattle.build_tables.specs.State.{newState}
+use Rattle.build_tables.specs.Entries.{Table, never, unset, xsOf, ysOf, seenOf, idsOf, parentsOf, numsOf, energiesOf}
+use Rattle.build_tables.specs.Rows.{Cols, cols, each2}
+use Rattle.build_tables.specs.Room.{columns, roomOf}
+use Rattle.build_all_zooms.specs.Zooms.{zoomPlan, runZooms, zoomsOf, joined, joinedIds, joinedCo, laidOver, starts, lens}
 use Rattle.supercluster.specs.declared.LoadReply.{LoadReply}
 use Rattle.supercluster.specs.declared.LoadReply.the-variants.{Done, Options as No·Options, Count, Point as No·Point, Energy, Tables}
 use Rattle.supercluster.specs.declared.Loaded.{Loaded}
@@ -44,37 +45,37 @@ finest (p ∷ ps) ws i = lamp p (getD ws i 0) i ∷ finest ps ws (suc i)
 
 -- every table of a build, the finest first
 unfoldable pub tablesOf : Options → List Float → List Float → List ℕ → List Table
-tablesOf o xs ys ws = run (planOf o (length xs)) (zoomsOf o) (finest (convertedAll (o .«coordinate_system») xs ys) ws 0)
+tablesOf o xs ys ws = runZooms (zoomPlan o (length xs)) (zoomsOf o) (finest (convertedAll (o .«coordinate_system») xs ys) ws 0)
 
 -- ---- the columns and the state that hold them
 
 -- the lent columns: those of the tables, those of the indexes, and room to work
-pub record Lent : Type 0 where
+pub record BuildColumns : Type 0 where
   pub table : Cols
   pub ids : List ℕ
   pub coords : List Float
   pub near : List ℕ
 
-abbrev pub lent : Cols → List ℕ → List Float → List ℕ → Lent
-lent c d co r = record { table = c; ids = d; coords = co; near = r }
+abbrev pub buildColumns : Cols → List ℕ → List Float → List ℕ → BuildColumns
+buildColumns c d co r = record { table = c; ids = d; coords = co; near = r }
 
 -- the columns of a table
 abbrev pub colsOf : Table → Cols
 colsOf t = cols (xsOf t) (ysOf t) (seenOf t) (idsOf t) (parentsOf t) (numsOf t) (energiesOf t)
 
 -- the columns after a build of n points: the packed tables, their indexes, zeros in the first 2n of `near`, and past them the old contents
-unfoldable pub written : ℕ → ℕ → List Table → Lent → Lent
+unfoldable pub written : ℕ → ℕ → List Table → BuildColumns → BuildColumns
 written size n ts l =
     record {
-      table = each2 (λ A l q. over l q) (colsOf (joined ts)) (l .table);
-      ids = over (joinedIds size ts) (l .ids);
-      coords = over (joinedCo size ts) (l .coords);
-      near = over (replicate (n + n) 0) (l .near);
+      table = each2 (λ A l q. laidOver l q) (colsOf (joined ts)) (l .table);
+      ids = laidOver (joinedIds size ts) (l .ids);
+      coords = laidOver (joinedCo size ts) (l .coords);
+      near = laidOver (replicate (n + n) 0) (l .near);
     }
 
 -- the state: the tables from max_zoom + 1 down, packed from 0
-abbrev pub stateOf : Options → ℕ → List Table → State
-stateOf o n ts =
+abbrev pub builtState : Options → ℕ → List Table → State
+builtState o n ts =
     record {
       options = o;
       count = n;
@@ -88,17 +89,13 @@ stateOf o n ts =
 abbrev pub need : Options → ℕ → ℕ
 need o n = tableCount o * n
 
--- columns of these lengths hold m entries each, and the index coordinates twice that
-abbrev pub roomyBy : ℕ → ℕ → ℕ → ℕ → ℕ → ℕ → ℕ → ℕ → ℕ → ℕ → ℕ → Bool
-roomyBy m x y seen id parent num energy ids coords near =
-    leb m x && leb m y && leb m seen && leb m id && leb m parent && leb m num && leb m energy
-    && leb m ids && leb (2 * m) coords && leb m near
+-- for how many entries every lent column has room
+abbrev pub roomIn : BuildColumns → ℕ
+roomIn l = min (roomOf (columns (l .table) (l .ids) (l .coords))) (length (l .near))
 
-abbrev pub roomy : ℕ → Lent → Bool
-roomy m l =
-    let c = l .table in
-    roomyBy m (length (c .x)) (length (c .y)) (length (c .seen)) (length (c .id)) (length (c .parent)) (length (c .num))
-    (length (c .energy)) (length (l .ids)) (length (l .coords)) (length (l .near))
+-- the lent columns hold m entries each
+abbrev pub roomy : ℕ → BuildColumns → Bool
+roomy m l = leb m (roomIn l)
 
 -- the largest energy of a point, in watt-hours: 2^40
 abbrev pub mostEnergy : ℕ
@@ -129,13 +126,13 @@ abbrev pub tripleOk : List Float → List Float → List ℕ → Bool
 tripleOk xs ys ws = pairOk xs ys && eqb (length ws) (length xs)
 
 -- what is tested of each
-unfoldable pub checked : Options → List Float → List Float → List ℕ → Lent → LoadReply
+unfoldable pub checked : Options → List Float → List Float → List ℕ → BuildColumns → LoadReply
 checked o xs ys ws l =
     let ps = convertedAll (o .«coordinate_system») xs ys in
     ordered (optionsOk o) (tripleOk xs ys ws) (firstOutside (map (λ p. p .x) ps) (map (λ p. p .y) ps) 0) (firstOver ws 0)
     (roomy (need o (length xs)) l)
 
--- the number of a reply, 01's and 02's 15, and what it carries
+-- the number of a reply, SCOPE's, and what it carries
 abbrev pub loadNumber : LoadReply → ℕ
 loadNumber Done = 0
 loadNumber No·Options = 1
@@ -155,25 +152,25 @@ loadCarried Tables = 0
 -- a reply beside its state, and what it leaves in the columns
 pub record Outcome : Type 0 where
   pub reply : Loaded
-  pub columns : Lent
+  pub columns : BuildColumns
 
-abbrev pub outcome : Loaded → Lent → Outcome
+abbrev pub outcome : Loaded → BuildColumns → Outcome
 outcome b l = record { reply = b; columns = l }
 
 -- beside a refusal stand the options as given and no tables, and no column is written
-abbrev pub refused : Options → LoadReply → Lent → Outcome
-refused o r l = outcome (record { reply = r; state = newState o 0 }) l
+abbrev pub refusedBuild : Options → LoadReply → BuildColumns → Outcome
+refusedBuild o r l = outcome (record { reply = r; state = newState o 0 }) l
 
-abbrev pub byReply : Options → List Float → List Float → List ℕ → Lent → LoadReply → Outcome
+abbrev pub byReply : Options → List Float → List Float → List ℕ → BuildColumns → LoadReply → Outcome
 byReply o xs ys ws l Done =
-    outcome (record { reply = Done; state = stateOf o (length xs) (tablesOf o xs ys ws) })
+    outcome (record { reply = Done; state = builtState o (length xs) (tablesOf o xs ys ws) })
     (written (o .«node_size») (length xs) (tablesOf o xs ys ws) l)
-byReply o xs ys ws l No·Options = refused o No·Options l
-byReply o xs ys ws l Count = refused o Count l
-byReply o xs ys ws l (No·Point i) = refused o (No·Point i) l
-byReply o xs ys ws l (Energy i) = refused o (Energy i) l
-byReply o xs ys ws l Tables = refused o Tables l
+byReply o xs ys ws l No·Options = refusedBuild o No·Options l
+byReply o xs ys ws l Count = refusedBuild o Count l
+byReply o xs ys ws l (No·Point i) = refusedBuild o (No·Point i) l
+byReply o xs ys ws l (Energy i) = refusedBuild o (Energy i) l
+byReply o xs ys ws l Tables = refusedBuild o Tables l
 
 -- what `load` replies and leaves, for every input
-unfoldable pub loaded : Options → List Float → List Float → List ℕ → Lent → Outcome
+unfoldable pub loaded : Options → List Float → List Float → List ℕ → BuildColumns → Outcome
 loaded o xs ys ws l = byReply o xs ys ws l (checked o xs ys ws l)

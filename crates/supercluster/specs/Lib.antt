@@ -1,11 +1,9 @@
--- Definitions that contracts cite: Build, Lent, and of Ready and Load the records that the crate's own functions ask and leave. What is
--- true of every build: Right, Held, Replies. All else is laws.
+-- The definitions of supercluster, a line a module; what is true of them is in laws. Written by tools/modules.
+
+-- Build: the build, by SCOPE's 'Tables and one zoom' and the Rust's `load`: the refusals in order; otherwise the finest table, and each
+-- zoom from max_zoom down to min_zoom, every table with its index, packed from position 0.
 pub mod Build
+-- Lent: the ten lent columns of a build in a contract, each named once.
 pub mod Lent
-pub mod Over
-pub mod Fill
-pub mod Ready
-pub mod Load
-pub mod Right
-pub mod Held
-pub mod Replies
+-- What is true of these: laws, and what contracts below the surface of supercluster cite beside them.
+pub mod laws

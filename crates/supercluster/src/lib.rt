@@ -1,27 +1,29 @@
 // The public build, `load` of the Rust: the finest table of the converted points, then each zoom from max_zoom down to min_zoom, every
-// table with its index. Nothing is asked of the caller: what 01 does not take is refused with its number, and then no column is written.
+// table with its index. Nothing is asked of the caller: what SCOPE does not take is refused with its number, and then no column is written.
+use build_tables::Entry;
+use build_tables::Options;
+use build_tables::State;
 use kdbush::Outside;
 use range::CoordinateSystem;
 use range::Point;
-use tables::Entry;
-use tables::Options;
-use tables::State;
 ghost use mathlib.Core.Path.{_≡_};
 ghost use mathlib.Core.List.{map};
 ghost use Prim.Native.Nat.{_+_, _*_, _≤_};
+ghost use lib.Dec.{leb};
 ghost use lib.ListN.{length, replicate};
 ghost use Rattle.kdbush.specs.Reply.{firstOutside};
 ghost use Rattle.lent.specs.Lent.{old, new};
-ghost use Rattle.tables.specs.Rows.{rows, Even};
-ghost use Rattle.tables.specs.Lent.{given, lentCols};
-ghost use Rattle.tables.specs.Options.{optionsOk};
-ghost use Rattle.tables.specs.State.{newState};
-ghost use Rattle.zooms.specs.Zooms.{over};
-ghost use Rattle.supercluster.specs.Build.{convertedAll, finest, written, stateOf, tablesOf, need, roomyBy, firstOver, tripleOk};
+ghost use Rattle.build_tables.specs.Rows.{rows};
+ghost use Rattle.build_tables.specs.laws.Rows.{Even};
+ghost use Rattle.build_tables.specs.Lent.{given, lentCols};
+ghost use Rattle.build_tables.specs.Options.{optionsOk};
+ghost use Rattle.build_tables.specs.State.{newState};
+ghost use Rattle.build_all_zooms.specs.Zooms.{laidOver};
+ghost use Rattle.supercluster.specs.Build.{convertedAll, finest, written, builtState, tablesOf, need, firstOver, tripleOk};
 ghost use Rattle.supercluster.specs.Build.{ordered, loadNumber, loadCarried, outcome, loaded};
 ghost use Rattle.supercluster.specs.Lent.{givenAll, lentAll};
-ghost use Rattle.supercluster.specs.Ready.{Accepted, Made};
-ghost use Rattle.supercluster.specs.Load.{Holds};
+ghost use Rattle.supercluster.specs.laws.Ready.{Accepted, Made};
+ghost use Rattle.supercluster.specs.laws.Load.{Holds};
 
 // The largest energy of a point, in watt-hours: 2^40.
 const MOST_ENERGY: u64 = 1099511627776;
@@ -91,7 +93,7 @@ fn fill(
         × (length (now energies) ≡ length (now xs)) ⌝ }
     ensures { λ _.
         let t = lentCols x y seen id parent num energy in
-        ⌜ rows (t .exit) ≡ over (finest (convertedAll c (old xs) (old ys)) (old energies) 0) (rows (t .entry)) ⌝ }
+        ⌜ rows (t .exit) ≡ laidOver (finest (convertedAll c (old xs) (old ys)) (old energies) 0) (rows (t .entry)) ⌝ }
 {
     let mut place = 0;
     while place < xs.len() {
@@ -102,13 +104,13 @@ fn fill(
         let e = Entry {
             x: p.x,
             y: p.y,
-            seen: tables::NEVER,
+            seen: build_tables::NEVER,
             id: place as u32,
-            parent: tables::UNSET,
+            parent: build_tables::UNSET,
             num: 1,
             energy: energies[place],
         };
-        tables::put_entry(x, y, seen, id, parent, num, energy, place, e);
+        build_tables::put_entry(x, y, seen, id, parent, num, energy, place, e);
         place += 1;
     }
 }
@@ -157,10 +159,10 @@ fn build_in(
     let c = o.coordinate_system;
     let size = o.node_size;
     fill(c, xs, ys, energies, x, y, seen, id, parent, num, energy);
-    zooms::index_part(x, y, ids, coords, size, 0, n);
-    let e = tables::new_state(o, n as u32);
-    let s = tables::with_table(e, o.max_zoom as usize + 1, 0, n as u32);
-    let st = zooms::run_zooms(
+    build_all_zooms::index_part(x, y, ids, coords, size, 0, n);
+    let e = build_tables::new_state(o, n as u32);
+    let s = build_tables::with_table(e, o.max_zoom as usize + 1, 0, n as u32);
+    let st = build_all_zooms::run_zooms(
         x,
         y,
         seen,
@@ -201,11 +203,11 @@ fn build_all(
         let l = lentAll x y seen id parent num energy ids coords near in
         let n = length (old xs) in
         let ts = tablesOf o (old xs) (old ys) (old energies) in
-        ⌜ (s ≡ stateOf o n ts) × (l .exit ≡ written (o .«node_size») n ts (l .entry)) ⌝ }
+        ⌜ (s ≡ builtState o n ts) × (l .exit ≡ written (o .«node_size») n ts (l .entry)) ⌝ }
 {
     let n = xs.len();
     let w = n + n;
-    let m = tables::table_count(o) * n;
+    let m = build_tables::table_count(o) * n;
     let c = m * 2;
     build_in(
         o,
@@ -260,75 +262,12 @@ fn first_over(energies: &[u64]) -> Outside
     Outside::Nothing
 }
 
-// Whether columns of these lengths hold m entries each, and the index coordinates twice that.
-fn is_roomy(
-    m: usize,
-    x: usize,
-    y: usize,
-    seen: usize,
-    id: usize,
-    parent: usize,
-    num: usize,
-    energy: usize,
-    ids: usize,
-    coords: usize,
-    near: usize,
-) -> bool
-    requires { ⌜ m ≤ 33554432 ⌝ }
-    ensures { λ r. ⌜ r ≡ roomyBy m x y seen id parent num energy ids coords near ⌝ }
-{
-    if x < m {
-        return false;
-    }
-    if y < m {
-        return false;
-    }
-    if seen < m {
-        return false;
-    }
-    if id < m {
-        return false;
-    }
-    if parent < m {
-        return false;
-    }
-    if num < m {
-        return false;
-    }
-    if energy < m {
-        return false;
-    }
-    if ids < m {
-        return false;
-    }
-    if coords < 2 * m {
-        return false;
-    }
-    m <= near
-}
-
 // The refusal of a build, if there is one, for columns of these lengths.
-fn check(
-    o: Options,
-    xs: &[f64],
-    ys: &[f64],
-    energies: &[u64],
-    x: usize,
-    y: usize,
-    seen: usize,
-    id: usize,
-    parent: usize,
-    num: usize,
-    energy: usize,
-    ids: usize,
-    coords: usize,
-    near: usize,
-) -> LoadReply
+fn check(o: Options, xs: &[f64], ys: &[f64], energies: &[u64], room: usize) -> LoadReply
     ensures { λ r.
         let ps = convertedAll (o .«coordinate_system») (old xs) (old ys) in
         ⌜ r ≡ ordered (optionsOk o) (tripleOk (old xs) (old ys) (old energies)) (firstOutside (map (λ p. p .x) ps) (map (λ p. p .y) ps) 0)
-        (firstOver (old energies) 0)
-        (roomyBy (need o (length (old xs))) x y seen id parent num energy ids coords near) ⌝ }
+        (firstOver (old energies) 0) (leb (need o (length (old xs))) room) ⌝ }
 {
     if !o.is_in_bounds() {
         return LoadReply::Options;
@@ -353,8 +292,7 @@ fn check(
     if let Outside::At(i) = first_over(energies) {
         return LoadReply::Energy(i);
     }
-    let m = tables::table_count(o) * n;
-    if !is_roomy(m, x, y, seen, id, parent, num, energy, ids, coords, near) {
+    if room < build_tables::table_count(o) * n {
         return LoadReply::Tables;
     }
     LoadReply::Done
@@ -364,7 +302,7 @@ fn check(
 fn refused(o: Options, reply: LoadReply) -> Loaded
     ensures { λ r. ⌜ (r .reply ≡ reply) × (r .state ≡ newState o 0) ⌝ }
 {
-    let state = tables::new_state(o, 0);
+    let state = build_tables::new_state(o, 0);
     Loaded { reply, state }
 }
 
@@ -389,11 +327,8 @@ pub fn load(
         let l = lentAll x y seen id parent num energy ids coords near in
         ⌜ outcome r (l .exit) ≡ loaded o (old xs) (old ys) (old energies) (l .entry) ⌝ }
 {
-    match check(
-        o,
-        xs,
-        ys,
-        energies,
+    let index = build_tables::less(ids.len(), coords.len() / 2);
+    let held = build_tables::room_by(
         x.len(),
         y.len(),
         seen.len(),
@@ -401,10 +336,9 @@ pub fn load(
         parent.len(),
         num.len(),
         energy.len(),
-        ids.len(),
-        coords.len(),
-        near.len(),
-    ) {
+        index,
+    );
+    match check(o, xs, ys, energies, build_tables::less(held, near.len())) {
         LoadReply::Done => {
             let state = build_all(
                 o,

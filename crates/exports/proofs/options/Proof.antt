@@ -4,8 +4,8 @@ use borrow.Author.Needs.{needs}
 use Rattle.range.specs.declared.Setting.{Setting}
 use Rattle.range.specs.declared.DataRange.{DataRange}
 use Rattle.range.specs.declared.CoordinateSystem.{CoordinateSystem}
-use Rattle.tables.specs.declared.Options.{Options}
-use Rattle.tables.specs.Given.{settingOf, systemOf}
+use Rattle.build_tables.specs.declared.Options.{Options}
+use Rattle.build_tables.specs.Given.{settingOf, systemOf}
 use Rattle.exports.proofs.options.Statement.{statement}
 use Rattle.exports.proofs.options.Tie as tie
 

@@ -3,10 +3,10 @@
 use mathlib.Core.Path.{_≡_, ap}
 use denote.Ref.{now}
 use borrow.Author.Needs.{needs}
-use Rattle.tables.specs.declared.State.{State}
-use Rattle.tables.specs.State.{stateOf}
-use Rattle.efforts.specs.Effort.{effortAsked}
-use Rattle.exports.specs.Given.{given}
+use Rattle.build_tables.specs.declared.State.{State}
+use Rattle.build_tables.specs.State.{stateOf}
+use Rattle.ask_effort.specs.Effort.{effortAsked}
+use Rattle.exports.specs.Given.{givenOptions}
 use Rattle.exports.proofs.Telling.{state-is, effort-told-is}
 use Rattle.exports.proofs.supercluster_box_effort.Statement.{statement}
 use Rattle.exports.proofs.supercluster_box_effort.Tie as tie
@@ -18,7 +18,7 @@ start-of y = y .before .before .before .before .before
 state-given : (y : tie.After-state)
     → y .state .result ≡
     (let a = start-of y .args in stateOf
-    (given (a .min-zoom) (a .max-zoom) (a .min-points) (a .radius) (a .extent) (a .node-size) (a .cartesian) (a .min-x) (a .min-y)
+    (givenOptions (a .min-zoom) (a .max-zoom) (a .min-points) (a .radius) (a .extent) (a .node-size) (a .cartesian) (a .min-x) (a .min-y)
     (a .max-x) (a .max-y) (a .offset-given) (a .offset) (a .scale-given) (a .scale) (a .longitude-strips-only)) (a .count)
     (now (a .starts)) (now (a .lens)))
 state-given y =

@@ -4,8 +4,8 @@ use mathlib.Core.Path.{ap, _∙_}
 use native.Mathlib.Omega.{arith}
 use denote.Ref.{now}
 use borrow.Author.Needs.{needs}
-use Rattle.tables.specs.declared.Options.{Options}
-use Rattle.supercluster.specs.Build.{Outcome, Lent, loaded}
+use Rattle.build_tables.specs.declared.Options.{Options}
+use Rattle.supercluster.specs.Build.{Outcome, BuildColumns, loaded}
 use Rattle.supercluster.specs.Lent.{givenAll}
 use Rattle.exports.proofs.Laying.{laid-is}
 use Rattle.exports.proofs.supercluster_load.Statement.{statement}
@@ -15,7 +15,7 @@ abbrev start-of : tie.After-options → tie.Start
 start-of y = search
 
 -- the columns as they came
-abbrev columns : tie.Start → Lent
+abbrev columns : tie.Start → BuildColumns
 columns s = let a = s .args in givenAll (a .x) (a .y) (a .seen) (a .id) (a .parent) (a .num) (a .energy) (a .ids) (a .coords) (a .near)
 
 -- what `load` is asked for

@@ -3,10 +3,10 @@
 use mathlib.Core.Path.{ap, _∙_}
 use denote.Ref.{now}
 use borrow.Author.Needs.{needs}
-use Rattle.tables.specs.declared.Options.{Options}
-use Rattle.tables.specs.State.{stateOf}
-use Rattle.asking.specs.Lent.{givenColumns}
-use Rattle.tiles.specs.Tallied.{tallied}
+use Rattle.build_tables.specs.declared.Options.{Options}
+use Rattle.build_tables.specs.State.{stateOf}
+use Rattle.build_tables.specs.Lent.{givenColumns}
+use Rattle.ask_tile.specs.Tallied.{tallied}
 use Rattle.exports.specs.Told.{tallySaid}
 use Rattle.exports.proofs.Telling.{said-is}
 use Rattle.exports.proofs.supercluster_tally.Statement.{statement}

@@ -1,4 +1,4 @@
--- `exports::tell` meets its contract: 01's number and what is carried; starts and lengths where the number is 0. Assumes nothing.
+-- `exports::tell` meets its contract: SCOPE's number and what is carried; starts and lengths where the number is 0. Assumes nothing.
 use denote.Ref.{now}
 use borrow.Author.Needs.{needs}
 use Rattle.supercluster.specs.Build.{loadNumber}

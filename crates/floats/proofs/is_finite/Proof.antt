@@ -1,6 +1,6 @@
 -- `floats::is_finite` meets its contract: its test is `finite-test`. Assumes nothing.
 use lib.Ieee.{ofBits}
-use Rattle.floats.specs.Exact.{finite-test}
+use Rattle.floats.specs.laws.Exact.{finite-test}
 use Rattle.floats.proofs.is_finite.Statement.{statement}
 use Rattle.floats.proofs.is_finite.Tie as tie
 

@@ -1,5 +1,5 @@
 -- `floats::is_nan` meets its contract: its test is `ne-self`. Assumes nothing.
-use Rattle.floats.specs.Order.{ne-self}
+use Rattle.floats.specs.laws.Order.{ne-self}
 use Rattle.floats.proofs.is_nan.Statement.{statement}
 use Rattle.floats.proofs.is_nan.Tie as tie
 

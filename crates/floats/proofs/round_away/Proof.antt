@@ -12,8 +12,8 @@ use mir.Val.{SFits, toZ}
 use mir.Facts.{toZ-ofZ, toZ-pos}
 use borrow.Author.Needs.{needs}
 use Rattle.floats.specs.Numbers.{zero as fzero}
-use Rattle.floats.specs.Order.{le-le-trans, lt→le, le-right-number, not-lt→le}
-use Rattle.floats.specs.Rounding.{neg-le}
+use Rattle.floats.specs.laws.Order.{le-le-trans, lt→le, le-right-number, not-lt→le}
+use Rattle.floats.specs.laws.Rounding.{neg-le}
 use Rattle.floats.specs.Numbers.{pow48}
 use Rattle.floats.proofs.Truncation.{neg-fin, away-neg, away-pos}
 use Rattle.floats.proofs.round_away.Statement.{statement}

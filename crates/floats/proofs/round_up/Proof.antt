@@ -8,7 +8,7 @@ use lib.IntN.{pos}
 use lib.Ieee.{fin, lt, ofBits, inFloat, toUnsigned}
 use borrow.Author.Needs.{needs}
 use Rattle.floats.specs.Numbers.{zero}
-use Rattle.floats.specs.Order.{lt-le-trans, le-lt-trans}
+use Rattle.floats.specs.laws.Order.{lt-le-trans, le-lt-trans}
 use Rattle.floats.specs.Numbers.{pow48}
 use Rattle.floats.proofs.Truncation.{part-small, took-up, took-down}
 use Rattle.floats.proofs.round_up.Statement.{statement}

@@ -12,7 +12,8 @@ use Rattle.kdsort.specs.Shape.{shape, mid}
 use Rattle.kdbush.specs.declared.Found.{Found}
 use Rattle.kdbush.specs.declared.Found.the-variants.{All, Spoiled}
 use Rattle.kdslots.specs.Slots.{Search, over, when, slots}
-use Rattle.kdbush.specs.Run.{run, ran, places}
+use Rattle.kdbush.specs.laws.Run.{run, ran}
+use Rattle.kdbush.specs.Run.{places}
 use Rattle.kdbush.proofs.Runs.{put-count, part-count, part-leaf, went, skipped, node-put, node-right, node-left}
 use borrow.Fn.Kinds.{In}
 use borrow.Fn.PlainCycle.{Measures, is, falls, and}

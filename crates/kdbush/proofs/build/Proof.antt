@@ -6,9 +6,10 @@ use borrow.Author.Tests.{not-true, not-false, le-leb, lt-leb, eq-eqb, ne-eqb}
 use denote.Ref.{now}
 use lib.Dec.{eqb}
 use lib.ListN.{length}
-use Rattle.kdsort.specs.Cols.{Cols, cols}
+use Rattle.kdsort.specs.Cols.{IndexCols, indexCols}
 use Rattle.kdbush.specs.declared.Outside.the-variants.{Nothing}
-use Rattle.kdslots.specs.Bounds.{nodeSizeOk, countOk, size-is, count-is, both-true, first-false, second-false}
+use Rattle.kdslots.specs.Bounds.{nodeSizeOk, countOk}
+use Rattle.kdslots.specs.laws.Bounds.{size-is, count-is, both-true, first-false, second-false}
 use Rattle.kdbush.specs.Reply.{firstOutside}
 use Rattle.kdbush.proofs.Replies.{build-options, build-count, build-point, build-tables, build-done}
 use borrow.Author.Needs.{needs}
@@ -22,8 +23,8 @@ Counted = tie.Else3
 abbrev start-of : Counted → tie.Start
 start-of c = c .before .before .before .before .before .before .before .before .before
 
-abbrev columns : Counted → Cols
-columns c = cols (now (start-of c .args .ids)) (now (start-of c .args .coords))
+abbrev columns : Counted → IndexCols
+columns c = indexCols (now (start-of c .args .ids)) (now (start-of c .args .coords))
 
 size-holds : (c : Counted) → nodeSizeOk (start-of c .args .node-size) ≡ true
 size-holds c = let e = c .before .before .before in sym (e .before .node-size-ok .ensures) ∙ not-false _ (e .if1 .left)
@@ -41,16 +42,16 @@ node-size-ok-requires : tie.Need-node-size-ok-requires
 node-size-ok-requires c κs = search needs
 
 returns : tie.Need-returns
-returns c = let a = c .before .before .before .before .before .before .args in build-options (a .node-size) (now (a .xs)) (now (a .ys)) (cols (now (a .ids)) (now (a .coords))) (sym (c .before .node-size-ok .ensures) ∙ not-true _ (c .if1 .taken))
+returns c = let a = c .before .before .before .before .before .before .args in build-options (a .node-size) (now (a .xs)) (now (a .ys)) (indexCols (now (a .ids)) (now (a .coords))) (sym (c .before .node-size-ok .ensures) ∙ not-true _ (c .if1 .taken))
 
 count-ok-requires : tie.Need-count-ok-requires
 count-ok-requires c κs = search needs
 
 returns-2 : tie.Need-returns-2
-returns-2 c = let e = c .before .before in let a = e .before .before .before .before .before .before .args in build-count (a .node-size) (now (a .xs)) (now (a .ys)) (cols (now (a .ids)) (now (a .coords))) (sym (e .before .node-size-ok .ensures) ∙ not-false _ (e .if1 .left)) (first-false _ (sym (c .before .count-ok .ensures) ∙ not-true _ (c .if2 .taken)))
+returns-2 c = let e = c .before .before in let a = e .before .before .before .before .before .before .args in build-count (a .node-size) (now (a .xs)) (now (a .ys)) (indexCols (now (a .ids)) (now (a .coords))) (sym (e .before .node-size-ok .ensures) ∙ not-false _ (e .if1 .left)) (first-false _ (sym (c .before .count-ok .ensures) ∙ not-true _ (c .if2 .taken)))
 
 returns-3 : tie.Need-returns-3
-returns-3 c = let f = c .before in let e = f .before .before in let a = e .before .before .before .before .before .before .args in build-count (a .node-size) (now (a .xs)) (now (a .ys)) (cols (now (a .ids)) (now (a .coords))) (sym (e .before .node-size-ok .ensures) ∙ not-false _ (e .if1 .left)) (second-false (sym (f .before .count-ok .ensures) ∙ not-false _ (f .if2 .left)) (ne-eqb _ _ (c .if3 .taken)))
+returns-3 c = let f = c .before in let e = f .before .before in let a = e .before .before .before .before .before .before .args in build-count (a .node-size) (now (a .xs)) (now (a .ys)) (indexCols (now (a .ids)) (now (a .coords))) (sym (e .before .node-size-ok .ensures) ∙ not-false _ (e .if1 .left)) (second-false (sym (f .before .count-ok .ensures) ∙ not-false _ (f .if2 .left)) (ne-eqb _ _ (c .if3 .taken)))
 
 first-outside-requires : tie.Need-first-outside-requires
 first-outside-requires c κs = search needs

@@ -9,7 +9,7 @@ use lib.Ieee.{Float}
 use lib.ListN.{length, drop, drop-of-length-le}
 use denote.Ref.{now}
 use Rattle.kdbush.specs.Reply.{firstOutside}
-use Rattle.kdslots.specs.Bounds.{both-true, first-false, second-false}
+use Rattle.kdslots.specs.laws.Bounds.{both-true, first-false, second-false}
 use Rattle.kdbush.proofs.Replies.{outside-step, outside-here}
 use Rattle.kdbush.proofs.first_outside.Statement.{statement}
 use Rattle.kdbush.proofs.first_outside.Tie as tie

@@ -7,7 +7,8 @@ use lib.ListN.{length}
 use denote.Ref.{now}
 use Rattle.kdbush.specs.declared.Found.{Found}
 use Rattle.kdslots.specs.Slots.{over, scanned}
-use Rattle.kdbush.specs.Run.{run, ran, places}
+use Rattle.kdbush.specs.laws.Run.{run, ran}
+use Rattle.kdbush.specs.Run.{places}
 use Rattle.kdbush.proofs.Runs.{scan-more, scan-ends, scan-done, put-count}
 use Rattle.kdbush.proofs.scan.Statement.{statement}
 use Rattle.kdbush.proofs.scan.Tie as tie

@@ -10,8 +10,10 @@ use lib.ListN.{length}
 use Rattle.kdsort.specs.Shape.{shape}
 use Rattle.kdbush.specs.declared.Found.{Found}
 use Rattle.kdslots.specs.Slots.{over, slots}
-use Rattle.kdbush.specs.Run.{ran, run, places}
-use Rattle.kdslots.specs.Bounds.{coordsOk, Searchable, coords-is, both-true, first-false, second-false}
+use Rattle.kdbush.specs.laws.Run.{ran, run}
+use Rattle.kdbush.specs.Run.{places}
+use Rattle.kdslots.specs.Bounds.{coordsOk}
+use Rattle.kdslots.specs.laws.Bounds.{Searchable, coords-is, both-true, first-false, second-false}
 use Rattle.kdbush.specs.Reply.{indexOk}
 use Rattle.kdbush.proofs.Replies.{search-spoiled, search-past, search-no-room, search-found}
 use borrow.Author.Needs.{needs}

@@ -4,7 +4,7 @@ use mathlib.Core.Path.{sym, _∙_}
 use borrow.Author.Needs.{needs}
 use borrow.Author.Tests.{not-true, not-false, le-leb, lt-leb}
 use denote.Ref.{now}
-use Rattle.kdslots.specs.Bounds.{both-true, first-false, second-false}
+use Rattle.kdslots.specs.laws.Bounds.{both-true, first-false, second-false}
 use Rattle.kdbush.proofs.Replies.{finite-fine, finite-spoiled, finite-box}
 use Rattle.kdbush.proofs.search_finite.Statement.{statement}
 use Rattle.kdbush.proofs.search_finite.Tie as tie

@@ -11,10 +11,11 @@ use denote.Ref.{now}
 use lib.ListN.{length}
 use Rattle.kdpages.specs.declared.Onward.{Onward}
 use Rattle.kdpages.specs.declared.Onward.the-variants.{Start, After, Nothing}
-use Rattle.kdslots.specs.Bounds.{Searchable, coords-is, both-true, coordsOk, first-false, second-false}
+use Rattle.kdslots.specs.laws.Bounds.{Searchable, coords-is, both-true, first-false, second-false}
+use Rattle.kdslots.specs.Bounds.{coordsOk}
 use Rattle.kdslots.specs.Query.{queryOk}
 use Rattle.kdslots.specs.Slots.{over}
-use Rattle.kdslots.specs.Intervals.{slots-leaf}
+use Rattle.kdslots.specs.laws.Intervals.{slots-leaf}
 use Rattle.kdpages.specs.Pages.{onwardOf, stored, store}
 use Rattle.kdpages.proofs.Stores.{none-more}
 use Rattle.kdpages.proofs.Turns.{page-refused, page-start, page-after, page-past}

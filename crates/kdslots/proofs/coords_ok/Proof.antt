@@ -2,7 +2,7 @@
 use mathlib.Core.Path.{_≡_, sym, ap, _∙_}
 use native.Mathlib.Omega.{arith}
 use borrow.Author.Tests.{not-true, not-false}
-use Rattle.kdslots.specs.Bounds.{count-is}
+use Rattle.kdslots.specs.laws.Bounds.{count-is}
 use borrow.Author.Needs.{needs}
 use Rattle.kdslots.proofs.coords_ok.Statement.{statement}
 use Rattle.kdslots.proofs.coords_ok.Tie as tie

@@ -3,10 +3,10 @@
 use mathlib.Core.Path.{_≡_, sym, ap, _∙_}
 use Prim.Native.Nat.{ℕ, _+_, _-_, _*_, _<_, _≤_}
 use native.Mathlib.Omega.{arith}
-use Rattle.kdsort.specs.Cols.{Cols, cols}
+use Rattle.kdsort.specs.Cols.{IndexCols, indexCols}
 use Rattle.kdsort.specs.Shape.{shape, mid}
 use Rattle.kdsort.specs.Sort.{sorted}
-use Rattle.kdsort.specs.Trees.{sorted-leaf, sorted-node}
+use Rattle.kdsort.specs.laws.Trees.{sorted-leaf, sorted-node}
 use borrow.Fn.Kinds.{In}
 use borrow.Fn.PlainCycle.{Measures, is, falls, and}
 use Rattle.kdsort.proofs.sort.Reads as sort
@@ -37,7 +37,7 @@ sort-sub-if1 : (t : ℕ) → sort-lts.Need-sub-if1 (sort-told t) (sort-at t) sor
 sort-sub-if1 t c = omega arith
 
 sort-returns : (t : ℕ) → sort-lts.Need-returns (sort-told t) (sort-at t) sort.Post
-sort-returns t c = let a = c .before .before .before .args in sym (sorted-leaf (a .axis) (a .most) (a .lo) (a .hi) (cols (a .ids .now) (a .coords .now)) (c .if1 .taken))
+sort-returns t c = let a = c .before .before .before .args in sym (sorted-leaf (a .axis) (a .most) (a .lo) (a .hi) (indexCols (a .ids .now) (a .coords .now)) (c .if1 .taken))
 
 sort-sub-m : (t : ℕ) → sort-lts.Need-sub-m (sort-told t) (sort-at t) sort.Post
 sort-sub-m t c = omega arith
@@ -99,8 +99,8 @@ sort-returns-2 t c =
     let a = e .before .before .before .args in
     let m = mid (a .lo) (a .hi) in
     last .ensures
-    ∙ ap (λ (x : Cols). sorted (1 - a .axis) (m + 1) (a .hi) (shape (a .most) (m + 1) (a .hi)) x) (first .ensures ∙ ap (λ (x : Cols). sorted (1 - a .axis) (a .lo) m (shape (a .most) (a .lo) m) x) (one .ensures))
-    ∙ sym (sorted-node (a .axis) (a .most) (a .lo) (a .hi) (cols (a .ids .now) (a .coords .now)) (e .if1 .left))
+    ∙ ap (λ (x : IndexCols). sorted (1 - a .axis) (m + 1) (a .hi) (shape (a .most) (m + 1) (a .hi)) x) (first .ensures ∙ ap (λ (x : IndexCols). sorted (1 - a .axis) (a .lo) m (shape (a .most) (a .lo) m) x) (one .ensures))
+    ∙ sym (sorted-node (a .axis) (a .most) (a .lo) (a .hi) (indexCols (a .ids .now) (a .coords .now)) (e .if1 .left))
 
 pub +sort-spec : {M : Type 1} → statement M
 +sort-spec = close μ-sort λ t. sort-lts.spec (sort-told t) (sort-at t) sort.Post

@@ -7,8 +7,8 @@ use native.Mathlib.Omega.{arith}
 use lib.ListN.{length}
 use lib.Ieee.{Float}
 use borrow.Author.Needs.{needs}
-use Rattle.kdsort.specs.Cols.{Cols, cols}
-use Rattle.kdsort.specs.Batches.{entry, Ups, Downs, nearer-same, nearer-cols, batch-slots, batch-nearer}
+use Rattle.kdsort.specs.Cols.{IndexCols, indexCols}
+use Rattle.kdsort.specs.laws.Batches.{batchEntry, Ups, Downs, nearer-same, nearer-cols, batch-slots, batch-nearer}
 use Rattle.kdsort.proofs.batch.Statement.{statement}
 use Rattle.kdsort.proofs.batch.Tie as tie
 
@@ -19,8 +19,8 @@ Ready = tie.After-downs3
 abbrev start : Ready → tie.Start
 start c = c .before .before .before .before .before .before .before .before .before .before .before .before .before .before .before .before .before
 
-abbrev columns : Ready → Cols
-columns c = cols (start c .args .ids .now) (start c .args .coords .now)
+abbrev columns : Ready → IndexCols
+columns c = indexCols (start c .args .ids .now) (start c .args .coords .now)
 
 -- how many slots each scan looks at, the two lists, their numbers of stops, and how many are exchanged
 abbrev len-of : Ready → ℕ
@@ -42,9 +42,9 @@ abbrev count-of : Ready → ℕ
 count-of c = c .before .before .before .before .lesser2 .result
 
 -- what is known of them
-record Known (i j len m n count : ℕ) (a : ℕ) (t : Float) (s : Cols) (xs ys : List ℕ) : Type 0 where
-  up : Ups a t (s .co) i (i + len) (entry xs) m
-  down : Downs a t (s .co) j (j - len) (entry ys) n
+record Known (i j len m n count : ℕ) (a : ℕ) (t : Float) (s : IndexCols) (xs ys : List ℕ) : Type 0 where
+  up : Ups a t (s .co) i (i + len) (batchEntry xs) m
+  down : Downs a t (s .co) j (j - len) (batchEntry ys) n
   apart : i + len ≤ j - len
   to-m : count ≤ m
   to-n : count ≤ n

@@ -3,21 +3,21 @@ use mathlib.Core.Path.{_≡_, refl, ap, _∙_}
 use Prim.Native.Nat.{ℕ, _+_, _-_, _≤_}
 use native.Mathlib.Omega.{arith}
 use lib.ListN.{length, length-set}
-use Rattle.kdsort.specs.Cols.{Cols, cols}
+use Rattle.kdsort.specs.Cols.{IndexCols, indexCols}
 use Rattle.kdsort.specs.Shape.{shape}
-use Rattle.kdsort.specs.Sort.{filled, indexed, sorted}
-use Rattle.kdsort.specs.Indexes.{filled-more}
+use Rattle.kdsort.specs.Sort.{filledSlots, indexed, sorted}
+use Rattle.kdsort.specs.laws.Indexes.{filled-more}
 use Rattle.kdsort.proofs.build_index.Statement.{statement}
 use Rattle.kdsort.proofs.build_index.Tie as tie
 
 abbrev Inv-loop : tie.InvT-loop
-Inv-loop node-size xs ys ids₀ coords₀ n i₀ ids coords i = (i ≤ length xs) × (length ids ≡ length ids₀) × (length coords ≡ length coords₀) × (cols ids coords ≡ filled i xs ys (cols ids₀ coords₀))
+Inv-loop node-size xs ys ids₀ coords₀ n i₀ ids coords i = (i ≤ length xs) × (length ids ≡ length ids₀) × (length coords ≡ length coords₀) × (indexCols ids coords ≡ filledSlots i xs ys (indexCols ids₀ coords₀))
 
 abbrev μ-loop : tie.MeasureT-loop
 μ-loop node-size xs ys ids₀ coords₀ n i₀ ids coords i = length xs - i
 
 loop-holds : tie.Need-loop-holds Inv-loop μ-loop
-unfolding filled
+unfolding filledSlots
 loop-holds c = (omega arith, refl, refl, refl)
 
 cast-ids : tie.Need-cast-ids Inv-loop μ-loop
@@ -90,7 +90,7 @@ returns c =
     let l = c .before .before .before .before .before .before .before .before .loop in
     let e : l .i ≡ length (a .xs .now) = omega arith in
     c .before .before .before .before .sort .ensures
-    ∙ ap (λ (x : Cols). sorted 0 0 (length (a .xs .now)) (shape (a .node-size + 1) 0 (length (a .xs .now))) x) (l .inv .3 ∙ ap (λ (k : ℕ). filled k (a .xs .now) (a .ys .now) (cols (a .ids .now) (a .coords .now))) e)
+    ∙ ap (λ (x : IndexCols). sorted 0 0 (length (a .xs .now)) (shape (a .node-size + 1) 0 (length (a .xs .now))) x) (l .inv .3 ∙ ap (λ (k : ℕ). filledSlots k (a .xs .now) (a .ys .now) (indexCols (a .ids .now) (a .coords .now))) e)
 
 pub build-index-spec : {M : Type 1} → statement M
 build-index-spec =

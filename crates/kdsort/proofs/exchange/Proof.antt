@@ -3,13 +3,13 @@ use mathlib.Core.Path.{_≡_, refl, ap, _∙_}
 use Prim.Native.Nat.{_-_, _<_, _≤_}
 use native.Mathlib.Omega.{arith}
 use lib.ListN.{length}
-use Rattle.kdsort.specs.Cols.{cols}
-use Rattle.kdsort.specs.Batches.{entry, exchanged, exchanged-none, exchanged-more}
+use Rattle.kdsort.specs.Cols.{indexCols}
+use Rattle.kdsort.specs.laws.Batches.{batchEntry, exchanged, exchanged-none, exchanged-more}
 use Rattle.kdsort.proofs.exchange.Statement.{statement}
 use Rattle.kdsort.proofs.exchange.Tie as tie
 
 abbrev Inv-loop : tie.InvT-loop
-Inv-loop ids₀ coords₀ ups downs count k₀ ids coords k = (cols ids coords ≡ exchanged (cols ids₀ coords₀) (entry ups) (entry downs) k) × (k ≤ count) × (length ids ≡ length ids₀) × (length coords ≡ length coords₀)
+Inv-loop ids₀ coords₀ ups downs count k₀ ids coords k = (indexCols ids coords ≡ exchanged (indexCols ids₀ coords₀) (batchEntry ups) (batchEntry downs) k) × (k ≤ count) × (length ids ≡ length ids₀) × (length coords ≡ length coords₀)
 
 abbrev μ-loop : tie.MeasureT-loop
 μ-loop ids₀ coords₀ ups downs count k₀ ids coords k = count - k
@@ -64,7 +64,7 @@ returns c =
     let h = c .before .loop in
     let a = c .before .before .before .before .before .before .args in
     let e : h .k ≡ a .count = omega arith in
-    h .inv .0 ∙ ap (exchanged (cols (a .ids .now) (a .coords .now)) (entry (a .ups .now)) (entry (a .downs .now))) e
+    h .inv .0 ∙ ap (exchanged (indexCols (a .ids .now) (a .coords .now)) (batchEntry (a .ups .now)) (batchEntry (a .downs .now))) e
 
 pub exchange-spec : {M : Type 1} → statement M
 exchange-spec =

@@ -8,9 +8,9 @@ use native.Mathlib.Nat.{le-refl, le-of-lt, lt-of-lt-of-le, lt-irrefl}
 use native.Mathlib.Omega.{arith}
 use lib.Ieee.{Float, lt}
 use borrow.Author.Tests.{not-true, not-false}
-use Rattle.kdsort.specs.Cols.{Cols, cols, key}
-use Rattle.kdsort.specs.Scans.{up-none, up-more, down-none, down-more, placed-stops}
-use Rattle.kdsort.specs.Passes.{passing-starts}
+use Rattle.kdsort.specs.Cols.{IndexCols, indexCols, key}
+use Rattle.kdsort.specs.laws.Scans.{up-none, up-more, down-none, down-more, placed-stops}
+use Rattle.kdsort.specs.laws.Passes.{passing-starts}
 use Rattle.kdsort.proofs.Turns.{parted-then, parted-else, cut-eq, le-more, lt-more}
 use Rattle.kdsort.proofs.partition.Statement.{statement}
 use Rattle.kdsort.proofs.partition.Tie as tie
@@ -55,7 +55,7 @@ loop-holds c =
     let a = s .args in
     let h = s .pre in
     let w = placed-stops (a .axis) (columns s) (a .k) (a .left) (a .right) h in
-    let e : c .if1 .coords ≡ placed-of s .co = ap (λ (s : Cols). s .co) (placed-is c) in
+    let e : c .if1 .coords ≡ placed-of s .co = ap (λ (s : IndexCols). s .co) (placed-is c) in
     record {
       ids-long = refl;
       co-long = refl;
@@ -205,7 +205,7 @@ returns c =
     let q = c .before .before .before .before .before .before .before .before .before in
     let s = ap→start q in
     let a = s .args in
-    let x = cols (q .before .loop .ids) (q .before .loop .coords) in (
+    let x = indexCols (q .before .loop .ids) (q .before .loop .coords) in (
       cut-eq (c .before .before .before .before .swap-item4 .ensures) refl
           ∙ sym (parted-then (a .axis) (a .k) (columns s) x (a .left) (a .right) (q .before .loop .j) (passes-is q) (c .before .before .before .before .before .before .before .if4 .taken)),
       (q .before .loop .inv .j-from, q .before .loop .inv .j-to),
@@ -235,7 +235,7 @@ returns-2 c =
     let q = c .before .before .before .before .before .before .before .before .before in
     let s = ap→start q in
     let a = s .args in
-    let x = cols (q .before .loop .ids) (q .before .loop .coords) in
+    let x = indexCols (q .before .loop .ids) (q .before .loop .coords) in
     let t = q .before .loop .inv .moved (q .loop-test .left) in
     let f = q .before .loop .inv .j-from in (
       cut-eq (c .before .before .before .before .swap-item5 .ensures) refl

@@ -9,7 +9,7 @@ use native.Mathlib.Omega.{arith}
 use lib.Dec.{leb}
 use lib.ListN.{length}
 use borrow.Author.Tests.{le-leb, lt-leb}
-use Rattle.kdsort.specs.Cols.{Cols, cols}
+use Rattle.kdsort.specs.Cols.{IndexCols, indexCols}
 use Rattle.kdsort.specs.Select.{selected}
 use Rattle.kdsort.proofs.Turns.{Parts, selecting-starts, selecting-turn, selecting-ends}
 use Rattle.kdsort.proofs.select.Statement.{statement}
@@ -17,7 +17,7 @@ use Rattle.kdsort.proofs.select.Tie as tie
 
 abbrev Inv-loop : tie.InvT-loop
 Inv-loop ids₀ coords₀ k first last axis left₀ right₀ ids coords left right =
-    Parts (selected axis k (cols ids₀ coords₀) left₀ right₀) axis k last (length ids₀) (length coords₀) ids coords left right
+    Parts (selected axis k (indexCols ids₀ coords₀) left₀ right₀) axis k last (length ids₀) (length coords₀) ids coords left right
 
 abbrev μ-loop : tie.MeasureT-loop
 μ-loop ids₀ coords₀ k first last axis left₀ right₀ ids coords left right = right - left
@@ -47,8 +47,8 @@ left-of c = loop-of c .loop .left
 abbrev right-of : Joined1 → ℕ
 right-of c = loop-of c .loop .right
 
-abbrev after : Joined1 → Cols
-after c = cols (made c .partition .last .0) (made c .partition .last .1 .0)
+abbrev after : Joined1 → IndexCols
+after c = indexCols (made c .partition .last .0) (made c .partition .last .1 .0)
 
 left-is : (c : Joined1) → c .if1 .left ≡ cond (leb (j-of c) (k-of c)) (j-of c + 1) (left-of c)
 left-is c = ⊎-elim
@@ -109,7 +109,7 @@ loop-again c =
       co-long = omega arith;
       r-to = omega arith;
       around = λ l. ⊎-elim (λ w. absurd (omega arith)) (λ w. (omega arith, omega arith)) (left-cases q);
-      goes = selecting-turn _ (a .axis) (k-of q) (cols (loop-of q .loop .ids) (loop-of q .loop .coords)) (left-of q) (right-of q) _ _ (after q) (j-of q) (v .goes) (h .lr) less
+      goes = selecting-turn _ (a .axis) (k-of q) (indexCols (loop-of q .loop .ids) (loop-of q .loop .coords)) (left-of q) (right-of q) _ _ (after q) (j-of q) (v .goes) (h .lr) less
           (sym (made q .partition .ensures .0)) (sym (left-is q)) (ap (λ (b : Bool). cond b (j-of q - 1) (right-of q)) (le-leb (k-of q) (j-of q) (c .if2 .taken)));
     }
 
@@ -128,7 +128,7 @@ loop-again-2 c =
       co-long = omega arith;
       r-to = omega arith;
       around = λ l. ⊎-elim (λ w. (omega arith, omega arith)) (λ w. absurd (omega arith)) (left-cases q);
-      goes = selecting-turn _ (a .axis) (k-of q) (cols (loop-of q .loop .ids) (loop-of q .loop .coords)) (left-of q) (right-of q) _ _ (after q) (j-of q) (v .goes) (h .lr) less
+      goes = selecting-turn _ (a .axis) (k-of q) (indexCols (loop-of q .loop .ids) (loop-of q .loop .coords)) (left-of q) (right-of q) _ _ (after q) (j-of q) (v .goes) (h .lr) less
           (sym (made q .partition .ensures .0)) (sym (left-is q)) (ap (λ (b : Bool). cond b (j-of q - 1) (right-of q)) (lt-leb (k-of q) (j-of q) (c .if2 .left)));
     }
 

@@ -7,13 +7,13 @@ use mir.Val.{boolByte}
 use lib.ListN.{length, length-set}
 use lib.Ieee.{lt}
 use Rattle.kdsort.specs.Cols.{key}
-use Rattle.kdsort.specs.Batches.{entry, Downs}
+use Rattle.kdsort.specs.laws.Batches.{batchEntry, Downs}
 use Rattle.kdsort.proofs.Stops.{byte-most, downs-starts, downs-more}
 use Rattle.kdsort.proofs.stops_down.Statement.{statement}
 use Rattle.kdsort.proofs.stops_down.Tie as tie
 
 abbrev Inv-loop : tie.InvT-loop
-Inv-loop coords found₀ from len axis t end n₀ p₀ found n p = Downs axis t coords from p (entry found) n × (end ≤ p) × (length found ≡ length found₀)
+Inv-loop coords found₀ from len axis t end n₀ p₀ found n p = Downs axis t coords from p (batchEntry found) n × (end ≤ p) × (length found ≡ length found₀)
 
 abbrev μ-loop : tie.MeasureT-loop
 μ-loop coords found₀ from len axis t end n₀ p₀ found n p = p - end
@@ -97,7 +97,7 @@ returns c =
     let a = c .before .before .args in
     let h = c .before .loop in
     let e : h .p ≡ a .from - a .len = omega arith in
-    subst (λ (q : ℕ). Downs (a .axis) (a .t) (a .coords .now) (a .from) q (entry (h .found)) (h .n)) e (h .inv .0)
+    subst (λ (q : ℕ). Downs (a .axis) (a .t) (a .coords .now) (a .from) q (batchEntry (h .found)) (h .n)) e (h .inv .0)
 
 pub stops-down-spec : {M : Type 1} → statement M
 stops-down-spec =

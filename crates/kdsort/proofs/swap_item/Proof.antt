@@ -8,7 +8,7 @@ use native.Mathlib.Omega.{arith}
 use lib.ListN.{length, getD, set, length-set}
 use lib.Ieee.{Float, nan}
 use Rattle.kdsort.specs.Cols.{swap, swapCo, swapIds}
-use Rattle.kdsort.specs.Swaps.{length-swap, length-swapCo}
+use Rattle.kdsort.specs.laws.Swaps.{length-swap, length-swapCo}
 use Rattle.kdsort.proofs.swap_item.Statement.{statement}
 use Rattle.kdsort.proofs.swap_item.Tie as tie
 

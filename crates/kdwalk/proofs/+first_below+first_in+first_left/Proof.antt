@@ -10,7 +10,7 @@ use denote.Ref.{now}
 use Rattle.kdsort.specs.Shape.{shape, mid}
 use Rattle.kdwalk.specs.declared.Next.{Next}
 use Rattle.kdslots.specs.Slots.{over, when, slots}
-use Rattle.kdwalk.specs.Cursor.{headOf}
+use Rattle.kdwalk.specs.laws.Cursor.{headOf}
 use Rattle.kdwalk.proofs.Firsts.{first-leaf, first-median, first-parts, picks, falls-to, went-in, not-in}
 use borrow.Fn.Kinds.{In}
 use borrow.Fn.PlainCycle.{Measures, is, falls, and}

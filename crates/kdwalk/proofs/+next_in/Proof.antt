@@ -7,7 +7,8 @@ use borrow.Author.Needs.{needs}
 use denote.Ref.{now}
 use Rattle.kdsort.specs.Shape.{shape, mid}
 use Rattle.kdslots.specs.Slots.{over, when, slots}
-use Rattle.kdwalk.specs.Cursor.{headOf, rest}
+use Rattle.kdwalk.specs.laws.Cursor.{headOf}
+use Rattle.kdwalk.specs.Cursor.{rest}
 use Rattle.kdwalk.proofs.Firsts.{picks, falls-to, rest-leaf, rest-median, rest-right, rest-left}
 use borrow.Fn.Kinds.{In}
 use borrow.Fn.PlainCycle.{Measures, is, falls, and}

@@ -7,11 +7,14 @@ use native.Mathlib.Omega.{arith}
 use borrow.Author.Tests.{not-true, not-false, le-ltb, lt-ltb}
 use denote.Ref.{now}
 use lib.ListN.{length}
-use Rattle.kdsort.specs.Shape.{shape, spans}
-use Rattle.kdslots.specs.Bounds.{Searchable, coords-is, coordsOk}
+use Rattle.kdsort.specs.Shape.{shape}
+use Rattle.kdsort.specs.laws.Shape.{spans}
+use Rattle.kdslots.specs.laws.Bounds.{Searchable, coords-is}
+use Rattle.kdslots.specs.Bounds.{coordsOk}
 use Rattle.kdslots.specs.Query.{queryOk}
 use Rattle.kdslots.specs.Slots.{over, scanned}
-use Rattle.kdwalk.specs.Cursor.{headOf, restOf}
+use Rattle.kdwalk.specs.laws.Cursor.{headOf}
+use Rattle.kdwalk.specs.Cursor.{restOf}
 use Rattle.kdwalk.specs.Reply.{afterStep}
 use Rattle.kdwalk.specs.declared.Next.{Next}
 use Rattle.kdwalk.specs.declared.Next.the-variants.{Slot}

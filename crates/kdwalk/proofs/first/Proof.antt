@@ -5,9 +5,10 @@ use native.Mathlib.Omega.{arith}
 use borrow.Author.Tests.{not-true, not-false}
 use denote.Ref.{now}
 use lib.ListN.{length}
-use Rattle.kdslots.specs.Bounds.{Searchable, coords-is, coordsOk}
+use Rattle.kdslots.specs.laws.Bounds.{Searchable, coords-is}
+use Rattle.kdslots.specs.Bounds.{coordsOk}
 use Rattle.kdslots.specs.Query.{queryOk}
-use Rattle.kdwalk.specs.Cursor.{headOf}
+use Rattle.kdwalk.specs.laws.Cursor.{headOf}
 use Rattle.kdwalk.specs.Reply.{firstStep}
 use Rattle.kdwalk.proofs.Steps.{stepOf, first-spoiled, first-box, first-found}
 use borrow.Author.Needs.{needs}

@@ -5,7 +5,7 @@ use Prim.Native.Nat.{ℕ, _+_, _-_, _*_, _^_, _≤_, _<_}
 use native.Mathlib.Omega.{arith}
 use denote.Ref.{now}
 use Rattle.kdslots.specs.Slots.{over, scanned}
-use Rattle.kdwalk.specs.Cursor.{headOf}
+use Rattle.kdwalk.specs.laws.Cursor.{headOf}
 use Rattle.kdwalk.proofs.Firsts.{here, on, none}
 use Rattle.kdwalk.proofs.first_from.Statement.{statement}
 use Rattle.kdwalk.proofs.first_from.Tie as tie

@@ -4,7 +4,7 @@ use mathlib.Core.Path.{_≡_, refl, sym, _∙_}
 use Prim.Native.Nat.{_-_, _≤_, _<_}
 use native.Mathlib.Omega.{arith}
 use Rattle.kdsort.specs.Shape.{shape, mid}
-use Rattle.kdwalk.specs.Cursor.{leafEnd}
+use Rattle.kdwalk.specs.laws.Cursor.{leafEnd}
 use Rattle.kdwalk.proofs.Leaves.{end-leaf, end-median, end-right, end-left}
 use Rattle.kdwalk.proofs.leaf_end.Statement.{statement}
 use Rattle.kdwalk.proofs.leaf_end.Tie as tie

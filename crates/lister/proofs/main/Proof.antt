@@ -1,6 +1,6 @@
 -- `lister::main` never fails: the answer counts bytes of the buffer. Assumes nothing.
 use borrow.Author.Needs.{needs}
-use Rattle.report.specs.Replies.{report-counts}
+use Rattle.lister_report.specs.laws.Replies.{report-counts}
 use Rattle.lister.proofs.main.Statement.{statement}
 use Rattle.lister.proofs.main.Tie as tie
 

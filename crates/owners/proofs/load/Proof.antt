@@ -1,7 +1,7 @@
 -- `owners::load` meets its contract: what `supercluster::load` replies and leaves has one owner for every lamp. Assumes nothing.
 use borrow.Author.Needs.{needs}
-use Rattle.lamps.specs.Owner.{owner}
-use Rattle.owners.specs.Proved.{outcome-owners}
+use Rattle.law_lamps.specs.Owner.{owner}
+use Rattle.owners.specs.laws.Proved.{outcome-owners}
 use Rattle.owners.proofs.load.Statement.{statement}
 use Rattle.owners.proofs.load.Tie as tie
 

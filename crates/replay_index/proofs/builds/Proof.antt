@@ -43,7 +43,9 @@ same-length-6 : tie.Need-same-length-6
 same-length-6 c = search needs
 
 returns-3 : tie.Need-returns-3
-returns-3 c = builds-ids _ _ _ _ _ _ _ _ (c .before .before .before .before .before .before .before .before .before .before .before .build .ensures .0) (sym (c .before .before .before .before .before .before .is-done .ensures) ∙ not-false _ (c .before .before .before .before .before .if1 .left)) _ _ (c .before .before .before .before .before .before .before .before .before .before .before .build .ensures .1) (sym (c .before .before .before .same-places .ensures) ∙ not-false _ (c .before .before .if2 .left)) _ (c .same-floats .ensures)
+returns-3 c =
+    let s = c .before .before .before .before .before .before .before .before .before .before .before in
+    builds-ids _ _ _ _ _ _ _ _ (s .build .ensures .0) (sym (c .before .before .before .before .before .before .is-done .ensures) ∙ not-false _ (c .before .before .before .before .before .if1 .left)) _ _ (s .build .ensures .1) (sym (c .before .before .before .same-places .ensures) ∙ not-false _ (c .before .before .if2 .left)) _ (c .same-floats .ensures)
 
 pub builds-spec : {M : Type 1} → statement M
 builds-spec =

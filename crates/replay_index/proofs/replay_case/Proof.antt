@@ -1,6 +1,6 @@
 -- `replay_index::replay_case` is safe: a count read is within its limit. Assumes nothing.
 use mathlib.Core.Path.{subst}
-use Rattle.vectors.specs.Words.{countIs}
+use Rattle.replay_vectors.specs.Words.{countIs}
 use borrow.Author.Needs.{needs}
 use Rattle.replay_index.proofs.replay_case.Statement.{statement}
 use Rattle.replay_index.proofs.replay_case.Tie as tie

@@ -3,13 +3,13 @@ use Prim.Native.Nat.{_-_, _≤_}
 use native.Mathlib.Omega.{arith}
 use mathlib.Core.Path.{_≡_, sym, _∙_}
 use Rattle.kdwalk.specs.Reply.{afterStep}
-use Rattle.replay_index.specs.Same.{walked, walksTo}
+use Rattle.replay_index.specs.Same.{walkedSlots, walksTo}
 use Rattle.replay_index.proofs.Laws.{walk-starts, walk-none, walk-other, walk-more, walk-ends}
 use Rattle.replay_index.proofs.walks.Statement.{statement}
 use Rattle.replay_index.proofs.walks.Tie as tie
 
 abbrev Inv-loop : tie.InvT-loop
-Inv-loop q node-size n ids coords m want step₀ i₀ step i = (i ≤ m) × (walked (afterStep q node-size n coords) ids want (m - i) i step ≡ walksTo q node-size n ids coords m want)
+Inv-loop q node-size n ids coords m want step₀ i₀ step i = (i ≤ m) × (walkedSlots (afterStep q node-size n coords) ids want (m - i) i step ≡ walksTo q node-size n ids coords m want)
 
 abbrev μ-loop : tie.MeasureT-loop
 μ-loop q node-size n ids coords m want step₀ i₀ step i = m - i

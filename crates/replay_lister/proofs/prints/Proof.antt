@@ -1,7 +1,7 @@
 -- `replay_lister::prints` meets its contract: what `report` leaves is what is printed, and the comparison of bytes decides. Assumes
 -- nothing.
 use borrow.Author.Needs.{needs}
-use Rattle.report.specs.Replies.{report-counts}
+use Rattle.lister_report.specs.laws.Replies.{report-counts}
 use Rattle.replay_lister.specs.One.{reported, decides}
 use Rattle.replay_lister.proofs.prints.Statement.{statement}
 use Rattle.replay_lister.proofs.prints.Tie as tie

@@ -3,7 +3,7 @@ use mathlib.Core.Path.{sym, subst}
 use native.Mathlib.Omega.{arith}
 use borrow.Author.Needs.{needs}
 use lib.Seq.{length-take-le}
-use Rattle.vectors.specs.Words.{countIs}
+use Rattle.replay_vectors.specs.Words.{countIs}
 use Rattle.replay_lister.proofs.replay_from.Statement.{statement}
 use Rattle.replay_lister.proofs.replay_from.Tie as tie
 

@@ -4,7 +4,7 @@ use Prim.Native.Nat.{ℕ, _-_, _<_, _≤_}
 use native.Mathlib.Omega.{arith}
 use lib.ListN.{length, length-set}
 use borrow.Author.Needs.{needs}
-use Rattle.supercluster.specs.Fill.{clear-step}
+use Rattle.supercluster.specs.laws.Fill.{clear-step}
 use Rattle.replay_load.specs.Same.{zerosIn}
 use Rattle.replay_load.proofs.clear.Statement.{statement}
 use Rattle.replay_load.proofs.clear.Tie as tie

@@ -8,15 +8,15 @@ use native.Mathlib.Omega.{arith}
 use lib.Dec.{eqb}
 use lib.ListN.{length}
 use lib.Ieee.{Float}
-use Rattle.tables.specs.declared.Options.{Options}
-use Rattle.supercluster.specs.Build.{Lent, Outcome, loaded}
-use Rattle.vectors.specs.Chain.{_and_}
+use Rattle.build_tables.specs.declared.Options.{Options}
+use Rattle.supercluster.specs.Build.{BuildColumns, Outcome, loaded}
+use Rattle.replay_vectors.specs.Chain.{_and_}
 use Rattle.replay_load.specs.Same.{agreesWith, loadsTo}
 use Rattle.replay_load.proofs.loads.Statement.{statement}
 use Rattle.replay_load.proofs.loads.Tie as tie
 
 -- what is compared is what the build came to
-compared : (o : Options) (xs ys : List Float) (energies starts lens : List ℕ) (want l : Lent) (got : Outcome) (r : Bool)
+compared : (o : Options) (xs ys : List Float) (energies starts lens : List ℕ) (want l : BuildColumns) (got : Outcome) (r : Bool)
     → got ≡ loaded o xs ys energies l → r ≡ agreesWith o (length xs) starts lens want got → r ≡ loadsTo o xs ys energies starts lens want l
 unfolding loadsTo
 compared o xs ys energies starts lens want l got r e f = f ∙ ap (agreesWith o (length xs) starts lens want) e

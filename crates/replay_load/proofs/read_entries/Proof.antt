@@ -4,7 +4,8 @@ use native.Mathlib.Omega.{arith}
 use mathlib.Core.Path.{_≡_, refl, _∙_}
 use lib.ListN.{length}
 use borrow.Author.Needs.{needs}
-use Rattle.tables.specs.Rows.{cols, Kept, kept-then, even-kept}
+use Rattle.build_tables.specs.Rows.{cols}
+use Rattle.build_tables.specs.laws.Rows.{Kept, kept-then, even-kept}
 use Rattle.replay_load.proofs.read_entries.Statement.{statement}
 use Rattle.replay_load.proofs.read_entries.Tie as tie
 

@@ -1,6 +1,6 @@
 -- `replay_load::replay_case` is safe: the zooms are within their limits, and in order. Assumes nothing.
 use mathlib.Core.Path.{subst}
-use Rattle.vectors.specs.Words.{countIs}
+use Rattle.replay_vectors.specs.Words.{countIs}
 use borrow.Author.Needs.{needs}
 use Rattle.replay_load.proofs.replay_case.Statement.{statement}
 use Rattle.replay_load.proofs.replay_case.Tie as tie

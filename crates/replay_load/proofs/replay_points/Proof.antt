@@ -5,7 +5,7 @@ use native.Mathlib.Omega.{arith}
 use mathlib.Core.Path.{sym, subst}
 use lib.Dec.{lit≤}
 use lib.Seq.{length-take-le}
-use Rattle.vectors.specs.Words.{countIs}
+use Rattle.replay_vectors.specs.Words.{countIs}
 use borrow.Author.Needs.{needs}
 use Rattle.replay_load.proofs.replay_points.Statement.{statement}
 use Rattle.replay_load.proofs.replay_points.Tie as tie

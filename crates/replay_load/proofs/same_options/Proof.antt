@@ -1,7 +1,7 @@
 -- `replay_load::same_options` meets its contract: the comparisons in a row are the definition's. Assumes nothing.
 use mathlib.Core.Path.{refl}
 use Rattle.replay_load.specs.Same.{sameNumbers, sameOptions}
-use Rattle.vectors.specs.Chain.{_and_}
+use Rattle.replay_vectors.specs.Chain.{_and_}
 use Rattle.replay_load.proofs.same_options.Statement.{statement}
 use Rattle.replay_load.proofs.same_options.Tie as tie
 

@@ -1,6 +1,6 @@
 -- `replay_load::same_range` meets its contract: the comparisons in a row are the definition's. Assumes nothing.
 use Rattle.replay_load.specs.Same.{sameRange}
-use Rattle.vectors.specs.Chain.{_and_}
+use Rattle.replay_vectors.specs.Chain.{_and_}
 use Rattle.replay_load.proofs.same_range.Statement.{statement}
 use Rattle.replay_load.proofs.same_range.Tie as tie
 

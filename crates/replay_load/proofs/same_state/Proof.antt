@@ -2,7 +2,7 @@
 use mathlib.Core.Path.{refl}
 use borrow.Author.Needs.{needs}
 use Rattle.replay_load.specs.Same.{sameState}
-use Rattle.vectors.specs.Chain.{_and_}
+use Rattle.replay_vectors.specs.Chain.{_and_}
 use Rattle.replay_load.proofs.same_state.Statement.{statement}
 use Rattle.replay_load.proofs.same_state.Tie as tie
 

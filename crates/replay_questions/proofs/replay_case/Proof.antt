@@ -1,7 +1,7 @@
 -- `replay_questions::replay_case` is safe: the least zoom fits a byte. Assumes nothing.
 use native.Mathlib.Omega.{arith}
 use mathlib.Core.Path.{subst}
-use Rattle.vectors.specs.Words.{countIs}
+use Rattle.replay_vectors.specs.Words.{countIs}
 use borrow.Author.Needs.{needs}
 use Rattle.replay_questions.proofs.replay_case.Statement.{statement}
 use Rattle.replay_questions.proofs.replay_case.Tie as tie

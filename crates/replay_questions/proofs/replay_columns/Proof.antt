@@ -2,7 +2,7 @@
 use native.Mathlib.Omega.{arith}
 use mathlib.Core.Path.{sym, subst}
 use lib.Seq.{length-take-le}
-use Rattle.vectors.specs.Words.{countIs}
+use Rattle.replay_vectors.specs.Words.{countIs}
 use borrow.Author.Needs.{needs}
 use Rattle.replay_questions.proofs.replay_columns.Statement.{statement}
 use Rattle.replay_questions.proofs.replay_columns.Tie as tie
@@ -53,13 +53,18 @@ returns-3 : tie.Need-returns-3
 returns-3 c = search needs
 
 array-share-prefix-x : tie.Need-array-share-prefix-x
-array-share-prefix-x c = omega (arith, subst (countIs _) (c .before .before .before .before .before .before .before .before .before .before .before .before .before .a .given .1) (c .before .before .before .before .before .before .before .before .before .before .before .before .before .before .before .before .next-floats .ensures), c .before .before .before .before .before .before .before .before .before .before .before .before .before .before .before .before .next-floats .kept)
+array-share-prefix-x c =
+    let t = c .before .before .before .before .before .before .before .before .before .before .before .before .before .before .before .before in
+    let s = c .before .before .before .before .before .before .before .before .before .before .before .before .before in
+    omega (arith, subst (countIs _) (s .a .given .1) (t .next-floats .ensures), t .next-floats .kept)
 
 slice-aggregate-replay-ids : tie.Need-slice-aggregate-replay-ids
 slice-aggregate-replay-ids c = sym (length-take-le _ _ (array-share-prefix-x (c .before)))
 
 array-share-prefix-y : tie.Need-array-share-prefix-y
-array-share-prefix-y c = omega (arith, subst (countIs _) (c .before .before .before .before .before .before .before .before .b .given .1) (c .before .before .before .before .before .before .before .before .before .before .before .next-floats2 .ensures), c .before .before .before .before .before .before .before .before .before .before .before .next-floats2 .kept)
+array-share-prefix-y c =
+    let s = c .before .before .before .before .before .before .before .before .before .before .before in
+    omega (arith, subst (countIs _) (c .before .before .before .before .before .before .before .before .b .given .1) (s .next-floats2 .ensures), s .next-floats2 .kept)
 
 slice-aggregate-replay-ids-2 : tie.Need-slice-aggregate-replay-ids-2
 slice-aggregate-replay-ids-2 c = sym (length-take-le _ _ (array-share-prefix-y (c .before)))

@@ -2,7 +2,7 @@
 use native.Mathlib.Omega.{arith}
 use mathlib.Core.Path.{sym, subst}
 use lib.Seq.{length-take-le}
-use Rattle.vectors.specs.Words.{countIs}
+use Rattle.replay_vectors.specs.Words.{countIs}
 use borrow.Author.Needs.{needs}
 use Rattle.replay_questions.proofs.replay_ids.Statement.{statement}
 use Rattle.replay_questions.proofs.replay_ids.Tie as tie
@@ -53,13 +53,18 @@ returns-3 : tie.Need-returns-3
 returns-3 c = search needs
 
 array-share-prefix-id : tie.Need-array-share-prefix-id
-array-share-prefix-id c = omega (arith, subst (countIs _) (c .before .before .before .before .before .before .before .before .before .before .before .before .before .a .given .1) (c .before .before .before .before .before .before .before .before .before .before .before .before .before .before .before .before .next-places .ensures), c .before .before .before .before .before .before .before .before .before .before .before .before .before .before .before .before .next-places .kept)
+array-share-prefix-id c =
+    let t = c .before .before .before .before .before .before .before .before .before .before .before .before .before .before .before .before in
+    let s = c .before .before .before .before .before .before .before .before .before .before .before .before .before in
+    omega (arith, subst (countIs _) (s .a .given .1) (t .next-places .ensures), t .next-places .kept)
 
 slice-aggregate-replay-index : tie.Need-slice-aggregate-replay-index
 slice-aggregate-replay-index c = sym (length-take-le _ _ (array-share-prefix-id (c .before)))
 
 array-share-prefix-parent : tie.Need-array-share-prefix-parent
-array-share-prefix-parent c = omega (arith, subst (countIs _) (c .before .before .before .before .before .before .before .before .b .given .1) (c .before .before .before .before .before .before .before .before .before .before .before .next-places2 .ensures), c .before .before .before .before .before .before .before .before .before .before .before .next-places2 .kept)
+array-share-prefix-parent c =
+    let s = c .before .before .before .before .before .before .before .before .before .before .before in
+    omega (arith, subst (countIs _) (c .before .before .before .before .before .before .before .before .b .given .1) (s .next-places2 .ensures), s .next-places2 .kept)
 
 slice-aggregate-replay-index-2 : tie.Need-slice-aggregate-replay-index-2
 slice-aggregate-replay-index-2 c = sym (length-take-le _ _ (array-share-prefix-parent (c .before)))

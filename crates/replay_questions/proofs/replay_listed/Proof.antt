@@ -2,7 +2,7 @@
 use native.Mathlib.Omega.{arith}
 use mathlib.Core.Path.{sym, subst}
 use lib.Seq.{length-take-le}
-use Rattle.vectors.specs.Words.{countIs}
+use Rattle.replay_vectors.specs.Words.{countIs}
 use borrow.Author.Needs.{needs}
 use Rattle.replay_questions.proofs.replay_listed.Statement.{statement}
 use Rattle.replay_questions.proofs.replay_listed.Tie as tie

@@ -1,6 +1,6 @@
 -- `replay_questions::replay_tile` is safe: a count read is within its limit. Assumes nothing.
 use mathlib.Core.Path.{subst}
-use Rattle.vectors.specs.Words.{countIs}
+use Rattle.replay_vectors.specs.Words.{countIs}
 use borrow.Author.Needs.{needs}
 use Rattle.replay_questions.proofs.replay_tile.Statement.{statement}
 use Rattle.replay_questions.proofs.replay_tile.Tie as tie

@@ -3,7 +3,7 @@ use Prim.Native.Nat.{ℕ, _≤_}
 use native.Mathlib.Omega.{arith}
 use mathlib.Core.Path.{sym, subst}
 use lib.Seq.{length-take-le}
-use Rattle.vectors.specs.Words.{countIs}
+use Rattle.replay_vectors.specs.Words.{countIs}
 use borrow.Author.Needs.{needs}
 use Rattle.replay_questions.proofs.replay_tiled.Statement.{statement}
 use Rattle.replay_questions.proofs.replay_tiled.Tie as tie

@@ -1,5 +1,5 @@
 -- `replay_questions::same_tile` meets its contract: the comparisons in a row are the definition's. Assumes nothing.
-use Rattle.vectors.specs.Chain.{_and_}
+use Rattle.replay_vectors.specs.Chain.{_and_}
 use Rattle.replay_questions.specs.Same.{sameTile}
 use Rattle.replay_questions.proofs.same_tile.Statement.{statement}
 use Rattle.replay_questions.proofs.same_tile.Tie as tie

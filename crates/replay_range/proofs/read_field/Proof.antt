@@ -1,7 +1,7 @@
 -- `replay_range::read_field` meets its contract, by the tests on the way and what the callees say. Assumes nothing.
 use mathlib.Core.Path.{subst, _∙_}
 use borrow.Author.Needs.{needs}
-use Rattle.vectors.specs.Words.{patternIs}
+use Rattle.replay_vectors.specs.Words.{patternIs}
 use Rattle.replay_range.specs.Text.{Ended, dashesIs}
 use Rattle.replay_range.proofs.read_field.Statement.{statement}
 use Rattle.replay_range.proofs.read_field.Tie as tie

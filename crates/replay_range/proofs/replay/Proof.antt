@@ -4,7 +4,7 @@ use mathlib.Core.Path.{_≡_, sym, _∙_}
 use borrow.Author.Tests.{not-true, not-false}
 use borrow.Author.Needs.{needs}
 use Rattle.range.specs.Range.{normalized, denormalized}
-use Rattle.vectors.specs.Words.{agreeing}
+use Rattle.replay_vectors.specs.Words.{agreeing}
 use Rattle.replay_range.specs.Judge.{verdictOf}
 use Rattle.replay_range.specs.declared.Case.{Case}
 use Rattle.replay_range.proofs.replay.Statement.{statement}

@@ -6,13 +6,14 @@ use native.Mathlib.Omega.{arith}
 use lib.ListN.{length, take}
 use lib.Seq.{length-take-le}
 use borrow.Author.Needs.{needs}
-use Rattle.tables.specs.Bounds.{InBounds, options-are}
-use Rattle.tables.specs.Rows.{Cols, cols, rows, Kept, each, even-kept}
-use Rattle.supercluster.specs.Build.{Lent, lent, need}
+use Rattle.build_tables.specs.laws.Bounds.{InBounds, options-are}
+use Rattle.build_tables.specs.Rows.{Cols, cols, rows}
+use Rattle.build_tables.specs.laws.Rows.{Kept, each, even-kept}
+use Rattle.supercluster.specs.Build.{BuildColumns, buildColumns, need}
 use Rattle.supercluster.specs.Lent.{givenAll}
-use Rattle.supercluster.specs.Over.{cut-long}
-use Rattle.supercluster.specs.Ready.{Accepted, need-few, need-two}
-use Rattle.supercluster.specs.Load.{Holds, EvenIn, fronts, fronts-even, whole}
+use Rattle.supercluster.specs.laws.Over.{cut-long}
+use Rattle.supercluster.specs.laws.Ready.{Accepted, need-few, need-two}
+use Rattle.supercluster.specs.laws.Load.{Holds, EvenIn, fronts, fronts-even, whole}
 use Rattle.supercluster.proofs.build_all.Statement.{statement}
 use Rattle.supercluster.proofs.build_all.Tie as tie
 
@@ -21,7 +22,7 @@ use Rattle.supercluster.proofs.build_all.Tie as tie
 abbrev count : tie.Start → ℕ
 count s = length (s .args .xs .now)
 
-abbrev old : tie.Start → Lent
+abbrev old : tie.Start → BuildColumns
 old s = let a = s .args in (givenAll (a .x) (a .y) (a .seen) (a .id) (a .parent) (a .num) (a .energy) (a .ids) (a .coords) (a .near))
 
 accepted : (s : tie.Start) → Accepted (s .args .o) (s .args .xs .now) (s .args .ys .now) (s .args .energies .now)
@@ -71,10 +72,14 @@ kept-built : (c : tie.After-build-in) → Kept (front (count-of c)) (built c)
 kept-built c = let w = c .build-in in (record { kx = w .kept .1 .1 .1 .1 .0; ky = w .kept .1 .1 .1 .1 .1 .0; ks = w .kept .1 .1 .1 .1 .1 .1 .0; ki = w .kept .1 .1 .1 .1 .1 .1 .1 .0; kp = w .kept .1 .1 .1 .1 .1 .1 .1 .1 .0; kn = w .kept .1 .1 .1 .1 .1 .1 .1 .1 .1 .0; kw = w .kept .1 .1 .1 .1 .1 .1 .1 .1 .1 .1 .0 })
 
 add-w : tie.Need-add-w
-add-w c = omega (arith, accepted (c .before .before .before .before .before .before .before .before .before .before .before .before .before) .few)
+add-w c =
+    let s = c .before .before .before .before .before .before .before .before .before .before .before .before .before in
+    omega (arith, accepted s .few)
 
 table-count-requires : tie.Need-table-count-requires
-table-count-requires c κs = bounds (c .before .before .before .before .before .before .before .before .before .before .before .before .before) .zooms
+table-count-requires c κs =
+    let s = c .before .before .before .before .before .before .before .before .before .before .before .before .before in
+    bounds s .zooms
 
 mul-m : tie.Need-mul-m
 mul-m c = omega (arith, few c)
@@ -196,7 +201,7 @@ returns c =
     let h = held w in
     let l = b .build-in .last in
     let k = b .build-in .kept in
-    let new : Lent = lent (built b) (l .1 .1 .1 .1 .1 .1 .1 .1 .1 .1 .1 .0) (l .1 .1 .1 .1 .1 .1 .1 .1 .1 .1 .1 .1 .0) (l .1 .1 .1 .1 .1 .1 .1 .1 .1 .1 .1 .1 .1 .0) in
+    let new : BuildColumns = buildColumns (built b) (l .1 .1 .1 .1 .1 .1 .1 .1 .1 .1 .1 .0) (l .1 .1 .1 .1 .1 .1 .1 .1 .1 .1 .1 .1 .0) (l .1 .1 .1 .1 .1 .1 .1 .1 .1 .1 .1 .1 .1 .0) in
     let v : EvenIn new = even-kept (front w) (built b) (kept-built b) (even w) in (
       b .build-in .ensures .of-state,
       whole (a .o) (a .xs .now) (a .ys .now) (a .energies .now) (size w) (old s) new (b .build-in .result) h (even w) v (kept-built b .kx ∙ length-take-le (size w) (a .x .now) (h .hx))

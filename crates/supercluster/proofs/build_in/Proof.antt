@@ -6,19 +6,20 @@ use native.Mathlib.Omega.{arith}
 use lib.ListN.{length, set, replicate}
 use lib.Seq.{set-set}
 use borrow.Author.Needs.{needs}
-use Rattle.kdsort.specs.Cols.{Cols as Index}
-use Rattle.tables.specs.declared.State.{State}
-use Rattle.tables.specs.Bounds.{InBounds, options-are}
-use Rattle.tables.specs.Columns.{part}
-use Rattle.tables.specs.Rows.{Cols, cols, rows, Even, Kept, even-kept, kept-then, rows-length}
-use Rattle.tables.specs.Lent.{given}
-use Rattle.tables.specs.State.{withTable}
+use Rattle.kdsort.specs.Cols.{IndexCols as Index}
+use Rattle.build_tables.specs.declared.State.{State}
+use Rattle.build_tables.specs.laws.Bounds.{InBounds, options-are}
+use Rattle.build_tables.specs.Columns.{part}
+use Rattle.build_tables.specs.Rows.{Cols, cols, rows}
+use Rattle.build_tables.specs.laws.Rows.{Even, Kept, even-kept, kept-then, rows-length}
+use Rattle.build_tables.specs.Lent.{given}
+use Rattle.build_tables.specs.State.{withTable}
 use Rattle.kdbush.specs.Reply.{indexOf}
-use Rattle.zooms.specs.Zooms.{slotsOf}
-use Rattle.zooms.specs.Parts.{putAt}
-use Rattle.zooms.specs.Zooming.{part-index}
+use Rattle.build_all_zooms.specs.Zooms.{indexOfTable}
+use Rattle.build_all_zooms.specs.laws.Parts.{putAt}
+use Rattle.build_all_zooms.specs.laws.Zooming.{part-index}
 use Rattle.supercluster.specs.Build.{need}
-use Rattle.supercluster.specs.Ready.{Accepted, need-some, firstState, first-inside, ready-at, made-at}
+use Rattle.supercluster.specs.laws.Ready.{Accepted, need-some, firstState, first-inside, ready-at, made-at}
 use Rattle.supercluster.proofs.build_in.Statement.{statement}
 use Rattle.supercluster.proofs.build_in.Tie as tie
 
@@ -60,7 +61,7 @@ filled-long : (w : tie.After-fill) → length (rows (filled w)) ≡ need (start-
 filled-long w = rows-length (filled w) ∙ long w
 
 slots : (w : tie.After-fill) → let s = start-of w in
-    indexOf (s .args .o .«node_size») (part 0 (count s) (filled w .x)) (part 0 (count s) (filled w .y)) ≡ slotsOf (s .args .o .«node_size») (part 0 (count s) (rows (filled w)))
+    indexOf (s .args .o .«node_size») (part 0 (count s) (filled w .x)) (part 0 (count s) (filled w .y)) ≡ indexOfTable (s .args .o .«node_size») (part 0 (count s) (rows (filled w)))
 slots w = let s = start-of w in part-index (s .args .o .«node_size») 0 (count s) (filled w) (even w .ey)
 
 -- ---- after its index
@@ -69,11 +70,11 @@ abbrev fill-of : tie.After-index-part → tie.After-fill
 fill-of i = i .before .before .before .before .before .before .before .before .before .before .before .before .before .before .before .before .before .before .before
 
 ids-put : (i : tie.After-index-part) → let w = fill-of i in let s = start-of w in
-    i .index-part .last .1 .1 .0 ≡ putAt 0 (count s) (slotsOf (s .args .o .«node_size») (part 0 (count s) (rows (filled w))) .ids) (s .args .ids .now)
+    i .index-part .last .1 .1 .0 ≡ putAt 0 (count s) (indexOfTable (s .args .o .«node_size») (part 0 (count s) (rows (filled w))) .ids) (s .args .ids .now)
 ids-put i = let s = start-of (fill-of i) in i .index-part .ensures .0 ∙ ap (λ (q : Index). putAt 0 (count s) (q .ids) (s .args .ids .now)) (slots (fill-of i))
 
 co-put : (i : tie.After-index-part) → let w = fill-of i in let s = start-of w in
-    i .index-part .last .1 .1 .1 .0 ≡ putAt 0 (count s * 2) (slotsOf (s .args .o .«node_size») (part 0 (count s) (rows (filled w))) .co) (s .args .coords .now)
+    i .index-part .last .1 .1 .1 .0 ≡ putAt 0 (count s * 2) (indexOfTable (s .args .o .«node_size») (part 0 (count s) (rows (filled w))) .co) (s .args .coords .now)
 co-put i = let s = start-of (fill-of i) in i .index-part .ensures .1 ∙ ap (λ (q : Index). putAt 0 (count s * 2) (q .co) (s .args .coords .now)) (slots (fill-of i))
 
 -- ---- before the zooms, and after them
@@ -122,25 +123,37 @@ index-part-requires c κs =
     )
 
 cast-new-state : tie.Need-cast-new-state
-cast-new-state c = omega (arith, accepted (c .before .before .before .before .before .before .before .before .before .before .before .before .before .before .before .before .before .before .before .before .before .before .before .before .before .before .before .before .before .before .before .before .before .before .before .before .before .before .before .before .before .before .before .before) .few)
+cast-new-state c =
+    let s = c .before .before .before .before .before .before .before .before .before .before .before .before .before .before .before .before .before .before .before .before .before .before .before .before .before .before .before .before .before .before .before .before .before .before .before .before .before .before .before .before .before .before .before .before in
+    omega (arith, accepted s .few)
 
 new-state-requires : tie.Need-new-state-requires
 new-state-requires c κs = search needs
 
 cast-with-table : tie.Need-cast-with-table
-cast-with-table c = omega (arith, bounds (c .before .before .before .before .before .before .before .before .before .before .before .before .before .before .before .before .before .before .before .before .before .before .before .before .before .before .before .before .before .before .before .before .before .before .before .before .before .before .before .before .before .before .before .before .before .before) .zoom-to)
+cast-with-table c =
+    let s = c .before .before .before .before .before .before .before .before .before .before .before .before .before .before .before .before .before .before .before .before .before .before .before .before .before .before .before .before .before .before .before .before .before .before .before .before .before .before .before .before .before .before .before .before .before .before in
+    omega (arith, bounds s .zoom-to)
 
 add-with-table : tie.Need-add-with-table
-add-with-table c = omega (arith, bounds (c .before .before .before .before .before .before .before .before .before .before .before .before .before .before .before .before .before .before .before .before .before .before .before .before .before .before .before .before .before .before .before .before .before .before .before .before .before .before .before .before .before .before .before .before .before .before) .zoom-to)
+add-with-table c =
+    let s = c .before .before .before .before .before .before .before .before .before .before .before .before .before .before .before .before .before .before .before .before .before .before .before .before .before .before .before .before .before .before .before .before .before .before .before .before .before .before .before .before .before .before .before .before .before .before in
+    omega (arith, bounds s .zoom-to)
 
 cast-with-table-2 : tie.Need-cast-with-table-2
-cast-with-table-2 c = omega (arith, accepted (c .before .before .before .before .before .before .before .before .before .before .before .before .before .before .before .before .before .before .before .before .before .before .before .before .before .before .before .before .before .before .before .before .before .before .before .before .before .before .before .before .before .before .before .before .before .before) .few)
+cast-with-table-2 c =
+    let s = c .before .before .before .before .before .before .before .before .before .before .before .before .before .before .before .before .before .before .before .before .before .before .before .before .before .before .before .before .before .before .before .before .before .before .before .before .before .before .before .before .before .before .before .before .before .before in
+    omega (arith, accepted s .few)
 
 with-table-requires : tie.Need-with-table-requires
-with-table-requires c κs = omega (arith, bounds (c .before .before .before .before .before .before .before .before .before .before .before .before .before .before .before .before .before .before .before .before .before .before .before .before .before .before .before .before .before .before .before .before .before .before .before .before .before .before .before .before .before .before .before .before .before .before) .zoom-to)
+with-table-requires c κs =
+    let s = c .before .before .before .before .before .before .before .before .before .before .before .before .before .before .before .before .before .before .before .before .before .before .before .before .before .before .before .before .before .before .before .before .before .before .before .before .before .before .before .before .before .before .before .before .before .before in
+    omega (arith, bounds s .zoom-to)
 
 cast-run-zooms : tie.Need-cast-run-zooms
-cast-run-zooms c = omega (arith, accepted (c .before .before .before .before .before .before .before .before .before .before .before .before .before .before .before .before .before .before .before .before .before .before .before .before .before .before .before .before .before .before .before .before .before .before .before .before .before .before .before .before .before .before .before .before .before .before .before .before .before .before .before .before .before .before .before .before .before) .few)
+cast-run-zooms c =
+    let s = c .before .before .before .before .before .before .before .before .before .before .before .before .before .before .before .before .before .before .before .before .before .before .before .before .before .before .before .before .before .before .before .before .before .before .before .before .before .before .before .before .before .before .before .before .before .before .before .before .before .before .before .before .before .before .before .before .before in
+    omega (arith, accepted s .few)
 
 run-zooms-requires : tie.Need-run-zooms-requires
 run-zooms-requires c κs =

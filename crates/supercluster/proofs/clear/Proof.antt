@@ -6,7 +6,7 @@ use Prim.Native.Nat.{_-_, _<_, _≤_}
 use native.Mathlib.Omega.{arith}
 use lib.ListN.{length, set, drop, replicate, length-set}
 use lib.Seq.{set-getD}
-use Rattle.supercluster.specs.Fill.{clear-step, clear-end}
+use Rattle.supercluster.specs.laws.Fill.{clear-step, clear-end}
 use borrow.Author.Needs.{needs}
 use Rattle.supercluster.proofs.clear.Statement.{statement}
 use Rattle.supercluster.proofs.clear.Tie as tie

@@ -7,11 +7,12 @@ use native.Mathlib.Omega.{arith}
 use lib.ListN.{length, getD, take, drop}
 use borrow.Author.Needs.{needs}
 use Rattle.range.specs.declared.Point.{Point}
-use Rattle.tables.specs.Entries.{Table, none}
-use Rattle.tables.specs.Rows.{Cols, cols, rows, Even, Kept, even-kept, kept-even, rows-length}
-use Rattle.tables.specs.Lent.{given}
+use Rattle.build_tables.specs.Entries.{Table, none}
+use Rattle.build_tables.specs.Rows.{Cols, cols, rows}
+use Rattle.build_tables.specs.laws.Rows.{Even, Kept, even-kept, kept-even, rows-length}
+use Rattle.build_tables.specs.Lent.{given}
 use Rattle.supercluster.specs.Build.{lamp}
-use Rattle.supercluster.specs.Fill.{lamps, lamps-at, lamps-length, fill-step, fill-end}
+use Rattle.supercluster.specs.laws.Fill.{lamps, lamps-at, lamps-length, fill-step, fill-end}
 use Rattle.supercluster.proofs.fill.Statement.{statement}
 use Rattle.supercluster.proofs.fill.Tie as tie
 
@@ -43,7 +44,9 @@ abbrev test-of : tie.After-slice-known14 Inv-loop μ-loop → tie.In-loop Inv-lo
 test-of c = c .before .before .before .before .before .before .before .before .before .before .before .before .before .before .before .before .before .before .before .before .before .before .before .before .before .before
 
 loop-holds : tie.Need-loop-holds Inv-loop μ-loop
-loop-holds c = (omega arith, c .before .before .before .before .before .before .before .before .before .before .pre .0, refl, refl)
+loop-holds c =
+    let s = c .before .before .before .before .before .before .before .before .before .before in
+    (omega arith, s .pre .0, refl, refl)
 
 mul-t15 : tie.Need-mul-t15 Inv-loop μ-loop
 mul-t15 c = search needs

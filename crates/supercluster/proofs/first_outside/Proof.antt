@@ -14,7 +14,7 @@ use Rattle.range.specs.declared.Point.{Point}
 use Rattle.range.specs.Range.{converted}
 use Rattle.kdbush.specs.Reply.{firstOutside}
 use Rattle.supercluster.specs.Build.{convertedAll}
-use Rattle.supercluster.specs.Fill.{pxs, pys, outside-step, outside-here, outside-end}
+use Rattle.supercluster.specs.laws.Fill.{pxs, pys, outside-step, outside-here, outside-end}
 use Rattle.supercluster.proofs.first_outside.Statement.{statement}
 use Rattle.supercluster.proofs.first_outside.Tie as tie
 

@@ -6,7 +6,7 @@ use native.Mathlib.Omega.{arith}
 use lib.ListN.{length, drop}
 use borrow.Author.Needs.{needs}
 use Rattle.supercluster.specs.Build.{firstOver}
-use Rattle.supercluster.specs.Fill.{over-step, over-here, over-end}
+use Rattle.supercluster.specs.laws.Fill.{over-step, over-here, over-end}
 use Rattle.supercluster.proofs.first_over.Statement.{statement}
 use Rattle.supercluster.proofs.first_over.Tie as tie
 

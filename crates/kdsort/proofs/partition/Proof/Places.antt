@@ -9,12 +9,12 @@ use lib.Dec.{ltb}
 use lib.ListN.{length}
 use lib.Ieee.{Float, lt}
 use borrow.Author.Tests.{not-false}
-use Rattle.kdsort.specs.Cols.{Cols, cols, swapItem, key}
+use Rattle.kdsort.specs.Cols.{IndexCols, indexCols, swapItem, key}
 use Rattle.kdsort.specs.Room.{Here}
 use Rattle.kdsort.specs.Select.{Cut, cut, passes, placed}
-use Rattle.kdsort.specs.Swaps.{length-swapIds, length-swapCo}
-use Rattle.kdsort.specs.Scans.{Up, Down, before-stop, after-stop, length-placed-ids, length-placed-co}
-use Rattle.kdsort.specs.Passes.{passing-ends, Scanning, scanning-turn, scanning-cols}
+use Rattle.kdsort.specs.laws.Swaps.{length-swapIds, length-swapCo}
+use Rattle.kdsort.specs.laws.Scans.{Up, Down, before-stop, after-stop, length-placed-ids, length-placed-co}
+use Rattle.kdsort.specs.laws.Passes.{passing-ends, PassScanning, scanning-turn, scanning-cols}
 use Rattle.kdsort.proofs.Turns.{Low, Pass, placed-then, placed-else, cols-eq}
 use Rattle.kdsort.proofs.partition.Tie as tie
 
@@ -31,7 +31,7 @@ abbrev pub μ-down : tie.MeasureT-down
 μ-down ids coords k left right axis t i j₀ j = j
 
 abbrev pub Inv-loop : tie.InvT-loop
-Inv-loop ids₀ coords₀ k left right axis t i₀ j₀ ids coords i j = Pass (passes (j₀ - i₀) (ltb i₀ j₀) axis t (cols ids₀ coords₀) i₀ j₀) axis t left right (length ids₀) (length coords₀) ids coords i j
+Inv-loop ids₀ coords₀ k left right axis t i₀ j₀ ids coords i j = Pass (passes (j₀ - i₀) (ltb i₀ j₀) axis t (indexCols ids₀ coords₀) i₀ j₀) axis t left right (length ids₀) (length coords₀) ids coords i j
 
 abbrev pub μ-loop : tie.MeasureT-loop
 μ-loop ids₀ coords₀ k left right axis t i₀ j₀ ids coords i j = j - i
@@ -52,40 +52,40 @@ abbrev pub Met : Type 0
 Met = tie.After-slice-known12 Inv-up μ-up Inv-down μ-down Inv-loop μ-loop
 
 -- ---- the start: its columns and pivot
-abbrev pub columns : Start → Cols
-columns c = cols (c .args .ids .now) (c .args .coords .now)
+abbrev pub columns : Start → IndexCols
+columns c = indexCols (c .args .ids .now) (c .args .coords .now)
 
 abbrev pub pivot : Start → Float
 pivot c = key (c .args .axis) (c .args .coords .now) (c .args .k)
 
-abbrev pub placed-of : Start → Cols
+abbrev pub placed-of : Start → IndexCols
 placed-of c = placed (c .args .axis) (pivot c) (columns c) (c .args .k) (c .args .left) (c .args .right)
 
 -- ---- before the passes
 abbrev pub j1→start : Joined1 → Start
 j1→start c = c .before .before .before .before .before .before .before .before .before .before .before .before
 
-pub placed-is : (c : Joined1) → cols (c .if1 .ids) (c .if1 .coords) ≡ placed-of (j1→start c)
+pub placed-is : (c : Joined1) → indexCols (c .if1 .ids) (c .if1 .coords) ≡ placed-of (j1→start c)
 placed-is c =
     let s = j1→start c in
     let a = s .args in
     let one = c .before .before .before .before .before .before .swap-item in
     ⊎-elim
-    (λ w. cols-eq (w .8) (w .9) ∙ placed-then (a .axis) (pivot s) (columns s) (cols (one .last .0) (one .last .1 .0)) (cols (w .3 .last .0) (w .3 .last .1 .0)) (a .k) (a .left) (a .right) (one .ensures) (w .0 .taken) (w .3 .ensures))
-    (λ w. cols-eq (w .1) (w .2) ∙ placed-else (a .axis) (pivot s) (columns s) (cols (one .last .0) (one .last .1 .0)) (a .k) (a .left) (a .right) (one .ensures) (w .0 .left))
+    (λ w. cols-eq (w .8) (w .9) ∙ placed-then (a .axis) (pivot s) (columns s) (indexCols (one .last .0) (one .last .1 .0)) (indexCols (w .3 .last .0) (w .3 .last .1 .0)) (a .k) (a .left) (a .right) (one .ensures) (w .0 .taken) (w .3 .ensures))
+    (λ w. cols-eq (w .1) (w .2) ∙ placed-else (a .axis) (pivot s) (columns s) (indexCols (one .last .0) (one .last .1 .0)) (a .k) (a .left) (a .right) (one .ensures) (w .0 .left))
     (c .if1 .came)
 
-pub record Long (s s' : Cols) : Type 0 where
+pub record Long (s s' : IndexCols) : Type 0 where
   pub ids-as : length (s .ids) ≡ length (s' .ids)
   pub co-as : length (s .co) ≡ length (s' .co)
 
-pub placed-long : (c : Joined1) → Long (cols (c .if1 .ids) (c .if1 .coords)) (columns (j1→start c))
+pub placed-long : (c : Joined1) → Long (indexCols (c .if1 .ids) (c .if1 .coords)) (columns (j1→start c))
 placed-long c =
     let s = j1→start c in
     let a = s .args in
     record {
-      ids-as = ap (λ (s : Cols). length (s .ids)) (placed-is c) ∙ length-placed-ids (a .axis) (pivot s) (columns s) (a .k) (a .left) (a .right);
-      co-as = ap (λ (s : Cols). length (s .co)) (placed-is c) ∙ length-placed-co (a .axis) (pivot s) (columns s) (a .k) (a .left) (a .right);
+      ids-as = ap (λ (s : IndexCols). length (s .ids)) (placed-is c) ∙ length-placed-ids (a .axis) (pivot s) (columns s) (a .k) (a .left) (a .right);
+      co-as = ap (λ (s : IndexCols). length (s .co)) (placed-is c) ∙ length-placed-co (a .axis) (pivot s) (columns s) (a .k) (a .left) (a .right);
     }
 
 -- ---- a pass, after its exchange
@@ -101,11 +101,11 @@ i-of c = s→loop c .before .loop .i
 abbrev pub j-of : Swapped → ℕ
 j-of c = s→loop c .before .loop .j
 
-abbrev pub passed : Swapped → Cols
-passed c = cols (s→loop c .before .loop .ids) (s→loop c .before .loop .coords)
+abbrev pub passed : Swapped → IndexCols
+passed c = indexCols (s→loop c .before .loop .ids) (s→loop c .before .loop .coords)
 
-abbrev pub swapped : Swapped → Cols
-swapped c = cols (c .before .before .before .before .swap-item3 .last .0) (c .before .before .before .before .swap-item3 .last .1 .0)
+abbrev pub swapped : Swapped → IndexCols
+swapped c = indexCols (c .before .before .before .before .swap-item3 .last .0) (c .before .before .before .before .swap-item3 .last .1 .0)
 
 pub swapped-is : (c : Swapped) → swapped c ≡ swapItem (passed c) (i-of c) (j-of c)
 swapped-is c = c .before .before .before .before .swap-item3 .ensures
@@ -113,12 +113,12 @@ swapped-is c = c .before .before .before .before .swap-item3 .ensures
 pub swapped-long : (c : Swapped) → Long (swapped c) (passed c)
 swapped-long c =
     record {
-      ids-as = ap (λ (s : Cols). length (s .ids)) (swapped-is c) ∙ length-swapIds (passed c .ids) (i-of c) (j-of c);
-      co-as = ap (λ (s : Cols). length (s .co)) (swapped-is c) ∙ length-swapCo (passed c .co) (i-of c) (j-of c);
+      ids-as = ap (λ (s : IndexCols). length (s .ids)) (swapped-is c) ∙ length-swapIds (passed c .ids) (i-of c) (j-of c);
+      co-as = ap (λ (s : IndexCols). length (s .co)) (swapped-is c) ∙ length-swapCo (passed c .co) (i-of c) (j-of c);
     }
 
 -- what is known of the pass
-pub record Turn (i j l r a n m : ℕ) (s s' : Cols) : Type 0 where
+pub record Turn (i j l r a n m : ℕ) (s s' : IndexCols) : Type 0 where
   pub ij : i < j
   pub li : l ≤ i
   pub jr : j ≤ r
@@ -153,8 +153,8 @@ turn c =
 abbrev pub m→s : Met → Swapped
 m→s c = c .before .before .before .before .before .before .before
 
-abbrev pub met : Met → Cols
-met c = cols (c .before .before .before .before .batch .last .0) (c .before .before .before .before .batch .last .1 .0)
+abbrev pub met : Met → IndexCols
+met c = indexCols (c .before .before .before .before .batch .last .0) (c .before .before .before .before .batch .last .1 .0)
 
 -- where its scans begin
 abbrev pub up-of : Met → ℕ
@@ -163,7 +163,7 @@ up-of c = c .before .before .before .before .batch .result .up
 abbrev pub down-of : Met → ℕ
 down-of c = c .before .before .before .before .batch .result .down
 
-pub record Step (i j x y l r a n m : ℕ) (s : Cols) : Type 0 where
+pub record Step (i j x y l r a n m : ℕ) (s : IndexCols) : Type 0 where
   pub ij : i < j
   pub li : l ≤ i
   pub jr : j ≤ r
@@ -203,7 +203,7 @@ pub record Next (l r i j u d : ℕ) : Type 0 where
   pub moved : d < r
   pub less : d - u < j - i
 
-pub next : {i j x y l r a n m low : ℕ} {s : Cols} (u d : ℕ) → Step i j x y l r a n m s → x ≤ u → u ≤ y + 1 → l ≤ low → low ≤ d → d ≤ y → Next l r i j u d
+pub next : {i j x y l r a n m low : ℕ} {s : IndexCols} (u d : ℕ) → Step i j x y l r a n m s → x ≤ u → u ≤ y + 1 → l ≤ low → low ≤ d → d ≤ y → Next l r i j u d
 next u d h xu uy ll ld dy = record { i-from = omega arith; i-to = omega arith; j-from = omega arith; j-to = omega arith; moved = omega arith; less = omega arith }
 
 pub next-of : (c : tie.Then3 Inv-up μ-up Inv-down μ-down Inv-loop μ-loop)
@@ -224,9 +224,9 @@ abbrev pub end-of : Met → Cut
 end-of c =
     let a = s→start (m→s c) .args in
     let z = s→loop (m→s c) .before .before in
-    passes (a .right - a .left) (ltb (a .left) (a .right)) (a .axis) (pivot (s→start (m→s c))) (cols (z .if1 .ids) (z .if1 .coords)) (a .left) (a .right)
+    passes (a .right - a .left) (ltb (a .left) (a .right)) (a .axis) (pivot (s→start (m→s c))) (indexCols (z .if1 .ids) (z .if1 .coords)) (a .left) (a .right)
 
-pub scanning : (c : Met) → let s = s→start (m→s c) in Scanning (end-of c) (s .args .axis) (pivot s) (met c) (up-of c) (down-of c)
+pub scanning : (c : Met) → let s = s→start (m→s c) in PassScanning (end-of c) (s .args .axis) (pivot s) (met c) (up-of c) (down-of c)
 scanning c =
     let q = m→s c in
     let s = s→start q in
@@ -235,7 +235,7 @@ scanning c =
     c .before .before .before .before .batch .ensures .goes (end-of c)
     (scanning-cols (end-of c) (s .args .axis) (pivot s) (swapped q) (swapItem (passed q) (i-of q) (j-of q)) (i-of q + 1) (j-of q - 1) (swapped-is q)
     (scanning-turn (end-of c) (s .args .axis) (pivot s) (passed q) (i-of q) (j-of q) (p .goes) (h .ij) (h .a2) (room-j h) (p .i-stop) (p .j-stop))) where
-      room-j : {i j l r a n m : ℕ} {s s' : Cols} → Turn i j l r a n m s s' → 2 * j + 1 < length (s .co)
+      room-j : {i j l r a n m : ℕ} {s s' : IndexCols} → Turn i j l r a n m s s' → 2 * j + 1 < length (s .co)
       room-j h = omega arith
 
 -- the scan up has not reached its last stop, and the scan down neither
@@ -256,16 +256,16 @@ down-ahead c =
 abbrev pub ap→start : After-loop → Start
 ap→start c = j1→start (c .before .before)
 
-pub passed-long : (c : After-loop) → Long (cols (c .before .loop .ids) (c .before .loop .coords)) (columns (ap→start c))
+pub passed-long : (c : After-loop) → Long (indexCols (c .before .loop .ids) (c .before .loop .coords)) (columns (ap→start c))
 passed-long c =
     let p = c .before .loop .inv in
     let e = placed-long (c .before .before) in
     record { ids-as = p .ids-long ∙ e .ids-as; co-as = p .co-long ∙ e .co-as }
 
 pub passes-is : (c : After-loop) → let s = ap→start c in let a = s .args in
-    passes (a .right - a .left) (ltb (a .left) (a .right)) (a .axis) (pivot s) (placed-of s) (a .left) (a .right) ≡ cut (cols (c .before .loop .ids) (c .before .loop .coords)) (c .before .loop .j)
+    passes (a .right - a .left) (ltb (a .left) (a .right)) (a .axis) (pivot s) (placed-of s) (a .left) (a .right) ≡ cut (indexCols (c .before .loop .ids) (c .before .loop .coords)) (c .before .loop .j)
 passes-is c =
     let s = ap→start c in
     let a = s .args in
-    ap (λ (x : Cols). passes (a .right - a .left) (ltb (a .left) (a .right)) (a .axis) (pivot s) x (a .left) (a .right)) (sym (placed-is (c .before .before)))
-    ∙ passing-ends _ (a .axis) (pivot s) (cols (c .before .loop .ids) (c .before .loop .coords)) (c .before .loop .i) (c .before .loop .j) (c .before .loop .inv .goes) (c .loop-test .left)
+    ap (λ (x : IndexCols). passes (a .right - a .left) (ltb (a .left) (a .right)) (a .axis) (pivot s) x (a .left) (a .right)) (sym (placed-is (c .before .before)))
+    ∙ passing-ends _ (a .axis) (pivot s) (indexCols (c .before .loop .ids) (c .before .loop .coords)) (c .before .loop .i) (c .before .loop .j) (c .before .loop .inv .goes) (c .loop-test .left)

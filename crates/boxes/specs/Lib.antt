@@ -1,7 +1,0 @@
--- Definitions that contracts cite: Lists, Joined (its first). All else is laws and theorems.
-pub mod Lists
-pub mod Standing
-pub mod Joined
-pub mod Inside
-pub mod Replies
-pub mod Worked

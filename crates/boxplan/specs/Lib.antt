@@ -1,5 +1,0 @@
--- Definitions that contracts cite: Rule, Queries (its first). Again has laws about the rule, Worked what it comes to for some edges.
-pub mod Rule
-pub mod Queries
-pub mod Again
-pub mod Worked

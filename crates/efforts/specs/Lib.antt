@@ -1,6 +1,0 @@
--- Definitions that contracts cite: Effort. What is said of them for a reader of 02 stands in StatedEffort, that it holds in Proved.
-pub mod Effort
-pub mod StatedEffort
-pub mod Proved
-pub mod Replies
-pub mod Worked

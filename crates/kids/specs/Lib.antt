@@ -1,5 +1,0 @@
--- Kids has the definitions of 01's children. Next has what the contracts of this crate say of a ring, and the laws that join the two. All
--- else is laws.
-pub mod Kids
-pub mod Within
-pub mod Next

@@ -1,0 +1,1 @@
+// SCOPE's worked lines: definitions and laws only, in specs.

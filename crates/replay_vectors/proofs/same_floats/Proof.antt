@@ -1,0 +1,77 @@
+-- `replay_vectors::same_floats` meets its contract. The loop's invariant: each position passed is the same. Assumes nothing.
+use Prim.Native.Nat.{_-_, _≤_}
+use native.Mathlib.Omega.{arith}
+use mathlib.Core.Path.{_≡_, refl, sym, _∙_}
+use mathlib.Core.Bool.{true}
+use borrow.Author.Tests.{not-true, not-false}
+use lib.ListN.{length}
+use Rattle.floats.specs.laws.Table.{upto}
+use Rattle.replay_vectors.specs.Same.{floatAt, sameFloats}
+use Rattle.replay_vectors.proofs.Same.{upto-more, columns-none, columns-fail, columns-all}
+use borrow.Author.Needs.{needs}
+use Rattle.replay_vectors.proofs.same_floats.Statement.{statement}
+use Rattle.replay_vectors.proofs.same_floats.Tie as tie
+
+abbrev Inv-loop : tie.InvT-loop
+Inv-loop want got i₀ i = (i ≤ length want) × (upto (floatAt want got) i ≡ true)
+
+abbrev μ-loop : tie.MeasureT-loop
+μ-loop want got i₀ i = length want - i
+
+returns : tie.Need-returns Inv-loop μ-loop
+unfolding sameFloats
+returns c = sym (columns-none _ _ _ (c .if1 .taken))
+
+loop-holds : tie.Need-loop-holds Inv-loop μ-loop
+loop-holds c = (omega arith, refl)
+
+mul-agree : tie.Need-mul-agree Inv-loop μ-loop
+mul-agree c = omega arith
+
+shared-slice-read-agree : tie.Need-shared-slice-read-agree Inv-loop μ-loop
+shared-slice-read-agree c = omega arith
+
+mul-agree-2 : tie.Need-mul-agree-2 Inv-loop μ-loop
+mul-agree-2 c = omega arith
+
+shared-slice-read-agree-2 : tie.Need-shared-slice-read-agree-2 Inv-loop μ-loop
+shared-slice-read-agree-2 c = omega arith
+
+agree-requires : tie.Need-agree-requires Inv-loop μ-loop
+agree-requires c κs = search needs
+
+returns-2 : tie.Need-returns-2 Inv-loop μ-loop
+unfolding sameFloats
+returns-2 c = sym (columns-fail _ _ _ _ (c .before .before .before .before .before .before .if1 .left) (c .before .before .before .before .loop-test .taken) (sym (c .before .agree .ensures) ∙ not-true _ (c .if2 .taken)))
+
+add-i : tie.Need-add-i Inv-loop μ-loop
+add-i c = omega arith
+
+loop-less : tie.Need-loop-less Inv-loop μ-loop
+loop-less c = omega arith
+
+loop-again : tie.Need-loop-again Inv-loop μ-loop
+loop-again c = (omega arith, upto-more (floatAt (c .before .before .before .before .before .before .before .before .before .args .want .now) (c .before .before .before .before .before .before .before .before .before .args .got .now)) _ (c .before .before .before .before .before .loop .inv .1) (sym (c .before .agree .ensures) ∙ not-false _ (c .if2 .left)))
+
+returns-3 : tie.Need-returns-3 Inv-loop μ-loop
+unfolding sameFloats
+returns-3 c = sym (columns-all _ _ _ _ (c .before .before .if1 .left) (c .loop-test .left) (c .before .loop .inv .0) (c .before .loop .inv .1))
+
+pub same-floats-spec : {M : Type 1} → statement M
+same-floats-spec =
+    tie.close
+    (tie.spec
+    Inv-loop
+    μ-loop
+    returns
+    loop-holds
+    mul-agree
+    shared-slice-read-agree
+    mul-agree-2
+    shared-slice-read-agree-2
+    agree-requires
+    returns-2
+    add-i
+    loop-less
+    loop-again
+    returns-3)

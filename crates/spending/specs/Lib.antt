@@ -1,8 +1,0 @@
--- Definitions that contracts cite: Tested (its first two), Trials (its first), Reply, Spend (its first). All else is laws and theorems
--- about them.
-pub mod Tested
-pub mod Trials
-pub mod Reply
-pub mod Spend
-pub mod Ended
-pub mod Promise

@@ -1,7 +1,0 @@
--- Definitions that contracts cite: Asked, Tallied. All else is laws and theorems about them.
-pub mod Asked
-pub mod Tallied
-pub mod Used
-pub mod Ends
-pub mod Built
-pub mod Replies

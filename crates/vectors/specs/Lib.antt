@@ -1,6 +1,0 @@
--- What the contracts of the vectors cite.
-pub mod Words
-pub mod Tallies
-pub mod Same
-pub mod Equal
-pub mod Chain

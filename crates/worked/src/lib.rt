@@ -1,1 +1,0 @@
-// 01's worked lines: definitions and laws only, in specs.
