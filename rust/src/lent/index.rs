@@ -1,36 +1,12 @@
-//! The proved library, called from Rust. It has C functions: a slice goes over as its pointer and its
-//! length, a number that it hands back as a pointer to where it is to stand. What is declared here has
-//! to be what `crates/exports` exports; nothing checks that but the comparison.
+//! The index alone: its build, both searches and the cursor.
 
-mod calls;
-mod linked;
-mod load;
-mod questions;
-
-pub use load::{load, needed, Columns, Lengths, State, COLUMNS, ZOOMS};
-pub use questions::{Asked, EffortReply};
-
-/// A reply: SCOPE's number of it, and the number that it carries.
-#[derive(Clone, Copy, Debug, PartialEq, Eq)]
-pub struct Reply {
-    pub number: u32,
-    pub carried: usize,
-}
+use super::{reply, Reply};
+use crate::names;
 
 /// What a cursor carries where there is no slot.
 pub const NO_SLOT: usize = usize::MAX;
 
-/// What stands where the carried number goes, before the call: no reply carries it.
-const UNSET: usize = 0x5e5e_5e5e_5e5e_5e5e;
-
-/// A reply, from a call that is given the place for the carried number.
-fn reply(call: impl FnOnce(&mut usize) -> u32) -> Reply {
-    let mut carried = UNSET;
-    let number = call(&mut carried);
-    Reply { number, carried }
-}
-
-/// Builds an index of the points (xs[i], ys[i]) in the columns `ids` and `coords`.
+/// Builds an index of the points (`xs[i]`, `ys[i]`), which are within 0 to 1, in the columns `ids` and `coords`: N entries and 2 N.
 pub fn build(
     node_size: usize,
     xs: &[f64],
@@ -38,9 +14,10 @@ pub fn build(
     ids: &mut [u32],
     coords: &mut [f64],
 ) -> Reply {
-    // Each pointer is that of a slice lent for the call, beside the slice's length.
+    // SAFETY: each pointer is that of a slice borrowed for the call, beside the slice's length; `ids`, `coords` and
+    // `carried` are borrowed mutably, so that nothing overlaps them.
     reply(|carried| unsafe {
-        linked::kdbush_build(
+        names::kdbush_build(
             node_size,
             xs.as_ptr(),
             xs.len(),
@@ -55,21 +32,27 @@ pub fn build(
     })
 }
 
-/// An index as a question is lent it: the node size, the number of its slots, its two columns.
+/// An index as a search is lent it.
 #[derive(Clone, Copy, Debug)]
-pub struct Lent<'a> {
+pub struct Index<'a> {
+    /// The node size that it was built with.
     pub node_size: usize,
+    /// How many points it has.
     pub count: usize,
+    /// The place that each slot names.
     pub ids: &'a [u32],
+    /// The coordinates of each slot, x and y.
     pub coords: &'a [f64],
 }
 
-impl Lent<'_> {
+impl Index<'_> {
     /// The places in the box of these corners: least x, least y, greatest x, greatest y.
     pub fn range(&self, [min_x, min_y, max_x, max_y]: [f64; 4], out: &mut [u32]) -> Reply {
-        let Lent { node_size, count, ids, coords } = *self;
+        let Index { node_size, count, ids, coords } = *self;
+        // SAFETY: each pointer is that of a slice borrowed for the call, beside the slice's length; `out` and `carried`
+        // are borrowed mutably, so that nothing overlaps them.
         reply(|carried| unsafe {
-            linked::kdbush_range(
+            names::kdbush_range(
                 node_size,
                 count,
                 ids.as_ptr(),
@@ -87,11 +70,12 @@ impl Lent<'_> {
         })
     }
 
-    /// The places in the circle of this centre and radius.
+    /// The places in the circle of this centre and radius: x, y, radius.
     pub fn within(&self, [x, y, radius]: [f64; 3], out: &mut [u32]) -> Reply {
-        let Lent { node_size, count, ids, coords } = *self;
+        let Index { node_size, count, ids, coords } = *self;
+        // SAFETY: as for `range`.
         reply(|carried| unsafe {
-            linked::kdbush_within(
+            names::kdbush_within(
                 node_size,
                 count,
                 ids.as_ptr(),
@@ -108,43 +92,47 @@ impl Lent<'_> {
         })
     }
 
-    /// The first slot that `range` answers, as the carried number.
+    /// The first slot that `range` answers, as the carried number; [`NO_SLOT`] where there is none.
     pub fn range_first(&self, [min_x, min_y, max_x, max_y]: [f64; 4]) -> Reply {
-        let Lent { node_size, count, coords, .. } = *self;
+        let Index { node_size, count, coords, .. } = *self;
         let (start, length) = (coords.as_ptr(), coords.len());
+        // SAFETY: `start` and `length` are those of a slice borrowed for the call; `slot` is borrowed mutably.
         reply(|slot| unsafe {
-            linked::kdbush_range_first(
+            names::kdbush_range_first(
                 node_size, count, start, length, min_x, min_y, max_x, max_y, slot,
             )
         })
     }
 
-    /// The slot that `range` answers after this one, as the carried number.
+    /// The slot that `range` answers after this one, likewise.
     pub fn range_after(&self, [min_x, min_y, max_x, max_y]: [f64; 4], slot: usize) -> Reply {
-        let Lent { node_size, count, coords, .. } = *self;
+        let Index { node_size, count, coords, .. } = *self;
         let (start, length) = (coords.as_ptr(), coords.len());
+        // SAFETY: `start` and `length` are those of a slice borrowed for the call; `next` is borrowed mutably.
         reply(|next| unsafe {
-            linked::kdbush_range_after(
+            names::kdbush_range_after(
                 node_size, count, start, length, min_x, min_y, max_x, max_y, slot, next,
             )
         })
     }
 
-    /// The first slot that `within` answers, as the carried number.
+    /// The first slot that `within` answers, likewise.
     pub fn within_first(&self, [x, y, radius]: [f64; 3]) -> Reply {
-        let Lent { node_size, count, coords, .. } = *self;
+        let Index { node_size, count, coords, .. } = *self;
         let (start, length) = (coords.as_ptr(), coords.len());
+        // SAFETY: `start` and `length` are those of a slice borrowed for the call; `slot` is borrowed mutably.
         reply(|slot| unsafe {
-            linked::kdbush_within_first(node_size, count, start, length, x, y, radius, slot)
+            names::kdbush_within_first(node_size, count, start, length, x, y, radius, slot)
         })
     }
 
-    /// The slot that `within` answers after this one, as the carried number.
+    /// The slot that `within` answers after this one, likewise.
     pub fn within_after(&self, [x, y, radius]: [f64; 3], slot: usize) -> Reply {
-        let Lent { node_size, count, coords, .. } = *self;
+        let Index { node_size, count, coords, .. } = *self;
         let (start, length) = (coords.as_ptr(), coords.len());
+        // SAFETY: `start` and `length` are those of a slice borrowed for the call; `next` is borrowed mutably.
         reply(|next| unsafe {
-            linked::kdbush_within_after(node_size, count, start, length, x, y, radius, slot, next)
+            names::kdbush_within_after(node_size, count, start, length, x, y, radius, slot, next)
         })
     }
 }
