@@ -45,7 +45,7 @@ with_columns!(names!);
 /// A length for each column, in the order of their names.
 pub type Lengths = [usize; COLUMNS.len()];
 
-/// The lengths that 01 asks of the columns for a build of so many points: the coordinates have two to an entry.
+/// The lengths that SCOPE asks of the columns for a build of so many points: the coordinates have two to an entry.
 pub fn needed(options: &Options, count: usize) -> Lengths {
     let entries = options.tables() * count;
     COLUMNS.map(|name| entries * width(name))
