@@ -54,7 +54,7 @@ small s c z b = let g = given s (roomOf c) (b .good) in omega (arith, g .zoom-to
 
 -- the columns reach over the table
 pub reach : (s : State) (c : Columns) (z : ℕ) {a n : ℕ} → Built s c z → a ≡ startOf s z → n ≡ lenOf s z → Roomy (a + n) (c .table)
-reach s c z b f q = rw (f, q) (table-held s c z (stands s (roomOf c) (b .good) z (b .low) (b .high)))
+reach s c z b f q = rw (f, q) (table-roomy s c z (stands s (roomOf c) (b .good) z (b .low) (b .high)))
 
 -- the entry that is read is that of the table
 pub entry-is : (s : State) (c : Columns) (z p : ℕ) {a n : ℕ} {e : Entry} → a ≡ startOf s z → n ≡ lenOf s z
