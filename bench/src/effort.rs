@@ -8,7 +8,7 @@ use crate::{
     rounds::{measured, Side},
     table, Size,
 };
-use ported::Asked;
+use reachvolem::lent::Asked;
 use splitmix::Splitmix;
 
 /// How many tests a wide box is allowed, how many such boxes are asked, and how many without an effort.

@@ -7,7 +7,7 @@ use crate::{
     table::Times,
     Size,
 };
-use ported::{Lent, Reply, NO_SLOT};
+use reachvolem::lent::{self, Index as Lent, Reply, NO_SLOT};
 use splitmix::Splitmix;
 use std::f64::consts::PI;
 
@@ -62,7 +62,7 @@ fn built(points: &Points) -> Columns {
     let count = points.xs.len();
     let mut columns = Columns { ids: vec![0; count], coords: vec![0.0; 2 * count] };
     let Columns { ids, coords } = &mut columns;
-    let reply = ported::build(NODE_SIZE, &points.xs, &points.ys, ids, coords);
+    let reply = lent::build(NODE_SIZE, &points.xs, &points.ys, ids, coords);
     assert_eq!(reply.number, 0, "a build that is accepted");
     columns
 }

@@ -4,6 +4,7 @@ use crate::{
     clock::timed,
     memory::{self, Peak},
     points::{Points, Shape, SHAPES},
+    port,
     rounds::{measured, median, Found, Side},
     table::{self, Times},
     Size,
@@ -11,7 +12,6 @@ use crate::{
 use columns::Entry;
 use geojson::{Feature, JsonObject, JsonValue};
 use options::{Options, USUAL};
-use ported::{needed, Columns, State, ZOOMS};
 use rust_builds::Row;
 use std::{cell::Cell, iter};
 
@@ -100,26 +100,17 @@ fn named(shape: Shape, count: usize) -> String {
     format!("load, {}, {count}", shape.name())
 }
 
-/// The port's tables of these points in new columns, and how many entries they have.
-fn port_loaded(points: &Points) -> (Columns, usize) {
-    let mut columns = Columns::zeros(needed(&USUAL, points.xs.len()));
-    let [mut starts, mut lens] = [[0; ZOOMS]; 2];
-    let state = State { starts: &mut starts, lens: &mut lens };
-    let reply = ported::load(&USUAL, &points.given(), columns.lent(), state);
-    assert_eq!(reply.number, 0, "a build that is accepted");
-    (columns, lens.iter().map(|length| *length as usize).sum())
-}
-
 /// The port's build as a side of the measurement.
 fn port_load(points: &Points, entries: &Cell<usize>) -> (Found, u64) {
-    let ((columns, length), nanoseconds) = timed(|| port_loaded(points));
+    let (lamps, nanoseconds) = timed(|| port::loaded(points));
+    let lent = port::columns(&lamps);
+    let length = lent.room();
     entries.set(length);
-    let lent = columns.tables.lent();
     // The Rust knows of no energies: those of all tables have to be the points' once for each.
     let row = |at: usize| Row { entry: Entry { energy: 0, ..lent.entry(at) }, slot: lent.slot(at) };
     let sum = |energies: &[u64]| energies.iter().map(|energy| u128::from(*energy)).sum::<u128>();
     let tables = USUAL.tables() as u128;
-    assert_eq!(sum(&lent.energy[..length]), tables * sum(&points.energies), "energies");
+    assert_eq!(sum(lent.energy), tables * sum(&points.energies), "energies");
     (found((0..length).map(row), points.xs.len(), true), nanoseconds)
 }
 
@@ -200,7 +191,7 @@ pub fn peak(side: &str, shape: &str, count: &str) -> Option<Peak> {
     let points = shape.points(count.parse().ok()?);
     match side {
         PORT => Some(memory::peak(points, |points| {
-            let loaded = port_loaded(&points);
+            let loaded = port::loaded(&points);
             (points, loaded)
         })),
         UNTOUCHED | FIGURES => {

@@ -6,6 +6,7 @@ mod index;
 mod load;
 mod memory;
 mod points;
+mod port;
 mod questions;
 mod rounds;
 mod table;

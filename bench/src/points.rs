@@ -1,6 +1,5 @@
 //! The points that are measured with, all within [0,1].
 
-use columns::Given;
 use options::MOST_ENERGY;
 use splitmix::Splitmix;
 
@@ -17,11 +16,6 @@ impl Points {
         let mut source = Splitmix(7);
         let energies = xs.iter().map(|_| source.below(MOST_ENERGY + 1)).collect();
         Points { xs, ys, energies }
-    }
-
-    /// The points as a build is given them.
-    pub fn given(&self) -> Given<'_> {
-        Given { xs: &self.xs, ys: &self.ys, energies: &self.energies }
     }
 }
 

@@ -6,14 +6,15 @@
 use crate::{
     clock::timed,
     points::{Points, SHAPES},
+    port,
     rounds::{measured, Found, Side},
     table::Times,
     Size,
 };
-use columns::Columns;
+use columns::Lent;
 use options::USUAL;
 use oracle_untouched::KDBush;
-use ported::{needed, Asked, Lent, State, ZOOMS};
+use reachvolem::lent::{Asked, Index, State};
 use rust_builds::{
     data,
     untouched::{unloaded, Supercluster},
@@ -48,9 +49,7 @@ pub const FINEST: u8 = USUAL.max_zoom + 1;
 
 /// The same build on both sides.
 pub struct Both {
-    columns: Columns,
-    starts: [u32; ZOOMS],
-    lens: [u32; ZOOMS],
+    port: reachvolem::Supercluster,
     rust: Supercluster,
 }
 
@@ -73,40 +72,33 @@ pub fn run(size: &Size) -> Result<(), String> {
 impl Both {
     /// These points, built by the port.
     pub fn of(points: &Points) -> Both {
-        let mut columns = ported::Columns::zeros(needed(&USUAL, points.xs.len()));
-        let [mut starts, mut lens] = [[0; ZOOMS]; 2];
-        let state = State { starts: &mut starts, lens: &mut lens };
-        let reply = ported::load(&USUAL, &points.given(), columns.lent(), state);
-        assert_eq!(reply.number, 0, "a build that is accepted");
-        let columns = columns.tables;
+        let port = port::loaded(points);
+        let State { starts, lens, .. } = port.state();
+        let lent = port::columns(&port);
         let mut rust = unloaded(&USUAL);
         rust.points = rust_builds::features(&points.xs, &points.ys);
         for zoom in usize::from(USUAL.min_zoom)..=usize::from(FINEST) {
-            rust.trees.insert(zoom, tree(&columns, starts[zoom] as usize, lens[zoom] as usize));
+            rust.trees.insert(zoom, tree(&lent, starts[zoom] as usize, lens[zoom] as usize));
         }
-        Both { columns, starts, lens, rust }
+        Both { port, rust }
     }
 
     /// The build as the port is lent it.
     pub fn asked(&self) -> Asked<'_> {
-        let (starts, lens) = (&self.starts, &self.lens);
-        let count = self.lens[usize::from(FINEST)];
-        Asked { options: &USUAL, count, starts, lens, columns: self.columns.lent() }
+        *self.port.tables().asked()
     }
 
-    /// The index of the finest table.
-    fn finest(&self) -> Lent<'_> {
-        let zoom = usize::from(FINEST);
-        let (start, count) = (self.starts[zoom] as usize, self.lens[zoom] as usize);
-        let ids = &self.columns.ids[start..start + count];
-        let coords = &self.columns.coords[2 * start..2 * (start + count)];
-        Lent { node_size: USUAL.node_size, count, ids, coords }
+    /// The index of the finest table, which stands first in the columns.
+    fn finest(&self) -> Index<'_> {
+        let (count, columns) = (self.port.count() as usize, self.port.columns());
+        let (ids, coords) = (&columns.ids[..count], &columns.coords[..2 * count]);
+        Index { node_size: USUAL.node_size, count, ids, coords }
     }
 
     /// Ids of clusters with a num from one number to another, by chance; no more than there are.
     fn clusters(&self, nums: [u32; 2], most: usize, source: &mut Splitmix) -> Vec<u32> {
-        let length: usize = self.lens.iter().map(|length| *length as usize).sum();
-        let entries = self.columns.id.iter().zip(&self.columns.num).take(length);
+        let columns = self.port.columns();
+        let entries = columns.id.iter().zip(columns.num);
         let fitting = entries.filter(|(_, num)| (nums[0]..=nums[1]).contains(*num));
         let ids: Vec<u32> = fitting.map(|(id, _)| *id).collect();
         match ids.is_empty() {
@@ -117,13 +109,12 @@ impl Both {
 }
 
 /// A table as the Rust keeps it.
-fn tree(columns: &Columns, start: usize, length: usize) -> KDBush {
+fn tree(columns: &Lent, start: usize, length: usize) -> KDBush {
     let mut tree = KDBush::new(0, USUAL.node_size);
     let end = start + length;
     tree.ids = columns.ids[start..end].iter().map(|place| *place as usize).collect();
     tree.coords = columns.coords[2 * start..2 * end].to_vec();
-    let lent = columns.lent();
-    tree.data = (start..end).flat_map(|at| data(&lent.entry(at))).collect();
+    tree.data = (start..end).flat_map(|at| data(&columns.entry(at))).collect();
     tree
 }
 
@@ -215,11 +206,12 @@ impl Bench {
     /// Tiles of a zoom that have a lamp in them, and their tallies beside the Rust's tile.
     fn tiles(&self, z: u8, most: usize, source: &mut Splitmix) -> Result<(), String> {
         let (asked, rust) = (self.both.asked(), &self.both.rust);
+        let columns = asked.columns;
         let z2 = (1_u64 << z) as f64;
         let mut tile = |_| {
             let lamp = source.below(self.count as u64) as usize;
             let at = |v: f64| (v * z2).min(z2 - 1.0) as u32;
-            (z, at(self.both.columns.x[lamp]), at(self.both.columns.y[lamp]))
+            (z, at(columns.x[lamp]), at(columns.y[lamp]))
         };
         let tiles: Vec<(u8, u32, u32)> = (0..most).map(&mut tile).collect();
         let [mut px, mut py] = [(); 2].map(|()| vec![0; self.count]);

@@ -2,6 +2,7 @@
 // a `&mut usize` or a `&[u32; 32]` as a pointer.
 // Each answers SCOPE's number of the reply, 0 where there is no refusal, and leaves what the reply carries in `carried`, 0 where it
 // carries nothing. Proved: each tells what the public function promises, and writes nothing else. Assumed: nothing.
+use build_tables::Entry;
 use build_tables::Options;
 use build_tables::State;
 use kdslots::Query;
@@ -11,13 +12,16 @@ ghost use mathlib.Core.Path.{_≡_};
 ghost use lib.ListN.{length};
 ghost use Rattle.kdbush.specs.Reply.{buildNumber, buildCarried, built, indexChecked, searchNumber, searchCarried, searched, columnAfter};
 ghost use Rattle.kdwalk.specs.Reply.{stepNumber, stepCarried, firstStep, afterStep};
-ghost use Rattle.exports.specs.Given.{givenOptions};
+ghost use Rattle.exports.specs.Given.{ranged, givenOptions};
 ghost use Rattle.exports.specs.Told.{said, zoomSaid, tallySaid, toldC, toldOf, effortTold, effortToldOf, tileTold, tileOf};
 ghost use Rattle.exports.specs.Laid.{replied, repliedOf, laid, laidOf};
+ghost use Rattle.exports.specs.Read.{entryAsked, lentEntry, readAs, readOf};
 ghost use Rattle.supercluster.specs.Build.{loaded};
 ghost use Rattle.supercluster.specs.Lent.{lentAll};
 ghost use Rattle.kdsort.specs.Cols.{indexCols};
+ghost use Rattle.range.specs.Range.{normalized, denormalized};
 ghost use Rattle.build_tables.specs.State.{stateOf};
+ghost use Rattle.build_tables.specs.Options.{zoomUsed};
 ghost use Rattle.build_tables.specs.Lent.{lentColumns};
 ghost use Rattle.lent.specs.Lent.{old, new};
 ghost use Rattle.ask_box.specs.Lists.{boxAsked, ringAsked};
@@ -28,6 +32,10 @@ ghost use Rattle.ask_cluster.specs.Expansion.{zoomOf};
 ghost use Rattle.ask_tile.specs.Asked.{tiled};
 ghost use Rattle.ask_tile.specs.Tallied.{tallied};
 
+// The index of N points, xs_len of them, whose coordinates are from 0 to 1. Written are the first N entries of ids (the place of
+// each slot) and the first 2N of coords (its x and y), sorted by node_size (1 to 65,535); what lies behind them stays. Refused in
+// this order, and then neither is written: 1 node_size, 2 N is not from 1 to 1,048,576 or ys has not N, 3 a coordinate (carried: the
+// first such point, from 0), 4 ids has fewer than N entries or coords fewer than 2N.
 #[no_mangle]
 pub extern "C" fn kdbush_build(
     node_size: usize,
@@ -46,6 +54,10 @@ pub extern "C" fn kdbush_build(
     r.number()
 }
 
+// Searches an index of n points: the places of those with min_x <= x <= max_x and min_y <= y <= max_y, in the order of the walk.
+// Written are the first entries of out, carried is how many. Refused in this order: 11 by node_size, n or a short column, 9 a number
+// that is not finite, 11 a slot whose place is not below n (out has those before it that fit), 10 out is too short (carried: how
+// many there are; out has those that fit). 9 and the first 11 write nothing.
 #[no_mangle]
 pub extern "C" fn kdbush_range(
     node_size: usize,
@@ -74,6 +86,8 @@ pub extern "C" fn kdbush_range(
     r.number()
 }
 
+// Searches an index of n points: the places of those with (x - qx)^2 + (y - qy)^2 <= radius^2, in the order of the walk. Written,
+// carried and refused as for kdbush_range; 9 also refuses a radius below 0.
 #[no_mangle]
 pub extern "C" fn kdbush_within(
     node_size: usize,
@@ -97,6 +111,9 @@ pub extern "C" fn kdbush_within(
     r.number()
 }
 
+// The walk of kdbush_range by steps, over coords alone. slot is the first slot that passes, and ids[slot] its place; where none
+// passes, it is the largest size_t. Refused: 11 by node_size, n or short coords, 9 a number that is not finite; then, too, slot is
+// the largest size_t.
 #[no_mangle]
 pub extern "C" fn kdbush_range_first(
     node_size: usize,
@@ -126,6 +143,8 @@ pub extern "C" fn kdbush_range_first(
     s.number()
 }
 
+// The slot that follows slot in that walk, into next; the largest size_t where none follows, and for each slot from n on. Refused as
+// kdbush_range_first, with the largest size_t in next.
 #[no_mangle]
 pub extern "C" fn kdbush_range_after(
     node_size: usize,
@@ -156,6 +175,7 @@ pub extern "C" fn kdbush_range_after(
     s.number()
 }
 
+// The walk of kdbush_within by steps. As kdbush_range_first; 9 also refuses a radius below 0.
 #[no_mangle]
 pub extern "C" fn kdbush_within_first(
     node_size: usize,
@@ -174,6 +194,7 @@ pub extern "C" fn kdbush_within_first(
     s.number()
 }
 
+// The slot that follows slot in that walk, into next. As kdbush_range_after; 9 also refuses a radius below 0.
 #[no_mangle]
 pub extern "C" fn kdbush_within_after(
     node_size: usize,
@@ -191,6 +212,29 @@ pub extern "C" fn kdbush_within_after(
     let s = kdwalk::after(Query::Within { qx, qy, radius }, node_size, n, coords, slot);
     *next = s.carried();
     s.number()
+}
+
+// The range of a Cartesian plan: its offset and its scale where they are given.
+fn range_of(
+    min_x: f64,
+    min_y: f64,
+    max_x: f64,
+    max_y: f64,
+    offset_given: bool,
+    offset: f64,
+    scale_given: bool,
+    scale: f64,
+) -> DataRange
+    ensures { λ r. ⌜ r ≡ ranged «min_x» «min_y» «max_x» «max_y» «offset_given» offset «scale_given» scale ⌝ }
+{
+    DataRange {
+        min_x,
+        min_y,
+        max_x,
+        max_y,
+        offset: build_tables::setting(offset_given, offset),
+        scale: build_tables::setting(scale_given, scale),
+    }
 }
 
 // The options.
@@ -216,14 +260,16 @@ fn options(
         ⌜ r ≡ givenOptions «min_zoom» «max_zoom» «min_points» radius extent «node_size» cartesian «min_x» «min_y» «max_x» «max_y»
         «offset_given» offset «scale_given» scale «longitude_strips_only» ⌝ }
 {
-    let range = DataRange {
+    let range = range_of(
         min_x,
         min_y,
         max_x,
         max_y,
-        offset: build_tables::setting(offset_given, offset),
-        scale: build_tables::setting(scale_given, scale),
-    };
+        offset_given,
+        offset,
+        scale_given,
+        scale,
+    );
     let coordinate_system = build_tables::system(cartesian, range);
     Options {
         min_zoom,
@@ -235,6 +281,112 @@ fn options(
         coordinate_system,
         longitude_strips_only,
     }
+}
+
+// A number of a Cartesian plan as the tables have it: (v - offset) / scale. The offset is as given, or else the lesser of min_x and
+// min_y; the scale as given, or else the greater of max_x and max_y less the offset. All numbers are taken, and none is refused: a
+// range that no build takes gives what the formula gives.
+#[no_mangle]
+pub extern "C" fn supercluster_normalize(
+    min_x: f64,
+    min_y: f64,
+    max_x: f64,
+    max_y: f64,
+    offset_given: bool,
+    offset: f64,
+    scale_given: bool,
+    scale: f64,
+    v: f64,
+) -> f64
+    ensures { λ r. ⌜ r ≡ normalized (ranged «min_x» «min_y» «max_x» «max_y» «offset_given» offset «scale_given» scale) v ⌝ }
+{
+    let range = range_of(
+        min_x,
+        min_y,
+        max_x,
+        max_y,
+        offset_given,
+        offset,
+        scale_given,
+        scale,
+    );
+    range.normalize(v)
+}
+
+// And back: v * scale + offset, with the offset and the scale as for supercluster_normalize.
+#[no_mangle]
+pub extern "C" fn supercluster_denormalize(
+    min_x: f64,
+    min_y: f64,
+    max_x: f64,
+    max_y: f64,
+    offset_given: bool,
+    offset: f64,
+    scale_given: bool,
+    scale: f64,
+    v: f64,
+) -> f64
+    ensures { λ r. ⌜ r ≡ denormalized (ranged «min_x» «min_y» «max_x» «max_y» «offset_given» offset «scale_given» scale) v ⌝ }
+{
+    let range = range_of(
+        min_x,
+        min_y,
+        max_x,
+        max_y,
+        offset_given,
+        offset,
+        scale_given,
+        scale,
+    );
+    range.denormalize(v)
+}
+
+// The zoom whose table a question at this zoom goes to: zoom, but at least min_zoom and at most max_zoom + 1. Only these two options
+// are looked at, and none is refused.
+#[no_mangle]
+pub extern "C" fn supercluster_zoom_used(
+    min_zoom: u8,
+    max_zoom: u8,
+    min_points: u8,
+    radius: f64,
+    extent: f64,
+    node_size: usize,
+    cartesian: bool,
+    min_x: f64,
+    min_y: f64,
+    max_x: f64,
+    max_y: f64,
+    offset_given: bool,
+    offset: f64,
+    scale_given: bool,
+    scale: f64,
+    longitude_strips_only: bool,
+    zoom: u8,
+) -> u8
+    ensures { λ r.
+        let o = givenOptions «min_zoom» «max_zoom» «min_points» radius extent «node_size» cartesian «min_x» «min_y» «max_x» «max_y»
+        «offset_given» offset «scale_given» scale «longitude_strips_only» in
+        ⌜ r ≡ zoomUsed o zoom ⌝ }
+{
+    let o = options(
+        min_zoom,
+        max_zoom,
+        min_points,
+        radius,
+        extent,
+        node_size,
+        cartesian,
+        min_x,
+        min_y,
+        max_x,
+        max_y,
+        offset_given,
+        offset,
+        scale_given,
+        scale,
+        longitude_strips_only,
+    );
+    ask_box::zoom_used(o, zoom)
 }
 
 // The state of a build.
@@ -274,6 +426,13 @@ fn tell(loaded: Loaded, starts: &mut [u32; 32], lens: &mut [u32; 32], carried: &
     number
 }
 
+// Builds the tables of N points, xs_len of them: xs and ys in the coordinates of the options, energies in watt-hours. With need =
+// (max_zoom - min_zoom + 2) * N, each of the ten columns from x to near has at least need entries, coords twice as many. Written are
+// the tables in x, y, seen, id, parent, num, energy, the finest first, their indexes in ids and coords, 0 in the first 2N of near,
+// and in starts and lens, by zoom, where each table starts and how long it is; what lies behind stays. Carried is 0. Refused in this
+// order, and then nothing but carried is written: 1 an option, 2 N is not from 1 to 1,048,576 or ys or energies has not N, 3 a
+// converted coordinate is not from 0 to 1, 15 an energy above 2^40 (3 and 15 carry the first such point, from 0), 4 a column is too
+// short.
 #[no_mangle]
 pub extern "C" fn supercluster_load(
     min_zoom: u8,
@@ -353,8 +512,11 @@ pub extern "C" fn supercluster_load(
     tell(loaded, starts, lens, carried)
 }
 
-// The places of the table of the zoom used in the box from (west, least_y) to (east, greatest_y). y grows downwards on a mercator map, so
-// that least_y is the northern edge of a longitude build; on a Cartesian plan it is the least y as given.
+// The places of the table of the zoom used in the box from (west, least_y) to (east, greatest_y), in the coordinates of the options.
+// y grows downwards on a mercator map, so that least_y is the northern edge of a longitude build; on a Cartesian plan it is the
+// least y as given. Written are the first entries of out, carried is how many. Refused in this order: 11 by the state, 9 a number
+// that is not finite or, with longitudes, a y not from 0 to 1, 11 in the walk (out has the places before it that fit), 10 out is too
+// short (carried: how many there are; out has those that fit). 9 and the first 11 write nothing.
 #[no_mangle]
 pub extern "C" fn supercluster_box(
     min_zoom: u8,
@@ -416,8 +578,10 @@ pub extern "C" fn supercluster_box(
     r.number()
 }
 
-// The same within so many tests, which run over both halves of a box across the date line; beside what was found, how many slots were
-// tested, and whether it stopped with a test still due.
+// The same within so many tests, the allowance, which run over both halves of a box across the date line. Beside what was found,
+// tested is how many slots were tested, and stopped whether a test was still due. Written and refused as for supercluster_box, but
+// 10 and 11 in the walk look only at the tests made. 0 and 10 leave tested and stopped as they come out; the other refusals 0 and
+// false.
 #[no_mangle]
 pub extern "C" fn supercluster_box_effort(
     min_zoom: u8,
@@ -497,7 +661,9 @@ pub extern "C" fn supercluster_box_effort(
     r.number()
 }
 
-// The places of the table of the zoom used within a ring.
+// The places of the table of the zoom used with (x - ring_x)^2 + (y - ring_y)^2 <= ring_radius^2; all are in the tables' own numbers
+// from 0 to 1, nothing is converted. Written, carried and refused as for supercluster_box; 9 is a number that is not finite, or a
+// radius below 0.
 #[no_mangle]
 pub extern "C" fn supercluster_ring(
     min_zoom: u8,
@@ -558,7 +724,10 @@ pub extern "C" fn supercluster_ring(
     r.number()
 }
 
-// The places of the children of the cluster cid.
+// The places of the children of the cluster cid, in the table of zoom (cid - N) mod 32. Written are the first entries of out,
+// carried is how many. Refused in this order: 11 by the state, 6 cid is below N, 5 its table is below min_zoom or above max_zoom +
+// 1, 6 its table is that of min_zoom or its origin past the table, 11 in the walk (out has those before it that fit), 6 no children,
+// 10 out is too short (carried: how many there are; out has those that fit). 5, 6 and the first 11 write nothing.
 #[no_mangle]
 pub extern "C" fn supercluster_children(
     min_zoom: u8,
@@ -637,7 +806,8 @@ pub extern "C" fn supercluster_children(
     r.number()
 }
 
-// The ids of the lamps of the cluster cid: at most limit of them, after the first skip.
+// The ids of the lamps of the cluster cid: at most limit of them, after the first skip. Limit 0 lists none; the cluster's num as
+// limit and skip 0 lists all. Written, carried and refused as for supercluster_children.
 #[no_mangle]
 pub extern "C" fn supercluster_leaves(
     min_zoom: u8,
@@ -720,7 +890,7 @@ pub extern "C" fn supercluster_leaves(
     r.number()
 }
 
-// The zoom at which the cluster cid falls apart, as what is carried.
+// The zoom at which the cluster cid falls apart, as what is carried. Refused as supercluster_children, but 10 does not occur.
 #[no_mangle]
 pub extern "C" fn supercluster_expansion_zoom(
     min_zoom: u8,
@@ -785,7 +955,11 @@ pub extern "C" fn supercluster_expansion_zoom(
     r.number()
 }
 
-// The entries that the tile (z, tile_x, tile_y) lists: their places in the table of the zoom used, and their places in the tile.
+// The entries that the tile (z, tile_x, tile_y) lists: their places in the table of the zoom used, and where they stand in the tile,
+// px to the right and py downwards, in units of which a side of the tile has extent. Written are the first entries of places, px and
+// py, carried is how many. Refused in this order: 11 by the state, 7 no such tile, 11 in the walk (the columns have those before it
+// that fit), 8 no entries, 10 the shortest of the three is too short (carried: how many there are; they have those that fit). 7, 8
+// and the first 11 write nothing.
 #[no_mangle]
 pub extern "C" fn supercluster_tile(
     min_zoom: u8,
@@ -875,7 +1049,8 @@ pub extern "C" fn supercluster_tile(
     r.number()
 }
 
-// The sum of num over the distinct entries that the tile (z, tile_x, tile_y) lists and whose centre it holds, as what is carried.
+// The sum of num over the distinct entries that the tile (z, tile_x, tile_y) lists and whose centre it holds, as what is carried; 0
+// where it lists none. Refused in this order: 11 by the state, 7 no such tile, 11 in the walk.
 #[no_mangle]
 pub extern "C" fn supercluster_tally(
     min_zoom: u8,
@@ -956,4 +1131,177 @@ pub extern "C" fn supercluster_tally(
     );
     *carried = r.value() as usize;
     r.number()
+}
+
+// What a zoom and a place lead to: an entry of a table, or a refusal.
+enum Read {
+    At { entry: Entry },
+    NoTree,
+    NoEntry,
+    Spoiled,
+}
+
+// The entry at a place of the table of a zoom.
+fn look_up(
+    s: State,
+    x: &[f64],
+    y: &[f64],
+    seen: &[u8],
+    id: &[u32],
+    parent: &[u32],
+    num: &[u32],
+    energy: &[u64],
+    ids: &[u32],
+    coords: &[f64],
+    zoom: usize,
+    place: usize,
+) -> Read
+    ensures { λ r. let c = lentColumns x y seen id parent num energy ids coords in ⌜ r ≡ entryAsked s c zoom place ⌝ }
+{
+    if !s.is_sound(build_tables::room(x, y, seen, id, parent, num, energy, ids, coords)) {
+        return Read::Spoiled;
+    }
+    let o = s.options;
+    if zoom < o.min_zoom as usize {
+        return Read::NoTree;
+    }
+    if o.max_zoom as usize + 1 < zoom {
+        return Read::NoTree;
+    }
+    let len = build_tables::len_of(s, zoom);
+    if len <= place {
+        return Read::NoEntry;
+    }
+    let start = build_tables::start_of(s, zoom);
+    let entry = ask_base::entry_in(start, len, x, y, seen, id, parent, num, energy, place);
+    Read::At { entry }
+}
+
+// Writes an entry behind seven pointers.
+fn hand(
+    e: Entry,
+    entry_x: &mut f64,
+    entry_y: &mut f64,
+    entry_seen: &mut u8,
+    entry_id: &mut u32,
+    entry_parent: &mut u32,
+    entry_num: &mut u32,
+    entry_energy: &mut u64,
+)
+    ensures { λ _.
+        let l = lentEntry «entry_x» «entry_y» «entry_seen» «entry_id» «entry_parent» «entry_num» «entry_energy» in
+        ⌜ l .exit ≡ e ⌝ }
+{
+    *entry_x = e.x;
+    *entry_y = e.y;
+    *entry_seen = e.seen;
+    *entry_id = e.id;
+    *entry_parent = e.parent;
+    *entry_num = e.num;
+    *entry_energy = e.energy;
+}
+
+// The entry at a place of the table of a zoom, as a box or a tile lists it: its x and y in the tables' numbers from 0 to 1
+// (supercluster_denormalize gives them back), the last zoom that marked it (255: none), its id, the id of the cluster that took it
+// in (4,294,967,295: none), how many lamps it has, and their watt-hours. Refused in this order, and then nothing is written: 11 by
+// the state, 5 zoom is below min_zoom or above max_zoom + 1, 6 the table has no such place.
+#[no_mangle]
+pub extern "C" fn supercluster_entry(
+    min_zoom: u8,
+    max_zoom: u8,
+    min_points: u8,
+    radius: f64,
+    extent: f64,
+    node_size: usize,
+    cartesian: bool,
+    min_x: f64,
+    min_y: f64,
+    max_x: f64,
+    max_y: f64,
+    offset_given: bool,
+    offset: f64,
+    scale_given: bool,
+    scale: f64,
+    longitude_strips_only: bool,
+    count: u32,
+    starts: &[u32; 32],
+    lens: &[u32; 32],
+    x: &[f64],
+    y: &[f64],
+    seen: &[u8],
+    id: &[u32],
+    parent: &[u32],
+    num: &[u32],
+    energy: &[u64],
+    ids: &[u32],
+    coords: &[f64],
+    zoom: u8,
+    place: u32,
+    entry_x: &mut f64,
+    entry_y: &mut f64,
+    entry_seen: &mut u8,
+    entry_id: &mut u32,
+    entry_parent: &mut u32,
+    entry_num: &mut u32,
+    entry_energy: &mut u64,
+) -> u32
+    ensures { λ r.
+        let o = givenOptions «min_zoom» «max_zoom» «min_points» radius extent «node_size» cartesian «min_x» «min_y» «max_x» «max_y»
+        «offset_given» offset «scale_given» scale «longitude_strips_only» in
+        let s = stateOf o count (old starts) (old lens) in
+        let c = lentColumns x y seen id parent num energy ids coords in
+        let l = lentEntry «entry_x» «entry_y» «entry_seen» «entry_id» «entry_parent» «entry_num» «entry_energy» in
+        ⌜ readAs r (l .exit) ≡ readOf (entryAsked s c zoom place) (l .entry) ⌝ }
+{
+    let o = options(
+        min_zoom,
+        max_zoom,
+        min_points,
+        radius,
+        extent,
+        node_size,
+        cartesian,
+        min_x,
+        min_y,
+        max_x,
+        max_y,
+        offset_given,
+        offset,
+        scale_given,
+        scale,
+        longitude_strips_only,
+    );
+    let s = state(o, count, starts, lens);
+    let found = look_up(
+        s,
+        x,
+        y,
+        seen,
+        id,
+        parent,
+        num,
+        energy,
+        ids,
+        coords,
+        zoom as usize,
+        place as usize,
+    );
+    match found {
+        Read::Spoiled => 11,
+        Read::NoTree => 5,
+        Read::NoEntry => 6,
+        Read::At { entry } => {
+            hand(
+                entry,
+                entry_x,
+                entry_y,
+                entry_seen,
+                entry_id,
+                entry_parent,
+                entry_num,
+                entry_energy,
+            );
+            0
+        }
+    }
 }

@@ -13,8 +13,12 @@ use Rattle.kdslots.specs.declared.Query.{Query}
 use Rattle.kdbush.specs.Reply.{buildNumber, buildCarried, built, indexChecked, searchNumber, searchCarried, searched, columnAfter}
 use Rattle.kdwalk.specs.declared.Step.{Step}
 use Rattle.kdwalk.specs.Reply.{stepNumber, firstStep, afterStep, stepCarried}
+use Rattle.range.specs.declared.DataRange.{DataRange}
+use Rattle.range.specs.Range.{normalized, denormalized}
 use Rattle.build_tables.specs.declared.Options.{Options}
 use Rattle.build_tables.specs.declared.State.{State}
+use Rattle.build_tables.specs.declared.Entry.{Entry}
+use Rattle.build_tables.specs.Options.{zoomUsed}
 use Rattle.supercluster.specs.Build.{BuildColumns, loaded}
 use Rattle.build_tables.specs.Room.{Columns}
 use Rattle.ask_box.specs.Lists.{boxAsked, ringAsked}
@@ -26,6 +30,7 @@ use Rattle.ask_tile.specs.Asked.{tiled}
 use Rattle.ask_tile.specs.Tallied.{tallied}
 use Rattle.exports.specs.Told.{Said, zoomSaid, tallySaid, Told, toldOf, EffortTold, effortToldOf, TileTold, tileOf}
 use Rattle.exports.specs.Laid.{Laid, laidOf}
+use Rattle.exports.specs.Read.{entryAsked, ReadAs, readOf}
 
 -- the law: where a number, what is carried and a column are each said to be something, any two of each are equal
 same-told : {A : Type 0} (n k : ℕ) (a : A) (r s c d : ℕ) (u v : A) → (r ≡ n) × (c ≡ k) × (u ≡ a) → (s ≡ n) × (d ≡ k) × (v ≡ a)
@@ -103,3 +108,22 @@ module _ (s : State) (c : Columns) (z x y : ℕ) where
 
   pub tally-replies : (r t : Said) → r ≡ tallySaid (tallied s c z x y) → t ≡ tallySaid (tallied s c z x y) → r ≡ t
   tally-replies r t = same-reply
+
+-- `supercluster_entry`
+pub entry-replies : (s : State) (c : Columns) (zoom place : ℕ) (before : Entry) (r t : ReadAs)
+    → r ≡ readOf (entryAsked s c zoom place) before → t ≡ readOf (entryAsked s c zoom place) before → r ≡ t
+entry-replies s c zoom place before r t = same-reply
+
+-- ---- what needs no build
+
+-- `supercluster_zoom_used`
+pub used-replies : (o : Options) (zoom r s : ℕ) → r ≡ zoomUsed o zoom → s ≡ zoomUsed o zoom → r ≡ s
+used-replies o zoom r s = same-reply
+
+-- `supercluster_normalize`, `supercluster_denormalize`
+module _ (d : DataRange) (v r s : Float) where
+  pub normalize-replies : r ≡ normalized d v → s ≡ normalized d v → r ≡ s
+  normalize-replies = same-reply
+
+  pub denormalize-replies : r ≡ denormalized d v → s ≡ denormalized d v → r ≡ s
+  denormalize-replies = same-reply

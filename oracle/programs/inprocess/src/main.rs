@@ -6,6 +6,7 @@
 mod effort;
 mod index;
 mod leaves;
+mod package;
 mod questions;
 mod tables;
 mod tallies;
@@ -15,7 +16,7 @@ use group_counts as report;
 use std::{env, process::ExitCode};
 
 const USAGE: &str =
-    "usage: inprocess index|tables|questions|overlap|leaves|effort|tallies [--full], or questions --spoiled";
+    "usage: inprocess index|tables|questions|overlap|leaves|effort|tallies|package [--full], or questions --spoiled";
 
 /// How many entries stand behind a lent column, out of the callee's reach.
 const GUARD: usize = 2;
@@ -39,6 +40,8 @@ fn main() -> ExitCode {
         ["effort", "--full"] => effort::run(Form::Full),
         ["tallies"] => tallies::run(Form::Short),
         ["tallies", "--full"] => tallies::run(Form::Full),
+        ["package"] => package::run(Form::Short),
+        ["package", "--full"] => package::run(Form::Full),
         _ => {
             eprintln!("{USAGE}");
             ExitCode::from(2)

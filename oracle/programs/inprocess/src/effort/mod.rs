@@ -13,10 +13,8 @@ mod expected;
 mod spoiled;
 
 use crate::{
-    questions::{
-        columns::Columns,
-        port::{as_asked, Port},
-    },
+    package::as_asked,
+    questions::{columns::Columns, port::Port},
     report::{finish, other, Group},
     Form,
 };
@@ -26,8 +24,8 @@ use beside::{
     Case, Rust, Said,
 };
 use expected::{Found, Replies};
-use ported::{EffortReply, Reply};
 use questions::{effort_box, in_box, Answer, Lent, Outcome, Question, State};
+use reachvolem::lent::{EffortReply, Reply};
 use splitmix::Splitmix;
 use std::process::ExitCode;
 

@@ -6,7 +6,7 @@ use crate::{
     GUARD,
 };
 use points::Points;
-use ported::Reply;
+use reachvolem::lent::Reply;
 use rust_builds::WITHOUT_WINDOW;
 
 /// The two columns of an index.
@@ -65,7 +65,7 @@ impl Request<'_> {
         let mut found = Columns::old(ids_whole, coords_whole);
         let ids = &mut found.ids[..self.ids_length];
         let coords = &mut found.coords[..self.coords_length];
-        let reply = ported::build(self.node_size, self.xs, self.ys, ids, coords);
+        let reply = reachvolem::lent::build(self.node_size, self.xs, self.ys, ids, coords);
         let columns = match columns {
             Some(columns) => columns.followed_by_old(ids_whole, coords_whole),
             None => Columns::old(ids_whole, coords_whole),

@@ -12,7 +12,7 @@ use points::{
     odd::{EDGES, WILDEST},
     SHAPES,
 };
-use ported::Lent;
+use reachvolem::lent::Index as Lent;
 use splitmix::Splitmix;
 
 /// Damaged indexes of all kinds, and queries to each.

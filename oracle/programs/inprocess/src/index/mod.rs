@@ -31,7 +31,7 @@ use crate::{
     Form,
 };
 use points::{Points, SHAPES};
-use ported::Lent;
+use reachvolem::lent::Index as Lent;
 use searches::Searches;
 use splitmix::Splitmix;
 use std::process::ExitCode;

@@ -1,7 +1,7 @@
 //! Queries to an index: at its own points, on their coordinates, beside them by one step of the
 //! format, anywhere, and far out.
 
-use ported::{Lent, Reply};
+use reachvolem::lent::{Index as Lent, Reply};
 use splitmix::Splitmix;
 use std::ops::Range;
 

@@ -4,7 +4,7 @@
 
 use super::queries::Query;
 use options::MOST_POINTS;
-use ported::{Lent, Reply};
+use reachvolem::lent::{Index as Lent, Reply};
 
 /// A reply that carries nothing.
 pub fn plain(number: u32) -> Reply {

@@ -10,7 +10,7 @@ use super::{
 use crate::report::Group;
 use options::MOST_POINTS;
 use points::odd::{ABOVE_1, INF, MAX, NAN, NOT_FINITE, TINY};
-use ported::Lent;
+use reachvolem::lent::Index as Lent;
 
 /// Node sizes in bounds and out of them.
 const NODE_SIZES: [usize; 7] = [0, 1, 3, 64, 65_535, 65_536, usize::MAX];

@@ -14,7 +14,7 @@ use crate::{
     Form,
 };
 use points::steps_beside as beside;
-use ported::Lent;
+use reachvolem::lent::Index as Lent;
 use splitmix::Splitmix;
 
 const NODE_SIZES: [usize; 5] = [1, 2, 3, 8, 64];

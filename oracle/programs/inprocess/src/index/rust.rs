@@ -1,7 +1,7 @@
 //! The Rust's index: arranged by two builds, and their searches over any columns.
 
 use super::{arrangement::Columns, queries::Query};
-use ported::Lent;
+use reachvolem::lent::Index as Lent;
 
 macro_rules! arranged {
     ($name:ident, $rust:ident) => {

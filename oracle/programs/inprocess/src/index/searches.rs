@@ -8,7 +8,7 @@ use crate::{
     report::{other, other_column, Group},
     GUARD,
 };
-use ported::{Lent, Reply, NO_SLOT};
+use reachvolem::lent::{Index as Lent, Reply, NO_SLOT};
 use splitmix::Splitmix;
 
 /// What an output column holds before a search.

@@ -4,8 +4,8 @@
 use super::{columns::Columns, port::ask};
 use crate::report::other;
 use asked::{Rooms, Scene};
-use ported::Reply;
 use questions::{Outcome, Question};
+use reachvolem::lent::Reply;
 
 /// How the port's answer differs from the reference's, if it does.
 pub fn differs(

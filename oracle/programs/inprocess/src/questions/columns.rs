@@ -2,8 +2,8 @@
 
 use crate::{report::other_column, GUARD};
 use asked::Rooms;
-use ported::Reply;
 use questions::{Answer, Item, Out, Outcome, Question, Refusal};
+use reachvolem::lent::Reply;
 
 /// Output columns, with old contents and what stands behind them.
 pub struct Columns {

@@ -1,10 +1,13 @@
 //! The port, asked a question over a state and columns; and its own build of points, asked with room for all.
 
 use super::columns::Columns;
-use crate::tables::Request;
+use crate::{
+    package::{as_asked, needed},
+    tables::Request,
+};
 use asked::{Build, Rooms};
-use ported::{needed, Asked, Reply};
 use questions::{Lent, Out, Outcome, Question, State};
+use reachvolem::lent::Reply;
 
 /// The port's own build of the points of a build: its state and its columns.
 pub struct Port {
@@ -64,16 +67,5 @@ pub fn ask(state: &State, lent: &Lent, question: &Question, out: &mut Out) -> Re
         Question::ExpansionZoom { id } => asked.expansion_zoom(id),
         Question::Tile { z, x, y } => asked.tile((z, x, y), out.places, out.x, out.y),
         Question::Tally { z, x, y } => asked.tally((z, x, y)),
-    }
-}
-
-/// The state and the columns as the port is lent them.
-pub fn as_asked<'a>(state: &'a State, lent: &Lent<'a>) -> Asked<'a> {
-    Asked {
-        options: &state.options,
-        count: state.count,
-        starts: &state.starts,
-        lens: &state.lens,
-        columns: *lent,
     }
 }

@@ -1,10 +1,12 @@
 //! Energies at their bound: as many points as a build can have, each with the largest energy. Their sum is 2^60.
 
 use super::outcome::Request;
-use crate::report::{other, Group};
+use crate::{
+    package::needed,
+    report::{other, Group},
+};
 use columns::Given;
 use options::{Options, MOST_ENERGY, MOST_POINTS, USUAL};
-use ported::needed;
 
 /// The sum of all of them.
 const TOTAL: u128 = 1 << 60;

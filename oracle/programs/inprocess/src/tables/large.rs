@@ -1,10 +1,9 @@
 //! Ten builds of 100,000 to 1,048,576 points, beside the patched Rust.
 
 use super::{cases::Case, outcome::Request};
-use crate::report::Group;
+use crate::{package::needed, report::Group};
 use options::{corners, Options, Plane, USUAL};
 use points::{Drawn, Shape};
-use ported::needed;
 use splitmix::Splitmix;
 
 /// Number of points, shape, how they are drawn together, options.

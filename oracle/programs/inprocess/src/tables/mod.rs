@@ -22,6 +22,7 @@ mod outcome;
 mod refusals;
 
 use crate::{
+    package::{needed, Lengths, COLUMNS},
     report::{finish, other, Group},
     Form,
 };
@@ -29,7 +30,6 @@ use cases::Case;
 use columns::width;
 use outcome::Outcome;
 pub use outcome::Request;
-use ported::{needed, Lengths, COLUMNS};
 use rust_builds::{patched, ringed, skipped, untouched, WITHOUT_WINDOW};
 use splitmix::Splitmix;
 use std::process::ExitCode;

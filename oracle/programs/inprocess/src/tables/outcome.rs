@@ -1,9 +1,13 @@
 //! One build by the port: its reply, its state and its columns, beside what is expected of them.
 
-use crate::{report::other, GUARD};
+use crate::{
+    package::{self, Columns, Lengths},
+    report::other,
+    GUARD,
+};
 use columns::{Change, Given, Lent, ReadBoth, Value};
 use options::Options;
-use ported::{Columns, Lengths, Reply, State, ZOOMS};
+use reachvolem::lent::{Reply, ZOOMS};
 use rust_builds::Tables;
 
 /// What a build is asked for: options, points, and the lengths of the lent columns.
@@ -27,9 +31,8 @@ impl Request<'_> {
     pub fn made(&self) -> Outcome {
         let mut columns = old_columns(self.lengths);
         let [mut starts, mut lens] = [STARTS, LENS].map(|name| old(name, ZOOMS + GUARD));
-        let state = State { starts: whole(&mut starts), lens: whole(&mut lens) };
-        let lent = columns.fronts(self.lengths);
-        let reply = ported::load(self.options, &self.given, lent, state);
+        let state = [whole(&mut starts), whole(&mut lens)];
+        let reply = package::load(self.options, &self.given, &mut columns, self.lengths, state);
         Outcome { count: self.given.xs.len(), reply, columns, starts, lens }
     }
 }

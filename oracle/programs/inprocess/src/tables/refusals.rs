@@ -2,11 +2,14 @@
 //! contents; and the cases beside them that are not refused, built as the Rust does.
 
 use super::{outcome::Request, room};
-use crate::report::Group;
+use crate::{
+    package::{needed, Lengths, COLUMNS},
+    report::Group,
+};
 use columns::Given;
 use options::{Options, Plane, Range, MOST_ENERGY, MOST_POINTS, UNIT, USUAL};
 use points::odd::{ABOVE_1, INF, NAN, TINY};
-use ported::{needed, Lengths, Reply, COLUMNS};
+use reachvolem::lent::Reply;
 use refusals::{refusal, Refusal};
 
 /// What a build is asked for, y in [0,1] on the globe too.

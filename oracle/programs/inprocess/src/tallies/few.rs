@@ -8,8 +8,8 @@ use crate::{
 };
 use asked::Build;
 use options::{Options, Plane, UNIT, USUAL};
-use ported::Reply;
 use questions::{home, tally};
+use reachvolem::lent::Reply;
 use splitmix::Splitmix;
 
 /// How many builds there are, in the short form and in the full one, and how many tiles are asked of each.

@@ -12,8 +12,8 @@ mod few;
 mod sums;
 
 use crate::{questions::port::ask, report::finish, Form};
-use ported::Reply;
 use questions::{Lent, Out, Question, State};
+use reachvolem::lent::Reply;
 use splitmix::Splitmix;
 use std::process::ExitCode;
 use sums::Sums;

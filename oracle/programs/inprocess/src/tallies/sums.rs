@@ -8,8 +8,8 @@ use crate::{
 };
 use asked::Build;
 use options::Plane;
-use ported::Reply;
 use questions::{home, State};
+use reachvolem::lent::Reply;
 use std::collections::BTreeMap;
 
 /// The last zoom of which every tile is asked.

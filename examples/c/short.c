@@ -1,0 +1,222 @@
+/* Tries the short names of reachvolem.h on a plan of some hundred lamps. Each answer is held to what the columns say, entry by entry, or to
+   another answer. Exit status 0 only where all is right. */
+#include <math.h>
+#include <stdio.h>
+#include <stdlib.h>
+#include <string.h>
+
+#include "reachvolem.h"
+
+enum { LAMPS = 300, ROOM = 2 * LAMPS };
+
+static uint32_t out[ROOM];
+static size_t carried;
+static long checks;
+static long wrong;
+
+static void hold(bool holds, const char *what) {
+    checks += 1;
+    if (holds)
+        return;
+    wrong += 1;
+    printf("WRONG %s\n", what);
+}
+
+/* Numbers that look like chance, the same at each run. */
+static uint64_t next_number(void) {
+    static uint64_t state = 20261117;
+    state = state * 6364136223846793005u + 1442695040888963407u;
+    return state >> 33;
+}
+
+/* A plan from 1000 to 3000, both ways; the offset and the scale are derived. */
+static rv_map plan(void) {
+    static double xs[LAMPS], ys[LAMPS];
+    static uint64_t energies[LAMPS];
+    rv_map map;
+    size_t entries;
+    memset(&map, 0, sizeof map);
+    map.options.min_zoom = 1;
+    map.options.max_zoom = 6;
+    map.options.min_points = 2;
+    map.options.radius = 40;
+    map.options.extent = 512;
+    map.options.node_size = 8;
+    map.options.cartesian = true;
+    map.options.min_x = map.options.min_y = 1000;
+    map.options.max_x = map.options.max_y = 3000;
+    for (size_t i = 0; i < LAMPS; i++) {
+        xs[i] = 1000 + (double)(next_number() % 2001);
+        ys[i] = 1000 + (double)(next_number() % 2001);
+        energies[i] = next_number() % 1000;
+    }
+    entries = rv_entries_needed(&map.options, LAMPS);
+    hold(entries == 7 * LAMPS, "rv_entries_needed is (max_zoom - min_zoom + 2) * n");
+    rv_lend(&map, malloc(rv_bytes_needed(entries)), entries);
+    hold(rv_load(&map, xs, ys, energies, LAMPS, &carried) == 0 && map.count == LAMPS, "rv_load");
+    return map;
+}
+
+/* Each field of each entry is what stands in the columns, and past the table there is none. */
+static void entries(const rv_map *map) {
+    for (uint8_t zoom = 1; zoom <= 7; zoom++) {
+        rv_fields e;
+        for (uint32_t p = 0; p < map->lens[zoom]; p++) {
+            size_t at = map->starts[zoom] + p;
+            hold(rv_entry(map, zoom, p, &e) == 0, "rv_entry");
+            hold(e.x == map->x[at] && e.y == map->y[at] && e.seen == map->seen[at] && e.id == map->id[at], "x, y, seen, id");
+            hold(e.parent == map->parent[at] && e.num == map->num[at] && e.energy == map->energy[at], "parent, num, energy");
+        }
+        memset(&e, 7, sizeof e);
+        hold(rv_entry(map, zoom, map->lens[zoom], &e) == RV_NO_CLUSTER && e.num == 0x07070707, "past a table: 6, and nothing written");
+        hold(rv_entry(map, zoom, UINT32_MAX, &e) == RV_NO_CLUSTER, "far past a table: 6");
+    }
+}
+
+static void refused_entries(rv_map map) {
+    rv_fields e;
+    memset(&e, 7, sizeof e);
+    hold(rv_entry(&map, 0, 0, &e) == RV_NO_TABLE, "below min_zoom: 5");
+    hold(rv_entry(&map, 8, 0, &e) == RV_NO_TABLE, "above max_zoom + 1: 5");
+    hold(rv_entry(&map, 255, 0, &e) == RV_NO_TABLE, "zoom 255: 5");
+    map.lens[6] += 1;
+    hold(rv_entry(&map, 0, 0, &e) == RV_SPOILED, "a spoiled state comes first: 11");
+    map.lens[6] -= 1;
+    map.room = map.starts[1];
+    hold(rv_entry(&map, 1, 0, &e) == RV_SPOILED, "columns too short for the state: 11");
+    hold(e.num == 0x07070707 && e.seen == 7, "and nothing written");
+}
+
+/* Whether the first count of out are just the entries of a table that pass, none twice. */
+static bool lists(const rv_map *map, uint8_t zoom, size_t count, bool (*passes)(double x, double y)) {
+    size_t found = 0;
+    for (uint32_t p = 0; p < map->lens[zoom]; p++) {
+        size_t times = 0;
+        for (size_t i = 0; i < count; i++)
+            times += out[i] == p;
+        if (times != passes(map->x[map->starts[zoom] + p], map->y[map->starts[zoom] + p]))
+            return false;
+        found += times;
+    }
+    return found == count;
+}
+
+static bool in_ring(double x, double y) {
+    return (x - 0.5) * (x - 0.5) + (y - 0.25) * (y - 0.25) <= 0.25 * 0.25;
+}
+
+static bool in_box(double x, double y) {
+    return 0.25 <= x && x <= 0.75 && 0.125 <= y && y <= 0.5;
+}
+
+static void searches(const rv_map *map) {
+    for (int zoom = 0; zoom <= 9; zoom++) {
+        uint8_t used = rv_zoom_used(&map->options, (uint8_t)zoom);
+        size_t whole;
+        hold(used == (zoom < 1 ? 1 : zoom > 7 ? 7 : zoom), "rv_zoom_used");
+        hold(rv_ring(map, (uint8_t)zoom, 0.5, 0.25, 0.25, out, ROOM, &carried) == 0, "rv_ring");
+        hold(lists(map, used, carried, in_ring), "a ring lists the entries inside");
+        hold(rv_box(map, (uint8_t)zoom, 1500, 1250, 2500, 2000, out, ROOM, &whole) == 0, "rv_box");
+        hold(lists(map, used, whole, in_box), "a box lists the entries inside");
+        hold(rv_box(map, (uint8_t)zoom, 1500, 1250, 2500, 2000, NULL, 0, &carried) == (whole ? RV_NO_ROOM : 0u), "room 0: 10");
+        hold(carried == whole, "and carried is the whole length");
+    }
+    hold(rv_ring(map, 3, 0.5, 0.25, -1, out, ROOM, &carried) == RV_BOX_REFUSED && carried == 0, "a radius below 0: 9");
+}
+
+/* All leaves of each cluster, children of it, and its tally over all tiles. */
+static void walks(const rv_map *map) {
+    for (uint8_t zoom = 1; zoom <= 6; zoom++) {
+        uint64_t lamps = 0;
+        rv_fields e, child;
+        for (uint32_t p = 0; rv_entry(map, zoom, p, &e) == 0; p++) {
+            uint32_t sum = 0;
+            if (e.num == 1)
+                continue;
+            hold(rv_leaves(map, e.id, e.num, 0, out, ROOM, &carried) == 0 && carried == e.num, "a cluster's leaves are as many as its num");
+            hold(rv_children(map, e.id, out, ROOM, &carried) == 0, "rv_children");
+            for (size_t i = 0; i < carried; i++)
+                sum += rv_entry(map, rv_table_of(map, e.id), out[i], &child) == 0 && child.parent == e.id ? child.num : 0;
+            hold(sum == e.num, "the nums of its children come to its own");
+            hold(rv_expansion_zoom(map, e.id, &carried) == 0 && carried >= zoom && carried <= 7, "rv_expansion_zoom");
+        }
+        for (uint32_t x = 0; x < 1u << zoom; x++)
+            for (uint32_t y = 0; y < 1u << zoom; y++, lamps += carried)
+                hold(rv_tally(map, zoom, x, y, &carried) == 0, "rv_tally");
+        hold(lamps == LAMPS, "the tallies of all tiles of a zoom come to the number of lamps");
+    }
+}
+
+static void ranges(const rv_options *o) {
+    for (int v = 0; v <= 4000; v += 125) {
+        hold(rv_normalize(o, v) == (v - 1000.0) / 2000.0, "rv_normalize");
+        hold(rv_denormalize(o, rv_normalize(o, v)) == v, "rv_denormalize gives it back");
+    }
+    hold(isnan(rv_normalize(o, NAN)), "NaN stays NaN");
+}
+
+/* The index alone: both searches against every point, and each by steps. */
+static void indexes(void) {
+    static double xs[LAMPS], ys[LAMPS], coords[2 * LAMPS];
+    static uint32_t ids[LAMPS];
+    rv_index index = {4, 0, LAMPS, ids, coords};
+    rv_map as_table;
+    size_t slot, i = 0;
+    for (size_t p = 0; p < LAMPS; p++) {
+        xs[p] = (double)(next_number() % 65537) / 65536;
+        ys[p] = (double)(next_number() % 65537) / 65536;
+    }
+    memset(&as_table, 0, sizeof as_table);
+    as_table.x = xs;
+    as_table.y = ys;
+    as_table.lens[0] = LAMPS;
+    hold(rv_index_range(&index, 0, 0, 1, 1, out, ROOM, &carried) == RV_SPOILED, "no index yet: 11");
+    hold(rv_index_build(&index, xs, ys, LAMPS, &carried) == 0 && index.n == LAMPS, "rv_index_build");
+    hold(rv_index_range(&index, 0.25, 0.125, 0.75, 0.5, out, ROOM, &carried) == 0, "rv_index_range");
+    hold(lists(&as_table, 0, carried, in_box), "a search by a box");
+    hold(rv_index_range_first(&index, 0.25, 0.125, 0.75, 0.5, &slot) == 0, "rv_index_range_first");
+    for (; slot != SIZE_MAX; i++) {
+        hold(i < carried && ids[slot] == out[i], "the same by steps");
+        hold(rv_index_range_after(&index, 0.25, 0.125, 0.75, 0.5, slot, &slot) == 0, "rv_index_range_after");
+    }
+    hold(i == carried, "as many by steps");
+    hold(rv_index_within(&index, 0.5, 0.25, 0.25, out, ROOM, &carried) == 0, "rv_index_within");
+    hold(lists(&as_table, 0, carried, in_ring), "a search by a ring");
+    hold(rv_index_within_first(&index, 0.5, 0.25, 0.25, &slot) == 0, "rv_index_within_first");
+    for (i = 0; slot != SIZE_MAX; i++) {
+        hold(i < carried && ids[slot] == out[i], "the same by steps");
+        hold(rv_index_within_after(&index, 0.5, 0.25, 0.25, slot, &slot) == 0, "rv_index_within_after");
+    }
+    hold(i == carried, "as many by steps");
+}
+
+/* Each number has words of its own; a map of zeros is refused, and a refused build leaves the map. */
+static void words_and_refusals(rv_map map) {
+    static const uint32_t numbers[] = {0, 1, 2, 3, 4, 5, 6, 7, 8, 9, 10, 11, 15, 16};
+    double far_away[] = {999};
+    uint64_t none[] = {0};
+    rv_map empty, before = map;
+    for (size_t i = 0; i < sizeof numbers / sizeof *numbers; i++)
+        for (size_t j = 0; j < i; j++)
+            hold(strcmp(rv_words(numbers[i]), rv_words(numbers[j])) != 0, "words of their own");
+    memset(&empty, 0, sizeof empty);
+    hold(rv_box(&empty, 0, 0, 0, 1, 1, out, ROOM, &carried) == RV_SPOILED, "a map of zeros: 11");
+    hold(rv_load(&empty, NULL, NULL, NULL, 0, &carried) == RV_OPTIONS_REFUSED, "a map of zeros: 1");
+    hold(rv_load(&map, NULL, NULL, NULL, 0, &carried) == RV_COUNT_REFUSED, "no points: 2");
+    hold(rv_load(&map, far_away, far_away, none, 1, &carried) == RV_POINT_REFUSED && carried == 0, "outside the plan: 3");
+    hold(memcmp(&map, &before, sizeof map) == 0 && rv_tally(&map, 0, 0, 0, &carried) == 0 && carried == LAMPS, "the map is as it was");
+}
+
+int main(void) {
+    rv_map map = plan();
+    entries(&map);
+    refused_entries(map);
+    searches(&map);
+    walks(&map);
+    ranges(&map.options);
+    indexes();
+    words_and_refusals(map);
+    free(map.x);
+    printf("short names in C: %ld checks, %ld wrong\n", checks, wrong);
+    return wrong ? 1 : 0;
+}

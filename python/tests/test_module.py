@@ -1,0 +1,252 @@
+"""The module's own part: refusals, buffers, rooms that grow, the index, the range, and where the library is found."""
+import array
+import ctypes
+import math
+import os
+import pickle
+import random
+import shutil
+import subprocess
+import sys
+import tempfile
+import unittest
+
+from reachvolem import DataRange, Index, Refused, Supercluster, library, longitude
+from reachvolem.library import Call, column, room
+from reachvolem.refusals import MEANINGS
+
+from .shared import ROOT, bits, of_bits, options, path, text_of, worked
+
+try:
+    import numpy
+except ImportError:
+    numpy = None
+
+
+class Refusals(unittest.TestCase):
+    def refused(self, number, carried, words, call):
+        with self.assertRaises(Refused) as caught:
+            call()
+        refused = caught.exception
+        self.assertEqual((refused.number, refused.carried), (number, carried))
+        self.assertIn(words, str(refused))
+
+    def test_builds(self):
+        load = lambda xs=(0.5,), ys=(0.5,), energies=(1,), **changes: Supercluster(options(**changes), xs, ys, energies)
+        self.refused(1, 0, "min_zoom is 2, above max_zoom, 1", lambda: load(min_zoom=2))
+        self.refused(1, 0, "max_zoom is 300", lambda: load(max_zoom=300))
+        self.refused(1, 0, "radius is nan", lambda: load(radius=math.nan))
+        self.refused(1, 0, "extent is 0.5", lambda: load(extent=0.5))
+        self.refused(1, 0, "scale 0.0", lambda: load(range=DataRange(1.0, 1.0, 1.0, 1.0)))
+        self.refused(1, 0, "max_y of the range is inf", lambda: load(range=DataRange(max_y=math.inf)))
+        self.refused(2, 0, "there are 0 xs", lambda: load((), (), ()))
+        self.refused(2, 0, "1 xs, 2 ys, 1 energies", lambda: load(ys=(0.5, 0.5)))
+        self.refused(2, 0, "1 xs, 1 ys, 0 energies", lambda: load(energies=()))
+        self.refused(2, 0, "1,048,577 xs", lambda: load(*[array.array(letter, bytes(8 * 1_048_577)) for letter in "ddQ"]))
+        self.refused(3, 1, "lamp 1, counted from 0, at (2.0, 0.5)", lambda: load((0.5, 2.0), (0.5, 0.5), (1, 1)))
+        self.refused(3, 0, "(nan, 0.5)", lambda: load((math.nan,)))
+        self.refused(15, 0, "brings 1,099,511,627,777", lambda: load(energies=(2**40 + 1,)))
+        self.assertEqual(load(energies=(2**40,)).table(0)[0].energy, 2**40)
+
+    def test_options_are_refused_where_the_words_find_a_fault(self):
+        """The words of refusal 1 are Python's, the refusal is the library's: at every bound they agree."""
+        floats = (-1.0, -0.0, 0.5, 1.0, 65_536.0, 65_536.00000000001, math.inf, math.nan)
+        cases = [dict(min_zoom=low, max_zoom=high) for low in (0, 1, 30, 31, 255, 256, -1) for high in (0, 1, 29, 30, 31, 255, 256, -1)]
+        cases += [dict(min_points=points) for points in (-1, 0, 255, 256)]
+        cases += [dict(node_size=size) for size in (-1, 0, 1, 65_535, 65_536, 2**64 - 1, 2**64)]
+        cases += [{name: number} for name in ("radius", "extent") for number in floats]
+        ranges = [(0.0, 0.0, 1.0, 1.0), (1.0, 1.0, 1.0, 1.0), (math.nan, 0.0, 1.0, 1.0), (0.0, 0.0, math.inf, 1.0)]
+        ranges.append((-1e308, 0.0, 1e308, 1.0))
+        cases += [dict(range=DataRange(*corners, offset, scale)) for corners in ranges for offset in (None, 0.0, -math.inf)
+                  for scale in (None, 1.0, 0.0, -1.0, 5e-324, math.nan)]
+        for case in cases:
+            given = options(**case)
+            corner = 0.0 if given.range is None else given.range.denormalize(0.0)
+            try:
+                number = Supercluster(given, [corner], [corner], [0]) and 0
+            except Refused as refused:
+                number = refused.number
+            self.assertEqual(number == 1, given.fault() is not None, case)
+            self.assertIn(number, (0, 1, 3), case)
+
+    def test_questions(self):
+        build = worked()
+        self.refused(6, 0, "3 is the id of a lamp", lambda: build.get_leaves(3))
+        self.refused(5, 0, "no cluster has the id 7", lambda: build.get_children(7))
+        self.refused(7, 0, "no such tile", lambda: build.get_tile(2, 4, 0))
+        self.refused(7, 0, "no such tile", lambda: build.tally(300, 0, 0))
+        self.refused(7, 0, "no such tile", lambda: build.tally(1, -1, 0))
+        self.refused(8, 0, "tile 2/0/0 has no entries", lambda: build.get_tile(2, 0, 0))
+        self.refused(9, 0, "not finite", lambda: build.get_clusters((0, 0, math.inf, 1), 1))
+        self.refused(9, 0, "not finite", lambda: build.get_clusters_within_effort((0, 0, math.nan, 1), 1, 5))
+        self.refused(9, 0, "radius is below 0", lambda: build.ring(1, 0.5, 0.5, -1.0))
+        for call in (lambda: build.get_leaves(2**32), lambda: build.get_leaves(5, limit=-1), lambda: build.ring(256, 0, 0, 0)):
+            self.assertRaises(ValueError, call)
+        self.assertRaises(IndexError, build.entry, 0, 1)
+
+    def test_of_an_index(self):
+        self.refused(1, 0, "node_size is 0", lambda: Index(0, [0.5], [0.5]))
+        self.refused(1, 0, "node_size is -1", lambda: Index(-1, [0.5], [0.5]))
+        self.refused(2, 0, "1 to 1,048,576", lambda: Index(64, [], []))
+        self.refused(3, 1, "point 1, counted from 0, at (0.5, 1.5)", lambda: Index(64, [0.5, 0.5], [0.5, 1.5]))
+        self.refused(9, 0, "not finite", lambda: Index(64, [0.5], [0.5]).within(0.5, 0.5, math.nan))
+        self.refused(9, 0, "not finite", lambda: list(Index(64, [0.5], [0.5]).iter_range(0, 0, 1, math.inf)))
+
+    def test_those_that_the_module_keeps_away(self):
+        """4, 10 and 11 come only where columns are lent by hand: here they are."""
+        given = dict(node_size=64, xs=column("f64", [0.5], ""), ys=column("f64", [0.5], ""))
+        build = Call("kdbush_build", **given, coords=room("f64", 2))
+        self.assertEqual(build(ids=(ctypes.c_uint32 * 0)()), (4, 0))
+        ids, coords = room("u32", 1), room("f64", 2)
+        self.assertEqual(build(ids=ids, coords=coords), (0, 0))
+        search = Call("kdbush_within", node_size=64, ids=ids, coords=coords, qx=0.5, qy=0.5, radius=1.0)
+        self.assertEqual(search(n=1, out=(ctypes.c_uint32 * 0)()), (10, 1))
+        self.assertEqual(search(n=1000, out=ids)[0], 11)
+
+    def test_each_number_has_words_and_survives_a_pickle(self):
+        numbers = [int(line.split("|")[1]) for line in text_of("docs", "SCOPE.md").split("| no. |")[1].split("\n\n")[0].splitlines()[2:]]
+        self.assertEqual(sorted(MEANINGS), sorted(numbers))
+        again = pickle.loads(pickle.dumps(Refused(3, 7, "words")))
+        self.assertEqual((again.number, again.carried, str(again)), (3, 7, "refused 3 (point): words"))
+
+
+class Buffers(unittest.TestCase):
+    def address(self, taken):
+        return ctypes.addressof(taken)
+
+    def test_taken_as_they_stand(self):
+        floats, words = array.array("d", [0.25, 0.5]), array.array("Q", [1, 2])
+        self.assertEqual(self.address(column("f64", floats, "")), floats.buffer_info()[0])
+        self.assertEqual(self.address(column("u64", words, "")), words.buffer_info()[0])
+        others = (ctypes.c_double * 2)(0.25, 0.5)
+        self.assertEqual(self.address(column("f64", others, "")), ctypes.addressof(others))
+        self.assertEqual(self.address(column("f64", memoryview(floats)[1:], "")), floats.buffer_info()[0] + 8)
+
+    def test_copied(self):
+        floats = array.array("d", [0.25, 0.5, 0.75])
+        strided = memoryview(floats)[::2]
+        fixed = memoryview(array.array("d", [0.25, 0.75])).toreadonly()
+        for given in (strided, strided.toreadonly(), fixed, [0.25, 0.75], (0.25, 0.75), array.array("f", [0.25, 0.75])):
+            self.assertEqual(list(column("f64", given, "")), [0.25, 0.75])
+        self.assertEqual(list(column("u64", array.array("i", [1, 2]), "")), [1, 2])
+        self.assertEqual(len(column("f64", [], "")), 0)
+        for given in ([-1], [0.5], [2**64], ["1x"], [None], [math.nan], [math.inf]):
+            with self.assertRaisesRegex(ValueError, "energies must be whole numbers"):
+                column("u64", given, "energies")
+        with self.assertRaisesRegex(ValueError, "xs must be numbers"):
+            column("f64", ["east"], "xs")
+
+    @unittest.skipIf(numpy is None, "numpy is not installed")
+    def test_numpy_without_a_copy(self):
+        xs, energies = numpy.array([0.25, 0.5]), numpy.array([1, 2], dtype=numpy.uint64)
+        self.assertEqual(self.address(column("f64", xs, "")), xs.ctypes.data)
+        self.assertEqual(self.address(column("u64", energies, "")), energies.ctypes.data)
+        self.assertEqual(list(column("f64", xs[::2], "")), [0.25])
+        self.assertEqual(Supercluster(options(), xs, xs, energies).count, 2)
+
+    def test_columns_of_tables_cannot_be_written_to(self):
+        with self.assertRaises(TypeError):
+            worked().table_column(0, "num")[0] = 5
+
+
+class Searches(unittest.TestCase):
+    def setUp(self):
+        chance = random.Random(7)
+        self.points = [(chance.random(), chance.random()) for _ in range(3000)]
+        self.xs, self.ys = (array.array("d", axis) for axis in zip(*self.points))
+
+    def test_index_lists_what_passes(self):
+        index = Index(16, self.xs, self.ys)
+        found = index.range(0.2, 0.3, 0.7, 0.8)
+        inside = [i for i, (x, y) in enumerate(self.points) if 0.2 <= x <= 0.7 and 0.3 <= y <= 0.8]
+        self.assertGreater(len(inside), 64)
+        self.assertEqual(sorted(found), inside)
+        self.assertEqual(list(index.iter_range(0.2, 0.3, 0.7, 0.8)), found)
+        found = index.within(0.5, 0.5, 0.25)
+        near = [i for i, (x, y) in enumerate(self.points) if (x - 0.5) * (x - 0.5) + (y - 0.5) * (y - 0.5) <= 0.0625]
+        self.assertEqual(sorted(found), near)
+        self.assertEqual(list(index.iter_within(0.5, 0.5, 0.25)), found)
+        self.assertEqual(list(index.iter_within(0.5, 0.5, 0.0)), [])
+
+    def test_answers_larger_than_the_first_room(self):
+        build = Supercluster(options(max_zoom=5), self.xs, self.ys, [1] * 3000)
+        finest = build.zooms[0]
+        self.assertEqual(sorted(entry.id for entry in build.get_clusters((0, 0, 1, 1), finest)), list(range(3000)))
+        self.assertEqual(len(build.ring(finest, 0.5, 0.5, 1.0)), 3000)
+        self.assertEqual(len(build.get_clusters_within_effort((0, 0, 1, 1), finest, 10**6).entries), 3000)
+        plain = Supercluster(options(max_zoom=0, radius=0.0, longitude_strips_only=True), self.xs, self.ys, [1] * 3000)
+        quarter = [lamp for lamp, (x, y) in enumerate(self.points) if x <= 0.5 and y <= 0.5]
+        self.assertEqual(sorted(item.entry.id for item in plain.get_tile(1, 0, 0)), quarter)
+        largest = max(build.table(0), key=lambda entry: entry.num)
+        self.assertGreater(largest.num, 64)
+        whole = build.get_leaves(largest.id)
+        self.assertEqual(sorted(whole), [lamp for lamp, owner in enumerate(build.owners(0)) if owner == largest.place])
+        pages = [build.leaves_page(largest.id, page, 7) for page in range(largest.num // 7 + 1)]
+        self.assertEqual(sum(pages, []), whole)
+
+
+class Ranges(unittest.TestCase):
+    def same(self, found, expected):
+        self.assertTrue(found == expected and bits(found) == bits(expected) or found != found and expected != expected, (found, expected))
+
+    def test_stored_vectors(self):
+        """Those that the original's own code has made."""
+        lines = text_of("crates", "replay_range", "stdin").splitlines()
+        self.assertEqual(len(lines), 4000)
+        for line in lines:
+            numbers = [None if word.startswith("-") else of_bits(word) for word in line.split()]
+            plan, (value, normal, back, lng) = DataRange(*numbers[:6]), numbers[6:]
+            self.same(plan.normalize(value), normal)
+            self.same(plan.denormalize(value), back)
+
+    def test_entries_are_those_of_the_c_name(self):
+        build = worked()
+        state = dict(build._words, count=build.count, starts=build._starts, lens=build._lens)
+        lent = {name: lent.array for name, lent in build._columns.items()}
+        words = dict(x="f64", y="f64", seen="u8", id="u32", parent="u32", num="u32")
+        for zoom in build.zooms:
+            for entry in build.table(zoom):
+                out = {"entry_" + name: library.names.WORDS[word]() for name, word in words.items()}
+                self.assertEqual(Call("supercluster_entry", **state, **lent)(zoom=zoom, place=entry.place, **out), (0, entry.energy))
+                found = [one.value for one in out.values()]
+                self.assertEqual(found, [build.table_column(zoom, name)[entry.place] for name in words])
+
+    def test_a_range_that_was_used_is_pickled(self):
+        plan = DataRange(offset=1.0, scale=4.0)
+        self.assertEqual(plan.normalize(2.0), 0.25)
+        self.assertEqual(pickle.loads(pickle.dumps(plan)), plan)
+
+    def test_zooms_used(self):
+        given = options(min_zoom=2, max_zoom=4)
+        self.assertEqual([given.zoom_used(zoom) for zoom in (0, 2, 3, 5, 6, 255)], [2, 2, 3, 5, 5, 5])
+        self.assertRaises(ValueError, given.zoom_used, 256)
+
+    def test_centres(self):
+        build = worked()
+        entry = build.table(0)[0]
+        self.assertEqual(build.centre(entry), (entry.x, entry.y))
+        self.assertEqual([longitude(x) for x in (0.0, 0.5, 1.0)], [-180.0, 0.0, 180.0])
+        globe = Supercluster(options(range=None), [0.0], [0.5], [0])
+        self.assertEqual(globe.centre(globe.table(0)[0]), (0.0, 0.0))
+
+
+class Finding(unittest.TestCase):
+    def run_with(self, variable):
+        environment = {**os.environ, "PYTHONPATH": path("python"), "REACHVOLEM_LIB": variable}
+        code = "import reachvolem; print(reachvolem.Index(1, [0.5], [0.5]).within(0.5, 0.5, 0.0))"
+        return subprocess.run([sys.executable, "-c", code], env=environment, capture_output=True, text=True)
+
+    def test_by_the_variable(self):
+        made = library.candidates()[0]
+        with tempfile.TemporaryDirectory() as folder:
+            self.assertIn(f"not at {folder}/libreachvolem.so: correct REACHVOLEM_LIB", self.run_with(folder).stderr)
+            shutil.copy(made, folder)
+            for variable in (folder, os.path.join(folder, library.FILE)):
+                self.assertEqual(self.run_with(variable).stdout, "[0]\n")
+            with open(os.path.join(folder, "not.so"), "w") as file:
+                file.write("no library")
+            self.assertIn("cannot be used", self.run_with(os.path.join(folder, "not.so")).stderr)
+
+    def test_in_the_repository(self):
+        self.assertEqual([place.replace(ROOT, "") for place in library.candidates()],
+                         ["/target/native/libreachvolem.so", "/dist/lib/libreachvolem.so", "/dist/libreachvolem.so"])
