@@ -28,7 +28,8 @@ ghost use Rattle.ask_tile_table.specs.laws.Marks.{markedPlaces};
 ghost use Rattle.ask_tile_table.specs.laws.Floor.{ends};
 ghost use Rattle.ask_tile_table.specs.Tally.{weightIn, tallyNumber, tallyValue};
 ghost use Rattle.ask_tile_table.specs.laws.Home.{edgesOf, weightBy};
-ghost use Rattle.ask_tile_table.specs.laws.Counting.{heldMarksOf, placesIn, markOf, marksFor, doubt, added, markingPlace, counted, runningOf};
+ghost use Rattle.ask_tile_table.specs.laws.Counting.{heldMarksOf, placesIn, markOf, marksFor, doubt, added};
+ghost use Rattle.ask_tile_table.specs.laws.Counting.{markingPlace, counted, runningOf};
 ghost use Rattle.ask_tile_table.specs.laws.Told.{Blank};
 
 // One search of a tile: whether the tile has it, what it asks of the index, and what stands for the tile's x and y in the items that it

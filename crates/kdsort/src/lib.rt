@@ -91,7 +91,9 @@ fn stops_down(
 fn exchange(ids: &mut [u32], coords: &mut [f64], ups: &[usize], downs: &[usize], count: usize)
     requires { ⌜ (count ≤ length (now ups)) × (count ≤ length (now downs))
         × Slots (batchEntry (now ups)) (batchEntry (now downs)) count (length (now ids)) (length (now coords)) ⌝ }
-    ensures { λ _. ⌜ indexCols (new ids) (new coords) ≡ exchanged (indexCols (old ids) (old coords)) (batchEntry (old ups)) (batchEntry (old downs)) count ⌝ }
+    ensures { λ _.
+        ⌜ indexCols (new ids) (new coords)
+        ≡ exchanged (indexCols (old ids) (old coords)) (batchEntry (old ups)) (batchEntry (old downs)) count ⌝ }
 {
     let mut k = 0;
     while k < count {

@@ -91,11 +91,13 @@ loop-again c =
 
 same-length : tie.Need-same-length Inv-loop μ-loop
 same-length c =
-    c .before .loop .inv .0 .es ∙ sym (c .before .before .before .before .before .before .before .before .before .before .pre .0 .es)
+    let s = c .before .before .before .before .before .before .before .before .before .before in
+    c .before .loop .inv .0 .es ∙ sym (s .pre .0 .es)
 
 same-length-2 : tie.Need-same-length-2 Inv-loop μ-loop
 same-length-2 c =
-    c .before .loop .inv .0 .ep ∙ sym (c .before .before .before .before .before .before .before .before .before .before .pre .0 .ep)
+    let s = c .before .before .before .before .before .before .before .before .before .before in
+    c .before .loop .inv .0 .ep ∙ sym (s .pre .0 .ep)
 
 returns : tie.Need-returns Inv-loop μ-loop
 returns c =

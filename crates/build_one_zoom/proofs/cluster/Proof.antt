@@ -86,9 +86,9 @@ wide-requires c κs = search needs
 
 note-all-requires : tie.Need-note-all-requires Inv-loop μ-loop
 note-all-requires c κs =
-    let p = c .before .before .before .before .before .before .before .before .before .before .before .before .pre in
-    let e : c .wide .result ≡ c .before .before .before .before .before .before .before .before .before .before .before
-    .before .args .n = c .wide .ensures in
+    let s = c .before .before .before .before .before .before .before .before .before .before .before .before in
+    let p = s .pre in
+    let e : c .wide .result ≡ s .args .n = c .wide .ensures in
     ((p .1, omega (arith, e, p .3), omega (arith, e, p .9), omega (arith, p .8, p .9)), p .7)
 
 loop-holds : tie.Need-loop-holds Inv-loop μ-loop

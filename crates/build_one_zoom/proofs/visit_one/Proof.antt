@@ -37,8 +37,7 @@ len-in s = omega (arith, s .pre .3, rows-length (columns s))
 -- ---- after the total and its test
 
 abbrev start-of : tie.After-total-near → tie.Start
-start-of c = c .before .before .before .before .before .before .before .before .before .before .before .before .before
-    .before .before .before .before .before .before .before .before .before .before .before
+start-of c = c .before .before .before .before .before .before .before .before .before .before .before .before .before .before .before .before .before .before .before .before .before .before .before .before
 
 -- the entry that was read
 abbrev reading : tie.After-total-near → tie.After-entry-at
@@ -67,18 +66,20 @@ enough-is c b e =
 abbrev making : tie.After-slice-known14 → tie.After-make-one
 making c = c .before .before .before .before .before .before .before .before .before .before .before .before .before .before
 
-kept-made : (c : tie.After-make-one) → Kept (columns (start-of (c .before .before .before .before .before .before .before
-    .before .before .before))) (lastCols (c .make-one .last))
-kept-made c = let s = start-of (c .before .before .before .before .before .before .before .before .before
-    .before) in keptCols (columns s) (lastCols (c .make-one .last)) (c .make-one .kept)
+abbrev total-made : tie.After-make-one → tie.After-total-near
+total-made c = c .before .before .before .before .before .before .before .before .before .before
+
+kept-made : (c : tie.After-make-one) → Kept (columns (start-of (total-made c))) (lastCols (c .make-one .last))
+kept-made c = let s = start-of (total-made c) in keptCols (columns s) (lastCols (c .make-one .last)) (c .make-one .kept)
 
 abbrev leaving : tie.After-slice-known21 → tie.After-leave-one
 leaving c = c .before .before .before .before .before .before .before .before .before .before .before .before .before .before
 
-kept-left : (c : tie.After-leave-one) → Kept (columns (start-of (c .before .before .before .before .before .before .before
-    .before .before .before))) (lastCols (c .leave-one .last))
-kept-left c = let s = start-of (c .before .before .before .before .before .before .before .before .before
-    .before) in keptCols (columns s) (lastCols (c .leave-one .last)) (c .leave-one .kept)
+abbrev total-left : tie.After-leave-one → tie.After-total-near
+total-left c = c .before .before .before .before .before .before .before .before .before .before
+
+kept-left : (c : tie.After-leave-one) → Kept (columns (start-of (total-left c))) (lastCols (c .leave-one .last))
+kept-left c = let s = start-of (total-left c) in keptCols (columns s) (lastCols (c .leave-one .last)) (c .leave-one .kept)
 
 entry-at-requires : tie.Need-entry-at-requires
 entry-at-requires c κs =
@@ -87,8 +88,7 @@ entry-at-requires c κs =
 
 total-near-requires : tie.Need-total-near-requires
 total-near-requires c κs =
-    let s = c .before .before .before .before .before .before .before .before .before .before .before .before .before .before
-    .before .before .before .before .before .before .before .before .before in
+    let s = c .before .before .before .before .before .before .before .before .before .before .before .before .before .before .before .before .before .before .before .before .before .before .before in
     let r = c .before .before .before .before .before .before .before .entry-at in (
       s .pre .0,
       below-le (s .args .len) (length (s .args .x .now)) (s .args .near .now) (omega (arith, s .pre .3)) (s .pre .1),
@@ -100,17 +100,12 @@ is-enough-requires c κs = search needs
 
 make-one-requires : tie.Need-make-one-requires
 make-one-requires c κs =
-    let p = c .before .before .before .before .before .before .before .before .before .before .before .before .before .before
-    .before .before .before .before .before .before .before .before .before .before .before .before .before .before .before
-    .before .before .before .before .pre in
+    let p = c .before .before .before .before .before .before .before .before .before .before .before .before .before .before .before .before .before .before .before .before .before .before .before .before .before .before .before .before .before .before .before .before .before .pre in
     (p .0, p .1, p .2, omega (arith, p .3), p .4, p .5, p .6, p .8)
 
 add-result : tie.Need-add-result
 add-result c =
-    let s = c .before .before .before .before .before .before .before .before .before .before .before .before .before .before
-    .before .before .before .before .before .before .before .before .before .before .before .before .before .before .before
-    .before .before .before .before .before .before .before .before .before .before .before .before .before .before .before
-    .before .before .before .before in
+    let s = c .before .before .before .before .before .before .before .before .before .before .before .before .before .before .before .before .before .before .before .before .before .before .before .before .before .before .before .before .before .before .before .before .before .before .before .before .before .before .before .before .before .before .before .before .before .before .before .before in
     omega (arith, s .pre .3, s .good .0 .0)
 
 same-length : tie.Need-same-length
@@ -147,9 +142,7 @@ returns c =
 
 leave-one-requires : tie.Need-leave-one-requires
 leave-one-requires c κs =
-    let p = c .before .before .before .before .before .before .before .before .before .before .before .before .before .before
-    .before .before .before .before .before .before .before .before .before .before .before .before .before .before .before
-    .before .before .before .before .pre in
+    let p = c .before .before .before .before .before .before .before .before .before .before .before .before .before .before .before .before .before .before .before .before .before .before .before .before .before .before .before .before .before .before .before .before .before .pre in
     (p .0, p .1, p .2, p .3)
 
 same-length-8 : tie.Need-same-length-8
