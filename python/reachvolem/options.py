@@ -114,7 +114,7 @@ class Options:
         return words
 
     def fault(self) -> Optional[str]:
-        """Which option is out of bounds, in words, by docs/SCOPE.md's table; None where none is.
+        """Which option is out of bounds, in words, by docs/SCOPE.md's 'Bounds'; None where none is.
 
         >>> Options(**{**SERVICE, "max_zoom": 31}, range=None, longitude_strips_only=True).fault()
         'max_zoom is 31: it must be a whole number from 0 to 30'

@@ -5,6 +5,7 @@ import math
 import os
 import pickle
 import random
+import re
 import shutil
 import subprocess
 import sys
@@ -104,7 +105,7 @@ class Refusals(unittest.TestCase):
         self.assertEqual(search(n=1000, out=ids)[0], 11)
 
     def test_each_number_has_words_and_survives_a_pickle(self):
-        numbers = [int(line.split("|")[1]) for line in text_of("docs", "SCOPE.md").split("| no. |")[1].split("\n\n")[0].splitlines()[2:]]
+        numbers = [int(number) for number in re.findall(r"^- \*\*(\d+) ", text_of("docs", "SCOPE.md"), re.M)]
         self.assertEqual(sorted(MEANINGS), sorted(numbers))
         again = pickle.loads(pickle.dumps(Refused(3, 7, "words")))
         self.assertEqual((again.number, again.carried, str(again)), (3, 7, "refused 3 (point): words"))

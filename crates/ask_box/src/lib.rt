@@ -85,7 +85,7 @@ fn list_plan(
     if !p.two {
         return ask_base::fit(k, out.len());
     }
-    let from = build_tables::less(k, out.len());
+    let from = build_room::less(k, out.len());
     let q2 = p.second;
     let Part::All(j) = list_one(q2, node_size, n, ids, coords, &mut out[from..]) else {
         return Answer::Spoiled;
@@ -157,7 +157,7 @@ pub fn list_ring(
         let a = ringAsked s (old ids) (old coords) zoom x y radius in
         ⌜ (r ≡ answerOf a (length (old out))) × (new out ≡ columnOf a (old out)) ⌝ }
 {
-    if !s.is_sound(build_tables::index_room(ids, coords)) {
+    if !s.is_sound(build_room::index_room(ids, coords)) {
         return Answer::Spoiled;
     }
     if !ring_ok(x, y, radius) {
@@ -193,7 +193,7 @@ pub fn list_box(
         let a = boxAsked s (old ids) (old coords) zoom west «least_y» east «greatest_y» in
         ⌜ (r ≡ answerOf a (length (old out))) × (new out ≡ columnOf a (old out)) ⌝ }
 {
-    if !s.is_sound(build_tables::index_room(ids, coords)) {
+    if !s.is_sound(build_room::index_room(ids, coords)) {
         return Answer::Spoiled;
     }
     let o = s.options;

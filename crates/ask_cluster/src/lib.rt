@@ -42,7 +42,7 @@ pub fn children(
         let a = childrenOf s (lentColumns x y seen id parent num energy ids coords) cid in
         ⌜ (r ≡ answerOf a (length (old out))) × (new out ≡ columnOf a (old out)) ⌝ }
 {
-    let cap = build_tables::room(x, y, seen, id, parent, num, energy, ids, coords);
+    let cap = build_room::room(x, y, seen, id, parent, num, energy, ids, coords);
     match ask_base::find_target(s, cap, cid) {
         Target::Spoiled => Answer::Spoiled,
         Target::NoTree => Answer::NoTree,
@@ -264,7 +264,7 @@ pub fn expansion_zoom(
 ) -> Expansion
     ensures { λ r. ⌜ r ≡ zoomOf s (lentColumns x y seen id parent num energy ids coords) cid ⌝ }
 {
-    let cap = build_tables::room(x, y, seen, id, parent, num, energy, ids, coords);
+    let cap = build_room::room(x, y, seen, id, parent, num, energy, ids, coords);
     match ask_base::find_target(s, cap, cid) {
         Target::Spoiled => Expansion::Spoiled,
         Target::NoTree => Expansion::NoTree,
@@ -586,7 +586,7 @@ pub fn leaves(
         let a = leavesOf s (lentColumns x y seen id parent num energy ids coords) cid limit offset in
         ⌜ (r ≡ answerOf a (length (old out))) × (new out ≡ columnOf a (old out)) ⌝ }
 {
-    let cap = build_tables::room(x, y, seen, id, parent, num, energy, ids, coords);
+    let cap = build_room::room(x, y, seen, id, parent, num, energy, ids, coords);
     match ask_base::find_target(s, cap, cid) {
         Target::Spoiled => Answer::Spoiled,
         Target::NoTree => Answer::NoTree,

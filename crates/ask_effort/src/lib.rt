@@ -98,7 +98,7 @@ pub fn effort_box(
         let a = effortAsked s (old ids) (old coords) zoom west «least_y» east «greatest_y» in
         ⌜ (r ≡ effortReplyOf a allowance (length (old out))) × (new out ≡ effortColumnOf a allowance (old out)) ⌝ }
 {
-    if !s.is_sound(build_tables::index_room(ids, coords)) {
+    if !s.is_sound(build_room::index_room(ids, coords)) {
         return EffortReply::Spoiled;
     }
     let o = s.options;

@@ -152,14 +152,14 @@ pub fn tile_lent(
         s,
         starts,
         lens,
-        build_tables::room(x, y, seen, id, parent, num, energy, ids, coords),
+        build_room::room(x, y, seen, id, parent, num, energy, ids, coords),
     ) {
         return Answer::Spoiled;
     }
     if !ask_tile_table::is_tile(wide(z), tx, ty) {
         return Answer::Tile;
     }
-    let room = build_tables::less(places.len(), build_tables::less(px.len(), py.len()));
+    let room = build_room::less(places.len(), build_room::less(px.len(), py.len()));
     match list_used(
         s,
         starts,
@@ -325,7 +325,7 @@ pub fn tally_lent(
         s,
         starts,
         lens,
-        build_tables::room(x, y, seen, id, parent, num, energy, ids, coords),
+        build_room::room(x, y, seen, id, parent, num, energy, ids, coords),
     ) {
         return Tally::Spoiled;
     }

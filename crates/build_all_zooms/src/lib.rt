@@ -25,7 +25,7 @@ ghost use Rattle.build_all_zooms.specs.laws.Step.{Stepped};
 ghost use Rattle.build_all_zooms.specs.laws.Running.{Running, Advanced};
 ghost use Rattle.build_all_zooms.specs.laws.Progress.{Finished};
 
-// Zoom z of the table at `start`, of `len` entries: the next table is made right after it. How many entries that has.
+// Zoom z of the table at `start`, of `len` entries, by its own index: the next table is made right after it. How many entries that has.
 fn zoom_step(
     x: &mut [f64],
     y: &mut [f64],
@@ -46,22 +46,17 @@ fn zoom_step(
 ) -> usize
     requires { let c = given x y seen id parent num energy in
         let t = part start len (rows c) in
-        let slots = part start len (now ids) in
-        let co = part (start * 2) (len * 2) (now coords) in
-        ⌜ Even c × Promised (o .«node_size») len slots co × Radius r × All Placed t
-        × (start + len ≤ length (now ids)) × ((start + len) * 2 ≤ length (now coords)) × (n + len ≤ length (now near))
-        × (start + len + len ≤ length (c .x))
+        ⌜ Even c × Promised (o .«node_size») len (now ids) (now coords) × Radius r × All Placed t
+        × (n + len ≤ length (now near)) × (start + len + len ≤ length (c .x))
         × (unseenOf numOf z t < 2 ^ 32) × (start ≤ 67108864) × (len ≤ n) × (n ≤ 1048576) × (z ≤ 30)
-        × Slotted len slots co t × OwnNote len (nearOf (o .«node_size») len slots co r) slots co
+        × Slotted len (now ids) (now coords) t
+        × OwnNote len (nearOf (o .«node_size») len (now ids) (now coords) r) (now ids) (now coords)
         × (unseenOf energyOf z t < 2 ^ 64) ⌝ }
     ensures { λ d.
         let c = lentCols x y seen id parent num energy in
-        let near = nearOf (o .«node_size») len (part start len (old ids)) (part (start * 2) (len * 2) (old coords)) r in
+        let near = nearOf (o .«node_size») len (old ids) (old coords) r in
         ⌜ Stepped start len (cluster n (o .«min_points») z near (part start len (rows (c .entry)))) (rows (c .entry)) (rows (c .exit)) d ⌝ }
 {
-    let end = start + len;
-    let c0 = start * 2;
-    let c1 = end * 2;
     let size = o.node_size;
     let least = o.min_points as u32;
     build_one_zoom::cluster(
@@ -72,8 +67,8 @@ fn zoom_step(
         &mut parent[start..],
         &mut num[start..],
         &mut energy[start..],
-        &ids[start..end],
-        &coords[c0..c1],
+        ids,
+        coords,
         near,
         size,
         r,
@@ -140,6 +135,9 @@ fn one_zoom(
         ⌜ Advanced (zoomPlan o n) z start len d (rows (c .entry)) (rows (c .exit)) (old ids) (new ids) (old coords) (new coords) ⌝ }
 {
     let r = build_tables::radius_at(o.radius, o.extent, z);
+    let end = start + len;
+    let c0 = start * 2;
+    let c1 = end * 2;
     let d = zoom_step(
         x,
         y,
@@ -148,8 +146,8 @@ fn one_zoom(
         parent,
         num,
         energy,
-        ids,
-        coords,
+        &ids[start..end],
+        &coords[c0..c1],
         near,
         o,
         r,
@@ -158,9 +156,8 @@ fn one_zoom(
         z,
         n,
     );
-    let next = start + len;
     let size = o.node_size;
-    index_part(x, y, ids, coords, size, next, d);
+    index_part(x, y, ids, coords, size, end, d);
     d
 }
 

@@ -16,8 +16,7 @@ ghost use Rattle.build_tables.specs.Entries.{entry};
 ghost use Rattle.build_tables.specs.Rows.{rows};
 ghost use Rattle.build_tables.specs.laws.Rows.{Even};
 ghost use Rattle.lent.specs.Lent.{old};
-ghost use Rattle.build_tables.specs.Room.{indexRoom, roomBy, roomOf};
-ghost use Rattle.build_tables.specs.Lent.{given, lentCols, lentColumns};
+ghost use Rattle.build_tables.specs.Lent.{given, lentCols};
 ghost use Rattle.build_tables.specs.Ids.{clusterId, originOf, tableOf};
 ghost use Rattle.build_tables.specs.Radius.{radiusAt};
 
@@ -349,70 +348,4 @@ pub fn radius_at(radius: f64, extent: f64, zoom: u8) -> f64
     ensures { λ r. ⌜ r ≡ radiusAt radius extent zoom ⌝ }
 {
     radius / (extent * floats::power(zoom as u32))
-}
-
-// The smaller of two numbers.
-pub fn less(a: usize, b: usize) -> usize
-    ensures { λ r. ⌜ r ≡ min a b ⌝ }
-{
-    if a <= b {
-        return a;
-    }
-    b
-}
-
-// How many entries the columns of the index hold.
-pub fn index_room(ids: &[u32], coords: &[f64]) -> usize
-    ensures { λ r. ⌜ r ≡ indexRoom (old ids) (old coords) ⌝ }
-{
-    less(ids.len(), coords.len() / 2)
-}
-
-// How many entries columns of these lengths hold, and an index with room for so many.
-pub fn room_by(
-    x: usize,
-    y: usize,
-    seen: usize,
-    id: usize,
-    parent: usize,
-    num: usize,
-    energy: usize,
-    index: usize,
-) -> usize
-    ensures { λ r. ⌜ r ≡ roomBy x y seen id parent num energy index ⌝ }
-{
-    let a = less(x, y);
-    let b = less(seen, id);
-    let c = less(parent, num);
-    let d = less(a, b);
-    let e = less(energy, index);
-    let f = less(c, e);
-    less(d, f)
-}
-
-// How many entries the nine lent columns hold.
-pub fn room(
-    x: &[f64],
-    y: &[f64],
-    seen: &[u8],
-    id: &[u32],
-    parent: &[u32],
-    num: &[u32],
-    energy: &[u64],
-    ids: &[u32],
-    coords: &[f64],
-) -> usize
-    ensures { λ r. ⌜ r ≡ roomOf (lentColumns x y seen id parent num energy ids coords) ⌝ }
-{
-    let index = index_room(ids, coords);
-    room_by(
-        x.len(),
-        y.len(),
-        seen.len(),
-        id.len(),
-        parent.len(),
-        num.len(),
-        energy.len(),
-        index,
-    )
 }

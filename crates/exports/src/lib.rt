@@ -1158,7 +1158,7 @@ fn look_up(
 ) -> Read
     ensures { λ r. let c = lentColumns x y seen id parent num energy ids coords in ⌜ r ≡ entryAsked s c zoom place ⌝ }
 {
-    if !s.is_sound(build_tables::room(x, y, seen, id, parent, num, energy, ids, coords)) {
+    if !s.is_sound(build_room::room(x, y, seen, id, parent, num, energy, ids, coords)) {
         return Read::Spoiled;
     }
     let o = s.options;

@@ -1,6 +1,6 @@
 -- SCOPE's lines that are not marked P, computed from the definitions too: the largest max_zoom, options that are refused, a lone lamp at
--- (1, 0.5), which tile (0,0,0) lists twice and counts once, and lists once with the strips for longitude only (#114); and of 'Easy to get
--- wrong' the four lamps with min_points 3, and both edge strips at z = 0. Assumes nothing.
+-- (1, 0.5), which tile (0,0,0) lists twice and counts once, and lists once with the strips for longitude only (#114); the four lamps with
+-- min_points 3, and both edge strips at z = 0. Assumes nothing.
 use mathlib.Core.Path.{_≡_, refl, ap}
 use mathlib.Core.Bool.{Bool, true, cond}
 use mathlib.Core.List.{[], _∷_, map}

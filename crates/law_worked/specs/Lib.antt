@@ -20,6 +20,6 @@ pub mod Printed
 -- Worked: SCOPE's lines marked P as one proved table, in SCOPE's order and words, before them the lines that the table lister prints.
 pub mod Worked
 -- Further: SCOPE's lines that are not marked P, computed from the definitions too: the largest max_zoom, options that are refused, a lone
--- lamp at (1, 0.5), which tile (0,0,0) lists twice and counts once, and lists once with the strips for longitude only (#114); and of 'Easy
--- to get wrong' the four lamps with min_points 3, and both edge strips at z = 0.
+-- lamp at (1, 0.5), which tile (0,0,0) lists twice and counts once, and lists once with the strips for longitude only (#114); the four
+-- lamps with min_points 3, and both edge strips at z = 0.
 pub mod Further

@@ -717,7 +717,7 @@ fn replay_tiled(
         return Verdict::Malformed;
     };
     let Count::Is(m) = replay_vectors::next_count(
-        build_tables::less(room, build_tables::less(room_x, room_y)),
+        build_room::less(room, build_room::less(room_x, room_y)),
         last,
     ) else {
         return Verdict::Malformed;

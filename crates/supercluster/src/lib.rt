@@ -22,7 +22,7 @@ ghost use Rattle.build_all_zooms.specs.Zooms.{laidOver};
 ghost use Rattle.supercluster.specs.Build.{convertedAll, finest, written, builtState, tablesOf, need, firstOver, tripleOk};
 ghost use Rattle.supercluster.specs.Build.{ordered, loadNumber, loadCarried, outcome, loaded};
 ghost use Rattle.supercluster.specs.Lent.{givenAll, lentAll};
-ghost use Rattle.supercluster.specs.laws.Ready.{Accepted, Made};
+ghost use Rattle.supercluster.specs.laws.Ready.{Accepted, Made, firstState};
 ghost use Rattle.supercluster.specs.laws.Load.{Holds};
 
 // The largest energy of a point, in watt-hours: 2^40.
@@ -128,6 +128,20 @@ fn clear(a: &mut [u32])
     }
 }
 
+// The state before the first zoom: the finest table alone.
+fn first_state(o: Options, n: usize) -> State
+    requires { ⌜ (n ≤ 1048576) × (o .«max_zoom» ≤ 30) ⌝ }
+    ensures { λ s. ⌜ s ≡ firstState o n ⌝ }
+{
+    let count = n as u32;
+    build_tables::with_table(
+        build_tables::new_state(o, count),
+        o.max_zoom as usize + 1,
+        0,
+        count,
+    )
+}
+
 // The build, in columns that just hold it.
 fn build_in(
     o: Options,
@@ -160,8 +174,7 @@ fn build_in(
     let size = o.node_size;
     fill(c, xs, ys, energies, x, y, seen, id, parent, num, energy);
     build_all_zooms::index_part(x, y, ids, coords, size, 0, n);
-    let e = build_tables::new_state(o, n as u32);
-    let s = build_tables::with_table(e, o.max_zoom as usize + 1, 0, n as u32);
+    let s = first_state(o, n);
     let st = build_all_zooms::run_zooms(
         x,
         y,
@@ -327,8 +340,7 @@ pub fn load(
         let l = lentAll x y seen id parent num energy ids coords near in
         ⌜ outcome r (l .exit) ≡ loaded o (old xs) (old ys) (old energies) (l .entry) ⌝ }
 {
-    let index = build_tables::less(ids.len(), coords.len() / 2);
-    let held = build_tables::room_by(
+    let room = build_room::room_all(
         x.len(),
         y.len(),
         seen.len(),
@@ -336,9 +348,11 @@ pub fn load(
         parent.len(),
         num.len(),
         energy.len(),
-        index,
+        ids.len(),
+        coords.len(),
+        near.len(),
     );
-    match check(o, xs, ys, energies, build_tables::less(held, near.len())) {
+    match check(o, xs, ys, energies, room) {
         LoadReply::Done => {
             let state = build_all(
                 o,

@@ -1,5 +1,6 @@
 -- `build_all_zooms::one_zoom` meets its contract: what holds between two zooms gives what the scan and the index ask, and the scan and the
 -- index together advance the tables by one. Assumes nothing.
+use mathlib.Core.Path.{_≡_}
 use Prim.Native.Nat.{ℕ, suc, _+_, _-_, _*_, _^_, _<_, _≤_}
 use native.Mathlib.Omega.{arith}
 use lib.ListN.{length, drop, take}
@@ -37,10 +38,17 @@ few s = let a = s .args in z-few (plan s) (length (a .x .now)) (a .z) (a .start)
 room : (s : tie.Start) → s .args .start + s .args .len + s .args .len ≤ length (s .args .x .now)
 room s = let a = s .args in step-room (plan s) (length (a .x .now)) (a .z) (a .start) (a .len) (table s) (a .ids .now) (a .coords .now) (s .pre .2) (running s)
 
+-- the lent parts of the index's columns
+ids-part : (s : tie.Start) → s .args .start + s .args .len - s .args .start ≡ s .args .len
+ids-part s = omega arith
+
+co-part : (s : tie.Start) → (s .args .start + s .args .len) * 2 - s .args .start * 2 ≡ s .args .len * 2
+co-part s = omega arith
+
 -- ---- and after the scan
 
 abbrev start-of : tie.After-zoom-step → tie.Start
-start-of w = w .before .before .before .before .before .before .before .before .before .before .before .before .before .before .before .before .before .before .before .before .before .before
+start-of w = w .before .before .before .before .before .before .before .before .before .before .before .before .before .before .before .before .before .before .before .before .before .before .before .before
 
 abbrev came : tie.After-zoom-step → Cols
 came c = let w = c .zoom-step in (cols (w .last .0) (w .last .1 .0) (w .last .1 .1 .0) (w .last .1 .1 .1 .0) (w .last .1 .1 .1 .1 .0) (w .last .1 .1 .1 .1 .1 .0) (w .last .1 .1 .1 .1 .1 .1 .0))
@@ -55,8 +63,9 @@ zoomed : (w : tie.After-zoom-step) → let a = start-of w .args in Zoomed (plan 
 zoomed w =
     let s = start-of w in
     let a = s .args in
-    let r = w .before .before .before .before .before .before .before .before .before .before .before .radius-at in
-    scanned (plan s) (length (a .x .now)) (a .z) (a .start) (a .len) (table s) (a .ids .now) (a .coords .now) (s .pre .2) (running s) (r .result) (r .ensures) (rows (came w)) (w .zoom-step .result) (w .zoom-step .ensures)
+    let r = w .before .before .before .before .before .before .before .before .before .before .before .before .before .radius-at in
+    scanned (plan s) (length (a .x .now)) (a .z) (a .start) (a .len) (table s) (a .ids .now) (a .coords .now) (s .pre .2)
+    (running s) (r .result) (r .ensures) (rows (came w)) (w .zoom-step .result) (rw (ids-part s, co-part s) at (w .zoom-step .ensures))
 
 some : (w : tie.After-zoom-step) → 1 ≤ w .zoom-step .result
 some w = let s = start-of w in let a = s .args in omega (arith, zoomed w .count, made-some (plan s) (length (a .x .now)) (a .z) (a .start) (a .len) (table s) (a .ids .now) (a .coords .now) (s .pre .2) (running s))
@@ -75,33 +84,81 @@ radius-at-requires c κs =
     let s = c .before .before .before .before .before .before .before .before .before .before in
     omega (arith, few s)
 
+-- ---- the table's own part of the index
+
+low : (s : tie.Start) → s .args .start + s .args .len ≤ 67108864
+low s = omega (arith, room s, running s .M-few)
+
+ids-room : (s : tie.Start) → s .args .start + s .args .len ≤ length (s .args .ids .now)
+ids-room s = omega (arith, room s, running s .ids-long)
+
+co-room : (s : tie.Start) → (s .args .start + s .args .len) * 2 ≤ length (s .args .coords .now)
+co-room s = omega (arith, room s, running s .co-long)
+
+abbrev ready : tie.After-radius-at → tie.Start
+ready c = c .before .before .before .before .before .before .before .before .before .before .before
+
+abbrev lending : tie.After-zoom-step-arg7 → tie.Start
+lending c = ready (c .before .before .before .before .before .before .before)
+
+add-end : tie.Need-add-end
+add-end c = omega (arith, low (ready c))
+
+mul-c0 : tie.Need-mul-c0
+mul-c0 c = omega (arith, low (ready c))
+
+mul-c1 : tie.Need-mul-c1
+mul-c1 c = omega (arith, low (ready c))
+
+mul-zoom-step : tie.Need-mul-zoom-step
+mul-zoom-step c = omega (arith, low (lending c))
+
+sub-zoom-step : tie.Need-sub-zoom-step
+sub-zoom-step c = omega arith
+
+part-zoom-step-start : tie.Need-part-zoom-step-start
+part-zoom-step-start c = omega arith
+
+part-zoom-step-end : tie.Need-part-zoom-step-end
+part-zoom-step-end c = ids-room (lending (c .before))
+
+mul-zoom-step-2 : tie.Need-mul-zoom-step-2
+mul-zoom-step-2 c = omega (arith, low (lending (c .before .before)))
+
+sub-zoom-step-2 : tie.Need-sub-zoom-step-2
+sub-zoom-step-2 c = omega arith
+
+part-zoom-step-start-2 : tie.Need-part-zoom-step-start-2
+part-zoom-step-start-2 c = omega arith
+
+part-zoom-step-end-2 : tie.Need-part-zoom-step-end-2
+part-zoom-step-end-2 c = co-room (lending (c .before .before .before))
+
 zoom-step-requires : tie.Need-zoom-step-requires
 zoom-step-requires c κs =
-    let s = c .before .before .before .before .before .before .before .before .before .before .before .before .before .before .before .before .before .before .before .before .before in
+    let s = c .before .before .before .before .before .before .before .before .before .before .before .before .before .before .before .before .before .before .before .before .before .before .before in
     let a = s .args in
     let r = running s in
-    let rad = c .before .before .before .before .before .before .before .before .before .before .radius-at in
+    let rad = c .before .before .before .before .before .before .before .before .before .before .before .before .radius-at in
     let radius : Radius (rad .result) = rw (rad .ensures) (step-radius (plan s) (length (a .x .now)) (a .z) (a .start) (a .len) (table s) (a .ids .now) (a .coords .now) (s .pre .2) (running s)) in (
       s .pre .0,
-      cur-promised (plan s) (length (a .x .now)) (suc (a .z - a .o .«min_zoom»)) (a .start) (a .len) (table s) (a .ids .now) (a .coords .now) r,
+      rw (ids-part s, co-part s)
+          (cur-promised (plan s) (length (a .x .now)) (suc (a .z - a .o .«min_zoom»)) (a .start) (a .len) (table s) (a .ids .now) (a .coords .now) r),
       radius,
       step-placed (plan s) (length (a .x .now)) (a .z) (a .start) (a .len) (table s) (a .ids .now) (a .coords .now) (s .pre .2) (running s),
-      omega (arith, room s, r .ids-long),
-      omega (arith, room s, r .co-long),
       omega (arith, r .len-few, s .pre .1),
       room s,
       step-light (plan s) (length (a .x .now)) (a .z) (a .start) (a .len) (table s) (a .ids .now) (a .coords .now) (s .pre .2) (running s),
-      omega (arith, room s, r .M-few),
+      omega (arith, low s),
       r .len-few,
       r .able .few,
       few s,
-      cur-slotted (plan s) (length (a .x .now)) (suc (a .z - a .o .«min_zoom»)) (a .start) (a .len) (table s) (a .ids .now) (a .coords .now) r,
-      cur-owned (plan s) (length (a .x .now)) (suc (a .z - a .o .«min_zoom»)) (a .start) (a .len) (table s) (a .ids .now) (a .coords .now) r (rad .result) (radius .0),
+      rw (ids-part s, co-part s)
+          (cur-slotted (plan s) (length (a .x .now)) (suc (a .z - a .o .«min_zoom»)) (a .start) (a .len) (table s) (a .ids .now) (a .coords .now) r),
+      rw (ids-part s, co-part s)
+          (cur-owned (plan s) (length (a .x .now)) (suc (a .z - a .o .«min_zoom»)) (a .start) (a .len) (table s) (a .ids .now) (a .coords .now) r (rad .result) (radius .0)),
       step-watts (plan s) (length (a .x .now)) (a .z) (a .start) (a .len) (table s) (a .ids .now) (a .coords .now) (s .pre .2) (running s),
     )
-
-add-next : tie.Need-add-next
-add-next c = let s = c .before .before .before .before .before .before .before .before .before .before .before .before .before .before .before .before .before .before .before .before .before .before .before .before .before .before .before .before .before .before .before .before .before .before .before .before .before .before in omega (arith, room s, running s .M-few)
 
 index-part-requires : tie.Need-index-part-requires
 index-part-requires c κs =
@@ -162,8 +219,18 @@ one-zoom-spec =
     tie.close
     (tie.spec
     radius-at-requires
+    add-end
+    mul-c0
+    mul-c1
+    mul-zoom-step
+    sub-zoom-step
+    part-zoom-step-start
+    part-zoom-step-end
+    mul-zoom-step-2
+    sub-zoom-step-2
+    part-zoom-step-start-2
+    part-zoom-step-end-2
     zoom-step-requires
-    add-next
     index-part-requires
     same-length
     same-length-2

@@ -1,5 +1,5 @@
--- `build_all_zooms::zoom_step` meets its contract: the columns are lent from `start` on, where the scan's table stands at 0, and the
--- index's own part of its columns is lent. Assumes nothing.
+-- `build_all_zooms::zoom_step` meets its contract: the columns are lent from `start` on, where the scan's table stands at 0. Assumes
+-- nothing.
 use mathlib.Core.Path.{_≡_, refl, ap, sym, _∙_, subst}
 use Prim.Native.Nat.{ℕ, suc, _+_, _-_, _*_, _^_, _<_, _≤_}
 use native.Mathlib.Omega.{arith}
@@ -16,13 +16,6 @@ use Rattle.build_all_zooms.proofs.zoom_step.Tie as tie
 abbrev columns : tie.Start → Cols
 columns s = let a = s .args in (given (a .x) (a .y) (a .seen) (a .id) (a .parent) (a .num) (a .energy))
 
--- the lent parts of the index's columns
-ids-part : (s : tie.Start) → s .args .start + s .args .len - s .args .start ≡ s .args .len
-ids-part s = omega arith
-
-co-part : (s : tie.Start) → (s .args .start + s .args .len) * 2 - s .args .start * 2 ≡ s .args .len * 2
-co-part s = omega arith
-
 -- the rows of the lent columns
 abbrev lent : tie.Start → Cols
 lent s = each (λ A l. fromPart (s .args .start) l) (columns s)
@@ -35,7 +28,7 @@ abbrev scan-of : tie.After-slice-known16 → tie.After-cluster
 scan-of c = c .before .before .before .before .before .before .before .before .before .before .before .before .before .before .before .before
 
 abbrev start-of : tie.After-cluster → tie.Start
-start-of c = c .before .before .before .before .before .before .before .before .before .before .before .before .before .before .before .before .before .before .before .before .before .before
+start-of c = c .before .before .before .before .before .before .before .before .before .before .before .before .before .before .before .before .before .before .before .before
 
 abbrev came : tie.After-cluster → Cols
 came c = let w = c .cluster in (cols (w .last .0) (w .last .1 .0) (w .last .1 .1 .0) (w .last .1 .1 .1 .0) (w .last .1 .1 .1 .1 .0) (w .last .1 .1 .1 .1 .1 .0) (w .last .1 .1 .1 .1 .1 .1 .0))
@@ -46,15 +39,6 @@ kept-by c =
     let w = c .cluster in
     let k : Kept (lent s) (came c) = (record { kx = w .kept .0; ky = w .kept .1 .0; ks = w .kept .1 .1 .0; ki = w .kept .1 .1 .1 .0; kp = w .kept .1 .1 .1 .1 .0; kn = w .kept .1 .1 .1 .1 .1 .0; kw = w .kept .1 .1 .1 .1 .1 .1 .0 }) in
     kept-back (s .args .start) (columns s) (came c) k
-
-add-end : tie.Need-add-end
-add-end c = search needs
-
-mul-c0 : tie.Need-mul-c0
-mul-c0 c = search needs
-
-mul-c1 : tie.Need-mul-c1
-mul-c1 c = search needs
 
 cast-least : tie.Need-cast-least
 cast-least c = search needs
@@ -140,48 +124,24 @@ part-cluster-start-7 c = search needs
 part-cluster-end-7 : tie.Need-part-cluster-end-7
 part-cluster-end-7 c = search needs
 
-mul-cluster-7 : tie.Need-mul-cluster-7
-mul-cluster-7 c = search needs
-
-sub-cluster-8 : tie.Need-sub-cluster-8
-sub-cluster-8 c = search needs
-
-part-cluster-start-8 : tie.Need-part-cluster-start-8
-part-cluster-start-8 c = search needs
-
-part-cluster-end-8 : tie.Need-part-cluster-end-8
-part-cluster-end-8 c = search needs
-
-mul-cluster-8 : tie.Need-mul-cluster-8
-mul-cluster-8 c = search needs
-
-sub-cluster-9 : tie.Need-sub-cluster-9
-sub-cluster-9 c = search needs
-
-part-cluster-start-9 : tie.Need-part-cluster-start-9
-part-cluster-start-9 c = search needs
-
-part-cluster-end-9 : tie.Need-part-cluster-end-9
-part-cluster-end-9 c = search needs
-
 cluster-requires : tie.Need-cluster-requires
 cluster-requires c κs =
-    let s = c .before .before .before .before .before .before .before .before .before .before .before .before .before .before .before .before .before .before .before .before .before in
+    let s = c .before .before .before .before .before .before .before .before .before .before .before .before .before .before .before .before .before .before .before in
     let a = s .args in
     let p = s .pre in (
       even-from (a .start) (columns s) (p .0),
-      rw (ids-part s, co-part s) (p .1),
+      p .1,
       p .2,
-      p .6,
-      omega (arith, from-length (a .start) (a .x .now), p .7),
+      p .4,
+      omega (arith, from-length (a .start) (a .x .now), p .5),
       rw (lent-rows s) (p .3),
-      rw (ids-part s, co-part s, lent-rows s) (p .13),
-      rw (ids-part s, co-part s) (p .14),
-      p .10,
-      p .11,
+      rw (lent-rows s) (p .11),
       p .12,
-      rw (lent-rows s) (p .8),
-      rw (lent-rows s) (p .15),
+      p .8,
+      p .9,
+      p .10,
+      rw (lent-rows s) (p .6),
+      rw (lent-rows s) (p .13),
     )
 
 same-length : tie.Need-same-length
@@ -213,16 +173,13 @@ returns c =
     let w = scan-of c in
     let s = start-of w in
     let a = s .args in
-    stepped (a .start) (columns s) (came w) (s .pre .0) (omega (arith, s .pre .7)) (a .len) (w .cluster .result) _
-    (rw (sym (lent-rows s)) (rw (ids-part s, co-part s) at (w .cluster .ensures)))
+    stepped (a .start) (columns s) (came w) (s .pre .0) (omega (arith, s .pre .5)) (a .len) (w .cluster .result) _
+    (rw (sym (lent-rows s)) (w .cluster .ensures))
 
 pub zoom-step-spec : {M : Type 1} → statement M
 zoom-step-spec =
     tie.close
     (tie.spec
-    add-end
-    mul-c0
-    mul-c1
     cast-least
     mul-cluster
     sub-cluster
@@ -251,14 +208,6 @@ zoom-step-spec =
     sub-cluster-7
     part-cluster-start-7
     part-cluster-end-7
-    mul-cluster-7
-    sub-cluster-8
-    part-cluster-start-8
-    part-cluster-end-8
-    mul-cluster-8
-    sub-cluster-9
-    part-cluster-start-9
-    part-cluster-end-9
     cluster-requires
     same-length
     same-length-2

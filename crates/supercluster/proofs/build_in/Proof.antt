@@ -6,20 +6,16 @@ use native.Mathlib.Omega.{arith}
 use lib.ListN.{length, set, replicate}
 use lib.Seq.{set-set}
 use borrow.Author.Needs.{needs}
-use Rattle.kdsort.specs.Cols.{IndexCols as Index}
 use Rattle.build_tables.specs.declared.State.{State}
 use Rattle.build_tables.specs.laws.Bounds.{InBounds, options-are}
 use Rattle.build_tables.specs.Columns.{part}
 use Rattle.build_tables.specs.Rows.{Cols, cols, rows}
 use Rattle.build_tables.specs.laws.Rows.{Even, Kept, even-kept, kept-then, rows-length}
 use Rattle.build_tables.specs.Lent.{given}
-use Rattle.build_tables.specs.State.{withTable}
-use Rattle.kdbush.specs.Reply.{indexOf}
 use Rattle.build_all_zooms.specs.Zooms.{indexOfTable}
 use Rattle.build_all_zooms.specs.laws.Parts.{putAt}
-use Rattle.build_all_zooms.specs.laws.Zooming.{part-index}
 use Rattle.supercluster.specs.Build.{need}
-use Rattle.supercluster.specs.laws.Ready.{Accepted, need-some, firstState, first-inside, ready-at, made-at}
+use Rattle.supercluster.specs.laws.Ready.{Accepted, need-some, slots-put, coords-put, firstState, first-inside, ready-at, made-at}
 use Rattle.supercluster.proofs.build_in.Statement.{statement}
 use Rattle.supercluster.proofs.build_in.Tie as tie
 
@@ -60,10 +56,6 @@ long w = kept-fill w .kx ∙ start-of w .pre .2
 filled-long : (w : tie.After-fill) → length (rows (filled w)) ≡ need (start-of w .args .o) (count (start-of w))
 filled-long w = rows-length (filled w) ∙ long w
 
-slots : (w : tie.After-fill) → let s = start-of w in
-    indexOf (s .args .o .«node_size») (part 0 (count s) (filled w .x)) (part 0 (count s) (filled w .y)) ≡ indexOfTable (s .args .o .«node_size») (part 0 (count s) (rows (filled w)))
-slots w = let s = start-of w in part-index (s .args .o .«node_size») 0 (count s) (filled w) (even w .ey)
-
 -- ---- after its index
 
 abbrev fill-of : tie.After-index-part → tie.After-fill
@@ -71,26 +63,33 @@ fill-of i = i .before .before .before .before .before .before .before .before .b
 
 ids-put : (i : tie.After-index-part) → let w = fill-of i in let s = start-of w in
     i .index-part .last .1 .1 .0 ≡ putAt 0 (count s) (indexOfTable (s .args .o .«node_size») (part 0 (count s) (rows (filled w))) .ids) (s .args .ids .now)
-ids-put i = let s = start-of (fill-of i) in i .index-part .ensures .0 ∙ ap (λ (q : Index). putAt 0 (count s) (q .ids) (s .args .ids .now)) (slots (fill-of i))
+ids-put i =
+    let w = fill-of i in
+    let s = start-of w in
+    slots-put (s .args .o .«node_size») (count s) (filled w) (even w .ey) (i .index-part .last .1 .1 .0) (s .args .ids .now)
+    (i .index-part .ensures .0)
 
 co-put : (i : tie.After-index-part) → let w = fill-of i in let s = start-of w in
     i .index-part .last .1 .1 .1 .0 ≡ putAt 0 (count s * 2) (indexOfTable (s .args .o .«node_size») (part 0 (count s) (rows (filled w))) .co) (s .args .coords .now)
-co-put i = let s = start-of (fill-of i) in i .index-part .ensures .1 ∙ ap (λ (q : Index). putAt 0 (count s * 2) (q .co) (s .args .coords .now)) (slots (fill-of i))
+co-put i =
+    let w = fill-of i in
+    let s = start-of w in
+    coords-put (s .args .o .«node_size») (count s) (filled w) (even w .ey) (i .index-part .last .1 .1 .1 .0) (s .args .coords .now)
+    (i .index-part .ensures .1)
 
 -- ---- before the zooms, and after them
 
-abbrev index-of : tie.After-with-table → tie.After-index-part
-index-of w = w .before .before .before .before .before .before .before
+abbrev index-of : tie.After-first-state → tie.After-index-part
+index-of w = w .before .before .before .before .before
 
-first : (w : tie.After-with-table) → let s = start-of (fill-of (index-of w)) in w .with-table .result ≡ firstState (s .args .o) (count s)
-first w =
-    let s = start-of (fill-of (index-of w)) in
-    w .with-table .ensures ∙ ap (λ (v : State). withTable v (s .args .o .«max_zoom» + 1) 0 (count s)) (w .before .before .new-state .ensures)
+first : (w : tie.After-first-state) → let s = start-of (fill-of (index-of w)) in
+    w .first-state .result ≡ firstState (s .args .o) (count s)
+first w = w .first-state .ensures
 
 abbrev zooms-of : tie.After-slice-known30 → tie.After-run-zooms
 zooms-of c = c .before .before .before .before .before .before .before .before .before .before .before .before .before .before .before .before .before .before .before .before .before .before .before .before
 
-abbrev state-of : tie.After-run-zooms → tie.After-with-table
+abbrev state-of : tie.After-run-zooms → tie.After-first-state
 state-of z = z .before .before .before .before .before .before .before .before .before .before .before
 
 abbrev after : tie.After-run-zooms → Cols
@@ -122,37 +121,14 @@ index-part-requires c κs =
       ),
     )
 
-cast-new-state : tie.Need-cast-new-state
-cast-new-state c =
-    let s = c .before .before .before .before .before .before .before .before .before .before .before .before .before .before .before .before .before .before .before .before .before .before .before .before .before .before .before .before .before .before .before .before .before .before .before .before .before .before .before .before .before .before .before .before in
-    omega (arith, accepted s .few)
-
-new-state-requires : tie.Need-new-state-requires
-new-state-requires c κs = search needs
-
-cast-with-table : tie.Need-cast-with-table
-cast-with-table c =
-    let s = c .before .before .before .before .before .before .before .before .before .before .before .before .before .before .before .before .before .before .before .before .before .before .before .before .before .before .before .before .before .before .before .before .before .before .before .before .before .before .before .before .before .before .before .before .before .before in
-    omega (arith, bounds s .zoom-to)
-
-add-with-table : tie.Need-add-with-table
-add-with-table c =
-    let s = c .before .before .before .before .before .before .before .before .before .before .before .before .before .before .before .before .before .before .before .before .before .before .before .before .before .before .before .before .before .before .before .before .before .before .before .before .before .before .before .before .before .before .before .before .before .before in
-    omega (arith, bounds s .zoom-to)
-
-cast-with-table-2 : tie.Need-cast-with-table-2
-cast-with-table-2 c =
-    let s = c .before .before .before .before .before .before .before .before .before .before .before .before .before .before .before .before .before .before .before .before .before .before .before .before .before .before .before .before .before .before .before .before .before .before .before .before .before .before .before .before .before .before .before .before .before .before in
-    omega (arith, accepted s .few)
-
-with-table-requires : tie.Need-with-table-requires
-with-table-requires c κs =
-    let s = c .before .before .before .before .before .before .before .before .before .before .before .before .before .before .before .before .before .before .before .before .before .before .before .before .before .before .before .before .before .before .before .before .before .before .before .before .before .before .before .before .before .before .before .before .before .before in
-    omega (arith, bounds s .zoom-to)
+first-state-requires : tie.Need-first-state-requires
+first-state-requires c κs =
+    let s = start-of (fill-of (c .before .before .before .before)) in
+    (accepted s .few, bounds s .zoom-to)
 
 cast-run-zooms : tie.Need-cast-run-zooms
 cast-run-zooms c =
-    let s = c .before .before .before .before .before .before .before .before .before .before .before .before .before .before .before .before .before .before .before .before .before .before .before .before .before .before .before .before .before .before .before .before .before .before .before .before .before .before .before .before .before .before .before .before .before .before .before .before .before .before .before .before .before .before .before .before .before in
+    let s = start-of (fill-of (index-of (c .before .before .before .before .before .before .before .before .before .before))) in
     omega (arith, accepted s .few)
 
 run-zooms-requires : tie.Need-run-zooms-requires
@@ -169,7 +145,7 @@ run-zooms-requires c κs =
       omega (arith, p .5),
       subst (λ (v : State). v .options .«min_zoom» ≤ v .options .«max_zoom» + 1) (sym (first e)) (omega (arith, bounds s .zooms)),
       ready-at (a .o) (a .xs .now) (a .ys .now) (a .energies .now) (accepted s) (rows (filled w)) (rows (columns s)) (i .index-part .last .1 .1 .0) (a .ids .now) (i .index-part .last .1 .1 .1 .0) (a .coords .now) (w .fill .ensures)
-          (filled-long w) (p .3) (p .4) (i .index-part .kept .1 .1 .0) (i .index-part .kept .1 .1 .1 .0) (ids-put i) (co-put i) (e .with-table .result) (length (filled w .x)) (first e) (long w),
+          (filled-long w) (p .3) (p .4) (i .index-part .kept .1 .1 .0) (i .index-part .kept .1 .1 .1 .0) (ids-put i) (co-put i) (e .first-state .result) (length (filled w .x)) (first e) (long w),
       subst (λ (v : State). set (v .starts) (v .options .«max_zoom» + 1) 0 ≡ v .starts) (sym (first e)) (set-set (replicate 32 0) Z 0 0),
       subst (λ (v : State). set (v .lens) (v .options .«max_zoom» + 1) n ≡ v .lens) (sym (first e)) (set-set (replicate 32 0) Z n n),
     )
@@ -220,7 +196,7 @@ returns c =
     let k = c .before .before .clear in
     let cleared = k .ensures ∙ ap (λ (k : ℕ). replicate k 0) (z .run-zooms .kept .1 .1 .1 .1 .1 .1 .1 .1 .1 .0 ∙ p .5) in
     made-at (a .o) (a .xs .now) (a .ys .now) (a .energies .now) (accepted s) (rows (filled w)) (rows (columns s)) (i .index-part .last .1 .1 .0) (a .ids .now) (i .index-part .last .1 .1 .1 .0) (a .coords .now) (w .fill .ensures)
-    (filled-long w) (p .3) (p .4) (i .index-part .kept .1 .1 .0) (i .index-part .kept .1 .1 .1 .0) (ids-put i) (co-put i) (e .with-table .result) (z .run-zooms .result)
+    (filled-long w) (p .3) (p .4) (i .index-part .kept .1 .1 .0) (i .index-part .kept .1 .1 .1 .0) (ids-put i) (co-put i) (e .first-state .result) (z .run-zooms .result)
     (rows (after z)) (q .1 .1 .1 .1 .1 .1 .1 .0) (q .1 .1 .1 .1 .1 .1 .1 .1 .0) (k .last .0) (first e) (z .run-zooms .ensures) cleared
 
 pub build-in-spec : {M : Type 1} → statement M
@@ -229,12 +205,7 @@ build-in-spec =
     (tie.spec
     fill-requires
     index-part-requires
-    cast-new-state
-    new-state-requires
-    cast-with-table
-    add-with-table
-    cast-with-table-2
-    with-table-requires
+    first-state-requires
     cast-run-zooms
     run-zooms-requires
     clear-requires

@@ -29,11 +29,12 @@ module _ (a b : Bool) (o w : Outside) (d : Bool) where
   count-out : a ≡ true → b ≡ false → Count ≡ ordered a b o w d
   count-out p q = rw (p, q)
 
-  point-out : (i : ℕ) → a ≡ true → b ≡ true → o ≡ At i → Point i ≡ ordered a b o w d
-  point-out i p q r = rw (p, q, r)
+  point-out : (i : ℕ) (found : Outside) → a ≡ true → b ≡ true → found ≡ o → found ≡ At i → Point i ≡ ordered a b o w d
+  point-out i found p q e r = rw (p, q, sym e ∙ r)
 
-  energy-out : (i : ℕ) → a ≡ true → b ≡ true → o ≡ Nothing → w ≡ At i → Energy i ≡ ordered a b o w d
-  energy-out i p q r s = rw (p, q, r, s)
+  energy-out : (i : ℕ) (found : Outside) → a ≡ true → b ≡ true → o ≡ Nothing → found ≡ w → found ≡ At i
+      → Energy i ≡ ordered a b o w d
+  energy-out i found p q r e s = rw (p, q, r, sym e ∙ s)
 
   tables-out : a ≡ true → b ≡ true → o ≡ Nothing → w ≡ Nothing → d ≡ false → Tables ≡ ordered a b o w d
   tables-out p q r s t = rw (p, q, r, s, t)
@@ -157,8 +158,8 @@ returns-6 c =
     let f = c .before .before .before in
     let s = of-counted (f .before) in
     let i = c .before .i in
-    point-out (optionsOk (s .args .o)) (triple s) (found s) (weight s) (enough s) (i .given .0 .0) (options-in (bounded (f .before)))
-    (triple-in (f .before)) (sym (f .first-outside .ensures) ∙ i .given .1)
+    point-out (optionsOk (s .args .o)) (triple s) (found s) (weight s) (enough s) (i .given .0 .0) (f .first-outside .result)
+    (options-in (bounded (f .before))) (triple-in (f .before)) (f .first-outside .ensures) (i .given .1)
 
 enum-told : tie.Need-enum-told
 enum-told c = search needs
@@ -175,8 +176,8 @@ returns-7 c =
     let e = counted (f .before) in
     let s = of-counted e in
     let i = c .before .i2 in
-    energy-out (optionsOk (s .args .o)) (triple s) (found s) (weight s) (enough s) (i .given .0 .0) (options-in (bounded e)) (triple-in e)
-    (none-out (f .before)) (sym (f .first-over .ensures) ∙ i .given .1)
+    energy-out (optionsOk (s .args .o)) (triple s) (found s) (weight s) (enough s) (i .given .0 .0) (f .first-over .result)
+    (options-in (bounded e)) (triple-in e) (none-out (f .before)) (f .first-over .ensures) (i .given .1)
 
 enum-told-2 : tie.Need-enum-told-2
 enum-told-2 c = search needs

@@ -98,7 +98,8 @@ loop-again c =
       omega (arith, i),
       even-kept (here h) new k (l .inv .1),
       k .kx ∙ l .inv .2,
-      w .ensures ∙ fill-step none (lamps (a .c) (a .xs .now) (a .ys .now) (a .energies .now)) (rows (columns s)) (rows (here h)) (l .place) (lamp (v .convert .result) e (l .place)) (l .inv .3)
+      fill-step none (lamps (a .c) (a .xs .now) (a .ys .now) (a .energies .now)) (rows (columns s)) (rows (here h)) (rows new) (l .place)
+          (lamp (v .convert .result) e (l .place)) (w .ensures) (l .inv .3)
           (omega (arith, i, lamps-length (a .c) (a .xs .now) (a .ys .now) (a .energies .now) (s .pre .1))) (omega (arith, i, rows-length (columns s), s .pre .2)) q,
     )
 

@@ -81,9 +81,10 @@ module _ (c : CoordinateSystem) (xs ys : List Float) (ws : List ℕ) (e : length
       ∙ ap (λ (j : ℕ). lamp (converted c (record { x = getD xs k nan; y = getD ys k nan })) (getD ws j 0) j) q
 
 -- one more entry of F is written over R, which has t so far
-pub fill-step : {A : Type 0} (d : A) (F R t : List A) (i : ℕ) (e : A) → t ≡ take i F ++ drop i R → i < length F → i < length R → getD F i d ≡ e → set t i e ≡ take (i + 1) F ++ drop (i + 1) R
-fill-step {A} d F R t i e h a b q =
-    rw h (ap (λ (l : List A). set (take i F ++ l) i e) (drop-cons R i d b)
+pub fill-step : {A : Type 0} (d : A) (F R t t′ : List A) (i : ℕ) (e : A) → t′ ≡ set t i e → t ≡ take i F ++ drop i R
+    → i < length F → i < length R → getD F i d ≡ e → t′ ≡ take (i + 1) F ++ drop (i + 1) R
+fill-step {A} d F R t t′ i e w h a b q =
+    w ∙ rw h (ap (λ (l : List A). set (take i F ++ l) i e) (drop-cons R i d b)
     ∙ set-at (take i F) (getD R i d) (drop (suc i) R) e i (length-take-le i F (omega arith))
     ∙ sym (append-snoc (take i F) e (drop (suc i) R))
     ∙ ap (λ (f : A). take i F ++ (f ∷ []) ++ drop (suc i) R) (sym q)

@@ -3,7 +3,7 @@
 use mathlib.Core.Path.{_≡_, refl, ap, sym, _∙_}
 use mathlib.Core.Bool.{Bool, true, false}
 use mathlib.Core.List.{List, _++_, map}
-use Prim.Native.Nat.{ℕ, _+_, _*_, _≤_, min}
+use Prim.Native.Nat.{ℕ, _+_, _*_, _/_, _≤_, min}
 use native.Mathlib.Omega.{arith}
 use borrow.Author.Tests.{leb-true, eqb-true}
 use lib.Dec.{leb, eqb}
@@ -21,7 +21,7 @@ use Rattle.supercluster.specs.declared.LoadReply.the-variants.{Done, Opt
 use Rattle.build_tables.specs.laws.Columns.{xs-rows, ys-rows, seen-rows, id-rows, parent-rows, num-rows, energy-rows}
 use Rattle.build_tables.specs.Entries.{Table}
 use Rattle.build_tables.specs.Options.{optionsOk}
-use Rattle.build_tables.specs.Room.{columns, roomOf}
+use Rattle.build_tables.specs.Room.{columns, roomBy, roomOf}
 use Rattle.build_tables.specs.laws.Roomy.{low, high, each-roomy, room-index, index-roomy}
 use Rattle.build_tables.specs.Rows.{Cols, rows, each2}
 use Rattle.build_tables.specs.laws.Rows.{Even, each}
@@ -30,7 +30,9 @@ use Rattle.build_tables.specs.declared.Options.{Options}
 use Rattle.build_tables.specs.declared.State.{State}
 use Rattle.build_all_zooms.specs.Zooms.{joined, joinedIds, joinedCo, laidOver}
 use Rattle.supercluster.specs.Build.{convertedAll, tablesOf, BuildColumns, buildColumns, written, need, roomy, tripleOk, ordered, firstOver}
-use Rattle.supercluster.specs.Build.{checked, byReply, loaded}
+use Rattle.supercluster.specs.Build.{checked, byReply, loaded, outcome, refusedBuild, builtState}
+use Rattle.build_tables.specs.State.{newState}
+use Rattle.supercluster.specs.declared.Loaded.{Loaded}
 use Rattle.supercluster.specs.laws.Fill.{pxs, pys, none-over}
 use Rattle.supercluster.specs.laws.Over.{over-map, cut-over}
 use Rattle.supercluster.specs.laws.Ready.{Accepted, Made}
@@ -161,3 +163,34 @@ module _ (o : Options) (xs ys : List Float) (ws : List ℕ) (m : ℕ) (l l′ : 
 pub by-reply : (o : Options) (xs ys : List Float) (ws : List ℕ) (l : BuildColumns) (r r′ : LoadReply) → r ≡ checked o xs ys ws l → r ≡ r′ → loaded o xs ys ws l ≡ byReply o xs ys ws l r′
 unfolding loaded
 by-reply o xs ys ws l r r′ e f = ap (byReply o xs ys ws l) (sym e ∙ f)
+
+module _ (o : Options) (xs ys : List Float) (ws : List ℕ) (l : BuildColumns) where
+  -- the reply is what is checked, where the room that was counted is that of the ten columns
+  pub checked-by : (room : ℕ) (r : LoadReply)
+      → (let t = l .table in
+      let index = min (length (l .ids)) (length (l .coords) / 2) in
+      room ≡ min (roomBy (length (t .x)) (length (t .y)) (length (t .seen)) (length (t .id)) (length (t .parent)) (length (t .num))
+      (length (t .energy)) index) (length (l .near)))
+      → (let ps = convertedAll (o .«coordinate_system») xs ys in
+      r ≡ ordered (optionsOk o) (tripleOk xs ys ws) (firstOutside (pxs ps) (pys ps) 0) (firstOver ws 0) (leb (need o (length xs)) room))
+      → r ≡ checked o xs ys ws l
+  unfolding checked
+  checked-by room r h e = rw (sym h) e
+
+  -- all tables, where it is no refusal
+  pub tables-told : (r : LoadReply) (s : State) (c : BuildColumns) → r ≡ checked o xs ys ws l → r ≡ Done
+      → s ≡ builtState o (length xs) (tablesOf o xs ys ws)
+      → c ≡ written (o .«node_size») (length xs) (tablesOf o xs ys ws) l
+      → outcome (record { reply = Done; state = s }) c ≡ loaded o xs ys ws l
+  tables-told r s c e f p q =
+      let t : outcome (record { reply = Done; state = s }) c ≡ byReply o xs ys ws l Done =
+      λ i. record { reply = record { reply = Done; state = p i }; columns = q i } in
+      t ∙ sym (by-reply o xs ys ws l r Done e f)
+
+  -- and no table and no column written beside a refusal
+  pub refusal-told : (r b : LoadReply) (q : Loaded) → r ≡ checked o xs ys ws l → r ≡ b → byReply o xs ys ws l b ≡ refusedBuild o b l
+      → q .reply ≡ b → q .state ≡ newState o 0
+      → outcome q l ≡ loaded o xs ys ws l
+  refusal-told r b q e f h g k =
+      let t : outcome q l ≡ refusedBuild o b l = λ i. record { reply = record { reply = g i; state = k i }; columns = l } in
+      t ∙ sym (by-reply o xs ys ws l r b e f ∙ h)

@@ -10,6 +10,8 @@ use lib.ListN.{length, getD, set, take, drop, replicate}
 use lib.Seq.{take-append-seam}
 use lib.Ieee.{Float}
 use Rattle.kdslots.specs.laws.All.{All, all-map}
+use Rattle.kdsort.specs.Cols.{IndexCols as Index}
+use Rattle.kdbush.specs.Reply.{indexOf}
 use Rattle.build_tables.specs.laws.Bounds.{options-are}
 use Rattle.build_tables.specs.Columns.{part}
 use Rattle.build_tables.specs.laws.Columns.{xs-part, ys-part}
@@ -26,6 +28,7 @@ use Rattle.build_all_zooms.specs.Zooms.{indexOfTable, zoomPlan, runZooms, zooms
 use Rattle.kdbush.specs.laws.Indexed.{Inside}
 use Rattle.build_all_zooms.specs.laws.Parts.{putAt, part-put}
 use Rattle.build_all_zooms.specs.laws.Progress.{Finished, starts-again, lens-again}
+use Rattle.build_all_zooms.specs.laws.Zooming.{part-index}
 use Rattle.build_all_zooms.specs.laws.Running.{Able, Running, table-inside, slots-ids, slots-co}
 use Rattle.supercluster.specs.Build.{convertedAll, tablesOf, builtState, need, mostEnergy}
 use Rattle.supercluster.specs.laws.Fill.{lamps, lamps-length, converted-length, finest-fine, finest-total, finest-watts, pxs, pys}
@@ -48,6 +51,16 @@ pub record Made (o : Options) (xs ys : List Float) (ws : List ℕ) (s : State) (
   pub of-ids : ids′ ≡ laidOver (joinedIds (o .«node_size») (tablesOf o xs ys ws)) ids
   pub of-co : co′ ≡ laidOver (joinedCo (o .«node_size») (tablesOf o xs ys ws)) co
   pub of-near : near′ ≡ replicate (length xs + length xs) 0
+
+-- the index of the first n entries of columns is that of the table's rows: its slots and their coordinates, as they are put down
+module _ (size n : ℕ) (c : Cols) (e : length (c .y) ≡ length (c .x)) where
+  pub slots-put : (ids ids₀ : List ℕ) → ids ≡ putAt 0 n (indexOf size (part 0 n (c .x)) (part 0 n (c .y)) .ids) ids₀
+      → ids ≡ putAt 0 n (indexOfTable size (part 0 n (rows c)) .ids) ids₀
+  slots-put ids ids₀ h = h ∙ ap (λ (q : Index). putAt 0 n (q .ids) ids₀) (part-index size 0 n c e)
+
+  pub coords-put : (co co₀ : List Float) → co ≡ putAt 0 (n * 2) (indexOf size (part 0 n (c .x)) (part 0 n (c .y)) .co) co₀
+      → co ≡ putAt 0 (n * 2) (indexOfTable size (part 0 n (rows c)) .co) co₀
+  coords-put co co₀ h = h ∙ ap (λ (q : Index). putAt 0 (n * 2) (q .co) co₀) (part-index size 0 n c e)
 
 -- the state before the first zoom: the finest table alone
 abbrev pub firstState : Options → ℕ → State

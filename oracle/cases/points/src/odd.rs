@@ -37,9 +37,3 @@ pub const EDGES: [f64; 10] = [
 /// Coordinates that a lent column may hold, most of which no build leaves there.
 pub const WILD: [f64; 12] =
     [NAN, INF, -INF, MAX, -MAX, 1e200, -1e-200, -0.0, 1.0, ABOVE_1, 1.5, 0.25];
-
-/// The same but for the two just past 1.
-pub const WILDEST: [f64; 10] = {
-    let [a, b, c, d, e, f, g, h, i, _, _, l] = WILD;
-    [a, b, c, d, e, f, g, h, i, l]
-};

@@ -1,5 +1,5 @@
-//! SCOPE's worked lines, each put to the builds of the Rust: the table lister, 'The worked example',
-//! 'Easy to get wrong', and a few more answers that SCOPE's text fixes.
+//! SCOPE's worked lines, each put to the builds of the Rust: the table lister, 'The worked example', what is easy to
+//! get wrong, and a few more answers that SCOPE's text fixes.
 
 use crate::{
     attempt::attempt,
@@ -14,7 +14,7 @@ use std::{hint::black_box, process::ExitCode};
 /// What is compared, what SCOPE says, and the question to the Rust.
 type Line = (&'static str, &'static str, fn() -> String);
 
-/// Lines of 'Worked on that build' that the Rust does not have: it refuses no option and no id, and lists all at
+/// Lines of 'The worked example' that the Rust does not have: it refuses no option and no id, and lists all at
 /// limit 0 where SCOPE lists nothing.
 const NOT_THE_RUSTS: [&str; 4] = [
     "id 3 refused 6",
@@ -62,7 +62,7 @@ fn compare(lines: Vec<Line>, build: &str, report: &mut Report) {
     }
 }
 
-/// 'Worked on that build': ids, children, leaves, expansion zoom.
+/// 'The worked example': ids, children, leaves, expansion zoom.
 fn ids_and_walks<J: Judge>() -> Vec<Line> {
     vec![
         ("id 70 decodes to origin 2, table 2", "2,2", || decoded::<J>(70)),
@@ -80,7 +80,7 @@ fn ids_and_walks<J: Judge>() -> Vec<Line> {
     ]
 }
 
-/// 'Worked on that build': tiles, rounding, the largest max_zoom.
+/// 'The worked example': tiles, rounding, the largest max_zoom.
 fn tiles_and_bounds<J: Judge>() -> Vec<Line> {
     vec![
         ("tile (0,0,0) lists entry 0 at (176,256)", "entry 0 at (176,256)", tile_000::<J>),
@@ -91,7 +91,7 @@ fn tiles_and_bounds<J: Judge>() -> Vec<Line> {
     ]
 }
 
-/// 'Easy to get wrong'.
+/// What is easy to get wrong: only free neighbours count, sums and copies follow the answers, both strips run at z = 0.
 fn easy_to_get_wrong<J: Judge>() -> Vec<Line> {
     const SINGLE: &str = "2: 0,1,2,3 of 1,1,1,1; 1: 0,1,2,3 of 1,1,1,1; 0: 0,1,2,3 of 1,1,1,1";
     const STRIPS: &str = "(0,256),(512,256),(0,256),(512,256)";
@@ -106,7 +106,7 @@ fn easy_to_get_wrong<J: Judge>() -> Vec<Line> {
     ]
 }
 
-/// Answers outside those sections that SCOPE's text fixes.
+/// Further answers that SCOPE's text fixes.
 fn further<J: Judge>() -> Vec<Line> {
     vec![
         ("id 38 has no children: refused 6", "ClusterNotFound", || children::<J>(38)),

@@ -53,7 +53,7 @@ fn outcome(child: &mut Child, status: ExitStatus) -> String {
     if status.success() {
         out.trim_end().to_string()
     } else if err.contains("overflowed its stack") {
-        "overflows its stack; the process ends".to_string()
+        "overflows its stack".to_string()
     } else {
         format!("ends with {status}: {}", err.trim_end())
     }

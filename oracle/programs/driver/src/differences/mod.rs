@@ -64,6 +64,7 @@ pub fn run(page: &str) -> ExitCode {
     let rows = page::rows(page);
     let with_checks = overflow_checks();
     println!("overflow checks: {}", if with_checks { "on" } else { "off" });
+    let profile = if with_checks { ", checked" } else { "" };
     let mut report = Report::default();
     compare_codes(&rows, &mut report);
     let builds = [
@@ -79,8 +80,9 @@ pub fn run(page: &str) -> ExitCode {
     ];
     for (build, cases, held) in builds {
         for case in cases {
-            let expected = |row: &Row| row.outcome(held, with_checks).to_string();
-            compare(build, &case, &rows, expected, &mut report);
+            let row = rows.iter().find(|row| row.code == case.code).unwrap_or(&page::MISSING);
+            let what = format!("{build}{profile}: {} {}", case.code, row.input);
+            report.compare(&what, row.outcome(held, with_checks), &found(build, &case));
         }
     }
     report.finish("differences")
@@ -105,20 +107,12 @@ fn missing(codes: &[&str], others: &[&str]) -> String {
     listed(&missing)
 }
 
-fn compare(
-    build: &str,
-    case: &Case,
-    rows: &[Row],
-    expected: impl Fn(&Row) -> String,
-    report: &mut Report,
-) {
-    let row = rows.iter().find(|row| row.code == case.code).unwrap_or(&page::MISSING);
-    let found = match case.apart {
+/// What the case gives.
+fn found(build: &str, case: &Case) -> String {
+    match case.apart {
         true => child::run(case.code, build),
         false => attempt(case.ask),
-    };
-    let what = format!("{build}: {} {}", case.code, row.input);
-    report.compare(&what, &expected(row), &found);
+    }
 }
 
 /// Runs one case of one build in this process and prints the outcome: the other side of `child::run`.
@@ -156,11 +150,15 @@ fn told<T>(answer: Result<Vec<T>, String>, show: fn(&[T]) -> String) -> String {
     answer.map_or_else(|error| error, |items| show(&items))
 }
 
-/// How many entries each table has, from the finest down: `tables of 4,2,1`.
-fn lengths<J: Judge>(build: &J) -> String {
+/// How many entries each table has, from the finest down: `4,2,1`.
+fn entries<J: Judge>(build: &J) -> String {
     let tables = (0..=256).rev().filter_map(|zoom| build.table(zoom));
-    let lengths: Vec<String> = tables.map(|table| table.len().to_string()).collect();
-    format!("tables of {}", lengths.join(","))
+    listed(&tables.map(|table| table.len()).collect::<Vec<_>>())
+}
+
+/// The same where nothing else says that these are tables: `tables of 4,2,1`.
+fn lengths<J: Judge>(build: &J) -> String {
+    format!("tables of {}", entries(build))
 }
 
 /// Points spread over the unit square, with no two alike on an axis.

@@ -1,6 +1,6 @@
 //! Options outside SCOPE's bounds: SCOPE refuses 1, the Rust builds or panics.
 
-use super::{apart, case, lamps, lengths, load, told, Case};
+use super::{apart, case, entries, lamps, load, told, Case};
 use crate::{
     attempt::attempt,
     plain::{ids, spots, Options, Plane, Range, UNIT, WORKED},
@@ -61,7 +61,7 @@ fn max_zoom_31<J: Judge>() -> String {
     let id = build.table(0).expect("table 0")[0].id as usize;
     let (origin, table) = build.decode(id);
     let children = told(build.children(id), ids);
-    format!("cluster {id} decodes to origin {origin}, table {table}; its children: {children}")
+    format!("cluster {id} decodes to origin {origin}, table {table}; children: {children}")
 }
 
 /// Two lamps that are one cluster from table 1 down.
@@ -69,19 +69,19 @@ fn max_zoom_255<J: Judge>() -> String {
     let options = Options { max_zoom: 255, ..WORKED };
     let build = load::<J>(options, &[[0.4375, 0.5], [0.5, 0.5]]);
     let found = attempt(|| told(build.in_box([0.0, 0.0, 1.0, 1.0], 255), ids));
-    format!("builds; box: {found}")
+    format!("box: {found}")
 }
 
 fn min_zoom_2<J: Judge>() -> String {
     let options = Options { min_zoom: 2, ..WORKED };
-    lengths(&lamps::<J>(options))
+    entries(&lamps::<J>(options))
 }
 
 /// Lamps too far from each other to form a cluster.
 fn node_size<J: Judge>(node_size: usize, count: usize) -> String {
     let options = Options { node_size, ..WORKED };
     let lamps = [[0.0, 0.5], [0.5, 0.5], [1.0, 0.5], [0.25, 0.5]];
-    lengths(&load::<J>(options, &lamps[..count]))
+    entries(&load::<J>(options, &lamps[..count]))
 }
 
 fn radius<J: Judge>(radius: f64) -> String {
@@ -95,7 +95,7 @@ fn extent<J: Judge>(extent: f64) -> String {
 /// The lengths of the tables, and tile (0,0,0).
 fn with_tile<J: Judge>(build: J) -> String {
     let tile = told(build.tile(0, 0.0, 0.0), spots);
-    format!("{}; tile: {tile}", lengths(&build))
+    format!("{}; {tile}", entries(&build))
 }
 
 fn scale<J: Judge>(scale: f64) -> String {
@@ -119,5 +119,5 @@ fn held<J: Judge>(range: Range) -> String {
     let options = Options { plane: Plane::Cartesian(range), ..WORKED };
     let build = load::<J>(options, &[[0.25, 0.5]]);
     let entry = build.table(2).expect("table 2")[0];
-    format!("holds ({},{})", entry.x, entry.y)
+    format!("({},{})", entry.x, entry.y)
 }

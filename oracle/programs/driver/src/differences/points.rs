@@ -29,5 +29,5 @@ fn held<J: Judge>(options: Options, point: [f64; 2]) -> String {
     let build = load::<J>(options, &[point]);
     let entry = build.table(2).expect("table 2")[0];
     let found = listed(&build.within(2, entry.x, entry.y, 0.25));
-    format!("holds ({},{}); a ring there: {found}", entry.x, entry.y)
+    format!("holds ({},{}); ring: {found}", entry.x, entry.y)
 }

@@ -28,8 +28,8 @@ fn tables(count: u32) -> String {
 
 fn alike(same: bool) -> String {
     let text = match same {
-        true => "untouched and patched are alike",
-        false => "untouched and patched differ",
+        true => "alike",
+        false => "different",
     };
     text.to_string()
 }

@@ -9,7 +9,7 @@ use super::{
 };
 use crate::{report::Group, Form};
 use points::{
-    odd::{EDGES, WILDEST},
+    odd::{EDGES, WILD},
     SHAPES,
 };
 use reachvolem::lent::Index as Lent;
@@ -40,9 +40,9 @@ fn columns(count: usize, node_size: usize, round: usize, source: &mut Splitmix) 
     let mut columns = rust::patched(node_size, &points.xs, &points.ys);
     match round % 7 {
         0 => columns.coords.iter_mut().for_each(|v| *v = source.unit()),
-        1 => columns.coords.iter_mut().for_each(|v| *v = source.pick(&WILDEST)),
+        1 => columns.coords.iter_mut().for_each(|v| *v = source.pick(&WILD)),
         2 => columns.coords.iter_mut().for_each(|v| *v = source.pick(&EDGES)),
-        3 => change_some(&mut columns.coords, source, |source| source.pick(&WILDEST)),
+        3 => change_some(&mut columns.coords, source, |source| source.pick(&WILD)),
         4 => change_some(&mut columns.coords, source, |source| source.unit()),
         5 => change_medians(&mut columns.coords, source),
         _ => {}
@@ -73,7 +73,7 @@ fn change_medians(coords: &mut [f64], source: &mut Splitmix) {
     let m = last / 2;
     for (slot, axis) in [(m, 0), (m / 2, 1), ((m + 1 + last) / 2, 1)] {
         if source.below(3) > 0 {
-            coords[2 * slot.min(last) + axis] = source.pick(&WILDEST);
+            coords[2 * slot.min(last) + axis] = source.pick(&WILD);
         }
     }
 }

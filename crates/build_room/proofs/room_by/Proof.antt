@@ -1,7 +1,7 @@
--- `build_tables::room_by` meets its contract: the least of the lengths, two at a time. Assumes nothing.
+-- `build_room::room_by` meets its contract: the least of the lengths, two at a time. Assumes nothing.
 use borrow.Author.Needs.{needs}
-use Rattle.build_tables.proofs.room_by.Statement.{statement}
-use Rattle.build_tables.proofs.room_by.Tie as tie
+use Rattle.build_room.proofs.room_by.Statement.{statement}
+use Rattle.build_room.proofs.room_by.Tie as tie
 
 less-requires : tie.Need-less-requires
 less-requires c κs = search needs

@@ -1,7 +1,7 @@
--- `build_tables::room` meets its contract: it is `room_by` of the lengths. Assumes nothing.
+-- `build_room::room` meets its contract: it is `room_by` of the lengths. Assumes nothing.
 use borrow.Author.Needs.{needs}
-use Rattle.build_tables.proofs.room.Statement.{statement}
-use Rattle.build_tables.proofs.room.Tie as tie
+use Rattle.build_room.proofs.room.Statement.{statement}
+use Rattle.build_room.proofs.room.Tie as tie
 
 index-room-requires : tie.Need-index-room-requires
 index-room-requires c κs = search needs
