@@ -69,11 +69,11 @@ goesRound (Cartesian d) = false
 unfoldable pub wraps : Options → Bool
 wraps o = cond (o .«longitude_strips_only») (goesRound (o .«coordinate_system»)) true
 
--- for x = 0 the strip 1 - p / z2 to 1, x replaced by z2
+-- the east strip, of a tile in column 0: x from 1 - p / z2 up to 1, and the tile's own x counts as z2
 unfoldable pub eastStrip : Options → ℕ → ℕ → ℕ → Search
 eastStrip o z x y = strip o z y (wraps o && eqb x 0) (sub binary64 one (edge o z)) one (side z)
 
--- for x = z2 - 1 the strip 0 to p / z2, x replaced by -1
+-- the west strip, of a tile in the last column: x from 0 up to p / z2, and the tile's own x counts as -1
 unfoldable pub westStrip : Options → ℕ → ℕ → ℕ → Search
 westStrip o z x y = strip o z y (wraps o && eqb (x + 1) (2 ^ z)) zero (edge o z) (neg one)
 
@@ -111,7 +111,7 @@ unfoldable pub wholeTile : Table → List Visit → Bool
 wholeTile t [] = true
 wholeTile t (v ∷ vs) = elim (listable t (v .place)) [ true ↦ wholeTile t vs | false ↦ false ]
 
--- extent * (c * z2 - v), rounded to the nearest whole number, halves away from zero
+-- extent * (c * z2 - v) as a whole number, a half rounded away from zero
 unfoldable pub rounded : Search → Float → Float → ℤ
 rounded g c v = away (mul binary64 (g .extent) (sub binary64 (mul binary64 c (g .z2)) v))
 

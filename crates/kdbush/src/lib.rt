@@ -156,8 +156,8 @@ fn scan(
     Found::All(k)
 }
 
-// Answers the slots from lo up to hi: the median if it passes, then the right part, then the left; an interval of at most `most` slots
-// one by one.
+// Answers the slots from lo up to hi: at most `most` of them one by one; of more the median first, where it passes, next the right part
+// and last the left one.
 fn part(
     q: Query,
     ids: &[u32],

@@ -1,11 +1,11 @@
 // Replays test vectors on the crate `supercluster`, and says whether its builds are those that the vectors expect. A vector is a line of
 // standard input: words of 16 lowercase hexadecimal digits, a space after each, and a line end after the last. min_zoom max_zoom
 // min_points radius extent node_size cartesian min_x min_y max_x max_y offset_given offset scale_given scale longitude_strips_only, as
-// `stored` reads these, n, n times `x y`, n energies, m, m times `x y seen id parent num energy slot_id slot_x slot_y`, `start len` for
-// each zoom from min_zoom to max_zoom + 1 The n points are built in columns that are filled with old contents. Expected are the m entries
-// of all tables, the slots of their indexes at the same positions, zeros in the first 2n of `near`, the old contents past all of these,
-// and in the state the options, n, and zeros as start and length of the other zooms. n goes to 64, and the tables to 1152 entries in all;
-// a case beyond is not of the form, nor is one with a max_zoom that is past 30 or below min_zoom. Proved: nothing here reads or writes
+// `replay_options` reads these, n, n times `x y`, n energies, m, m times `x y seen id parent num energy slot_id slot_x slot_y`, `start
+// len` for each zoom from min_zoom to max_zoom + 1. The n points are built in columns that are filled with old contents. Expected are the
+// m entries of all tables, the slots of their indexes at the same positions, zeros in the first 2n of `near`, the old contents past all of
+// these, and in the state the options, n, and zeros as start and length of the other zooms. n goes to 64, and the tables to 1152 entries in
+// all; a case beyond is not of the form, nor is one with a max_zoom that is past 30 or below min_zoom. Proved: nothing here reads or writes
 // outside its columns, the verdict of a case is the equation `loadsTo` of specs/, and the tally is right. Assumed: what standard input
 // gives is not modelled, so that the loops that read are only proved to be safe.
 use build_tables::Entry;

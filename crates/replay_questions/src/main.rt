@@ -1,6 +1,6 @@
 // Replays test vectors of the questions to a build, and says whether the answers are those that the vectors expect.
 // A vector is a line of standard input: words of 16 lowercase hexadecimal digits, a space after each, and a line end after the last.
-//     min_zoom max_zoom, the options as `stored` reads them, n, 32 starts, 32 lengths, nine columns, k, k questions
+//     min_zoom max_zoom, the options as `replay_options` reads them, n, 32 starts, 32 lengths, nine columns, k, k questions
 // The columns are x, y, seen, id, parent, num, energy, ids and coords, each with its length before it: 64 at the most, of coords 128.
 // They are asked as they stand, so that states that no build made are among them.
 // A question is its kind, its numbers, the reply's number, and what the reply carries; k is 64 at the most.
