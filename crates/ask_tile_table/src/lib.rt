@@ -321,7 +321,7 @@ fn list_by(
 ) -> Ran
     requires { ⌜ Framed g ⌝ }
     requires { ⌜ Even (given x y seen id parent num energy) ⌝ }
-    requires { ⌜ (length (now x) ≤ length (now ids)) × (at + length (now x) < 2 ^ 64) ⌝ }
+    requires { let n = length (now x) in ⌜ (n ≤ length (now ids)) × (at + n < 2 ^ 64) ⌝ }
     ensures { λ r.
         let c = lentCols x y seen id parent num energy .entry in
         let vs = walkedTurns g (length (c .x)) (old ids) (old coords) in
@@ -373,7 +373,7 @@ pub fn list(
 ) -> Ran
     requires { ⌜ InBounds o × IsTile z tx ty ⌝ }
     requires { ⌜ Even (given x y seen id parent num energy) ⌝ }
-    requires { ⌜ (coordsOk (o .«node_size») (length (now x)) (length (now coords)) ≡ true) × (length (now x) ≤ length (now ids)) ⌝ }
+    requires { let n = length (now x) in ⌜ (coordsOk (o .«node_size») n (length (now coords)) ≡ true) × (n ≤ length (now ids)) ⌝ }
     ensures { λ r.
         let t = rows (lentCols x y seen id parent num energy .entry) in
         let vs = visited o z tx ty t (old ids) (old coords) in
@@ -626,7 +626,7 @@ fn tally_by(
     marks: &mut [u8],
 ) -> Running
     requires { ⌜ Even (given x y seen id parent num energy) ⌝ }
-    requires { ⌜ (length (now x) ≤ length (now ids)) × (marksFor few (length (now x)) ≤ 8 * length (now marks)) ⌝ }
+    requires { let n = length (now x) in ⌜ (n ≤ length (now ids)) × (marksFor few n ≤ 8 * length (now marks)) ⌝ }
     requires { ⌜ (r .count + length (now x) ≤ 4194304) × (r .sum ≤ r .count * 4294967295) ⌝ }
     ensures { λ a.
         let c = lentCols x y seen id parent num energy .entry in
@@ -696,7 +696,7 @@ fn add_with(
 ) -> Running
     requires { ⌜ InBounds o × IsTile z tx ty ⌝ }
     requires { ⌜ Even (given x y seen id parent num energy) ⌝ }
-    requires { ⌜ (coordsOk (o .«node_size») (length (now x)) (length (now coords)) ≡ true) × (length (now x) ≤ length (now ids)) ⌝ }
+    requires { let n = length (now x) in ⌜ (coordsOk (o .«node_size») n (length (now coords)) ≡ true) × (n ≤ length (now ids)) ⌝ }
     requires { ⌜ Blank few (length (now x)) (now marks) ⌝ }
     ensures { λ r.
         let t = rows (lentCols x y seen id parent num energy .entry) in
@@ -790,7 +790,7 @@ fn add_all(
 ) -> Running
     requires { ⌜ InBounds o × IsTile z tx ty ⌝ }
     requires { ⌜ Even (given x y seen id parent num energy) ⌝ }
-    requires { ⌜ (coordsOk (o .«node_size») (length (now x)) (length (now coords)) ≡ true) × (length (now x) ≤ length (now ids)) ⌝ }
+    requires { let n = length (now x) in ⌜ (coordsOk (o .«node_size») n (length (now coords)) ≡ true) × (n ≤ length (now ids)) ⌝ }
     ensures { λ r.
         let t = rows (lentCols x y seen id parent num energy .entry) in
         ⌜ r ≡ runningOf (weightIn z tx ty) t (visited o z tx ty t (old ids) (old coords)) ⌝ }
@@ -865,7 +865,7 @@ pub fn add_up(
 ) -> Running
     requires { ⌜ InBounds o × IsTile z tx ty ⌝ }
     requires { ⌜ Even (given x y seen id parent num energy) ⌝ }
-    requires { ⌜ (coordsOk (o .«node_size») (length (now x)) (length (now coords)) ≡ true) × (length (now x) ≤ length (now ids)) ⌝ }
+    requires { let n = length (now x) in ⌜ (coordsOk (o .«node_size») n (length (now coords)) ≡ true) × (n ≤ length (now ids)) ⌝ }
     ensures { λ r.
         let t = rows (lentCols x y seen id parent num energy .entry) in
         ⌜ r ≡ runningOf (weightIn z tx ty) t (visited o z tx ty t (old ids) (old coords)) ⌝ }
