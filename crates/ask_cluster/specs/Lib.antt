@@ -7,7 +7,5 @@ pub mod Leaves
 -- Expansion: the expansion zoom of a cluster: start at its table - 1; while at most max_zoom, fetch children and add 1; go on only with a
 -- sole child that is a cluster.
 pub mod Expansion
--- Fetch: what the private `fetch` says of the children of a cluster, as far as its callers go by them.
-pub mod Fetch
 -- What is true of these: laws, and what contracts below the surface of ask_cluster cite beside them.
 pub mod laws
