@@ -7,7 +7,5 @@ pub mod Leaves
 -- Expansion: the expansion zoom of a cluster: from its table - 1 on it grows by one with each search for children, to max_zoom + 1 at the
 -- most, and another search follows where a single cluster was found.
 pub mod Expansion
--- Fetch: what the private `fetch` says of the children of a cluster, as far as its callers go by them.
-pub mod Fetch
 -- What is true of these: laws, and what contracts below the surface of ask_cluster cite beside them.
 pub mod laws

@@ -20,7 +20,7 @@ ghost use Rattle.exports.specs.Laid.{replied, repliedOf, laid, laidOf};
 ghost use Rattle.exports.specs.Read.{entryAsked, lentEntry, readAs, readOf};
 ghost use Rattle.supercluster.specs.Build.{loaded};
 ghost use Rattle.supercluster.specs.Lent.{lentAll};
-ghost use Rattle.kdsort.specs.Cols.{indexCols};
+ghost use Rattle.kdsort.specs.Lent.{lentIndex};
 ghost use Rattle.range.specs.Range.{normalized, denormalized};
 ghost use Rattle.build_tables.specs.State.{stateOf};
 ghost use Rattle.build_tables.specs.Options.{zoomUsed};
@@ -47,9 +47,9 @@ pub extern "C" fn kdbush_build(
     coords: &mut [f64],
     carried: &mut usize,
 ) -> u32
-    ensures { λ r. ⌜ r ≡ buildNumber (indexChecked «node_size» (old xs) (old ys) (indexCols (old ids) (old coords))) ⌝ }
-    ensures { λ _. ⌜ new carried ≡ buildCarried (indexChecked «node_size» (old xs) (old ys) (indexCols (old ids) (old coords))) ⌝ }
-    ensures { λ _. ⌜ indexCols (new ids) (new coords) ≡ built «node_size» (old xs) (old ys) (indexCols (old ids) (old coords)) ⌝ }
+    ensures { λ r. let c = lentIndex ids coords in ⌜ r ≡ buildNumber (indexChecked «node_size» (old xs) (old ys) (c .entry)) ⌝ }
+    ensures { λ _. let c = lentIndex ids coords in ⌜ new carried ≡ buildCarried (indexChecked «node_size» (old xs) (old ys) (c .entry)) ⌝ }
+    ensures { λ _. let c = lentIndex ids coords in ⌜ c .exit ≡ built «node_size» (old xs) (old ys) (c .entry) ⌝ }
 {
     let r = kdbush::build(node_size, xs, ys, ids, coords);
     *carried = r.carried();
