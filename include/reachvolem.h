@@ -250,8 +250,8 @@ uint32_t supercluster_box(
     uint32_t *out, size_t out_len,
     size_t *carried);
 
-/* The same within so many tests, the allowance, which run over both halves of a box across the date line. Beside what was found,
-   tested is how many slots were tested, and stopped whether a test was still due. Written and refused as for supercluster_box, but
+/* The same within so many tests, the allowance, which the two halves of a box that crosses the date line share. Beside what was found,
+   tested is how many slots were tested, and stopped whether a test was left. Written and refused as for supercluster_box, but
    10 and 11 in the walk look only at the tests made. 0 and 10 leave tested and stopped as they come out; the other refusals 0 and
    false. */
 uint32_t supercluster_box_effort(
@@ -468,8 +468,8 @@ uint32_t supercluster_tile(
     int64_t *py, size_t py_len,
     size_t *carried);
 
-/* The sum of num over the distinct entries that the tile (z, tile_x, tile_y) lists and whose centre it holds, as what is carried; 0
-   where it lists none. Refused in this order: 11 by the state, 7 no such tile, 11 in the walk. */
+/* The nums of the entries that the tile (z, tile_x, tile_y) lists and whose centre it holds, added up, each entry once, as what is
+   carried; 0 where it lists none. Refused in this order: 11 by the state, 7 no such tile, 11 in the walk. */
 uint32_t supercluster_tally(
     uint8_t min_zoom,
     uint8_t max_zoom,

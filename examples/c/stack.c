@@ -1,6 +1,6 @@
 /* Measures how much stack each call takes: it runs on a thread whose stack is painted before, and what the call has painted over is
-   counted, less what a thread takes that calls nothing. Builds are the deepest that there are: a million points in an index of node_size 1, and 31
-   clusters one in the other. Exit status 0 only where each call stays within the bytes that reachvolem.h names. */
+   counted, less what a thread takes that calls nothing. Builds are the deepest that there are: a million points in an index of
+   node_size 1, and 31 clusters one in the other. Exit status 0 only where each call stays within the bytes that reachvolem.h names. */
 #define _POSIX_C_SOURCE 200809L
 #include <pthread.h>
 #include <stdio.h>

@@ -79,8 +79,9 @@ def add_own(name: str, one: argparse.ArgumentParser) -> None:
     if name in ("leaves", "children"):
         one.add_argument("id", type=int, metavar="ID", help="the cluster's id, as the tables have it")
     if name == "box":
-        for corner in ("west", "south", "east", "north"):
-            one.add_argument(corner, type=float, metavar=corner[0].upper(), help=f"the {corner}ern edge, in the file's coordinates")
+        for corner, plan in (("west", "least x"), ("south", "least y"), ("east", "greatest x"), ("north", "greatest y")):
+            edge = f"a map's {corner}ern edge or a plan's {plan}, as in the file"
+            one.add_argument(corner, type=float, metavar=corner[0].upper(), help=edge)
     if name == "tile":
         for word in "zxy":
             one.add_argument(word, type=int, metavar=word.upper(), help=f"the tile's {word}")

@@ -49,7 +49,7 @@ class TileItem(NamedTuple):
 
 
 class Effort(NamedTuple):
-    """What a box with an allowance found, how many slots were tested, and whether a test was still due."""
+    """What a box with an allowance found, how many slots were tested, and whether a test was left."""
 
     entries: List[Entry]
     tested: int

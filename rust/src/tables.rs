@@ -25,7 +25,7 @@ pub struct Found {
     pub places: Vec<u32>,
     /// How many slots were tested.
     pub tested: usize,
-    /// Whether it stopped with a test still due.
+    /// Whether a test was left.
     pub stopped: bool,
 }
 

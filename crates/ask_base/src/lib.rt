@@ -235,7 +235,7 @@ pub fn ring_of(
 pub fn next_in(g: Ring, coords: &[f64], page: &mut [usize], p: Pages) -> Turned
     requires { ⌜ InRing g (now coords) ⌝ }
     ensures { λ r. ⌜ r .step ≡ nextStep Done (aheadIn g (old coords) (old page) p) ⌝ }
-    ensures { λ r. ⌜ aheadIn g (old coords) (new page) (r .pages) ≡ tailOf (aheadIn g (old coords) (old page) p) ⌝ }
+    ensures { λ r. let c = old coords in ⌜ aheadIn g c (new page) (r .pages) ≡ tailOf (aheadIn g c (old page) p) ⌝ }
 {
     let from = 2 * g.start;
     let to = from + 2 * g.len;

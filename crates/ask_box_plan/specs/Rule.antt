@@ -53,8 +53,8 @@ boxOf c west least east greatest =
 abbrev pub ruledBox : Float → Float → Float → Float → Query
 ruledBox west least east greatest = boxOf LatLng (newWest west east) least (newEast west east) greatest
 
--- what is searched for a box, one after the other: it alone; or, where it splits, the box (w, 180), then (-180, e), each put through the
--- same rule again
+-- what is searched for a box, one after the other: it alone; or, where it splits, first from w to 180 and then from -180 to e, both by
+-- this rule once more
 unfoldable pub planOf : CoordinateSystem → Float → Float → Float → Float → List Query
 planOf LatLng west least east greatest =
     cond (splits west east)

@@ -50,7 +50,7 @@ pub fn next_child(
     requires { ⌜ AllBelow (g .len) (aheadIn g (now coords) (now page) from) ⌝ }
     ensures { λ r.
         let c = lentColumns x y seen id parent num energy ids coords in
-        ⌜ childIn g (old coords) (new page) r ≡ nextIn g c cid (aheadIn g (old coords) (old page) from) ⌝ }
+        ⌜ childIn g (c .coords) (new page) r ≡ nextIn g c cid (aheadIn g (c .coords) (old page) from) ⌝ }
 {
     let start = g.start;
     let len = g.len;

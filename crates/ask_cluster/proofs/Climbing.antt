@@ -20,7 +20,7 @@ use Rattle.ask_cluster.specs.declared.Expansion.the-variants.{At, NoClus
 use Rattle.ask_cluster.specs.declared.Fetched.{Fetched}
 use Rattle.ask_cluster.specs.declared.Fetched.the-variants.{Cluster, Nobody, Others, Spoiled as Fetched·Spoiled}
 use Rattle.ask_cluster.specs.Expansion.{fetched, expand}
-use Rattle.ask_cluster.specs.Fetch.{sole, fetchedAt}
+use Rattle.ask_cluster.specs.laws.Fetch.{sole, fetchedAt}
 
 -- ---- a turn of the definition is a fetch
 

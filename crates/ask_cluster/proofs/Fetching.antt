@@ -19,7 +19,7 @@ use Rattle.ask_child_walk.specs.declared.Kids.the-variants.{All, Spoiled as Kid
 use Rattle.ask_child_walk.specs.Kids.{kidsAt}
 use Rattle.ask_child_walk.specs.laws.Next.{tableIn, kids-below}
 use Rattle.ask_cluster.specs.declared.Fetched.the-variants.{Cluster, Nobody, Others, Spoiled}
-use Rattle.ask_cluster.specs.Fetch.{sole, fetchedAt}
+use Rattle.ask_cluster.specs.laws.Fetch.{sole, fetchedAt}
 use Rattle.ask_cluster.proofs.Led.{none-is, Looked, looked-column, looked-spoiled, looked-all}
 
 sole-is : (l : List ℕ) → length l ≡ 1 → l ≡ getD (filled l (0 ∷ [])) 0 0 ∷ []

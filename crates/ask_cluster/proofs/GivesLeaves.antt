@@ -29,7 +29,7 @@ use Rattle.ask_cluster.specs.declared.Walk.{Walk}
 use Rattle.ask_cluster.specs.declared.Walk.the-variants.{Went, Broke, Childless}
 use Rattle.ask_cluster.specs.Children.{atTarget}
 use Rattle.ask_cluster.specs.Leaves.{broke, leafWalk, leavesListed, leavesAt, leavesOf}
-use Rattle.ask_cluster.specs.Fetch.{sole, fetchedAt}
+use Rattle.ask_cluster.specs.laws.Fetch.{sole, fetchedAt}
 use Rattle.ask_cluster.specs.laws.Column.{childlessOf, Behind, TellsColumn, Walked}
 use Rattle.ask_cluster.proofs.Led.{Gives, gives, gives-refused, Led, leads}
 

@@ -4,7 +4,8 @@ use Prim.Native.Nat.{ℕ}
 use Rattle.build_tables.specs.declared.State.{State}
 use Rattle.ask_base.specs.declared.Answer.the-variants.{NoTree, NoCluster, Spoiled}
 use Rattle.ask_base.specs.declared.Target.{Target}
-use Rattle.ask_base.specs.declared.Target.the-variants.{At, Spoiled as Target·Spoiled, NoTree as Target·NoTree, NoCluster as Target·NoCluster}
+use Rattle.ask_base.specs.declared.Target.the-variants.{At, Spoiled as Target·Spoiled}
+use Rattle.ask_base.specs.declared.Target.the-variants.{NoTree as Target·NoTree, NoCluster as Target·NoCluster}
 use Rattle.ask_base.specs.Asked.{Asked, refused, told}
 use Rattle.build_tables.specs.Room.{Columns, roomOf}
 use Rattle.ask_base.specs.Ids.{targetOf}

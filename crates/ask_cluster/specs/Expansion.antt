@@ -1,5 +1,5 @@
--- The expansion zoom of a cluster: start at its table - 1; while at most max_zoom, fetch children and add 1; go on only with a sole child
--- that is a cluster. Definitions only.
+-- The expansion zoom of a cluster: from its table - 1 on it grows by one with each search for children, to max_zoom + 1 at the most, and
+-- another search follows where a single cluster was found. Definitions only.
 use mathlib.Core.Bool.{Bool, true, false, cond}
 use mathlib.Core.List.{List, [], _∷_}
 use Prim.Native.Nat.{ℕ, zero, suc, _+_, _-_}

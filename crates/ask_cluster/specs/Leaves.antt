@@ -39,15 +39,15 @@ abbrev pub listOne : ℕ → ℕ → ℕ → List ℕ → Trip
 listOne N id n l = cond (ltb (length l) N) (went n (l ++ (id ∷ []))) (broke l)
 
 module _ (s : State) (c : Columns) (limit offset : ℕ) where
-  -- the child e in zoom t's table: a cluster with skipped + num <= offset is skipped whole, otherwise entered; a lamp is skipped while
-  -- skipped < offset, otherwise listed
+  -- the child e in zoom t's table: a cluster whose lamps all lie before the offset only adds them to skipped, any other is gone into; a
+  -- lamp before the offset adds one, any other is listed
   unfoldable pub visitChild : Into → ℕ → Entry → ℕ → List ℕ → Trip
   visitChild into t e n l =
       cond (ltb 1 (e .num))
       (cond (leb (n + e .num) offset) (went (n + e .num) l) (enter into (onward s t (e .id)) (e .id) n l))
       (cond (ltb n offset) (went (n + 1) l) (listOne (s .count) (e .id) n l))
 
-  -- after each child the walk of that level stops when the number listed equals the limit
+  -- a level goes on with its next child, unless just as many lamps as the limit are listed by then
   abbrev pub after : Trip → (ℕ → List ℕ → Trip) → Trip
   after (broke l) next = broke l
   after (went n l) next = cond (eqb (length l) limit) (went n l) (next n l)

@@ -4,10 +4,8 @@
 pub mod Children
 -- Leaves: the lamps of a cluster: a walk over its children as the search finds them, into each that is a cluster and is not skipped whole.
 pub mod Leaves
--- Expansion: the expansion zoom of a cluster: start at its table - 1; while at most max_zoom, fetch children and add 1; go on only with a
--- sole child that is a cluster.
+-- Expansion: the expansion zoom of a cluster: from its table - 1 on it grows by one with each search for children, to max_zoom + 1 at the
+-- most, and another search follows where a single cluster was found.
 pub mod Expansion
--- Fetch: what the private `fetch` says of the children of a cluster, as far as its callers go by them.
-pub mod Fetch
 -- What is true of these: laws, and what contracts below the surface of ask_cluster cite beside them.
 pub mod laws

@@ -5,3 +5,5 @@
 pub mod Column
 -- Replies: any two replies that meet the contract of a public function of this crate are equal, and so are any two columns that they leave.
 pub mod Replies
+-- Fetch: what the private `fetch` says of the children of a cluster, as far as its callers go by them.
+pub mod Fetch

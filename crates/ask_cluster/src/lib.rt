@@ -20,7 +20,7 @@ ghost use Rattle.ask_cluster.specs.Children.{childrenOf};
 ghost use Rattle.ask_cluster.specs.Expansion.{expansionNumber, expansionCarried, expand, zoomOf};
 ghost use Rattle.ask_cluster.specs.declared.Walk.the-variants.{Went as Walk·Went};
 ghost use Rattle.ask_cluster.specs.Leaves.{listOne, leavesAt, leavesOf};
-ghost use Rattle.ask_cluster.specs.Fetch.{fetchedAt};
+ghost use Rattle.ask_cluster.specs.laws.Fetch.{fetchedAt};
 ghost use Rattle.ask_cluster.specs.laws.Column.{fateOf, Does, Opened, Walked};
 
 // The children of the cluster cid: their places in its table.

@@ -20,7 +20,7 @@ use Rattle.ask_effort_tests.specs.Trials.{Mark, items}
 use Rattle.ask_effort_tests.specs.Reply.{effortNumber, effortCarried}
 use Rattle.ask_effort.specs.Effort.{EffortAsked, effortReplyOf, effortColumnOf, effortAsked}
 
--- the tests of the definition of the search, over both halves of a box across the date line
+-- the tests that the definition of the search makes; of a box that is split, those of both halves
 abbrev pub testsOf : EffortAsked → List Mark
 testsOf (refused r) = []
 testsOf (told n ms) = ms
@@ -47,14 +47,16 @@ pub record Stated (x : EffortAsked) (box : Asked) (count : ℕ) : Type 0 where
   -- search tests
   pub items : (a room : ℕ) → Carries (effortReplyOf x a room) → effortCarried (effortReplyOf x a room) .items ≡ length (effortList x a)
   pub tested : (a room : ℕ) → Carries (effortReplyOf x a room) → effortCarried (effortReplyOf x a room) .tested ≡ min a (length (testsOf x))
-  -- and whether it stopped with a test still due, which an allowance of just so many does not
-  pub stopped : (a room : ℕ) → Carries (effortReplyOf x a room) → effortCarried (effortReplyOf x a room) .stopped ≡ true → a < length (testsOf x)
-  pub not-stopped : (a room : ℕ) → Carries (effortReplyOf x a room) → effortCarried (effortReplyOf x a room) .stopped ≡ false → length (testsOf x) ≤ a
-  -- a larger allowance never alters items already given
+  -- and whether a test was left, which is not so of an allowance of just so many
+  pub stopped : (a room : ℕ) → Carries (effortReplyOf x a room) → effortCarried (effortReplyOf x a room) .stopped ≡ true
+      → a < length (testsOf x)
+  pub not-stopped : (a room : ℕ) → Carries (effortReplyOf x a room) → effortCarried (effortReplyOf x a room) .stopped ≡ false
+      → length (testsOf x) ≤ a
+  -- a larger allowance only adds to the list
   pub kept : (a b : ℕ) → a ≤ b → (more : List ℕ) × (effortList x b ≡ effortList x a ++ more)
-  -- a list is a beginning of the full list, which the box without an effort lists
+  -- a list is a beginning of what the box without an effort lists
   pub begins : (a : ℕ) (ok : Bool) (l : List ℕ) → box ≡ told ok l → (more : List ℕ) × (l ≡ effortList x a ++ more)
-  -- where no test is still due, the reply is that of the box, and so is the column
+  -- where no test is left, the reply is that of the box, and so is the column
   pub full : (a : ℕ) → length (testsOf x) ≤ a → (out : List ℕ)
       → (plain (effortReplyOf x a (length out)) ≡ answerOf box (length out)) × (effortColumnOf x a out ≡ boxColumn box out)
   -- there are at most two tests for each lamp

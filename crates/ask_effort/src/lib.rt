@@ -1,6 +1,5 @@
 // A box question with a stated effort: it tests at most as many slots as the caller allows, and replies what it found, how many it tested,
-// and whether it stopped with a test still due. Nothing is asked of the caller: what SCOPE does not take is refused with its number, as for
-// a box.
+// and whether a test was left. Nothing is asked of the caller: what SCOPE does not take is refused with its number, as for a box.
 use ask_box_plan::Plan;
 use ask_effort_tests::EffortReply;
 use build_tables::State;
@@ -79,8 +78,8 @@ fn effort_used(
     )
 }
 
-// The places of the table of the zoom used in the box from (west, least_y) to (east, greatest_y), within so many tests, which run over
-// both halves of a box across the date line. y grows downwards on a mercator map, so that least_y is the northern edge of a longitude
+// The places of the table of the zoom used in the box from (west, least_y) to (east, greatest_y), within so many tests, which the two
+// halves of a box that crosses the date line share. y grows downwards on a mercator map, so that least_y is the northern edge of a longitude
 // build; on a Cartesian plan it is the least y as given.
 pub fn effort_box(
     s: State,

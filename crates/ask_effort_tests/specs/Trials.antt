@@ -1,4 +1,4 @@
--- The tests of queries over an index, those of both halves of a box across the date line in one list, and what the first of them find.
+-- The tests of queries over an index, those of both halves of a box that is split in one list, and what the first of them find.
 -- Definitions only.
 use mathlib.Core.Bool.{Bool}
 use mathlib.Core.List.{List, [], _∷_, flatMap}

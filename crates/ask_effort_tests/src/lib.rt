@@ -1,5 +1,5 @@
 // The searches of a box's plan within a stated effort: they make at most as many tests as the caller allows, one after the other in one
-// count, and say how many were made and whether one was still due. The tests are those of the definition of the search, each slot of an
+// count, and say how many were made and whether one was left. The tests are those of the definition of the search, each slot of an
 // interval that is not split and each median of one that is; nothing is narrowed away first, since the definition tests what narrowing
 // leaves out.
 use ask_box_plan::Plan;
@@ -19,7 +19,7 @@ ghost use Rattle.ask_effort_tests.specs.Trials.{marks, trials};
 ghost use Rattle.ask_effort_tests.specs.Reply.{effortNumber, noEffort, effortCarried, answer, column};
 ghost use Rattle.ask_effort_tests.specs.laws.Spend.{settledTests, wentTests, spend};
 
-// How many places were found, how many slots were tested, and whether the search stopped with a test still due.
+// How many places were found, how many slots were tested, and whether a test was left.
 pub struct Effort {
     pub items: usize,
     pub tested: usize,

@@ -36,7 +36,8 @@ unfoldable pub tileAsked : State → Columns → ℕ → ℕ → ℕ → TileAsk
 tileAsked s c z x y =
     cond (not (stateOk s (roomOf c))) (refused Spoiled)
     (cond (not (isTile z x y)) (refused Tile)
-    (told (wholeTile (tableFor s c z) (visitsFor s c z x y)) (tileItems (tableFor s c z) (tileListed (tableFor s c z) (visitsFor s c z x y)))))
+    (told (wholeTile (tableFor s c z) (visitsFor s c z x y))
+    (tileItems (tableFor s c z) (tileListed (tableFor s c z) (visitsFor s c z x y)))))
 
 -- the answer, where the shortest column holds so many: what was found and cannot be listed (11), nothing listed (8), too many (10)
 abbrev pub someOf : ℕ → ℕ → Answer
@@ -70,7 +71,8 @@ tileOutcome a places xs ys = record { answer = a; places = places; xs = xs; ys =
 abbrev pub outcomeOf : TileAsked → List ℕ → List ℤ → List ℤ → TileOutcome
 outcomeOf a places xs ys =
     let room = shortest places xs ys in
-    tileOutcome (tileAnswerOf a room) (tileColumnOf (λ i. i .place) a room places) (tileColumnOf (λ i. i .x) a room xs) (tileColumnOf (λ i. i .y) a room ys)
+    tileOutcome (tileAnswerOf a room)
+    (tileColumnOf (λ i. i .place) a room places) (tileColumnOf (λ i. i .x) a room xs) (tileColumnOf (λ i. i .y) a room ys)
 
 abbrev pub tiled : State → Columns → ℕ → ℕ → ℕ → List ℕ → List ℤ → List ℤ → TileOutcome
 tiled s c z x y places xs ys = outcomeOf (tileAsked s c z x y) places xs ys

@@ -290,8 +290,8 @@ fn sum_of(r: Running) -> Tally
     Tally::Sum(r.sum)
 }
 
-// The sum of num over the distinct entries that the tile (z, tx, ty) lists and whose centre it holds, of a state that is given by its
-// parts.
+// The nums of the entries that the tile (z, tx, ty) lists and whose centre it holds, added up, each entry once; of a state that is given
+// by its parts.
 pub fn tally_lent(
     options: Options,
     count: u32,

@@ -9,6 +9,6 @@ use Rattle.floats.specs.Fraction.{plus}
 abbrev pub floorOf : ℕ → Float → ℕ
 floorOf n c = plus c * n / den c
 
--- floor of c * 2^z, with 1.0 belonging to the last tile
+-- floor of c * 2^z; 1.0 is in the last tile
 unfoldable pub homeOf : ℕ → Float → ℕ
 homeOf z c = min (floorOf (2 ^ z) c) (2 ^ z - 1)

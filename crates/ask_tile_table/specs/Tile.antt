@@ -18,7 +18,7 @@ use Rattle.kdbush.specs.Reply.{found}
 use Rattle.build_tables.specs.declared.Options.{Options}
 use Rattle.build_tables.specs.declared.Entry.{Entry}
 use Rattle.build_tables.specs.Entries.{Table, entry}
-use Rattle.ask_tile_table.specs.declared.Search.{Search}
+use Rattle.ask_tile_table.specs.declared.TileSearch.{TileSearch}
 use Rattle.ask_tile_table.specs.declared.Item.{Item}
 
 -- z is at most 31, and x and y are below 2^z
@@ -45,7 +45,7 @@ abbrev pub greatest : Options → ℕ → ℕ → Float
 greatest o z v = div binary64 (add binary64 (add binary64 (float v) one) (margin o)) (side z)
 
 -- a search of the row y, from a to b on x, where v stands for the tile's x in the items
-abbrev pub strip : Options → ℕ → ℕ → Bool → Float → Float → Float → Search
+abbrev pub strip : Options → ℕ → ℕ → Bool → Float → Float → Float → TileSearch
 strip o z y made a b v = record {
   made = made;
   query = Range a (least o z y) b (greatest o z y);
@@ -57,7 +57,7 @@ strip o z y made a b v = record {
 }
 
 -- the tile's own range
-unfoldable pub here : Options → ℕ → ℕ → ℕ → Search
+unfoldable pub here : Options → ℕ → ℕ → ℕ → TileSearch
 here o z x y = strip o z y true (least o z x) (greatest o z x) (float x)
 
 -- whether x goes round: longitude does, a plan has no far side
@@ -69,26 +69,26 @@ goesRound (Cartesian d) = false
 unfoldable pub wraps : Options → Bool
 wraps o = cond (o .«longitude_strips_only») (goesRound (o .«coordinate_system»)) true
 
--- for x = 0 the strip 1 - p / z2 to 1, x replaced by z2
-unfoldable pub eastStrip : Options → ℕ → ℕ → ℕ → Search
+-- the east strip, of a tile in column 0: x from 1 - p / z2 up to 1, and the tile's own x counts as z2
+unfoldable pub eastStrip : Options → ℕ → ℕ → ℕ → TileSearch
 eastStrip o z x y = strip o z y (wraps o && eqb x 0) (sub binary64 one (edge o z)) one (side z)
 
--- for x = z2 - 1 the strip 0 to p / z2, x replaced by -1
-unfoldable pub westStrip : Options → ℕ → ℕ → ℕ → Search
+-- the west strip, of a tile in the last column: x from 0 up to p / z2, and the tile's own x counts as -1
+unfoldable pub westStrip : Options → ℕ → ℕ → ℕ → TileSearch
 westStrip o z x y = strip o z y (wraps o && eqb (x + 1) (2 ^ z)) zero (edge o z) (neg one)
 
 -- ---- what they find
 
 -- a place that a search names
 pub record Visit : Type 0 where
-  pub by : Search
+  pub by : TileSearch
   pub place : ℕ
 
-abbrev pub visitsOf : Search → List ℕ → List Visit
+abbrev pub visitsOf : TileSearch → List ℕ → List Visit
 visitsOf g ps = map (λ p. record { by = g; place = p }) ps
 
 -- the places that `range` answers in the table t, by its index; none where the tile has no such strip
-abbrev pub visits : Search → Table → List ℕ → List Float → List Visit
+abbrev pub visits : TileSearch → Table → List ℕ → List Float → List Visit
 visits g t ids co = visitsOf g (when (g .made) (found (g .query) (g .«node_size») (length t) ids co))
 
 -- by the three searches, one after the other
@@ -111,12 +111,12 @@ unfoldable pub wholeTile : Table → List Visit → Bool
 wholeTile t [] = true
 wholeTile t (v ∷ vs) = elim (listable t (v .place)) [ true ↦ wholeTile t vs | false ↦ false ]
 
--- extent * (c * z2 - v), rounded to the nearest whole number, halves away from zero
-unfoldable pub rounded : Search → Float → Float → ℤ
+-- extent * (c * z2 - v) as a whole number, a half rounded away from zero
+unfoldable pub rounded : TileSearch → Float → Float → ℤ
 rounded g c v = away (mul binary64 (g .extent) (sub binary64 (mul binary64 c (g .z2)) v))
 
 -- the item of the entry e at the place p: its place in the table, and its place in the tile
-abbrev pub itemOf : Search → ℕ → Entry → Item
+abbrev pub itemOf : TileSearch → ℕ → Entry → Item
 itemOf g p e = record { place = p; x = rounded g (e .x) (g .x); y = rounded g (e .y) (g .y) }
 
 abbrev pub itemAt : Table → Visit → Item

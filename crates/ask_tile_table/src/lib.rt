@@ -34,7 +34,7 @@ ghost use Rattle.ask_tile_table.specs.laws.Told.{Blank};
 
 // One search of a tile: whether the tile has it, what it asks of the index, and what stands for the tile's x and y in the items that it
 // finds.
-pub struct Search {
+pub struct TileSearch {
     pub made: bool,
     pub query: Query,
     pub node_size: usize,
@@ -123,7 +123,7 @@ pub fn is_tile(z: u32, x: u32, y: u32) -> bool
 }
 
 // A search of the row y, from a to b on x, where v stands for the tile's x. z2 is 2^z, which the caller has read from the table already.
-fn strip_of(o: Options, z: u32, z2: f64, y: u32, made: bool, a: f64, b: f64, v: f64) -> Search
+fn strip_of(o: Options, z: u32, z2: f64, y: u32, made: bool, a: f64, b: f64, v: f64) -> TileSearch
     requires { ⌜ z2 ≡ side z ⌝ }
     ensures { λ r. ⌜ r ≡ strip o z y made a b v ⌝ }
 {
@@ -135,7 +135,7 @@ fn strip_of(o: Options, z: u32, z2: f64, y: u32, made: bool, a: f64, b: f64, v: 
         max_x: b,
         max_y: (fy + 1.0 + p) / z2,
     };
-    Search {
+    TileSearch {
         made,
         query,
         node_size: o.node_size,
@@ -147,7 +147,7 @@ fn strip_of(o: Options, z: u32, z2: f64, y: u32, made: bool, a: f64, b: f64, v: 
 }
 
 // The tile's own range.
-fn search_here(o: Options, z: u32, x: u32, y: u32) -> Search
+fn search_here(o: Options, z: u32, x: u32, y: u32) -> TileSearch
     requires { ⌜ z < 32 ⌝ }
     ensures { λ r. ⌜ r ≡ here o z x y ⌝ }
 {
@@ -194,7 +194,7 @@ fn has_west(o: Options, z: u32, x: u32) -> bool
 }
 
 // The strip at the east end, for the first tile of a row.
-fn search_east(o: Options, z: u32, x: u32, y: u32) -> Search
+fn search_east(o: Options, z: u32, x: u32, y: u32) -> TileSearch
     requires { ⌜ z < 32 ⌝ }
     ensures { λ r. ⌜ r ≡ eastStrip o z x y ⌝ }
 {
@@ -205,7 +205,7 @@ fn search_east(o: Options, z: u32, x: u32, y: u32) -> Search
 }
 
 // The strip at the west end, for the last tile of a row.
-fn search_west(o: Options, z: u32, x: u32, y: u32) -> Search
+fn search_west(o: Options, z: u32, x: u32, y: u32) -> TileSearch
     requires { ⌜ z < 32 ⌝ }
     ensures { λ r. ⌜ r ≡ westStrip o z x y ⌝ }
 {
@@ -264,7 +264,7 @@ fn entry_named(
 }
 
 // Where the coordinate c lies in the tile, by what stands for the tile's own.
-fn round_in(g: Search, c: f64, v: f64) -> i64
+fn round_in(g: TileSearch, c: f64, v: f64) -> i64
     requires { ⌜ Framed g ⌝ }
     requires { ⌜ In01 c ⌝ }
     requires { ⌜ T (le (neg one) v) × T (le v pow31) ⌝ }
@@ -274,7 +274,7 @@ fn round_in(g: Search, c: f64, v: f64) -> i64
 }
 
 // The item of the entry e at the place p.
-fn item_of(g: Search, p: u32, e: Entry) -> Item
+fn item_of(g: TileSearch, p: u32, e: Entry) -> Item
     requires { ⌜ Framed g ⌝ }
     requires { ⌜ In01 (e .x) × In01 (e .y) ⌝ }
     ensures { λ r. ⌜ r ≡ itemOf g p e ⌝ }
@@ -304,7 +304,7 @@ fn put_item(i: Item, k: usize, out: &mut [u32], px: &mut [i64], py: &mut [i64])
 
 // Lists what a search finds, `at` being listed before.
 fn list_by(
-    g: Search,
+    g: TileSearch,
     x: &[f64],
     y: &[f64],
     seen: &[u8],
@@ -321,7 +321,7 @@ fn list_by(
 ) -> Ran
     requires { ⌜ Framed g ⌝ }
     requires { ⌜ Even (given x y seen id parent num energy) ⌝ }
-    requires { ⌜ (length (now x) ≤ length (now ids)) × (at + length (now x) < 2 ^ 64) ⌝ }
+    requires { let n = length (now x) in ⌜ (n ≤ length (now ids)) × (at + n < 2 ^ 64) ⌝ }
     ensures { λ r.
         let c = lentCols x y seen id parent num energy .entry in
         let vs = walkedTurns g (length (c .x)) (old ids) (old coords) in
@@ -373,7 +373,7 @@ pub fn list(
 ) -> Ran
     requires { ⌜ InBounds o × IsTile z tx ty ⌝ }
     requires { ⌜ Even (given x y seen id parent num energy) ⌝ }
-    requires { ⌜ (coordsOk (o .«node_size») (length (now x)) (length (now coords)) ≡ true) × (length (now x) ≤ length (now ids)) ⌝ }
+    requires { let n = length (now x) in ⌜ (coordsOk (o .«node_size») n (length (now coords)) ≡ true) × (n ≤ length (now ids)) ⌝ }
     ensures { λ r.
         let t = rows (lentCols x y seen id parent num energy .entry) in
         let vs = visited o z tx ty t (old ids) (old coords) in
@@ -610,7 +610,7 @@ fn tally_one(
 
 // Tallies what a search finds, after what was tallied before.
 fn tally_by(
-    g: Search,
+    g: TileSearch,
     h: Home,
     x: &[f64],
     y: &[f64],
@@ -626,7 +626,7 @@ fn tally_by(
     marks: &mut [u8],
 ) -> Running
     requires { ⌜ Even (given x y seen id parent num energy) ⌝ }
-    requires { ⌜ (length (now x) ≤ length (now ids)) × (marksFor few (length (now x)) ≤ 8 * length (now marks)) ⌝ }
+    requires { let n = length (now x) in ⌜ (n ≤ length (now ids)) × (marksFor few n ≤ 8 * length (now marks)) ⌝ }
     requires { ⌜ (r .count + length (now x) ≤ 4194304) × (r .sum ≤ r .count * 4294967295) ⌝ }
     ensures { λ a.
         let c = lentCols x y seen id parent num energy .entry in
@@ -696,7 +696,7 @@ fn add_with(
 ) -> Running
     requires { ⌜ InBounds o × IsTile z tx ty ⌝ }
     requires { ⌜ Even (given x y seen id parent num energy) ⌝ }
-    requires { ⌜ (coordsOk (o .«node_size») (length (now x)) (length (now coords)) ≡ true) × (length (now x) ≤ length (now ids)) ⌝ }
+    requires { let n = length (now x) in ⌜ (coordsOk (o .«node_size») n (length (now coords)) ≡ true) × (n ≤ length (now ids)) ⌝ }
     requires { ⌜ Blank few (length (now x)) (now marks) ⌝ }
     ensures { λ r.
         let t = rows (lentCols x y seen id parent num energy .entry) in
@@ -790,7 +790,7 @@ fn add_all(
 ) -> Running
     requires { ⌜ InBounds o × IsTile z tx ty ⌝ }
     requires { ⌜ Even (given x y seen id parent num energy) ⌝ }
-    requires { ⌜ (coordsOk (o .«node_size») (length (now x)) (length (now coords)) ≡ true) × (length (now x) ≤ length (now ids)) ⌝ }
+    requires { let n = length (now x) in ⌜ (coordsOk (o .«node_size») n (length (now coords)) ≡ true) × (n ≤ length (now ids)) ⌝ }
     ensures { λ r.
         let t = rows (lentCols x y seen id parent num energy .entry) in
         ⌜ r ≡ runningOf (weightIn z tx ty) t (visited o z tx ty t (old ids) (old coords)) ⌝ }
@@ -865,7 +865,7 @@ pub fn add_up(
 ) -> Running
     requires { ⌜ InBounds o × IsTile z tx ty ⌝ }
     requires { ⌜ Even (given x y seen id parent num energy) ⌝ }
-    requires { ⌜ (coordsOk (o .«node_size») (length (now x)) (length (now coords)) ≡ true) × (length (now x) ≤ length (now ids)) ⌝ }
+    requires { let n = length (now x) in ⌜ (coordsOk (o .«node_size») n (length (now coords)) ≡ true) × (n ≤ length (now ids)) ⌝ }
     ensures { λ r.
         let t = rows (lentCols x y seen id parent num energy .entry) in
         ⌜ r ≡ runningOf (weightIn z tx ty) t (visited o z tx ty t (old ids) (old coords)) ⌝ }

@@ -5,6 +5,7 @@ use build_tables::State;
 ghost use mathlib.Core.Path.{_≡_};
 ghost use Prim.Native.Nat.{suc, _+_, _-_, _*_, _^_, _<_, _≤_};
 ghost use lib.ListN.{length, set};
+ghost use Rattle.kdsort.specs.Lent.{givenIndex, lentIndex};
 ghost use Rattle.kdslots.specs.laws.All.{All};
 ghost use Rattle.kdbush.specs.laws.Promise.{Promised};
 ghost use Rattle.lent.specs.Lent.{old, new};
@@ -46,11 +47,11 @@ fn zoom_step(
 ) -> usize
     requires { let c = given x y seen id parent num energy in
         let t = part start len (rows c) in
-        ⌜ Even c × Promised (o .«node_size») len (now ids) (now coords) × Radius r × All Placed t
+        let i = givenIndex ids coords in
+        ⌜ Even c × Promised (o .«node_size») len (i .ids) (i .co) × Radius r × All Placed t
         × (n + len ≤ length (now near)) × (start + len + len ≤ length (c .x))
         × (unseenOf numOf z t < 2 ^ 32) × (start ≤ 67108864) × (len ≤ n) × (n ≤ 1048576) × (z ≤ 30)
-        × Slotted len (now ids) (now coords) t
-        × OwnNote len (nearOf (o .«node_size») len (now ids) (now coords) r) (now ids) (now coords)
+        × Slotted len (i .ids) (i .co) t × OwnNote len (nearOf (o .«node_size») len (i .ids) (i .co) r) (i .ids) (i .co)
         × (unseenOf energyOf z t < 2 ^ 64) ⌝ }
     ensures { λ d.
         let c = lentCols x y seen id parent num energy in
@@ -90,12 +91,14 @@ pub fn index_part(
     len: usize,
 )
     requires { ⌜ (1 ≤ len) × (len ≤ 1048576) × (start ≤ 67108864) × (1 ≤ size) × (size ≤ 65535) ⌝ }
-    requires { ⌜ (length (now y) ≡ length (now x)) × (start + len ≤ length (now x)) × (start + len ≤ length (now ids))
-        × ((start + len) * 2 ≤ length (now coords)) ⌝ }
+    requires { let n = length (now x) in
+        ⌜ (length (now y) ≡ n) × (start + len ≤ n) × (start + len ≤ length (now ids)) × ((start + len) * 2 ≤ length (now coords)) ⌝ }
     requires { ⌜ Inside (part start len (now x)) (part start len (now y)) ⌝ }
     ensures { λ _.
-        let i = indexOf size (part start len (old x)) (part start len (old y)) in
-        ⌜ (new ids ≡ putAt start len (i .ids) (old ids)) × (new coords ≡ putAt (start * 2) (len * 2) (i .co) (old coords)) ⌝ }
+        let made = indexOf size (part start len (old x)) (part start len (old y)) in
+        let i = lentIndex ids coords in
+        ⌜ (i .exit .ids ≡ putAt start len (made .ids) (i .entry .ids))
+        × (i .exit .co ≡ putAt (start * 2) (len * 2) (made .co) (i .entry .co)) ⌝ }
 {
     let end = start + len;
     let c0 = start * 2;
@@ -132,7 +135,9 @@ fn one_zoom(
         × Running (zoomPlan o n) (length (c .x)) (suc (z - o .«min_zoom»)) start len (rows c) (now ids) (now coords) ⌝ }
     ensures { λ d.
         let c = lentCols x y seen id parent num energy in
-        ⌜ Advanced (zoomPlan o n) z start len d (rows (c .entry)) (rows (c .exit)) (old ids) (new ids) (old coords) (new coords) ⌝ }
+        let i = lentIndex ids coords in
+        ⌜ Advanced (zoomPlan o n) z start len d (rows (c .entry)) (rows (c .exit))
+        (i .entry .ids) (i .exit .ids) (i .entry .co) (i .exit .co) ⌝ }
 {
     let r = build_tables::radius_at(o.radius, o.extent, z);
     let end = start + len;
@@ -183,8 +188,9 @@ pub fn run_zooms(
     ensures { λ r.
         let c = lentCols x y seen id parent num energy in
         let t = rows (c .entry) in
+        let i = lentIndex ids coords in
         ⌜ Finished (zoomPlan (s .options) n) (zoomsOf (s .options)) s r (part 0 n t) t (rows (c .exit))
-        (old ids) (new ids) (old coords) (new coords) ⌝ }
+        (i .entry .ids) (i .exit .ids) (i .entry .co) (i .exit .co) ⌝ }
 {
     let o = s.options;
     let low = o.min_zoom;

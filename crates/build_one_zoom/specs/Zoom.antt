@@ -107,21 +107,21 @@ copyAll z s (k ∷ ks) = copyAll z (copyOne z s k) ks
 abbrev pub leftAt : ℕ → ℕ → List ℕ → Scan → Scan
 leftAt z i near s = copyAll z (record { table = s .table; next = s .next ++ (entry (s .table) i ∷ []) }) near
 
--- the total exceeds its own num and is at least min_points
+-- whether a cluster arises: more lamps than the entry has alone, and min_points or more
 abbrev pub enough : ℕ → ℕ → ℕ → Bool
 enough own total least = ltb own total && leb least total
 
 abbrev pub visitBy : ℕ → ℕ → ℕ → List ℕ → ℕ → Scan → ℕ → Scan
 visitBy n least z near i s total = cond (enough (entry (s .table) i .num) total least) (madeAt n z i total near s) (leftAt z i near s)
 
--- the entry i, which is marked: the total is its num plus that of each unseen neighbour
+-- the entry i, which is marked: the total is its num and what its free neighbours add
 unfoldable pub visit : ℕ → ℕ → ℕ → List ℕ → ℕ → Scan → Scan
 visit n least z near i s = visitBy n least z near i s (entry (s .table) i .num + more z (s .table) near)
 
 abbrev pub markAt : ℕ → ℕ → Scan → Scan
 markAt z i s = record { table = set (s .table) i (marked z (entry (s .table) i)); next = s .next }
 
--- the entry i: with seen <= zoom it is passed by, otherwise seen becomes zoom
+-- the entry i: left out where its seen is <= zoom, otherwise marked with zoom and visited
 unfoldable pub scanOne : ℕ → ℕ → ℕ → (Float → Float → List ℕ) → Scan → ℕ → Scan
 scanOne n least z near s i =
     cond (unseen z (entry (s .table) i))

@@ -11,6 +11,7 @@ ghost use lib.Dec.{T};
 ghost use lib.ListN.{length, getD, take};
 ghost use lib.Ieee.Scale.{finite};
 ghost use Rattle.kdsort.specs.Cols.{key};
+ghost use Rattle.kdsort.specs.Lent.{givenIndex, lentIndex};
 ghost use Rattle.kdslots.specs.laws.All.{All, AllBelow};
 ghost use Rattle.kdbush.specs.laws.Promise.{Promised};
 ghost use Rattle.lent.specs.Lent.{old, new};
@@ -82,7 +83,8 @@ fn absorb_near(
     sums: Sums,
 ) -> Sums
     requires { let c = given x y seen id parent num energy in
-        ⌜ Even c × AllBelow (length (c .x)) (now near) × (sums .energy + moreOf energyOf z (rows c) (now near) < 2 ^ 64) ⌝ }
+        let ns = now near in
+        ⌜ Even c × AllBelow (length (c .x)) ns × (sums .energy + moreOf energyOf z (rows c) ns < 2 ^ 64) ⌝ }
     ensures { λ r.
         let c = lentCols x y seen id parent num energy in
         ⌜ absorbed (rows (c .exit)) (r .x) (r .y) (r .energy)
@@ -185,7 +187,8 @@ fn total_near(
     own: u32,
 ) -> u32
     requires { let c = given x y seen id parent num energy in
-        ⌜ Even c × AllBelow (length (c .x)) (now near) × (own + more z (rows c) (now near) < 2 ^ 32) ⌝ }
+        let ns = now near in
+        ⌜ Even c × AllBelow (length (c .x)) ns × (own + more z (rows c) ns < 2 ^ 32) ⌝ }
     ensures { λ r. let c = lentCols x y seen id parent num energy in ⌜ r ≡ own + more z (rows (c .entry)) (old near) ⌝ }
 {
     let mut total = own;
@@ -217,8 +220,9 @@ fn make_one(
     total: u32,
 )
     requires { let c = given x y seen id parent num energy in
-        ⌜ Even c × AllBelow len (now near) × (i < len) × (len + done < length (c .x)) × (len ≤ 1048576) × (n ≤ 1048576) × (z ≤ 30)
-        × (entry (rows c) i .energy + moreOf energyOf z (rows c) (now near) < 2 ^ 64) ⌝ }
+        let ns = now near in
+        ⌜ Even c × AllBelow len ns × (i < len) × (len + done < length (c .x)) × (len ≤ 1048576) × (n ≤ 1048576) × (z ≤ 30)
+        × (entry (rows c) i .energy + moreOf energyOf z (rows c) ns < 2 ^ 64) ⌝ }
     ensures { λ _.
         let c = lentCols x y seen id parent num energy in
         let t = rows (c .entry) in
@@ -302,9 +306,10 @@ fn visit_one(
     least: u32,
 ) -> usize
     requires { let c = given x y seen id parent num energy in
-        ⌜ Even c × AllBelow len (now near) × (i < len) × (len + done + 1 + unseenCount z (take len (rows c)) ≤ length (c .x))
-        × (len ≤ 1048576) × (n ≤ 1048576) × (z ≤ 30) × (entry (rows c) i .num + more z (rows c) (now near) < 2 ^ 32)
-        × (entry (rows c) i .energy + moreOf energyOf z (rows c) (now near) < 2 ^ 64) ⌝ }
+        let ns = now near in
+        ⌜ Even c × AllBelow len ns × (i < len) × (len + done + 1 + unseenCount z (take len (rows c)) ≤ length (c .x))
+        × (len ≤ 1048576) × (n ≤ 1048576) × (z ≤ 30) × (entry (rows c) i .num + more z (rows c) ns < 2 ^ 32)
+        × (entry (rows c) i .energy + moreOf energyOf z (rows c) ns < 2 ^ 64) ⌝ }
     ensures { λ r.
         let c = lentCols x y seen id parent num energy in
         let t = rows (c .entry) in
@@ -389,10 +394,11 @@ struct Note {
 // it is more than two.
 fn note_at(ids: &[u32], coords: &[f64], node_size: usize, r: f64, len: usize, s: usize) -> Note
     requires { ⌜ Promised «node_size» len (now ids) (now coords) × (s < len) × (len ≤ 1048576) ⌝ }
-    requires { ⌜ OwnNote len (nearOf «node_size» len (now ids) (now coords) r) (now ids) (now coords) ⌝ }
+    requires { let i = givenIndex ids coords in ⌜ OwnNote len (nearOf «node_size» len (i .ids) (i .co) r) (i .ids) (i .co) ⌝ }
     ensures { λ n.
-        let around = nearOf «node_size» len (old ids) (old coords) r in
-        ⌜ Tells (getD (old ids) s 0) (n .note) (around (key 0 (old coords) s) (key 1 (old coords) s)) ⌝ }
+        let i = lentIndex ids coords .entry in
+        let around = nearOf «node_size» len (i .ids) (i .co) r in
+        ⌜ Tells (getD (i .ids) s 0) (n .note) (around (key 0 (i .co) s) (key 1 (i .co) s)) ⌝ }
 {
     let qx = coords[2 * s];
     let qy = coords[2 * s + 1];
@@ -438,10 +444,11 @@ fn note_all(
 )
     requires { ⌜ Promised «node_size» len (now ids) (now coords) × (notes + len ≤ length (now near)) × (notes ≤ 1048576)
         × (len ≤ 1048576) ⌝ }
-    requires { ⌜ OwnNote len (nearOf «node_size» len (now ids) (now coords) r) (now ids) (now coords) ⌝ }
+    requires { let i = givenIndex ids coords in ⌜ OwnNote len (nearOf «node_size» len (i .ids) (i .co) r) (i .ids) (i .co) ⌝ }
     ensures { λ _.
-        let around = nearOf «node_size» len (old ids) (old coords) r in
-        ⌜ ((t : Table) → Slotted len (old ids) (old coords) t → Noted notes len around (new near) t) ⌝ }
+        let i = lentIndex ids coords .entry in
+        let around = nearOf «node_size» len (i .ids) (i .co) r in
+        ⌜ ((t : Table) → Slotted len (i .ids) (i .co) t → Noted notes len around (new near) t) ⌝ }
 {
     forget(near, notes, len);
     let mut left = 4 * len;
@@ -546,9 +553,11 @@ fn scan_one(
 ) -> usize
     requires { let c = given x y seen id parent num energy in
         let t = take len (rows c) in
-        let around = nearOf «node_size» len (now ids) (now coords) r in
-        ⌜ Even c × Promised «node_size» len (now ids) (now coords) × Radius r × (n + len ≤ length (now near)) × (i < len)
-        × All Placed t × Noted n len around (now near) t × (len + done + unseenCount z t ≤ length (c .x))
+        let g = givenIndex ids coords in
+        let around = nearOf «node_size» len (g .ids) (g .co) r in
+        let ns = now near in
+        ⌜ Even c × Promised «node_size» len (g .ids) (g .co) × Radius r × (n + len ≤ length ns) × (i < len)
+        × All Placed t × Noted n len around ns t × (len + done + unseenCount z t ≤ length (c .x))
         × (len ≤ n) × (n ≤ 1048576) × (z ≤ 30) × (unseenNum z t < 2 ^ 32) × (unseenOf energyOf z t < 2 ^ 64) ⌝ }
     ensures { λ d.
         let c = lentCols x y seen id parent num energy in
@@ -602,9 +611,10 @@ pub fn cluster(
 ) -> usize
     requires { let c = given x y seen id parent num energy in
         let t = take len (rows c) in
-        let around = nearOf «node_size» len (now ids) (now coords) r in
-        ⌜ Even c × Promised «node_size» len (now ids) (now coords) × Radius r × (n + len ≤ length (now near)) × (len + len ≤ length (c .x))
-        × All Placed t × Slotted len (now ids) (now coords) t × OwnNote len around (now ids) (now coords)
+        let i = givenIndex ids coords in
+        let around = nearOf «node_size» len (i .ids) (i .co) r in
+        ⌜ Even c × Promised «node_size» len (i .ids) (i .co) × Radius r × (n + len ≤ length (now near)) × (len + len ≤ length (c .x))
+        × All Placed t × Slotted len (i .ids) (i .co) t × OwnNote len around (i .ids) (i .co)
         × (len ≤ n) × (n ≤ 1048576) × (z ≤ 30) × (unseenNum z t < 2 ^ 32) × (unseenOf energyOf z t < 2 ^ 64) ⌝ }
     ensures { λ d.
         let c = lentCols x y seen id parent num energy in

@@ -6,7 +6,7 @@ use Prim.Native.Nat.{ℕ, _+_, _-_, _*_, _/_, _%_}
 abbrev pub clusterId : ℕ → ℕ → ℕ → ℕ
 clusterId n z i = i * 32 + (z + 1) + n
 
--- origin = (id - N) / 32, table = (id - N) mod 32
+-- back from an id: the place that it was made at, and the table of that place
 abbrev pub originOf : ℕ → ℕ → ℕ
 originOf n id = (id - n) / 32
 

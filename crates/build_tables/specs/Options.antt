@@ -27,7 +27,7 @@ optionsOk o = zoomsOk o && radiusOk o && extentOk o && nodeSizeOk (o .«node_siz
 abbrev pub tableCount : Options → ℕ
 tableCount o = o .«max_zoom» - o .«min_zoom» + 2
 
--- zoom raised to min_zoom, then lowered to max_zoom + 1
+-- the zoom used: at least min_zoom, and at most max_zoom + 1
 abbrev pub raised : Options → ℕ → ℕ
 raised o z = cond (ltb z (o .«min_zoom»)) (o .«min_zoom») z
 

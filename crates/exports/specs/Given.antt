@@ -19,7 +19,8 @@ ranged a b c d offsetGiven offset scaleGiven scale =
     }
 
 -- the options, in the order in which every function takes them
-abbrev pub givenOptions : ℕ → ℕ → ℕ → Float → Float → ℕ → Bool → Float → Float → Float → Float → Bool → Float → Bool → Float → Bool → Options
+abbrev pub givenOptions : ℕ → ℕ → ℕ → Float → Float → ℕ
+    → Bool → Float → Float → Float → Float → Bool → Float → Bool → Float → Bool → Options
 givenOptions low high least radius extent size cartesian a b c d offsetGiven offset scaleGiven scale stripsOnly =
     record {
       «min_zoom» = low;

@@ -1,7 +1,9 @@
 // The public functions by C names, for Rust and C: numbers, slices, and arrays of 32. A slice is passed as a pointer and a length,
 // a `&mut usize` or a `&[u32; 32]` as a pointer.
 // Each answers SCOPE's number of the reply, 0 where there is no refusal, and leaves what the reply carries in `carried`, 0 where it
-// carries nothing. Proved: each tells what the public function promises, and writes nothing else. Assumed: nothing.
+// carries nothing; an entry's fields are left one by one. But `supercluster_normalize`, `supercluster_denormalize` and
+// `supercluster_zoom_used` refuse nothing, and answer their value. Proved: each tells what the public function promises, and writes
+// nothing else. Assumed: nothing.
 use build_tables::Entry;
 use build_tables::Options;
 use build_tables::State;
@@ -18,7 +20,7 @@ ghost use Rattle.exports.specs.Laid.{replied, repliedOf, laid, laidOf};
 ghost use Rattle.exports.specs.Read.{entryAsked, lentEntry, readAs, readOf};
 ghost use Rattle.supercluster.specs.Build.{loaded};
 ghost use Rattle.supercluster.specs.Lent.{lentAll};
-ghost use Rattle.kdsort.specs.Cols.{indexCols};
+ghost use Rattle.kdsort.specs.Lent.{lentIndex};
 ghost use Rattle.range.specs.Range.{normalized, denormalized};
 ghost use Rattle.build_tables.specs.State.{stateOf};
 ghost use Rattle.build_tables.specs.Options.{zoomUsed};
@@ -45,9 +47,9 @@ pub extern "C" fn kdbush_build(
     coords: &mut [f64],
     carried: &mut usize,
 ) -> u32
-    ensures { λ r. ⌜ r ≡ buildNumber (indexChecked «node_size» (old xs) (old ys) (indexCols (old ids) (old coords))) ⌝ }
-    ensures { λ _. ⌜ new carried ≡ buildCarried (indexChecked «node_size» (old xs) (old ys) (indexCols (old ids) (old coords))) ⌝ }
-    ensures { λ _. ⌜ indexCols (new ids) (new coords) ≡ built «node_size» (old xs) (old ys) (indexCols (old ids) (old coords)) ⌝ }
+    ensures { λ r. let c = lentIndex ids coords in ⌜ r ≡ buildNumber (indexChecked «node_size» (old xs) (old ys) (c .entry)) ⌝ }
+    ensures { λ _. let c = lentIndex ids coords in ⌜ new carried ≡ buildCarried (indexChecked «node_size» (old xs) (old ys) (c .entry)) ⌝ }
+    ensures { λ _. let c = lentIndex ids coords in ⌜ c .exit ≡ built «node_size» (old xs) (old ys) (c .entry) ⌝ }
 {
     let r = kdbush::build(node_size, xs, ys, ids, coords);
     *carried = r.carried();
@@ -578,8 +580,8 @@ pub extern "C" fn supercluster_box(
     r.number()
 }
 
-// The same within so many tests, the allowance, which run over both halves of a box across the date line. Beside what was found,
-// tested is how many slots were tested, and stopped whether a test was still due. Written and refused as for supercluster_box, but
+// The same within so many tests, the allowance, which the two halves of a box that crosses the date line share. Beside what was found,
+// tested is how many slots were tested, and stopped whether a test was left. Written and refused as for supercluster_box, but
 // 10 and 11 in the walk look only at the tests made. 0 and 10 leave tested and stopped as they come out; the other refusals 0 and
 // false.
 #[no_mangle]
@@ -1049,8 +1051,8 @@ pub extern "C" fn supercluster_tile(
     r.number()
 }
 
-// The sum of num over the distinct entries that the tile (z, tile_x, tile_y) lists and whose centre it holds, as what is carried; 0
-// where it lists none. Refused in this order: 11 by the state, 7 no such tile, 11 in the walk.
+// The nums of the entries that the tile (z, tile_x, tile_y) lists and whose centre it holds, added up, each entry once, as what is
+// carried; 0 where it lists none. Refused in this order: 11 by the state, 7 no such tile, 11 in the walk.
 #[no_mangle]
 pub extern "C" fn supercluster_tally(
     min_zoom: u8,

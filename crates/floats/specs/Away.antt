@@ -1,4 +1,4 @@
--- A float to the nearest whole number, halves away from zero, by its exact value: what Rust's `.round()` answers. Definitions only.
+-- A float rounded to a whole number by its exact value, a half away from zero: what Rust's `.round()` answers. Definitions only.
 use mathlib.Core.Bool.{cond}
 use Prim.Native.Nat.{ℕ, _+_, _*_, _/_}
 use lib.IntN.{ℤ, pos, negℤ}

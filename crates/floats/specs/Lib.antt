@@ -6,7 +6,7 @@ pub mod Numbers
 pub mod Fraction
 -- Unit: the test `in01` that code runs: whether a float lies from 0 to 1.
 pub mod Unit
--- Away: a float to the nearest whole number, halves away from zero, by its exact value: what Rust's `.round()` answers.
+-- Away: a float rounded to a whole number by its exact value, a half away from zero: what Rust's `.round()` answers.
 pub mod Away
 -- Distance: the squared distance that a search tests against radius * radius, each operation rounded.
 pub mod Distance

@@ -29,8 +29,8 @@ pub mod Infinities
 pub mod Edges
 -- Unit: the values from 0 to 1, `In01`: what the test passes is one, and such a value is finite and no NaN.
 pub mod Unit
--- Centre: by monotone rounding every centre stays within [0,1]: the running sum of values of 0 to 1, each times its count, is from 0 to the
--- counts' total, and the sum over the total is from 0 to 1.
+-- Centre: a centre never leaves [0,1], since rounding is monotone: the running sum of values of 0 to 1, each times its count, is from 0 to
+-- the counts' total, and the sum over the total is from 0 to 1.
 pub mod Centre
 -- Table: a rule at each number below a bound, proved by one test that antt computes; and the test that two floats are the same.
 pub mod Table

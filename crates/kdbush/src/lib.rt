@@ -6,7 +6,7 @@ ghost use mathlib.Core.List.{[], _∷_};
 ghost use Prim.Native.Nat.{_+_, _-_, _*_, _^_, _≤_, _<_};
 ghost use lib.ListN.{length};
 ghost use Rattle.lent.specs.Lent.{old, new};
-ghost use Rattle.kdsort.specs.Cols.{indexCols};
+ghost use Rattle.kdsort.specs.Lent.{lentIndex};
 ghost use Rattle.kdsort.specs.Shape.{shape};
 ghost use Rattle.kdslots.specs.Slots.{over, when, scanned, slots};
 ghost use Rattle.kdbush.specs.laws.Run.{ran, run};
@@ -156,8 +156,8 @@ fn scan(
     Found::All(k)
 }
 
-// Answers the slots from lo up to hi: the median if it passes, then the right part, then the left; an interval of at most `most` slots
-// one by one.
+// Answers the slots from lo up to hi: at most `most` of them one by one; of more the median first, where it passes, next the right part
+// and last the left one.
 fn part(
     q: Query,
     ids: &[u32],
@@ -221,8 +221,8 @@ pub fn build(
     ids: &mut [u32],
     coords: &mut [f64],
 ) -> BuildReply
-    ensures { λ r. ⌜ r ≡ indexChecked «node_size» (old xs) (old ys) (indexCols (old ids) (old coords)) ⌝ }
-    ensures { λ _. ⌜ indexCols (new ids) (new coords) ≡ built «node_size» (old xs) (old ys) (indexCols (old ids) (old coords)) ⌝ }
+    ensures { λ r. let c = lentIndex ids coords in ⌜ r ≡ indexChecked «node_size» (old xs) (old ys) (c .entry) ⌝ }
+    ensures { λ _. let c = lentIndex ids coords in ⌜ c .exit ≡ built «node_size» (old xs) (old ys) (c .entry) ⌝ }
 {
     if !kdslots::node_size_ok(node_size) {
         return BuildReply::Options;

@@ -264,8 +264,8 @@ fn turn(
 ) -> Turned
     ensures { λ r. ⌜ r .step ≡ nextStep Step.Done (onwardOf q «node_size» n (old coords) from last) ⌝ }
     ensures { λ r.
-        let l = onwardOf q «node_size» n (old coords) from last in
-        ⌜ aheadOf q «node_size» n (old coords) (new page) (r .pages) ≡ tailOf l ⌝ }
+        let c = old coords in
+        ⌜ aheadOf q «node_size» n c (new page) (r .pages) ≡ tailOf (onwardOf q «node_size» n c from last) ⌝ }
 {
     if let Onward::Nothing = from {
         return stepped(Step::Done);
@@ -313,8 +313,8 @@ pub fn next_slot(
 ) -> Turned
     ensures { λ r. ⌜ r .step ≡ nextStep Step.Done (aheadOf q «node_size» n (old coords) (old page) p) ⌝ }
     ensures { λ r.
-        let l = aheadOf q «node_size» n (old coords) (old page) p in
-        ⌜ aheadOf q «node_size» n (old coords) (new page) (r .pages) ≡ tailOf l ⌝ }
+        let c = old coords in
+        ⌜ aheadOf q «node_size» n c (new page) (r .pages) ≡ tailOf (aheadOf q «node_size» n c (old page) p) ⌝ }
 {
     let at = p.at;
     let onward = p.onward;

@@ -3,8 +3,8 @@
 -- Query: the tests of a search on the two coordinates of a slot, and of the coordinate at which an interval is split, one rounding an
 -- operation, and SCOPE's bounds of a query.
 pub mod Query
--- Slots: the slots that a search answers, in the order in which it answers them: of an interval that is split the median if it passes, then
--- the right part, then the left; an unsplit interval slot by slot.
+-- Slots: the slots that a search answers, in its order: those of an interval that is not split one by one; of any other the median first,
+-- where it passes, next what lies right of it, and last what lies left.
 pub mod Slots
 -- Bounds: the bounds of a node size, a count and an index.
 pub mod Bounds

@@ -19,7 +19,7 @@ passesQ (Within qx qy r) x y = le (sqDist x y qx qy) (mul binary64 r r)
 abbrev pub onAxis : ℕ → Float → Float → Float
 onAxis ax x y = cond (eqb ax 0) x y
 
--- the split coordinate v is too far from p: the rounded square of their rounded difference exceeds the rounded radius * radius
+-- the split coordinate v is too far from p: the square of their difference, both rounded, is more than the rounded radius * radius
 abbrev pub tooFar : Float → Float → Float → Bool
 tooFar v p r = lt (mul binary64 r r) (mul binary64 (sub binary64 v p) (sub binary64 v p))
 

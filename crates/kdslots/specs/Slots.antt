@@ -1,5 +1,5 @@
--- The slots that a search answers, in the order in which it answers them: of an interval that is split the median if it passes, then the
--- right part, then the left; an unsplit interval slot by slot. Definitions only.
+-- The slots that a search answers, in its order: those of an interval that is not split one by one; of any other the median first, where
+-- it passes, next what lies right of it, and last what lies left. Definitions only.
 use mathlib.Core.Bool.{Bool, true, false}
 use mathlib.Core.List.{List, [], _∷_, _++_}
 use Prim.Native.Nat.{ℕ, zero, suc, _+_, _-_}

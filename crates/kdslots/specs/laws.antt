@@ -21,5 +21,5 @@ pub mod Reaches
 -- Complete: over an index in the order of the tree every search answers just the slots that pass, each box and each ring: it is a filter of
 -- one order of all slots, which no query changes.
 pub mod Complete
--- Corner: SCOPE's corner, over an index of three slots: qx = 1, radius 0.75, x = 0.25 - 2 ^ -55.
+-- Corner: SCOPE's corner, over an index of three slots: x = 0.25 - 2 ^ -55, asked for with qx = 1 and radius 0.75.
 pub mod Corner

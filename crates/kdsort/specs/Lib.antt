@@ -15,5 +15,7 @@ pub mod Sort
 -- Tree: what is said of a built index: its slots are those that it was built from, each with its id and its two coordinates, and they are
 -- in the order of the tree.
 pub mod Tree
+-- Lent: the index's two lent columns in a contract, each named once.
+pub mod Lent
 -- What is true of these: laws, and what contracts below the surface of kdsort cite beside them.
 pub mod laws

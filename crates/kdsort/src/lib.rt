@@ -5,7 +5,8 @@ ghost use mathlib.Core.Path.{_≡_};
 ghost use Prim.Native.Nat.{_+_, _-_, _*_, _≤_, _<_};
 ghost use lib.ListN.{length};
 ghost use Rattle.lent.specs.Lent.{old, new};
-ghost use Rattle.kdsort.specs.Cols.{indexCols, swapItem};
+ghost use Rattle.kdsort.specs.Cols.{swapItem};
+ghost use Rattle.kdsort.specs.Lent.{givenIndex, lentIndex};
 ghost use Rattle.kdsort.specs.Shape.{shape};
 ghost use Rattle.kdsort.specs.Select.{cut, parted, selected};
 ghost use Rattle.kdsort.specs.Sort.{sorted, indexed};
@@ -14,8 +15,9 @@ ghost use Rattle.kdsort.specs.laws.Batches.{batchEntry, Ups, Downs, Slot
 
 // Exchanges the slots i and j.
 fn swap_item(ids: &mut [u32], coords: &mut [f64], i: usize, j: usize)
-    requires { ⌜ (i < length (now ids)) × (j < length (now ids)) × (2 * i + 1 < length (now coords)) × (2 * j + 1 < length (now coords)) ⌝ }
-    ensures { λ _. ⌜ indexCols (new ids) (new coords) ≡ swapItem (indexCols (old ids) (old coords)) i j ⌝ }
+    requires { let c = givenIndex ids coords in
+        ⌜ (i < length (c .ids)) × (j < length (c .ids)) × (2 * i + 1 < length (c .co)) × (2 * j + 1 < length (c .co)) ⌝ }
+    ensures { λ _. let c = lentIndex ids coords in ⌜ c .exit ≡ swapItem (c .entry) i j ⌝ }
 {
     let a = ids[i];
     ids[i] = ids[j];
@@ -89,11 +91,12 @@ fn stops_down(
 
 // Exchanges the slots of two lists, the first with the first, the second with the second, and so on.
 fn exchange(ids: &mut [u32], coords: &mut [f64], ups: &[usize], downs: &[usize], count: usize)
-    requires { ⌜ (count ≤ length (now ups)) × (count ≤ length (now downs))
-        × Slots (batchEntry (now ups)) (batchEntry (now downs)) count (length (now ids)) (length (now coords)) ⌝ }
+    requires { let u = now ups in
+        let d = now downs in
+        ⌜ (count ≤ length u) × (count ≤ length d) × Slots (batchEntry u) (batchEntry d) count (length (now ids)) (length (now coords)) ⌝ }
     ensures { λ _.
-        ⌜ indexCols (new ids) (new coords)
-        ≡ exchanged (indexCols (old ids) (old coords)) (batchEntry (old ups)) (batchEntry (old downs)) count ⌝ }
+        let c = lentIndex ids coords in
+        ⌜ c .exit ≡ exchanged (c .entry) (batchEntry (old ups)) (batchEntry (old downs)) count ⌝ }
 {
     let mut k = 0;
     while k < count {
@@ -116,7 +119,7 @@ fn lesser(m: usize, n: usize) -> usize
 // from j down, are written down first and then exchanged in pairs. Answers where the scans go on.
 fn batch(ids: &mut [u32], coords: &mut [f64], i: usize, j: usize, axis: usize, t: f64) -> Ends
     requires { ⌜ (i ≤ j + 1) × (j < length (now ids)) × (2 * j + 1 < length (now coords)) × (axis < 2) ⌝ }
-    ensures { λ r. ⌜ Nearer axis t (indexCols (old ids) (old coords)) (indexCols (new ids) (new coords)) i j (r .up) (r .down) ⌝ }
+    ensures { λ r. let c = lentIndex ids coords in ⌜ Nearer axis t (c .entry) (c .exit) i j (r .up) (r .down) ⌝ }
 {
     if j < i + 32 {
         return Ends { up: i, down: j };
@@ -144,7 +147,7 @@ fn partition(
     axis: usize,
 ) -> usize
     requires { ⌜ Here k left right axis (length (now ids)) (length (now coords)) ⌝ }
-    ensures { λ r. ⌜ cut (indexCols (new ids) (new coords)) r ≡ parted axis k (indexCols (old ids) (old coords)) left right ⌝ }
+    ensures { λ r. let c = lentIndex ids coords in ⌜ cut (c .exit) r ≡ parted axis k (c .entry) left right ⌝ }
     ensures { λ r. ⌜ (left ≤ r) × (r ≤ right) ⌝ }
 {
     let t = coords[2 * k + axis];
@@ -185,9 +188,9 @@ fn partition(
 // Brings to slot k the coordinate that belongs there among the slots from first to last: what stands left of k is not above it, what stands
 // right not below.
 fn select(ids: &mut [u32], coords: &mut [f64], k: usize, first: usize, last: usize, axis: usize)
-    requires { ⌜ Room (indexCols (now ids) (now coords)) first last axis ⌝ }
+    requires { ⌜ Room (givenIndex ids coords) first last axis ⌝ }
     requires { ⌜ (first ≤ k) × (k ≤ last) × (1 ≤ k) ⌝ }
-    ensures { λ _. ⌜ indexCols (new ids) (new coords) ≡ selected axis k (indexCols (old ids) (old coords)) first last ⌝ }
+    ensures { λ _. let c = lentIndex ids coords in ⌜ c .exit ≡ selected axis k (c .entry) first last ⌝ }
 {
     let mut left = first;
     let mut right = last;
@@ -206,7 +209,7 @@ fn select(ids: &mut [u32], coords: &mut [f64], k: usize, first: usize, last: usi
 // side on the other axis.
 fn sort(ids: &mut [u32], coords: &mut [f64], most: usize, lo: usize, hi: usize, axis: usize)
     requires { ⌜ (lo ≤ hi) × (hi ≤ length (now ids)) × (2 * hi ≤ length (now coords)) × (axis < 2) × (2 ≤ most) ⌝ }
-    ensures { λ _. ⌜ indexCols (new ids) (new coords) ≡ sorted axis lo hi (shape most lo hi) (indexCols (old ids) (old coords)) ⌝ }
+    ensures { λ _. let c = lentIndex ids coords in ⌜ c .exit ≡ sorted axis lo hi (shape most lo hi) (c .entry) ⌝ }
 {
     if hi - lo <= most {
         return;
@@ -219,10 +222,10 @@ fn sort(ids: &mut [u32], coords: &mut [f64], most: usize, lo: usize, hi: usize, 
 
 // Builds the index of the points (xs[i], ys[i]) in the first slots of the lent columns.
 pub fn build_index(node_size: usize, xs: &[f64], ys: &[f64], ids: &mut [u32], coords: &mut [f64])
-    requires { ⌜ (1 ≤ length (now xs)) × (length (now xs) ≤ 1048576) × (length (now ys) ≡ length (now xs)) ⌝ }
-    requires { ⌜ (length (now xs) ≤ length (now ids)) × (2 * length (now xs) ≤ length (now coords))
-        × (1 ≤ «node_size») × («node_size» ≤ 65535) ⌝ }
-    ensures { λ _. ⌜ indexCols (new ids) (new coords) ≡ indexed «node_size» (old xs) (old ys) (indexCols (old ids) (old coords)) ⌝ }
+    requires { let n = length (now xs) in ⌜ (1 ≤ n) × (n ≤ 1048576) × (length (now ys) ≡ n) ⌝ }
+    requires { let n = length (now xs) in
+        ⌜ (n ≤ length (now ids)) × (2 * n ≤ length (now coords)) × (1 ≤ «node_size») × («node_size» ≤ 65535) ⌝ }
+    ensures { λ _. let c = lentIndex ids coords in ⌜ c .exit ≡ indexed «node_size» (old xs) (old ys) (c .entry) ⌝ }
 {
     let n = xs.len();
     let mut i = 0;

@@ -99,7 +99,7 @@ fn first_below(q: Query, coords: &[f64], most: usize, lo: usize, hi: usize, axis
 // The first slot that is answered in the part left of the median m.
 fn first_left(q: Query, coords: &[f64], most: usize, lo: usize, m: usize, axis: usize) -> Next
     requires { ⌜ (2 * m + 1 < length (now coords)) × (lo ≤ m) × (axis < 2) ⌝ }
-    ensures { λ r. ⌜ r ≡ headOf (when (over q (old coords) .left axis m) (slots (over q (old coords)) (1 - axis) (shape most lo m))) ⌝ }
+    ensures { λ r. let o = over q (old coords) in ⌜ r ≡ headOf (when (o .left axis m) (slots o (1 - axis) (shape most lo m))) ⌝ }
 {
     if kdslots::left_at(q, coords, axis, m) {
         return first_in(q, coords, most, lo, m, 1 - axis);

@@ -1,5 +1,5 @@
--- What a build is given, as one record: every law on a build takes that, and that the build is accepted. And the points as the finest
--- table has them. Assumes nothing.
+-- What a build is given, as one record: every law on a build takes that, and that it is within bounds. And the points as the finest table
+-- has them. Assumes nothing.
 use mathlib.Core.Path.{_≡_}
 use mathlib.Core.List.{List}
 use Prim.Native.Nat.{ℕ, _<_}
@@ -26,7 +26,7 @@ pub record Given : Type 0 where
 abbrev pub givenBuild : Options → List Float → List Float → List ℕ → Given
 givenBuild o xs ys ws = record { options = o; xs = xs; ys = ys; energies = ws }
 
--- the build is accepted
+-- what is given is within bounds, as it is in every accepted build; of the lent columns nothing is asked
 abbrev pub AcceptedBuild : Given → Type 0
 AcceptedBuild G = Accepts (G .options) (G .xs) (G .ys) (G .energies)
 

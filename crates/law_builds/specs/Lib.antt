@@ -1,6 +1,6 @@
 -- What law_builds says and proves, a line a module. Written by tools/modules.
 
--- Given: what a build is given, as one record: every law on a build takes that, and that the build is accepted.
+-- Given: what a build is given, as one record: every law on a build takes that, and that it is within bounds.
 pub mod Given
 -- Came: the tables of a build by their numbers, from max_zoom + 1, the finest, down to min_zoom: table z as it came, before a zoom marked
 -- it, and as the build has it.

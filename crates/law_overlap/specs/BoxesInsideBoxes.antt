@@ -80,9 +80,9 @@ pub record Shared (one other both : Asked) : Type 0 where
 
 -- of a question `ask` that takes any box, with a range d. Equal answers are the same places in the same order
 pub record Overlaps (d : DataRange) (ask : Box → Asked) : Type 0 where
-  -- the common part of two boxes gives just the places that both give, in the order in which either gives them
+  -- what both boxes give is just what their common part gives, in the order of either
   pub shared : (a b : Box) → Taken d a → Taken d b → Shared (ask a) (ask b) (ask (common a b))
-  -- a common part that is still empty after normalising gives nothing, and is not refused
+  -- for a common part that is empty once normalised nothing is given, and nothing refused
   pub nothing : (a b : Box) → Taken d a → Taken d b → Empty d (common a b) → ask (common a b) ≡ told true []
   -- the same box twice adds nothing, and takes nothing away
   pub twice : (a : Box) → Taken d a → ask (common a a) ≡ ask a

@@ -40,7 +40,7 @@ use Rattle.ask_tile.specs.Asked.{TileAsked, tileAsked, tileOutcome, outcomeOf, 
 use Rattle.law_worked.specs.Tables.{b, options, xs, ys, ws, zeros}
 use Rattle.law_answers.specs.Stored.{columnsOf}
 
--- ---- max_zoom 30 built, 31 refused 1; node_size 0 refused 1
+-- ---- max_zoom 30 is built; max_zoom 31 and node_size 0 are refused 1
 
 -- SCOPE's options with another max_zoom and min_points
 unfoldable pub with : ℕ → ℕ → Options
@@ -72,7 +72,7 @@ pub size-0 : (l : BuildColumns) → loadNumber (checked (options 0) xs ys ws l) 
 unfolding checked optionsOk systemInBounds inBounds offsetOf scaleOf sub ofBits le lt options b
 size-0 l = refl
 
--- ---- with min_points 3 all four lamps stay single down to table 0
+-- ---- min_points 3: each of the three tables has the four lamps, none of them clustered
 
 pub single : (map idsOf (tablesOf (with 1 3) xs ys ws) ≡ replicate 3 (0 ∷ 1 ∷ 2 ∷ 3 ∷ []))
     × (map numsOf (tablesOf (with 1 3) xs ys ws) ≡ replicate 3 (replicate 4 1))

@@ -46,7 +46,7 @@ unfolding lampsOf lampsAt groupsBy came comes weighedSum convertedAll finest ind
     indexed selected sel parted passes up down swapCo swapIds shape split scanned slots places options xs ys ws b
 lamps-are-0 = refl
 
--- the members of 5 are entries 0 and 1 of table 1
+-- cluster 5 was made of places 0 and 1 of table 1
 pub members-are : membersOf workedLamps 5 ≡ 0 ∷ 1 ∷ []
 unfolding tableOfZoom tablesOf runZooms convertedAll finest indexOfTable indexOf radiusAt cluster scanFrom scanOne visit copyAll copyOne absorb
     absorbOne moreOf converted normalized offsetOf scaleOf add sub mul div ofInt ofBits le lt eq filledSlots sorted indexed selected sel

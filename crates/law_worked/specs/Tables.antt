@@ -39,7 +39,7 @@ b n = ofBits binary64 n
 unfoldable pub at : ℕ → ℕ → ℕ → ℕ → ℕ → ℕ → ℕ → Entry
 at x y s i p n w = record { x = b x; y = b y; seen = s; id = i; parent = p; num = n; energy = w }
 
--- min_zoom 0, max_zoom 1, min_points 2, radius 64, extent 512, Cartesian with offset 0 and scale 1
+-- the worked example's options, Cartesian with offset 0 and scale 1, and any node_size
 unfoldable pub options : ℕ → Options
 options size =
     record {

@@ -32,31 +32,31 @@ use Rattle.law_worked.specs.Printed.{example, example-built, exampleText
 
 -- the table, of a state s and the columns c
 pub record Worked (s : State) (c : Columns) : Type 0 where
-  -- Input min_zoom=0 .. count=4, points (16384,32768), (20480,32768), (26624,32768) twice, energies 10, 20, 30, 40, prints: seven lines
+  -- the lister's text of the four points with their energies, and the seven lines that it prints
   pub written : text example ≡ exampleText
   pub printed : linesOf example ≡ sevenLines
-  -- id 70 decodes to origin 2, table 2; id 5 to origin 0, table 1
+  -- cluster 70 was made at place 2 of table 2, cluster 5 at place 0 of table 1
   pub id-70 : (originOf (s .count) 70 ≡ 2) × (tableOf (s .count) 70 ≡ 2)
   pub id-5 : (originOf (s .count) 5 ≡ 0) × (tableOf (s .count) 5 ≡ 1)
-  -- children of 5 are entries 0 and 1 of table 1
+  -- cluster 5 has children at places 0 and 1
   pub children-of-5 : childrenOf s c 5 ≡ told true (0 ∷ 1 ∷ [])
-  -- leaves of 5: limit 10 offset 0 gives 0,1,2,3; limit 3 offset 1 gives 1,2,3
+  -- its leaves: all four, and three behind the first
   pub leaves-limit-10 : leavesOf s c 5 10 0 ≡ told true (0 ∷ 1 ∷ 2 ∷ 3 ∷ [])
   pub leaves-limit-3 : leavesOf s c 5 3 1 ≡ told true (1 ∷ 2 ∷ 3 ∷ [])
-  -- limit 0: nothing at offset 0, nothing at offset 1
+  -- with limit 0 none, at either offset
   pub leaves-limit-0 : leavesOf s c 5 0 0 ≡ told true []
   pub leaves-limit-0-later : leavesOf s c 5 0 1 ≡ told true []
-  -- expansion zoom of 5 is 1, of 6 is 2
+  -- at which zoom 5 and 6 come apart
   pub expansion-of-5 : zoomOf s c 5 ≡ At 1
   pub expansion-of-6 : zoomOf s c 6 ≡ At 2
-  -- id 3 refused 6; id 4 refused 6; id 7 refused 5; id 134 refused 6
+  -- all three questions are refused, of 3, 4 and 134 by 6, of 7 by 5
   pub id-3 : Refused s c 3 6
   pub id-4 : Refused s c 4 6
   pub id-7 : Refused s c 7 5
   pub id-134 : Refused s c 134 6
-  -- tile (0,0,0) lists entry 0 at (176,256)
+  -- tile (0,0,0) has one item: the entry at place 0, at (176,256)
   pub tile : tileAsked s c 0 0 0 ≡ told true (record { place = 0; x = pos 176; y = pos 256 } ∷ [])
-  -- 0.5 rounds to 1, -0.5 to -1
+  -- a half is rounded away from zero
   pub half-up : away half ≡ pos 1
   pub half-down : away (neg half) ≡ negsuc 0
 

@@ -38,7 +38,7 @@ fn put_byte(out: &mut [u8], at: usize, b: u8) -> usize
 // The bytes bs at `at`. The place past them.
 fn put_bytes(out: &mut [u8], at: usize, bs: &[u8]) -> usize
     requires { ⌜ at + length (now bs) ≤ length (now out) ⌝ }
-    ensures { λ r. ⌜ Put (old out) (new out) at (old bs) (length (old bs)) r ⌝ }
+    ensures { λ r. let b = old bs in ⌜ Put (old out) (new out) at b (length b) r ⌝ }
 {
     let mut p = at;
     let mut i: usize = 0;

@@ -45,7 +45,7 @@ pub enum Parsed {
 }
 
 // The numbers of a point's lines and the place past these, or no such lines.
-pub enum Point {
+pub enum WrittenPoint {
     Stands {
         x: u32,
         y: u32,
@@ -191,19 +191,19 @@ fn read_head(s: &[u8]) -> Parsed
 }
 
 // The lines of a point.
-fn read_point(s: &[u8], from: Cursor) -> Point
+fn read_point(s: &[u8], from: Cursor) -> WrittenPoint
     ensures { λ r. ⌜ r ≡ pointOf (old s) (from .at) ⌝ }
 {
     let Value::Number { v: x, next: c1 } = line(s, from, b"x=", 9999999) else {
-        return Point::Missing;
+        return WrittenPoint::Missing;
     };
     let Value::Number { v: y, next: c2 } = line(s, c1, b"y=", 9999999) else {
-        return Point::Missing;
+        return WrittenPoint::Missing;
     };
     let Value::Number { v: wh, next: c3 } = line(s, c2, b"wh=", 9999999) else {
-        return Point::Missing;
+        return WrittenPoint::Missing;
     };
-    Point::Stands { x, y, wh, next: c3 }
+    WrittenPoint::Stands { x, y, wh, next: c3 }
 }
 
 // Whether n points stand at the cursor, and then nothing.
@@ -213,7 +213,7 @@ fn points_ok(s: &[u8], from: Cursor, n: u32) -> bool
     let mut at = from.at;
     let mut left = n;
     while 0 < left {
-        let Point::Stands {
+        let WrittenPoint::Stands {
             x: _,
             y: _,
             wh: _,
@@ -251,7 +251,7 @@ fn fill(
     let mut left = n;
     let mut i: usize = 0;
     while 0 < left {
-        let Point::Stands { x, y, wh, next } = read_point(s, Cursor { at }) else {
+        let WrittenPoint::Stands { x, y, wh, next } = read_point(s, Cursor { at }) else {
             return;
         };
         xs[i] = coordinate(x);

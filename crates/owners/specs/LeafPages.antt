@@ -51,8 +51,7 @@ pub record OnPage (x : ℕ) (pages : ℕ → List ℕ) (k : ℕ) : Type 0 where
 pub record LeafPages (s : State) (c : Columns) (own : ℕ → ℕ) (z j size : ℕ) : Type 0 where
   -- no page is refused, nor breaks, whatever its offset
   pub given : (offset : ℕ) → pageAsked s c z j size offset ≡ told true (lampsOfCluster s c z j size offset)
-  -- the pages at offsets 0, size, twice the size and so on, as many as reach the count, put together are the whole leaf list: `gather` puts
-  -- those of 0 to n - 1 together
+  -- pages in turn, as many as reach the count, join to the whole list of leaves: `gather` puts those of 0 to n - 1 together
   pub joined : (n : ℕ) → numAt s c z j ≤ n * size → gather (λ k. page s c z j size k) (range 0 n) ≡ allLeaves s c z j
   -- a page has the size, or what is left of the count
   pub long : (k : ℕ) → length (page s c z j size k) ≡ min size (numAt s c z j - k * size)
@@ -67,7 +66,8 @@ pub record LeafPages (s : State) (c : Columns) (own : ℕ → ℕ) (z j size : �
   -- before what the column held
   pub stands : (offset : ℕ) (out : List ℕ) → min size (numAt s c z j) ≤ length out
       → (answerOf (pageAsked s c z j size offset) (length out) ≡ Listed (length (lampsOfCluster s c z j size offset)))
-      × (columnOf (pageAsked s c z j size offset) out ≡ lampsOfCluster s c z j size offset ++ drop (length (lampsOfCluster s c z j size offset)) out)
+      × (columnOf (pageAsked s c z j size offset) out
+      ≡ lampsOfCluster s c z j size offset ++ drop (length (lampsOfCluster s c z j size offset)) out)
   -- each lamp of the cluster stands on exactly one page, once, and that page is one of those that reach the count
   pub once : (n l : ℕ) → numAt s c z j ≤ n * size → l < s .count → own l ≡ j → (k : ℕ) × (k < n) × OnPage l (λ i. page s c z j size i) k
   -- and nothing else stands on any page

@@ -1,6 +1,5 @@
--- The range module, by SCOPE: normalize is (v - offset) / scale, denormalize is v * scale + offset. Each of offset and scale is either
--- given or derived: offset the smaller minimum, scale the larger maximum less the offset. One rounding an operation, on all floats.
--- Definitions only.
+-- A range takes a coordinate to the tables' numbers and back, by its offset and its scale, as given or else made of its minima and maxima;
+-- and a point is converted as its coordinate system says. Each operation rounds once, on all floats. Definitions only.
 use mathlib.Core.Bool.{Bool, true, cond, _&&_}
 use lib.Ieee.{Float, binary64, isNan, lt, add, sub, mul, div}
 use lib.Ieee.Scale.{finite}
@@ -40,7 +39,7 @@ normalized d v = div binary64 (sub binary64 v (offsetOf d)) (scaleOf d)
 unfoldable pub denormalized : DataRange → Float → Float
 denormalized d v = add binary64 (mul binary64 v (scaleOf d)) (offsetOf d)
 
--- SCOPE's bounds of a range: its four numbers, offset and scale are finite, and the scale is above 0
+-- SCOPE's bounds of a range: minima, maxima, offset and scale are finite, and the scale is above 0
 unfoldable pub inBounds : DataRange → Bool
 inBounds d =
     ((finite (d .«min_x») && finite (d .«min_y»)) && (finite (d .«max_x») && finite (d .«max_y»)))

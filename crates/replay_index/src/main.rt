@@ -4,7 +4,7 @@
 // each slot. The k queries follow: 0 asks for the box of the least x, the least y, the greatest x and the greatest y, 1 for the circle of
 // x, y and radius, and d is not looked at; expected are the places in their order. Each query is asked once as a list and once by the
 // cursor. n and m go to 1024, k to 64; a case beyond is not of the form. Proved: nothing here reads or writes outside its columns, each
-// comparison is the equation of its definition in specs/, and the tally is right. Assumed: what standard input gives is not modelled, so
+// comparison is the equation of its definition in specs/, and the score is right. Assumed: what standard input gives is not modelled, so
 // that the loops that read are only proved to be safe.
 use kdbush::SearchReply;
 use kdslots::Query;
@@ -14,14 +14,14 @@ use replay_vectors::Ending;
 use replay_vectors::First;
 use replay_vectors::Function;
 use replay_vectors::Pattern;
-use replay_vectors::Tally;
+use replay_vectors::Score;
 use replay_vectors::Verdict;
 use replay_vectors::Word;
 ghost use mathlib.Core.Path.{_≡_};
 ghost use Prim.Native.Nat.{_*_, _≤_};
 ghost use lib.ListN.{length};
 ghost use Rattle.lent.specs.Lent.{old, new};
-ghost use Rattle.replay_vectors.specs.Tallies.{endingIs};
+ghost use Rattle.replay_vectors.specs.Scores.{endingIs};
 ghost use Rattle.kdbush.specs.Reply.{searched, columnAfter};
 ghost use Rattle.replay_index.specs.Read.{queryRead};
 ghost use Rattle.replay_index.specs.Same.{buildsTo, foundIs, indexListsTo, slotOf, overIs, walksTo, functionOf};
@@ -341,17 +341,17 @@ fn next_case() -> Verdict {
 fn replay_all() -> Ending
     ensures { λ r. ⌜ endingIs r ⌝ }
 {
-    let mut tally = Tally {
+    let mut score = Score {
         cases: 0,
         differences: 0,
         first: First::Nothing,
     };
-    while tally.cases <= replay_vectors::MOST {
+    while score.cases <= replay_vectors::MOST {
         match next_case() {
-            Verdict::Agrees => tally = tally.agreed(),
-            Verdict::Differs(function) => tally = tally.differed(function),
-            Verdict::Malformed => return Ending::Malformed(tally.cases + 1),
-            Verdict::End => return Ending::Finished(tally),
+            Verdict::Agrees => score = score.agreed(),
+            Verdict::Differs(function) => score = score.differed(function),
+            Verdict::Malformed => return Ending::Malformed(score.cases + 1),
+            Verdict::End => return Ending::Finished(score),
         }
     }
     Ending::TooMany

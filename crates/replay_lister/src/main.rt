@@ -9,12 +9,12 @@ use replay_vectors::Ending;
 use replay_vectors::First;
 use replay_vectors::Function;
 use replay_vectors::Pattern;
-use replay_vectors::Tally;
+use replay_vectors::Score;
 use replay_vectors::Verdict;
 use replay_vectors::Word;
 ghost use Rattle.lent.specs.Lent.{old};
 ghost use Rattle.replay_lister.specs.Prints.{printsIs};
-ghost use Rattle.replay_vectors.specs.Tallies.{endingIs};
+ghost use Rattle.replay_vectors.specs.Scores.{endingIs};
 
 // Whether what is printed for the text is what is expected.
 fn prints(text: &[u8], want: &[u8]) -> bool
@@ -97,17 +97,17 @@ fn next_case() -> Verdict {
 fn replay_all() -> Ending
     ensures { λ r. ⌜ endingIs r ⌝ }
 {
-    let mut tally = Tally {
+    let mut score = Score {
         cases: 0,
         differences: 0,
         first: First::Nothing,
     };
-    while tally.cases <= replay_vectors::MOST {
+    while score.cases <= replay_vectors::MOST {
         match next_case() {
-            Verdict::Agrees => tally = tally.agreed(),
-            Verdict::Differs(function) => tally = tally.differed(function),
-            Verdict::Malformed => return Ending::Malformed(tally.cases + 1),
-            Verdict::End => return Ending::Finished(tally),
+            Verdict::Agrees => score = score.agreed(),
+            Verdict::Differs(function) => score = score.differed(function),
+            Verdict::Malformed => return Ending::Malformed(score.cases + 1),
+            Verdict::End => return Ending::Finished(score),
         }
     }
     Ending::TooMany

@@ -1,12 +1,12 @@
 // Replays test vectors on the crate `supercluster`, and says whether its builds are those that the vectors expect. A vector is a line of
 // standard input: words of 16 lowercase hexadecimal digits, a space after each, and a line end after the last. min_zoom max_zoom
 // min_points radius extent node_size cartesian min_x min_y max_x max_y offset_given offset scale_given scale longitude_strips_only, as
-// `stored` reads these, n, n times `x y`, n energies, m, m times `x y seen id parent num energy slot_id slot_x slot_y`, `start len` for
-// each zoom from min_zoom to max_zoom + 1 The n points are built in columns that are filled with old contents. Expected are the m entries
-// of all tables, the slots of their indexes at the same positions, zeros in the first 2n of `near`, the old contents past all of these,
-// and in the state the options, n, and zeros as start and length of the other zooms. n goes to 64, and the tables to 1152 entries in all;
-// a case beyond is not of the form, nor is one with a max_zoom that is past 30 or below min_zoom. Proved: nothing here reads or writes
-// outside its columns, the verdict of a case is the equation `loadsTo` of specs/, and the tally is right. Assumed: what standard input
+// `replay_options` reads these, n, n times `x y`, n energies, m, m times `x y seen id parent num energy slot_id slot_x slot_y`, `start
+// len` for each zoom from min_zoom to max_zoom + 1. The n points are built in columns that are filled with old contents. Expected are the
+// m entries of all tables, the slots of their indexes at the same positions, zeros in the first 2n of `near`, the old contents past all of
+// these, and in the state the options, n, and zeros as start and length of the other zooms. n goes to 64, and the tables to 1152 entries in
+// all; a case beyond is not of the form, nor is one with a max_zoom that is past 30 or below min_zoom. Proved: nothing here reads or writes
+// outside its columns, the verdict of a case is the equation `loadsTo` of specs/, and the score is right. Assumed: what standard input
 // gives is not modelled, so that the loops that read are only proved to be safe.
 use build_tables::Entry;
 use build_tables::Options;
@@ -22,14 +22,14 @@ use replay_vectors::First;
 use replay_vectors::Function;
 use replay_vectors::Pattern;
 use replay_vectors::Place;
-use replay_vectors::Tally;
+use replay_vectors::Score;
 use replay_vectors::Verdict;
 use replay_vectors::Word;
 use supercluster::Loaded;
 ghost use mathlib.Core.Path.{_≡_};
 ghost use Prim.Native.Nat.{_*_, _≤_};
 ghost use lib.ListN.{length};
-ghost use Rattle.replay_vectors.specs.Tallies.{endingIs};
+ghost use Rattle.replay_vectors.specs.Scores.{endingIs};
 ghost use Rattle.lent.specs.Lent.{old, new};
 ghost use Rattle.build_tables.specs.laws.Rows.{Even};
 ghost use Rattle.build_tables.specs.Lent.{given};
@@ -506,17 +506,17 @@ fn next_case() -> Verdict {
 fn replay_all() -> Ending
     ensures { λ r. ⌜ endingIs r ⌝ }
 {
-    let mut tally = Tally {
+    let mut score = Score {
         cases: 0,
         differences: 0,
         first: First::Nothing,
     };
-    while tally.cases <= replay_vectors::MOST {
+    while score.cases <= replay_vectors::MOST {
         match next_case() {
-            Verdict::Agrees => tally = tally.agreed(),
-            Verdict::Differs(function) => tally = tally.differed(function),
-            Verdict::Malformed => return Ending::Malformed(tally.cases + 1),
-            Verdict::End => return Ending::Finished(tally),
+            Verdict::Agrees => score = score.agreed(),
+            Verdict::Differs(function) => score = score.differed(function),
+            Verdict::Malformed => return Ending::Malformed(score.cases + 1),
+            Verdict::End => return Ending::Finished(score),
         }
     }
     Ending::TooMany

@@ -1,6 +1,6 @@
 // Replays test vectors of the questions to a build, and says whether the answers are those that the vectors expect.
 // A vector is a line of standard input: words of 16 lowercase hexadecimal digits, a space after each, and a line end after the last.
-//     min_zoom max_zoom, the options as `stored` reads them, n, 32 starts, 32 lengths, nine columns, k, k questions
+//     min_zoom max_zoom, the options as `replay_options` reads them, n, 32 starts, 32 lengths, nine columns, k, k questions
 // The columns are x, y, seen, id, parent, num, energy, ids and coords, each with its length before it: 64 at the most, of coords 128.
 // They are asked as they stand, so that states that no build made are among them.
 // A question is its kind, its numbers, the reply's number, and what the reply carries; k is 64 at the most.
@@ -10,7 +10,7 @@
 // The output columns are as long as their rooms, 64 at the most, and filled with old contents: expected is that the m items stand at the
 // front, and behind them the old contents.
 // Proved: nothing here reads or writes outside its columns, the verdict on a question is the equation of specs/ (`listsTo`, `zoomsTo`,
-// `tilesTo`, `sumsTo`): it agrees if and only if what is stored is what the definition says (specs/Decides). The tally is right.
+// `tilesTo`, `sumsTo`): it agrees if and only if what is stored is what the definition says (specs/Decides). The score is right.
 // Assumed: what standard input gives is not modelled, so that the functions that read are only proved to be safe.
 use ask_base::Answer;
 use build_tables::Options;
@@ -24,7 +24,7 @@ use replay_vectors::Function;
 use replay_vectors::Pattern;
 use replay_vectors::Place;
 use replay_vectors::Question;
-use replay_vectors::Tally;
+use replay_vectors::Score;
 use replay_vectors::Verdict;
 use replay_vectors::Word;
 ghost use mathlib.Core.Path.{_≡_};
@@ -36,7 +36,7 @@ ghost use Rattle.build_tables.specs.Lent.{lentColumns};
 ghost use Rattle.ask_cluster.specs.Expansion.{zoomOf};
 ghost use Rattle.ask_tile.specs.Asked.{tiled};
 ghost use Rattle.ask_tile.specs.Tallied.{tallied};
-ghost use Rattle.replay_vectors.specs.Tallies.{endingIs};
+ghost use Rattle.replay_vectors.specs.Scores.{endingIs};
 ghost use Rattle.replay_questions.specs.Same.{askedOf, questionOf, sameReply, sameTile, listsTo, zoomsTo, tilesTo, sumsTo};
 
 // A question that lists places, or lamps.
@@ -1001,17 +1001,17 @@ fn next_case() -> Verdict {
 fn replay_all() -> Ending
     ensures { λ r. ⌜ endingIs r ⌝ }
 {
-    let mut tally = Tally {
+    let mut score = Score {
         cases: 0,
         differences: 0,
         first: First::Nothing,
     };
-    while tally.cases <= replay_vectors::MOST {
+    while score.cases <= replay_vectors::MOST {
         match next_case() {
-            Verdict::Agrees => tally = tally.agreed(),
-            Verdict::Differs(function) => tally = tally.differed(function),
-            Verdict::Malformed => return Ending::Malformed(tally.cases + 1),
-            Verdict::End => return Ending::Finished(tally),
+            Verdict::Agrees => score = score.agreed(),
+            Verdict::Differs(function) => score = score.differed(function),
+            Verdict::Malformed => return Ending::Malformed(score.cases + 1),
+            Verdict::End => return Ending::Finished(score),
         }
     }
     Ending::TooMany

@@ -1,6 +1,6 @@
 // What the programs share that replay stored vectors: a vector's words are 16 lowercase hexadecimal digits, a number's or the bits of an
 // f64. Proved: a word is read exactly as io::hex would write it, every pattern of a NaN is read as NaN, a number with a sign is the one
-// that its bits stand for, and two floats agree where they are equal or both NaN. Proved too: the tally of a replay counts each case
+// that its bits stand for, and two floats agree where they are equal or both NaN. Proved too: the score of a replay counts each case
 // once, and names the first that differs. What is written is only proved to be safe. Proved of what is read and compared: a word's number
 // is what its 17 bytes spell, a count is within its limit, two columns are compared to their ends. Assumed: nothing beyond the contracts
 // of `floats`, `kdbush` and `io`. What standard input gives is not modelled: a function that reads it is only proved to be safe.
@@ -16,7 +16,7 @@ ghost use mir.Val.{toZ};
 ghost use Rattle.lent.specs.Lent.{old};
 ghost use Rattle.replay_vectors.specs.Words.{digitIs, patternIs, wordIs, countIs, agreeing};
 ghost use Rattle.replay_vectors.specs.Same.{samePlaces, sameLongs, sameFloats, doneIs};
-ghost use Rattle.replay_vectors.specs.Tallies.{earlierOf, firstOf, withAgreed, withDiffered};
+ghost use Rattle.replay_vectors.specs.Scores.{earlierOf, firstOf, withAgreed, withDiffered};
 
 // The value of a hexadecimal digit, or a byte that is none.
 enum Digit {
@@ -97,7 +97,7 @@ pub enum First {
 }
 
 // The cases so far, those that differ, and the first of these.
-pub struct Tally {
+pub struct Score {
     pub cases: u64,
     pub differences: u64,
     pub first: First,
@@ -105,7 +105,7 @@ pub struct Tally {
 
 // How the replay ended: at the end of the input; at a case that is not of the form; with more cases than it takes.
 pub enum Ending {
-    Finished(Tally),
+    Finished(Score),
     Malformed(u64),
     TooMany,
 }
@@ -581,28 +581,28 @@ impl First {
     }
 }
 
-impl Tally {
-    // The tally with one more case that agrees.
-    pub fn agreed(self) -> Tally
+impl Score {
+    // The score with one more case that agrees.
+    pub fn agreed(self) -> Score
         requires { ⌜ self .cases ≤ 4000000 ⌝ }
         ensures { λ r. ⌜ r ≡ withAgreed self ⌝ }
     {
         let first = self.first;
-        Tally {
+        Score {
             cases: self.cases + 1,
             differences: self.differences,
             first,
         }
     }
 
-    // The tally with one more case that differs.
-    pub fn differed(self, function: Function) -> Tally
+    // The score with one more case that differs.
+    pub fn differed(self, function: Function) -> Score
         requires { ⌜ self .cases ≤ 4000000 ⌝ }
         requires { ⌜ self .differences ≤ self .cases ⌝ }
         ensures { λ r. ⌜ r ≡ withDiffered self function ⌝ }
     {
         let first = self.first;
-        Tally {
+        Score {
             cases: self.cases + 1,
             differences: self.differences + 1,
             first: first.or_at(self.cases + 1, function),
@@ -690,15 +690,15 @@ fn say_first(first: First) {
 }
 
 // Writes what the replay of a whole input found.
-fn say_tally(tally: Tally) {
-    if tally.cases == 0 {
+fn say_score(score: Score) {
+    if score.cases == 0 {
         io::write_all(STDOUT_FILENO, b"no case\n");
         return;
     }
-    say_number(b"cases=", tally.cases);
-    say_number(b" differences=", tally.differences);
+    say_number(b"cases=", score.cases);
+    say_number(b" differences=", score.differences);
     io::write_all(STDOUT_FILENO, b"\n");
-    let first = tally.first;
+    let first = score.first;
     say_first(first);
 }
 
@@ -717,7 +717,7 @@ fn say_too_many() {
 // Writes how a replay ended.
 pub fn say_ending(ending: Ending) {
     match ending {
-        Ending::Finished(tally) => say_tally(tally),
+        Ending::Finished(score) => say_score(score),
         Ending::Malformed(case) => say_malformed(case),
         Ending::TooMany => say_too_many(),
     }

@@ -9,7 +9,8 @@ use Rattle.supercluster.specs.Build.{BuildColumns, buildColumns}
 
 -- in a `requires`
 abbrev pub givenAll : S Float → S Float → S ℕ → S ℕ → S ℕ → S ℕ → S ℕ → S ℕ → S Float → S ℕ → BuildColumns
-givenAll x y seen id parent num energy ids coords near = buildColumns (given x y seen id parent num energy) (now ids) (now coords) (now near)
+givenAll x y seen id parent num energy ids coords near =
+    buildColumns (given x y seen id parent num energy) (now ids) (now coords) (now near)
 
 -- in an `ensures`: as the function is called, and as it returns
 abbrev pub lentAll : L Float → L Float → L ℕ → L ℕ → L ℕ → L ℕ → L ℕ → L ℕ → L Float → L ℕ → Both BuildColumns BuildColumns

@@ -5,7 +5,7 @@ pub mod Over
 -- Fill: the finest table, entry by entry: how long it is, what each entry is, and that points within [0,1] make entries there, of one lamp
 -- each.
 pub mod Fill
--- Ready: a build that is accepted: its first table is ready, and what the loop over the zooms leaves is the build.
+-- Ready: a build of what is within bounds: its first table is ready, and what the loop over the zooms leaves is the build.
 pub mod Ready
 -- Load: a build that is not refused: its points lie within [0,1] and its columns are long enough; and what it leaves in columns that were
 -- cut from longer ones.

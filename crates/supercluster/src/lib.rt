@@ -11,6 +11,7 @@ ghost use mathlib.Core.List.{map};
 ghost use Prim.Native.Nat.{_+_, _*_, _≤_};
 ghost use lib.Dec.{leb};
 ghost use lib.ListN.{length, replicate};
+ghost use Rattle.kdsort.specs.Lent.{lentIndex};
 ghost use Rattle.kdbush.specs.Reply.{firstOutside};
 ghost use Rattle.lent.specs.Lent.{old, new};
 ghost use Rattle.build_tables.specs.Rows.{rows};
@@ -89,8 +90,8 @@ fn fill(
     energy: &mut [u64],
 )
     requires { let t = given x y seen id parent num energy in
-        ⌜ Even t × (length (now ys) ≡ length (now xs)) × (length (now xs) ≤ length (t .x)) × (length (now xs) ≤ 1048576)
-        × (length (now energies) ≡ length (now xs)) ⌝ }
+        let n = length (now xs) in
+        ⌜ Even t × (length (now ys) ≡ n) × (n ≤ length (t .x)) × (n ≤ 1048576) × (length (now energies) ≡ n) ⌝ }
     ensures { λ _.
         let t = lentCols x y seen id parent num energy in
         ⌜ rows (t .exit) ≡ laidOver (finest (convertedAll c (old xs) (old ys)) (old energies) 0) (rows (t .entry)) ⌝ }
@@ -160,14 +161,16 @@ fn build_in(
     near: &mut [u32],
 ) -> State
     requires { let t = given x y seen id parent num energy in
-        let n = length (now xs) in
-        ⌜ Even t × Accepted o (now xs) (now ys) (now energies) × (length (t .x) ≡ need o n) × (length (now ids) ≡ need o n)
+        let px = now xs in
+        let n = length px in
+        ⌜ Even t × Accepted o px (now ys) (now energies) × (length (t .x) ≡ need o n) × (length (now ids) ≡ need o n)
         × (length (now coords) ≡ need o n * 2)
         × (length (now near) ≡ n + n) ⌝ }
     ensures { λ s.
         let t = lentCols x y seen id parent num energy in
+        let i = lentIndex ids coords in
         ⌜ Made o (old xs) (old ys) (old energies) s (rows (t .entry)) (rows (t .exit))
-        (old ids) (new ids) (old coords) (new coords) (new near) ⌝ }
+        (i .entry .ids) (i .exit .ids) (i .entry .co) (i .exit .co) (new near) ⌝ }
 {
     let n = xs.len();
     let c = o.coordinate_system;
@@ -211,11 +214,13 @@ fn build_all(
     near: &mut [u32],
 ) -> State
     requires { let l = givenAll x y seen id parent num energy ids coords near in
-        ⌜ Accepted o (now xs) (now ys) (now energies) × Holds (need o (length (now xs))) l ⌝ }
+        let px = now xs in
+        ⌜ Accepted o px (now ys) (now energies) × Holds (need o (length px)) l ⌝ }
     ensures { λ s.
         let l = lentAll x y seen id parent num energy ids coords near in
-        let n = length (old xs) in
-        let ts = tablesOf o (old xs) (old ys) (old energies) in
+        let px = old xs in
+        let n = length px in
+        let ts = tablesOf o px (old ys) (old energies) in
         ⌜ (s ≡ builtState o n ts) × (l .exit ≡ written (o .«node_size») n ts (l .entry)) ⌝ }
 {
     let n = xs.len();
@@ -278,9 +283,12 @@ fn first_over(energies: &[u64]) -> Outside
 // The refusal of a build, if there is one, for columns of these lengths.
 fn check(o: Options, xs: &[f64], ys: &[f64], energies: &[u64], room: usize) -> LoadReply
     ensures { λ r.
-        let ps = convertedAll (o .«coordinate_system») (old xs) (old ys) in
-        ⌜ r ≡ ordered (optionsOk o) (tripleOk (old xs) (old ys) (old energies)) (firstOutside (map (λ p. p .x) ps) (map (λ p. p .y) ps) 0)
-        (firstOver (old energies) 0) (leb (need o (length (old xs))) room) ⌝ }
+        let px = old xs in
+        let py = old ys in
+        let ws = old energies in
+        let ps = convertedAll (o .«coordinate_system») px py in
+        ⌜ r ≡ ordered (optionsOk o) (tripleOk px py ws) (firstOutside (map (λ p. p .x) ps) (map (λ p. p .y) ps) 0)
+        (firstOver ws 0) (leb (need o (length px)) room) ⌝ }
 {
     if !o.is_in_bounds() {
         return LoadReply::Options;

@@ -64,7 +64,7 @@ pub struct EffortReply {
     pub reply: Reply,
     /// How many slots were tested.
     pub tested: usize,
-    /// Whether it stopped with a test still due.
+    /// Whether a test was left.
     pub stopped: bool,
 }
 
@@ -137,7 +137,7 @@ impl<'a> Asked<'a> {
         )
     }
 
-    /// The same within so many tests: what they find, how many were made, and whether one was still due.
+    /// The same within so many tests: what they find, how many were made, and whether one was left.
     pub fn box_effort(
         &self,
         zoom: u8,

@@ -1,4 +1,4 @@
--- A box within an effort worked from the definitions: the tests of both halves of a box across the date line in one count, in the order
+-- A box within an effort worked from the definitions: the tests of both halves of a box that is split in one count, in the order
 -- of the search; where it stops, where it has just enough, what is judged for 10, and a slot past the table that spoils it only where it
 -- is come to. Assumes nothing.
 use mathlib.Core.Path.{_≡_, refl}

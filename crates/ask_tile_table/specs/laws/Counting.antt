@@ -13,7 +13,7 @@ use Rattle.kdbush.specs.Run.{places}
 use Rattle.kdslots.specs.laws.Bounds.{and-both}
 use Rattle.build_tables.specs.declared.Entry.{Entry}
 use Rattle.build_tables.specs.Entries.{Table, entry}
-use Rattle.ask_tile_table.specs.declared.Search.{Search}
+use Rattle.ask_tile_table.specs.declared.TileSearch.{TileSearch}
 use Rattle.ask_tile_table.specs.declared.Running.{Running}
 use Rattle.ask_tile_table.specs.Tile.{Visit, visitsOf, listable, tileListed, wholeTile}
 use Rattle.ask_tile_table.specs.laws.Marks.{markedPlaces, markPlace}
@@ -34,7 +34,7 @@ marksHeld {m = m} e = m
 abbrev pub placesIn : List Visit → List ℕ
 placesIn vs = map (λ v. v .place) vs
 
-pub places-of : (g : Search) (ps : List ℕ) → placesIn (visitsOf g ps) ≡ ps
+pub places-of : (g : TileSearch) (ps : List ℕ) → placesIn (visitsOf g ps) ≡ ps
 places-of g [] = refl
 places-of g (p ∷ ps) = ap (λ (l : List ℕ). p ∷ l) (places-of g ps)
 

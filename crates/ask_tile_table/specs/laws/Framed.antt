@@ -16,10 +16,10 @@ use Rattle.floats.specs.laws.Tile.{pow31-is, tile-bounds}
 use Rattle.kdslots.specs.laws.Bounds.{and-both}
 use Rattle.build_tables.specs.declared.Options.{Options}
 use Rattle.build_tables.specs.laws.Bounds.{InBounds}
-use Rattle.ask_tile_table.specs.declared.Search.{Search}
+use Rattle.ask_tile_table.specs.declared.TileSearch.{TileSearch}
 use Rattle.ask_tile_table.specs.Tile.{isTile, side, strip, here, eastStrip, westStrip}
 
-pub record Framed (g : Search) : Type 0 where
+pub record Framed (g : TileSearch) : Type 0 where
   pub z : ℕ
   pub small : z ≤ 31
   pub scale : g .z2 ≡ float (2 ^ z)
@@ -31,7 +31,7 @@ pub record Framed (g : Search) : Type 0 where
   pub y-most : T (le (g .y) pow31)
 
 -- what is rounded is within 2 ^ 48 either way
-pub fits : (g : Search) (c v : Float) → Framed g → In01 c → T (le (neg one) v) → T (le v pow31)
+pub fits : (g : TileSearch) (c v : Float) → Framed g → In01 c → T (le (neg one) v) → T (le v pow31)
     → T (le (neg pow48) (mul binary64 (g .extent) (sub binary64 (mul binary64 c (g .z2)) v))) × T (le (mul binary64 (g .extent) (sub binary64 (mul binary64 c (g .z2)) v)) pow48)
 fits g c v h u l r =
     subst (λ (w : Float). T (le (neg pow48) (mul binary64 (g .extent) (sub binary64 (mul binary64 c w) v))) × T (le (mul binary64 (g .extent) (sub binary64 (mul binary64 c w) v)) pow48)) (sym (h .scale))

@@ -22,7 +22,7 @@ use Rattle.kdbush.specs.laws.Promise.{answered-below, answered-complete}
 use Rattle.build_tables.specs.declared.Options.{Options}
 use Rattle.build_tables.specs.laws.Bounds.{InBounds}
 use Rattle.build_tables.specs.Entries.{Table, entry, none, xsOf, ysOf}
-use Rattle.ask_tile_table.specs.declared.Search.{Search}
+use Rattle.ask_tile_table.specs.declared.TileSearch.{TileSearch}
 use Rattle.ask_tile_table.specs.declared.Item.{Item}
 use Rattle.ask_tile_table.specs.Tile.{Visit, visitsOf, visits, visited, here, eastStrip, westStrip, least, greatest, listable, tileListed, wholeTile, itemOf}
 use Rattle.ask_tile_table.specs.Tile.{itemAt, tileItems}
@@ -63,7 +63,7 @@ items-append : (t : Table) (a b : List Visit) → tileItems t (a ++ b) ≡ tileI
 items-append t [] b = refl
 items-append t (v ∷ a) b = ap (λ (l : List Item). itemAt t v ∷ l) (items-append t a b)
 
-lists-at : (t : Table) (g : Search) (pre : List ℕ) (p : ℕ) (post : List ℕ) → Lists (itemOf g p (entry t p)) (tileItems t (visitsOf g (pre ++ p ∷ post)))
+lists-at : (t : Table) (g : TileSearch) (pre : List ℕ) (p : ℕ) (post : List ℕ) → Lists (itemOf g p (entry t p)) (tileItems t (visitsOf g (pre ++ p ∷ post)))
 lists-at t g [] p post = ([], tileItems t (visitsOf g post), refl)
 lists-at t g (q ∷ pre) p post =
     let w = lists-at t g pre p post in
@@ -77,7 +77,7 @@ module _ (t : Table) (placed : (p : ℕ) → p < length t → In01 (entry t p .x
       let w = placed p h in
       rw (lt-ltb p (length t) h, is-true (in01 (entry t p .x)) (In01→in01 (entry t p .x) (w .0)), is-true (in01 (entry t p .y)) (In01→in01 (entry t p .y) (w .1)))
 
-  whole-below : (g : Search) (ps : List ℕ) → AllBelow (length t) ps → wholeTile t (visitsOf g ps) ≡ true
+  whole-below : (g : TileSearch) (ps : List ℕ) → AllBelow (length t) ps → wholeTile t (visitsOf g ps) ≡ true
   unfolding All wholeTile
   whole-below g [] a = refl
   whole-below g (p ∷ ps) a = rw (can p (a .0), wholeTile) (whole-below g ps (a .1))
@@ -86,12 +86,12 @@ module _ (t : Table) (placed : (p : ℕ) → p < length t → In01 (entry t p .x
     long : length (xsOf t) ≡ length t
     long = length-map t (λ e. e .x)
 
-    below : (g : Search) → g .«node_size» ≡ o .«node_size» → AllBelow (length t) (found (g .query) (g .«node_size») (length t) (S .ids) (S .co))
+    below : (g : TileSearch) → g .«node_size» ≡ o .«node_size» → AllBelow (length t) (found (g .query) (g .«node_size») (length t) (S .ids) (S .co))
     below g e =
         subst (λ (k : ℕ). AllBelow (length t) (found (g .query) k (length t) (S .ids) (S .co))) (sym e)
         (subst (λ (n : ℕ). AllBelow n (found (g .query) (o .«node_size») n (S .ids) (S .co))) long (answered-below (o .«node_size») (xsOf t) (ysOf t) s S I (g .query)))
 
-    whole-of : (g : Search) → g .«node_size» ≡ o .«node_size» → wholeTile t (visits g t (S .ids) (S .co)) ≡ true
+    whole-of : (g : TileSearch) → g .«node_size» ≡ o .«node_size» → wholeTile t (visits g t (S .ids) (S .co)) ≡ true
     whole-of g e = whole-below g _ (below-when (length t) (g .made) (found (g .query) (g .«node_size») (length t) (S .ids) (S .co)) (below g e))
 
     -- everything that is found can be listed

@@ -13,7 +13,7 @@ use Rattle.kdslots.specs.Bounds.{coordsOk}
 use Rattle.build_tables.specs.declared.Options.{Options}
 use Rattle.build_tables.specs.laws.Bounds.{InBounds}
 use Rattle.build_tables.specs.Entries.{Table}
-use Rattle.ask_tile_table.specs.declared.Search.{Search}
+use Rattle.ask_tile_table.specs.declared.TileSearch.{TileSearch}
 use Rattle.ask_tile_table.specs.declared.Ran.{Ran}
 use Rattle.ask_tile_table.specs.declared.Ran.the-variants.{All, Spoiled}
 use Rattle.ask_tile_table.specs.Tile.{Visit, here, eastStrip, westStrip, visits, visited, wraps}
@@ -24,7 +24,7 @@ use Rattle.ask_tile_table.specs.laws.Turns.{walkedTurns, walked-length, 
 
 -- ---- each search: it may be made, and its walk is whole
 
-module _ (o : Options) (z x y : ℕ) (b : InBounds o) (w : IsTile z x y) (g : Search) where
+module _ (o : Options) (z x y : ℕ) (b : InBounds o) (w : IsTile z x y) (g : TileSearch) where
   pub here-may : g ≡ here o z x y → Framed g
   here-may e = subst Framed (sym e) (here-framed o z x y b w)
 
@@ -38,8 +38,8 @@ module _ (o : Options) (z x y : ℕ) (b : InBounds o) (w : IsTile z x y) (g : Se
     long : coordsOk (o .«node_size») (length t) (length co) ≡ true
     long = ap (λ (k : ℕ). coordsOk (o .«node_size») k (length co)) l ∙ ok
 
-    of : (h : Search) → g ≡ h → walkedTurns h (length t) ids co ≡ visits h t ids co → walkedTurns g n ids co ≡ visits h t ids co
-    of h e q = ap (λ (s : Search). walkedTurns s n ids co) e ∙ ap (λ (k : ℕ). walkedTurns h k ids co) (sym l) ∙ q
+    of : (h : TileSearch) → g ≡ h → walkedTurns h (length t) ids co ≡ visits h t ids co → walkedTurns g n ids co ≡ visits h t ids co
+    of h e q = ap (λ (s : TileSearch). walkedTurns s n ids co) e ∙ ap (λ (k : ℕ). walkedTurns h k ids co) (sym l) ∙ q
 
     pub here-whole : g ≡ here o z x y → walkedTurns g n ids co ≡ visits (here o z x y) t ids co
     unfolding here
@@ -82,7 +82,7 @@ no-strips o z x y t ids co e = own-range o z x y t ids co (ap (λ (w : Bool). w 
 -- ---- three runs, one after the other; each ends the listing, or the next goes on
 
 -- a run that ended well has listed at most n more
-pub listed-few : (t : Table) (k j n : ℕ) (g : Search) (ids : List ℕ) (co : List Float) (r : Ran) (out o : List ℕ) (xs ys a b : List ℤ) → r ≡ All j
+pub listed-few : (t : Table) (k j n : ℕ) (g : TileSearch) (ids : List ℕ) (co : List Float) (r : Ran) (out o : List ℕ) (xs ys a b : List ℤ) → r ≡ All j
     → leftRuns r o a b ≡ runTile t k (walkedTurns g n ids co) out xs ys → j ≤ k + n
 listed-few t k j n g ids co r out o xs ys a b h e =
     omega (arith, run-count t k j (walkedTurns g n ids co) out o xs ys a b (ap (λ (q : Ran). leftRuns q o a b) (sym h) ∙ e), walked-length g n ids co)

@@ -23,7 +23,7 @@ use Rattle.kdslots.specs.laws.Intervals.{when-length}
 use Rattle.kdwalk.specs.laws.Walk.{walk-length}
 use Rattle.build_tables.specs.declared.Entry.{Entry}
 use Rattle.build_tables.specs.Entries.{Table, entry}
-use Rattle.ask_tile_table.specs.declared.Search.{Search}
+use Rattle.ask_tile_table.specs.declared.TileSearch.{TileSearch}
 use Rattle.ask_tile_table.specs.declared.Item.{Item}
 use Rattle.ask_tile_table.specs.declared.Named.{Named}
 use Rattle.ask_tile_table.specs.declared.Named.the-variants.{At, Bad}
@@ -33,22 +33,22 @@ use Rattle.ask_tile_table.specs.laws.Finite.{walk-whole}
 use Rattle.ask_tile_table.specs.laws.Runs.{Left, leftRuns, runTile}
 
 -- what the walk goes over for a search of a table of n entries
-abbrev pub walkedTurns : Search → ℕ → List ℕ → List Float → List Visit
+abbrev pub walkedTurns : TileSearch → ℕ → List ℕ → List Float → List Visit
 walkedTurns g n ids co = visitsOf g (when (g .made) (places ids (walk (g .query) (g .«node_size») n co)))
 
-pub walked-none : (g : Search) (n : ℕ) (ids : List ℕ) (co : List Float) → g .made ≡ false → walkedTurns g n ids co ≡ []
+pub walked-none : (g : TileSearch) (n : ℕ) (ids : List ℕ) (co : List Float) → g .made ≡ false → walkedTurns g n ids co ≡ []
 walked-none g n ids co e = rw e
 
-pub walked-made : (g : Search) (n : ℕ) (ids : List ℕ) (co : List Float) → g .made ≡ true → walkedTurns g n ids co ≡ visitsOf g (places ids (walk (g .query) (g .«node_size») n co))
+pub walked-made : (g : TileSearch) (n : ℕ) (ids : List ℕ) (co : List Float) → g .made ≡ true → walkedTurns g n ids co ≡ visitsOf g (places ids (walk (g .query) (g .«node_size») n co))
 walked-made g n ids co e = rw e
 
-pub walked-length : (g : Search) (n : ℕ) (ids : List ℕ) (co : List Float) → length (walkedTurns g n ids co) ≤ n
+pub walked-length : (g : TileSearch) (n : ℕ) (ids : List ℕ) (co : List Float) → length (walkedTurns g n ids co) ≤ n
 walked-length g n ids co =
     let w = walk (g .query) (g .«node_size») n co in
     omega (arith, length-map {B = Visit} (when (g .made) (places ids w)) (λ p. record { by = g; place = p }), when-length (g .made) (places ids w), places-length ids w, walk-length (g .query) (g .«node_size») n co)
 
 -- it is what the search finds
-pub walked-whole : (g : Search) (t : Table) (ids : List ℕ) (co : List Float) → coordsOk (g .«node_size») (length t) (length co) ≡ true → queryOk (g .query) ≡ true
+pub walked-whole : (g : TileSearch) (t : Table) (ids : List ℕ) (co : List Float) → coordsOk (g .«node_size») (length t) (length co) ≡ true → queryOk (g .query) ≡ true
     → walkedTurns g (length t) ids co ≡ visits g t ids co
 walked-whole g t ids co a b =
     ap (λ (l : List ℕ). visitsOf g (when (g .made) (places ids l))) (walk-whole (g .query) (g .«node_size») (length t) co a b)
@@ -132,7 +132,7 @@ pub run-none : (t : Table) (k : ℕ) (out : List ℕ) (xs ys : List ℤ) → lef
 unfolding runTile
 run-none t k out xs ys = refl
 
-module _ (t : Table) (g : Search) (ids : List ℕ) (k : ℕ) (l : List ℕ) (out : List ℕ) (xs ys : List ℤ) where
+module _ (t : Table) (g : TileSearch) (ids : List ℕ) (k : ℕ) (l : List ℕ) (out : List ℕ) (xs ys : List ℤ) where
   -- what is still to be visited, k being listed
   abbrev pub still : Left
   still = runTile t k (visitsOf g (places ids l)) out xs ys

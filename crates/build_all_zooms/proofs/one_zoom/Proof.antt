@@ -47,8 +47,20 @@ co-part s = omega arith
 
 -- ---- and after the scan
 
+abbrev asked : tie.After-slice-known10 → tie.Start
+asked c = c .before .before .before .before .before .before .before .before .before .before
+
+abbrev ready : tie.After-radius-at → tie.Start
+ready c = asked (c .before)
+
+abbrev stepping : tie.After-zoom-step-arg10 → tie.After-radius-at
+stepping c = c .before .before .before .before .before .before .before .before .before .before .before .before
+
+abbrev radius-of : tie.After-zoom-step → tie.After-radius-at
+radius-of w = stepping (w .before)
+
 abbrev start-of : tie.After-zoom-step → tie.Start
-start-of w = w .before .before .before .before .before .before .before .before .before .before .before .before .before .before .before .before .before .before .before .before .before .before .before .before
+start-of w = ready (radius-of w)
 
 abbrev came : tie.After-zoom-step → Cols
 came c = let w = c .zoom-step in (cols (w .last .0) (w .last .1 .0) (w .last .1 .1 .0) (w .last .1 .1 .1 .0) (w .last .1 .1 .1 .1 .0) (w .last .1 .1 .1 .1 .1 .0) (w .last .1 .1 .1 .1 .1 .1 .0))
@@ -63,7 +75,7 @@ zoomed : (w : tie.After-zoom-step) → let a = start-of w .args in Zoomed (plan 
 zoomed w =
     let s = start-of w in
     let a = s .args in
-    let r = w .before .before .before .before .before .before .before .before .before .before .before .before .before .radius-at in
+    let r = radius-of w .radius-at in
     scanned (plan s) (length (a .x .now)) (a .z) (a .start) (a .len) (table s) (a .ids .now) (a .coords .now) (s .pre .2)
     (running s) (r .result) (r .ensures) (rows (came w)) (w .zoom-step .result) (rw (ids-part s, co-part s) at (w .zoom-step .ensures))
 
@@ -76,13 +88,15 @@ short w = let s = start-of w in let a = s .args in omega (arith, zoomed w .count
 abbrev indexed-of : tie.After-slice-known20 → tie.After-index-part
 indexed-of c = c .before .before .before .before
 
+abbrev indexing : tie.After-index-part-arg4 → tie.After-zoom-step
+indexing c = c .before .before .before .before .before .before .before .before .before .before .before .before .before
+    .before .before .before .before .before .before .before
+
 abbrev step-of : tie.After-index-part → tie.After-zoom-step
-step-of c = c .before .before .before .before .before .before .before .before .before .before .before .before .before .before .before .before .before .before .before .before .before
+step-of c = indexing (c .before)
 
 radius-at-requires : tie.Need-radius-at-requires
-radius-at-requires c κs =
-    let s = c .before .before .before .before .before .before .before .before .before .before in
-    omega (arith, few s)
+radius-at-requires c κs = omega (arith, few (asked c))
 
 -- ---- the table's own part of the index
 
@@ -94,9 +108,6 @@ ids-room s = omega (arith, room s, running s .ids-long)
 
 co-room : (s : tie.Start) → (s .args .start + s .args .len) * 2 ≤ length (s .args .coords .now)
 co-room s = omega (arith, room s, running s .co-long)
-
-abbrev ready : tie.After-radius-at → tie.Start
-ready c = c .before .before .before .before .before .before .before .before .before .before .before
 
 abbrev lending : tie.After-zoom-step-arg7 → tie.Start
 lending c = ready (c .before .before .before .before .before .before .before)
@@ -136,10 +147,10 @@ part-zoom-step-end-2 c = co-room (lending (c .before .before .before))
 
 zoom-step-requires : tie.Need-zoom-step-requires
 zoom-step-requires c κs =
-    let s = c .before .before .before .before .before .before .before .before .before .before .before .before .before .before .before .before .before .before .before .before .before .before .before in
+    let s = ready (stepping c) in
     let a = s .args in
     let r = running s in
-    let rad = c .before .before .before .before .before .before .before .before .before .before .before .before .radius-at in
+    let rad = stepping c .radius-at in
     let radius : Radius (rad .result) = rw (rad .ensures) (step-radius (plan s) (length (a .x .now)) (a .z) (a .start) (a .len) (table s) (a .ids .now) (a .coords .now) (s .pre .2) (running s)) in (
       s .pre .0,
       rw (ids-part s, co-part s)
@@ -162,7 +173,7 @@ zoom-step-requires c κs =
 
 index-part-requires : tie.Need-index-part-requires
 index-part-requires c κs =
-    let w = c .before .before .before .before .before .before .before .before .before .before .before .before .before .before .before .before .before .before .before .before in
+    let w = indexing c in
     let s = start-of w in
     let a = s .args in
     let r = running s in

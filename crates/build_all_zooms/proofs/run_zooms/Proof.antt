@@ -31,11 +31,17 @@ abbrev μ-loop : tie.MeasureT-loop
 
 -- ---- the places
 
+abbrev asked : tie.After-struct-known Inv-loop μ-loop → tie.Start Inv-loop μ-loop
+asked c = c .before .before .before .before .before .before .before .before .before .before .before .before
+
 abbrev start-of : tie.At-loop Inv-loop μ-loop → tie.Start Inv-loop μ-loop
-start-of h = h .before .before .before .before .before .before .before .before .before .before .before .before .before
+start-of h = asked (h .before)
+
+abbrev lending : tie.After-one-zoom-arg10 Inv-loop μ-loop → tie.In-loop Inv-loop μ-loop
+lending c = c .before .before .before .before .before .before .before .before .before .before
 
 abbrev test-of : tie.After-one-zoom Inv-loop μ-loop → tie.In-loop Inv-loop μ-loop
-test-of c = c .before .before .before .before .before .before .before .before .before .before .before
+test-of c = lending (c .before)
 
 abbrev zoom-of : tie.After-slice-known20 Inv-loop μ-loop → tie.After-one-zoom Inv-loop μ-loop
 zoom-of c = c .before .before .before .before .before .before .before .before .before .before .before .before .before .before .before .before .before .before .before .before
@@ -91,11 +97,11 @@ moved w =
     (z .result) (next w) (q .1 .1 .1 .1 .1 .1 .1 .0) (q .1 .1 .1 .1 .1 .1 .1 .1 .0) (z .ensures) (same w) (z .kept .1 .1 .1 .1 .1 .1 .1 .0) (z .kept .1 .1 .1 .1 .1 .1 .1 .1 .0)
 
 add-z : tie.Need-add-z Inv-loop μ-loop
-add-z c = let s = c .before .before .before .before .before .before .before .before .before .before .before .before in omega (arith, s .pre .3 .low-few, s .pre .2)
+add-z c = let s = asked c in omega (arith, s .pre .3 .low-few, s .pre .2)
 
 loop-holds : tie.Need-loop-holds Inv-loop μ-loop
 loop-holds c =
-    let s = c .before .before .before .before .before .before .before .before .before .before .before .before in
+    let s = asked c in
     let a = s .args in (
       s .pre .0,
       refl,
@@ -112,7 +118,7 @@ sub-z c = omega (arith, c .loop-test .taken)
 
 one-zoom-requires : tie.Need-one-zoom-requires Inv-loop μ-loop
 one-zoom-requires c κs =
-    let t = c .before .before .before .before .before .before .before .before .before .before in
+    let t = lending c in
     let s = start-of (t .before) in
     let l = t .before .loop in (
       l .inv .0,

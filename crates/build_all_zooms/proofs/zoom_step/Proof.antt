@@ -27,8 +27,12 @@ lent-rows s = rows-from (s .args .start) (columns s)
 abbrev scan-of : tie.After-slice-known16 → tie.After-cluster
 scan-of c = c .before .before .before .before .before .before .before .before .before .before .before .before .before .before .before .before
 
+abbrev asked : tie.After-cluster-arg8 → tie.Start
+asked c = c .before .before .before .before .before .before .before .before .before .before .before .before .before
+    .before .before .before .before .before .before
+
 abbrev start-of : tie.After-cluster → tie.Start
-start-of c = c .before .before .before .before .before .before .before .before .before .before .before .before .before .before .before .before .before .before .before .before
+start-of c = asked (c .before)
 
 abbrev came : tie.After-cluster → Cols
 came c = let w = c .cluster in (cols (w .last .0) (w .last .1 .0) (w .last .1 .1 .0) (w .last .1 .1 .1 .0) (w .last .1 .1 .1 .1 .0) (w .last .1 .1 .1 .1 .1 .0) (w .last .1 .1 .1 .1 .1 .1 .0))
@@ -126,7 +130,7 @@ part-cluster-end-7 c = search needs
 
 cluster-requires : tie.Need-cluster-requires
 cluster-requires c κs =
-    let s = c .before .before .before .before .before .before .before .before .before .before .before .before .before .before .before .before .before .before .before in
+    let s = asked c in
     let a = s .args in
     let p = s .pre in (
       even-from (a .start) (columns s) (p .0),

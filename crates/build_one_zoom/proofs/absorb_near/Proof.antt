@@ -26,20 +26,24 @@ abbrev μ-loop : tie.MeasureT-loop
 
 -- ---- a turn
 
-abbrev start-of : tie.In-loop Inv-loop μ-loop → tie.Start Inv-loop μ-loop
-start-of i = i .before .before .before .before .before .before .before .before .before .before
+abbrev start-of : tie.At-loop Inv-loop μ-loop → tie.Start Inv-loop μ-loop
+start-of h = h .before .before .before .before .before .before .before .before .before
+
+-- from its end
+abbrev in-of : tie.After-slice-known4 Inv-loop μ-loop → tie.In-loop Inv-loop μ-loop
+in-of c = c .before .before .before .before .before .before .before .before
 
 -- the neighbour
 abbrev place : tie.In-loop Inv-loop μ-loop → ℕ
-place i = getD (start-of i .args .near .now) (i .before .loop .j) 0
+place i = getD (start-of (i .before) .args .near .now) (i .before .loop .j) 0
 
-place-in : (i : tie.In-loop Inv-loop μ-loop) → place i < length (start-of i .args .x .now)
-place-in i = let s = start-of i in below-at (length (s .args .x .now)) (s .args .near .now) (i
+place-in : (i : tie.In-loop Inv-loop μ-loop) → place i < length (start-of (i .before) .args .x .now)
+place-in i = let s = start-of (i .before) in below-at (length (s .args .x .now)) (s .args .near .now) (i
     .before .loop .j) (s .pre .1) (i .loop-test .taken)
 
 -- the columns at the head
 abbrev here : tie.In-loop Inv-loop μ-loop → Cols
-here i = let a = start-of i .args in let l = i
+here i = let a = start-of (i .before) .args in let l = i
     .before .loop in withParent (withSeen (given (a .x) (a .y) (a .seen) (a .id) (a .parent) (a .num) (a .energy)) (l .seen)) (l .parent)
 
 abbrev sums : tie.In-loop Inv-loop μ-loop → Absorbed
@@ -55,29 +59,29 @@ shared-slice-read-k : tie.Need-shared-slice-read-k Inv-loop μ-loop
 shared-slice-read-k c = c .before .loop-test .taken
 
 cast-k : tie.Need-cast-k Inv-loop μ-loop
-cast-k c = omega (arith, place-in (c .before), start-of (c .before) .good .0 .0)
+cast-k c = omega (arith, place-in (c .before), start-of (c .before .before) .good .0 .0)
 
 absorb-one-requires : tie.Need-absorb-one-requires Inv-loop μ-loop
 absorb-one-requires c κs =
     let i = c .before .before .before in
     let l = i .before .loop in
-    let a = start-of i .args in
+    let a = start-of (i .before) .args in
     let t = more-turn energyOf (a .z) (rows (here i)) (a .near .now) (l .j) (i .loop-test .taken) in
     (l .inv .0, place-in i, omega (arith, l .inv .2, t))
 
 add-j : tie.Need-add-j Inv-loop μ-loop
 add-j c =
-    let i = c .before .before .before .before .before .before .before .before in
-    omega (arith, i .loop-test .taken, start-of i .good .1 .1 .1 .1 .1 .1 .1 .0 .0)
+    let i = in-of c in
+    omega (arith, i .loop-test .taken, start-of (i .before) .good .1 .1 .1 .1 .1 .1 .1 .0 .0)
 
 loop-less : tie.Need-loop-less Inv-loop μ-loop
-loop-less c = omega (arith, c .before .before .before .before .before .before .before .before .loop-test .taken)
+loop-less c = omega (arith, in-of c .loop-test .taken)
 
 loop-again : tie.Need-loop-again Inv-loop μ-loop
 loop-again c =
-    let i = c .before .before .before .before .before .before .before .before in
+    let i = in-of c in
     let l = i .before .loop in
-    let a = start-of i .args in
+    let a = start-of (i .before) .args in
     let w = c .before .before .before .before .absorb-one in
     let ss = w .last .1 .1 .0 in
     let v = even-seen (here i) ss (w .kept .1 .1 .0) (l .inv .0) in (
@@ -91,17 +95,17 @@ loop-again c =
 
 same-length : tie.Need-same-length Inv-loop μ-loop
 same-length c =
-    let s = c .before .before .before .before .before .before .before .before .before .before in
+    let s = start-of (c .before) in
     c .before .loop .inv .0 .es ∙ sym (s .pre .0 .es)
 
 same-length-2 : tie.Need-same-length-2 Inv-loop μ-loop
 same-length-2 c =
-    let s = c .before .before .before .before .before .before .before .before .before .before in
+    let s = start-of (c .before) in
     c .before .loop .inv .0 .ep ∙ sym (s .pre .0 .ep)
 
 returns : tie.Need-returns Inv-loop μ-loop
 returns c =
-    let a = c .before .before .before .before .before .before .before .before .before .before .args in
+    let a = start-of (c .before) .args in
     let l = c .before .loop in
     sym (absorb-end (a .z) (a .p) _ (a .near .now) (l .j) (c .loop-test .left)) ∙ l .inv .1
 

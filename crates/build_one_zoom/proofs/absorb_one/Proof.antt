@@ -13,6 +13,13 @@ use Rattle.build_one_zoom.proofs.absorb_one.Tie as tie
 abbrev columns : tie.Start → Cols
 columns s = let a = s .args in (given (a .x) (a .y) (a .seen) (a .id) (a .parent) (a .num) (a .energy))
 
+-- the start, once the entry is read, and the branch of an unseen one, from its end
+abbrev start-of : tie.After-entry-at → tie.Start
+start-of c = c .before .before .before .before .before .before .before .before .before .before
+
+abbrev branch-of : tie.After-struct-known8 → tie.Else1
+branch-of c = c .before .before .before .before .before .before .before
+
 entry-at-requires : tie.Need-entry-at-requires
 entry-at-requires c κs = let s = c .before .before .before .before .before .before .before .before .before in (s .pre .0, s .pre .1)
 
@@ -24,9 +31,10 @@ same-length-2 c = search needs
 
 returns : tie.Need-returns
 returns c =
-    let s = c .before .before .before .before .before .before .before .before .before .before .before .before in
+    let q = c .before .before in
+    let s = start-of q in
     let a = s .args in
-    let r = c .before .before .entry-at in
+    let r = q .entry-at in
     passed-row (columns s) (a .z) (a .p) (a .sums .x) (a .sums .y) (a .sums .energy) (a .k) (r .result) (r .ensures) (c .if1 .taken)
 
 slice-write-seen : tie.Need-slice-write-seen
@@ -43,10 +51,10 @@ int-to-float-w c = search needs
 
 add-t26 : tie.Need-add-t26
 add-t26 c =
-    let s = c .before .before .before .before .before .before .before .before .before .before .before .before .before .before
-    .before .before .before .before .before in
+    let q = c .before .before .before .before .before .before .before .before .before in
+    let s = q .before .before .before .before .before .before .before .before .before .before in
     let a = s .args in
-    let r = c .before .before .before .before .before .before .before .before .before .entry-at in
+    let r = q .entry-at in
     let h : a .sums .energy + adds energyOf (a .z) (r .result) < 2 ^ 64 = rw (r .ensures) (s .pre .2) in
     let g = rw (lt-ltb (a .z) (r .result .seen) (c .before .before .before .before .before .before .before .if1 .left)) at h in
     omega (arith, g)
@@ -59,12 +67,13 @@ same-length-4 c = search needs
 
 returns-2 : tie.Need-returns-2
 returns-2 c =
-    let s = c .before .before .before .before .before .before .before .before .before .before .before .before .before .before
-    .before .before .before .before .before in
+    let e = branch-of c in
+    let q = e .before .before in
+    let s = start-of q in
     let a = s .args in
-    let r = c .before .before .before .before .before .before .before .before .before .entry-at in
+    let r = q .entry-at in
     joined-row (columns s) (a .z) (a .p) (a .sums .x) (a .sums .y) (a .sums .energy) (a .k) (r .result) (r .ensures)
-    (s .pre .0) (s .pre .1) (c .before .before .before .before .before .before .before .if1 .left)
+    (s .pre .0) (s .pre .1) (e .if1 .left)
 
 pub absorb-one-spec : {M : Type 1} → statement M
 absorb-one-spec =

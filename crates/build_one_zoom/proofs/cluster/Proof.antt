@@ -43,9 +43,11 @@ table s = rows (columns s)
 abbrev near-of : tie.Start Inv-loop μ-loop → Float → Float → List ℕ
 near-of s = let a = s .args in nearOf (a .node-size) (a .len) (a .ids .now) (a .coords .now) (a .r)
 
+abbrev noting : tie.After-wide Inv-loop μ-loop → tie.Start Inv-loop μ-loop
+noting w = w .before .before .before .before .before .before .before .before .before .before .before .before
+
 abbrev start-of : tie.At-loop Inv-loop μ-loop → tie.Start Inv-loop μ-loop
-start-of l = l .before .before .before .before .before .before .before .before .before .before .before .before .before
-    .before .before .before
+start-of l = noting (l .before .before .before .before)
 
 abbrev here : tie.At-loop Inv-loop μ-loop → Cols
 here h = let l = h .loop in (cols (l .x) (l .y) (l .seen) (l .id) (l .parent) (l .num) (l .energy))
@@ -57,13 +59,12 @@ kept-by h = kept-even (columns (start-of h)) (here h) (start-of h .pre .0) (h .l
 long : (l : tie.At-loop Inv-loop μ-loop) → length (l .loop .near) ≡ length (start-of l .args .near .now)
 long l = l .loop .inv .2 ∙ l .before .before .before .note-all .kept .1 .1 .0
 
-abbrev test-of : tie.After-slice-known17 Inv-loop μ-loop → tie.In-loop Inv-loop μ-loop
-test-of c = c .before .before .before .before .before .before .before .before .before .before .before .before .before
-    .before .before .before .before .before .before .before .before .before .before .before .before
-
 abbrev stepping : tie.After-slice-known17 Inv-loop μ-loop → tie.After-scan-one Inv-loop μ-loop
 stepping c = c .before .before .before .before .before .before .before .before .before .before .before .before .before
     .before .before .before
+
+abbrev test-of : tie.After-slice-known17 Inv-loop μ-loop → tie.In-loop Inv-loop μ-loop
+test-of c = stepping c .before .before .before .before .before .before .before .before .before
 
 -- the columns after a step
 abbrev after : tie.After-slice-known17 Inv-loop μ-loop → Cols
@@ -86,14 +87,14 @@ wide-requires c κs = search needs
 
 note-all-requires : tie.Need-note-all-requires Inv-loop μ-loop
 note-all-requires c κs =
-    let s = c .before .before .before .before .before .before .before .before .before .before .before .before in
+    let s = noting c in
     let p = s .pre in
     let e : c .wide .result ≡ s .args .n = c .wide .ensures in
     ((p .1, omega (arith, e, p .3), omega (arith, e, p .9), omega (arith, p .8, p .9)), p .7)
 
 loop-holds : tie.Need-loop-holds Inv-loop μ-loop
 loop-holds c =
-    let s = c .before .before .before .before .before .before .before .before .before .before .before .before .before .before .before in
+    let s = noting (c .before .before .before) in
     let a = s .args in
     let w = c .before .before in
     let noted = w .note-all .ensures (take (a .len) (table s)) (s .pre .6) in (

@@ -24,15 +24,24 @@ abbrev μ-loop : tie.MeasureT-loop
 
 -- ---- a turn
 
-abbrev start-of : tie.In-loop Inv-loop μ-loop → tie.Start Inv-loop μ-loop
-start-of i = i .before .before .before .before .before .before .before .before .before .before
+abbrev start-of : tie.At-loop Inv-loop μ-loop → tie.Start Inv-loop μ-loop
+start-of h = h .before .before .before .before .before .before .before .before .before
+
+-- from its end: the copy, and the turn itself
+abbrev copying : tie.After-slice-known14 Inv-loop μ-loop → tie.After-copy-one Inv-loop μ-loop
+copying c = c .before .before .before .before .before .before .before .before .before .before .before .before .before .before
+
+abbrev in-of : tie.After-slice-known14 Inv-loop μ-loop → tie.In-loop Inv-loop μ-loop
+in-of c = copying c .before .before .before .before .before .before .before .before .before
 
 -- the neighbour
 abbrev place : tie.In-loop Inv-loop μ-loop → ℕ
-place i = getD (start-of i .args .near .now) (i .before .loop .j) 0
+place i = getD (start-of (i .before) .args .near .now) (i .before .loop .j) 0
 
-place-in : (i : tie.In-loop Inv-loop μ-loop) → place i < start-of i .args .len
-place-in i = let s = start-of i in below-at (s .args .len) (s .args .near .now) (i .before .loop .j) (s .pre .1) (i .loop-test .taken)
+place-in : (i : tie.In-loop Inv-loop μ-loop) → place i < start-of (i .before) .args .len
+place-in i =
+    let s = start-of (i .before) in
+    below-at (s .args .len) (s .args .near .now) (i .before .loop .j) (s .pre .1) (i .loop-test .taken)
 
 -- the columns at the start and at the head
 abbrev first : tie.Start Inv-loop μ-loop → Cols
@@ -41,10 +50,8 @@ first s = let a = s .args in (given (a .x) (a .y) (a .seen) (a .id) (a .parent) 
 abbrev here : tie.At-loop Inv-loop μ-loop → Cols
 here h = let l = h .loop in (cols (l .x) (l .y) (l .seen) (l .id) (l .parent) (l .num) (l .energy))
 
-kept-by : (h : tie.At-loop Inv-loop μ-loop) → Kept (first (h .before .before .before .before .before .before .before .before
-    .before)) (here h)
-kept-by h = let s = h .before .before .before .before .before .before .before .before
-    .before in kept-even (first s) (here h) (s .pre .0) (h .loop .inv .0) (h .loop .inv .1)
+kept-by : (h : tie.At-loop Inv-loop μ-loop) → Kept (first (start-of h)) (here h)
+kept-by h = let s = start-of h in kept-even (first s) (here h) (s .pre .0) (h .loop .inv .0) (h .loop .inv .1)
 
 loop-holds : tie.Need-loop-holds Inv-loop μ-loop
 loop-holds c =
@@ -59,7 +66,7 @@ shared-slice-read-k : tie.Need-shared-slice-read-k Inv-loop μ-loop
 shared-slice-read-k c = c .before .loop-test .taken
 
 cast-k : tie.Need-cast-k Inv-loop μ-loop
-cast-k c = omega (arith, place-in (c .before), start-of (c .before) .fits)
+cast-k c = omega (arith, place-in (c .before), start-of (c .before .before) .fits)
 
 copy-one-requires : tie.Need-copy-one-requires Inv-loop μ-loop
 copy-one-requires c κs =
@@ -69,23 +76,19 @@ copy-one-requires c κs =
 
 add-j : tie.Need-add-j Inv-loop μ-loop
 add-j c =
-    let i = c .before .before .before .before .before .before .before .before .before .before .before .before .before .before
-    .before .before .before .before .before .before .before .before .before in
-    omega (arith, i .loop-test .taken, start-of i .good .1 .1 .1 .1 .1 .1 .1 .0 .0)
+    let i = in-of c in
+    omega (arith, i .loop-test .taken, start-of (i .before) .good .1 .1 .1 .1 .1 .1 .1 .0 .0)
 
 loop-less : tie.Need-loop-less Inv-loop μ-loop
-loop-less c =
-    let i = c .before .before .before .before .before .before .before .before .before .before .before .before .before .before .before .before .before .before .before .before .before .before .before in
-    omega (arith, i .loop-test .taken)
+loop-less c = omega (arith, in-of c .loop-test .taken)
 
 loop-again : tie.Need-loop-again Inv-loop μ-loop
 loop-again c =
-    let i = c .before .before .before .before .before .before .before .before .before .before .before .before .before .before
-    .before .before .before .before .before .before .before .before .before in
+    let i = in-of c in
     let l = i .before .loop in
-    let s = start-of i in
+    let s = start-of (i .before) in
     let a = s .args in
-    let w = c .before .before .before .before .before .before .before .before .before .before .before .before .before .before .copy-one in
+    let w = copying c .copy-one in
     let old = here (i .before) in
     let new = lastCols (w .last) in
     let k = keptCols old new (w .kept) in (
@@ -120,7 +123,7 @@ returns : tie.Need-returns Inv-loop μ-loop
 returns c =
     let h = c .before in
     let l = h .loop in
-    let s = h .before .before .before .before .before .before .before .before .before in
+    let s = start-of h in
     let a = s .args in
     copying-end (a .len) (a .z) (a .near .now) (rows (first s)) (a .done) (rows (here h)) (l .d) (l .j) (l .inv .2) (c .loop-test .left)
 

@@ -29,9 +29,11 @@ inside : (s : tie.Start) → s .args .k < length (s .args .x .now)
 inside s = omega (arith, s .pre .1, s .pre .2)
 
 -- the branch of an unseen row
+abbrev asked : tie.After-entry-at-arg7 → tie.Start
+asked c = c .before .before .before .before .before .before .before .before .before .before .before .before .before .before
+
 abbrev start-of : tie.Else1 → tie.Start
-start-of e = e .before .before .before .before .before .before .before .before .before .before .before .before .before
-    .before .before .before .before
+start-of e = asked (e .before .before .before)
 
 unseen-k : (e : tie.Else1) → let s = start-of e in s .args .z < entry (table s) (s .args .k) .seen
 unseen-k e = rw (e .before .before .entry-at .ensures) at (e .if1 .left)
@@ -46,8 +48,11 @@ space e =
 abbrev putting : tie.After-slice-known14 → tie.After-put-entry
 putting c = c .before .before .before .before .before .before .before .before .before .before .before .before .before .before
 
+abbrev marking : tie.After-put-entry-arg7 → tie.Else1
+marking c = c .before .before .before .before .before .before .before
+
 abbrev else-of : tie.After-put-entry → tie.Else1
-else-of c = c .before .before .before .before .before .before .before .before
+else-of c = marking (c .before)
 
 abbrev now-marked : tie.Start → Cols
 now-marked s = withSeen (columns s) (set (s .args .seen .now) (s .args .k) (s .args .z))
@@ -63,7 +68,7 @@ kept-by c =
 
 entry-at-requires : tie.Need-entry-at-requires
 entry-at-requires c κs =
-    let s = c .before .before .before .before .before .before .before .before .before .before .before .before .before .before in
+    let s = asked c in
     (s .pre .0, inside s)
 
 same-length : tie.Need-same-length
@@ -89,8 +94,7 @@ same-length-7 c = refl
 
 returns : tie.Need-returns
 returns c =
-    let s = c .before .before .before .before .before .before .before .before .before .before .before .before .before .before
-    .before .before .before in
+    let s = asked (c .before .before .before) in
     let a = s .args in
     skipped (table s) (a .len) (a .done) (a .k) (a .z) (s .pre .1) (room s)
     (rw (c .before .before .entry-at .ensures) at (c .if1 .taken))
@@ -100,15 +104,14 @@ slice-write-seen c = search needs
 
 add-put-entry : tie.Need-add-put-entry
 add-put-entry c =
-    let s = c .before .before .before .before .before .before .before .before .before .before .before .before .before .before
-    .before .before .before .before .before .before .before .before .before .before in
-    omega (arith, space (c .before .before .before .before .before .before .before), s .good .0 .0)
+    let e = marking c in
+    omega (arith, space e, start-of e .good .0 .0)
 
 put-entry-requires : tie.Need-put-entry-requires
 put-entry-requires c κs =
-    let s = c .before .before .before .before .before .before .before .before .before .before .before .before .before .before
-    .before .before .before .before .before .before .before .before .before .before in
-    (even-mark (columns s) (s .args .k) (s .args .z) (s .pre .0), space (c .before .before .before .before .before .before .before))
+    let e = marking c in
+    let s = start-of e in
+    (even-mark (columns s) (s .args .k) (s .args .z) (s .pre .0), space e)
 
 add-result : tie.Need-add-result
 add-result c = let e = else-of (putting c) in omega (arith, space e, start-of e .good .0 .0)

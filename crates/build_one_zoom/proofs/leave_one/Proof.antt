@@ -29,9 +29,14 @@ space s = omega (arith, room s)
 
 -- ---- after row i was put
 
+abbrev asked : tie.After-entry-at-arg7 → tie.Start
+asked c = c .before .before .before .before .before .before .before .before .before .before .before .before .before .before .before
+
+abbrev ready : tie.After-put-entry-arg7 → tie.Start
+ready c = asked (c .before .before .before .before .before .before .before .before)
+
 abbrev start-of : tie.After-put-entry → tie.Start
-start-of w = w .before .before .before .before .before .before .before .before .before .before .before .before .before
-    .before .before .before .before .before .before .before .before .before .before .before
+start-of w = ready (w .before)
 
 abbrev put : tie.After-put-entry → Cols
 put c = lastCols (c .put-entry .last)
@@ -51,9 +56,12 @@ put-is c =
 abbrev copying : tie.After-slice-known21 → tie.After-copy-near
 copying c = c .before .before .before .before .before .before .before .before .before .before .before .before .before .before
 
+abbrev put-by : tie.After-copy-near-arg7 → tie.After-put-entry
+put-by c = c .before .before .before .before .before .before .before .before .before .before .before .before .before
+    .before .before .before .before .before .before .before .before
+
 abbrev putting : tie.After-copy-near → tie.After-put-entry
-putting c = c .before .before .before .before .before .before .before .before .before .before .before .before .before
-    .before .before .before .before .before .before .before .before .before
+putting c = put-by (c .before)
 
 kept-by : (c : tie.After-copy-near) → Kept (columns (start-of (putting c))) (lastCols (c .copy-near .last))
 kept-by c =
@@ -63,32 +71,27 @@ kept-by c =
 
 entry-at-requires : tie.Need-entry-at-requires
 entry-at-requires c κs =
-    let s = c .before .before .before .before .before .before .before .before .before .before .before .before .before .before .before in
+    let s = asked c in
     (s .pre .0, omega (arith, s .pre .2, s .pre .3))
 
 add-put-entry : tie.Need-add-put-entry
 add-put-entry c =
-    let s = c .before .before .before .before .before .before .before .before .before .before .before .before .before .before
-    .before .before .before .before .before .before .before .before .before in
+    let s = ready c in
     omega (arith, s .pre .3, s .good .0 .0)
 
 put-entry-requires : tie.Need-put-entry-requires
 put-entry-requires c κs =
-    let s = c .before .before .before .before .before .before .before .before .before .before .before .before .before .before
-    .before .before .before .before .before .before .before .before .before in
+    let s = ready c in
     (s .pre .0, omega (arith, s .pre .3))
 
 add-copy-near : tie.Need-add-copy-near
 add-copy-near c =
-    let s = c .before .before .before .before .before .before .before .before .before .before .before .before .before .before
-    .before .before .before .before .before .before .before .before .before .before .before .before .before .before .before
-    .before .before .before .before .before .before .before .before .before .before .before .before .before .before .before .before in
+    let s = start-of (put-by c) in
     omega (arith, s .pre .3, s .good .0 .0)
 
 copy-near-requires : tie.Need-copy-near-requires
 copy-near-requires c κs =
-    let w = c .before .before .before .before .before .before .before .before .before .before .before .before .before .before
-    .before .before .before .before .before .before .before in
+    let w = put-by c in
     let s = start-of w in
     let a = s .args in
     let k = kept-put w in

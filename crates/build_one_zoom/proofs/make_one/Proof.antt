@@ -26,18 +26,24 @@ columns s = let a = s .args in (given (a .x) (a .y) (a .seen) (a .id) (a .parent
 inside : (s : tie.Start) → s .args .i < length (s .args .x .now)
 inside s = omega (arith, s .pre .2, s .pre .3)
 
+-- ---- the places: once the cluster is named, and once the entry is read
+
+abbrev named-at : tie.After-cluster-id → tie.Start
+named-at w = w .before .before .before .before .before .before .before .before .before
+
+abbrev named-by : tie.After-entry-at → tie.After-cluster-id
+named-by w = w .before .before .before .before .before .before .before .before
+
 -- ---- what absorbing leaves
-
-abbrev start-of : tie.After-absorb-near → tie.Start
-start-of w = w .before .before .before .before .before .before .before .before .before .before .before .before .before
-    .before .before .before .before .before .before .before .before .before .before .before .before .before .before .before
-
-abbrev naming : tie.After-absorb-near → tie.After-cluster-id
-naming w = w .before .before .before .before .before .before .before .before .before .before .before .before .before .before
-    .before .before .before .before .before
 
 abbrev reading : tie.After-absorb-near → tie.After-entry-at
 reading w = w .before .before .before .before .before .before .before .before .before .before .before
+
+abbrev naming : tie.After-absorb-near → tie.After-cluster-id
+naming w = named-by (reading w)
+
+abbrev start-of : tie.After-absorb-near → tie.Start
+start-of w = named-at (naming w)
 
 -- its marks and its parents
 abbrev marks : tie.After-absorb-near → List ℕ
@@ -77,8 +83,11 @@ kept-hung w = kept-even (columns (start-of w)) (hung w) (start-of w .pre .0) (ev
 abbrev putting : tie.After-slice-known16 → tie.After-put-entry
 putting c = c .before .before .before .before .before .before .before .before .before .before .before .before .before .before
 
+abbrev hanging : tie.After-put-entry-arg7 → tie.After-absorb-near
+hanging c = c .before .before .before .before .before .before .before .before .before .before .before .before .before .before
+
 abbrev absorbing : tie.After-put-entry → tie.After-absorb-near
-absorbing c = c .before .before .before .before .before .before .before .before .before .before .before .before .before .before .before
+absorbing c = hanging (c .before)
 
 abbrev after : tie.After-put-entry → Cols
 after c = lastCols (c .put-entry .last)
@@ -95,8 +104,7 @@ cluster-id-requires c κs =
 
 entry-at-requires : tie.Need-entry-at-requires
 entry-at-requires c κs =
-    let s = c .before .before .before .before .before .before .before .before .before .before .before .before .before .before
-    .before .before in
+    let s = named-at (c .before .before .before .before .before .before .before) in
     (s .pre .0, inside s)
 
 int-to-float-own : tie.Need-int-to-float-own
@@ -104,9 +112,9 @@ int-to-float-own c = search needs
 
 absorb-near-requires : tie.Need-absorb-near-requires
 absorb-near-requires c κs =
-    let s = c .before .before .before .before .before .before .before .before .before .before .before .before .before .before
-    .before .before .before .before .before .before .before .before .before .before .before .before .before in
-    let r = c .before .before .before .before .before .before .before .before .before .before .entry-at in (
+    let q = c .before .before .before .before .before .before .before .before .before .before in
+    let s = named-at (named-by q) in
+    let r = q .entry-at in (
       s .pre .0,
       below-le (s .args .len) (length (s .args .x .now)) (s .args .near .now) (omega (arith, s .pre .3)) (s .pre .1),
       omega (arith, ap energyOf (r .ensures), s .pre .7),
@@ -114,9 +122,7 @@ absorb-near-requires c κs =
 
 mul-parent : tie.Need-mul-parent
 mul-parent c =
-    let h = c .before .before .before .before .before .before .before .before .before .before .before .before .before .before
-    .before .before .before .before .before .before .before .before .before .before .before .before .before .before .before
-    .before .before .before .pre in
+    let h = start-of (c .before .before .before .before) .pre in
     omega (arith, h .2, h .4)
 
 slice-write-parent : tie.Need-slice-write-parent
@@ -129,14 +135,12 @@ int-to-float-t c = search needs
 
 add-put-entry : tie.Need-add-put-entry
 add-put-entry c =
-    let s = c .before .before .before .before .before .before .before .before .before .before .before .before .before .before
-    .before .before .before .before .before .before .before .before .before .before .before .before .before .before .before
-    .before .before .before .before .before .before .before .before .before .before .before .before .before in
+    let s = start-of (hanging c) in
     omega (arith, s .pre .3, s .good .0 .0)
 
 put-entry-requires : tie.Need-put-entry-requires
 put-entry-requires c κs =
-    let w = c .before .before .before .before .before .before .before .before .before .before .before .before .before .before in
+    let w = hanging c in
     (even-hung w, start-of w .pre .3)
 
 same-length : tie.Need-same-length

@@ -58,9 +58,12 @@ placed-i s =
 
 -- ---- and once the entry is read
 
+abbrev asked : tie.After-entry-at-arg7 → tie.Start
+asked c = c .before .before .before .before .before .before .before .before .before .before .before .before .before
+    .before .before .before .before
+
 abbrev start-of : tie.After-entry-at → tie.Start
-start-of c = c .before .before .before .before .before .before .before .before .before .before .before .before .before
-    .before .before .before .before .before
+start-of c = asked (c .before)
 
 abbrev places : tie.After-entry-at → List ℕ
 places c = near-of (start-of c) (c .entry-at .result .x) (c .entry-at .result .y)
@@ -110,8 +113,11 @@ front-of w = w .neighbours .ensures .0 .front
 abbrev visiting : tie.After-slice-known17 → tie.After-visit-one
 visiting c = c .before .before .before .before .before .before .before .before .before .before .before .before .before .before
 
+abbrev lending : tie.After-visit-one-arg8 → tie.After-neighbours
+lending v = v .before .before .before .before .before .before .before .before .before .before
+
 abbrev listing : tie.After-visit-one → tie.After-neighbours
-listing v = v .before .before .before .before .before .before .before .before .before .before .before
+listing v = lending (v .before)
 
 kept-by : (c : tie.After-visit-one) → Kept (columns (start-of (reading (else-of (listing c))))) (lastCols (c .visit-one .last))
 kept-by c =
@@ -121,8 +127,7 @@ kept-by c =
 
 entry-at-requires : tie.Need-entry-at-requires
 entry-at-requires c κs =
-    let s = c .before .before .before .before .before .before .before .before .before .before .before .before .before .before
-    .before .before .before in
+    let s = asked c in
     (s .pre .0, inside s)
 
 same-length : tie.Need-same-length
@@ -148,8 +153,7 @@ same-length-7 c = refl
 
 returns : tie.Need-returns
 returns c =
-    let s = c .before .before .before .before .before .before .before .before .before .before .before .before .before .before
-    .before .before .before .before .before .before in
+    let s = start-of (c .before .before) in
     let a = s .args in
     let u = rw (c .before .before .entry-at .ensures) at (c .if1 .taken) in
     let h : a .len + a .done ≤ length (table s) = omega (arith, s .pre .7, rows-length (columns s)) in
@@ -157,8 +161,7 @@ returns c =
 
 slice-write-seen : tie.Need-slice-write-seen
 slice-write-seen c =
-    let s = c .before .before .before .before .before .before .before .before .before .before .before .before .before .before
-    .before .before .before .before .before .before in
+    let s = start-of (reading c) in
     omega (arith, inside s, s .pre .0 .es)
 
 wide-requires : tie.Need-wide-requires
@@ -166,14 +169,12 @@ wide-requires c κs = search needs
 
 add-note : tie.Need-add-note
 add-note c =
-    let s = c .before .before .before .before .before .before .before .before .before .before .before .before .before .before
-    .before .before .before .before .before .before .before in
+    let s = start-of (reading (c .before)) in
     omega (arith, note-in c .0, s .pre .4, s .pre .8, s .pre .9)
 
 mul-note : tie.Need-mul-note
 mul-note c =
-    let s = c .before .before .before .before .before .before .before .before .before .before .before .before .before .before
-    .before .before .before .before .before .before .before in
+    let s = start-of (reading (c .before)) in
     omega (arith, note-in c .0, s .pre .4, s .pre .8, s .pre .9)
 
 slice-read-note : tie.Need-slice-read-note
@@ -182,17 +183,16 @@ slice-read-note c = omega (arith, note-in (c .before) .0, note-in (c .before) .1
 neighbours-requires : tie.Need-neighbours-requires
 neighbours-requires c κs =
     let w = c .before .before .wide in
-    let s = c .before .before .before .before .before .before .before .before .before .before .before .before .before
-    .before .before .before .before .before .before .before .before .before .before in
-    let r = c .before .before .before .before .before .entry-at in
+    let q = c .before .before .before .before .before in
+    let s = start-of q in
+    let r = q .entry-at in
     let a = s .args in
     let p = s .pre in
     let f : Placed (r .result) = rw (r .ensures) (placed-i s) in (
       (p .1, p .2, omega (arith, p .3), p .4, omega (arith, p .8, p .9)),
       (
         f,
-        subst (λ (k : ℕ). Tells (a .i) (getD (a .near .now) (k + a .i) 0) (places (c .before .before .before .before
-            .before))) (sym (w .ensures))
+        subst (λ (k : ℕ). Tells (a .i) (getD (a .near .now) (k + a .i) 0) (places q)) (sym (w .ensures))
             (noted-at (a .n) (a .len) (near-of s) (a .near .now) (table s) (a .i) (r .result) (p .6) (p .4) (sym (r .ensures))),
       ),
     )
@@ -202,12 +202,12 @@ slice-reshare-prefix-visit-one c = fits (c .before .before .before .before .befo
 
 slice-aggregate-visit-one : tie.Need-slice-aggregate-visit-one
 slice-aggregate-visit-one c =
-    let w = c .before .before .before .before .before .before .before .before .before .before in
+    let w = lending c in
     sym (length-take-le (w .neighbours .result) (listed w) (fits w))
 
 visit-one-requires : tie.Need-visit-one-requires
 visit-one-requires c κs =
-    let w = c .before .before .before .before .before .before .before .before .before .before in
+    let w = lending c in
     let e = else-of w in
     let r = reading e in
     let s = start-of r in

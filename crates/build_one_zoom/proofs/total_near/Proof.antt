@@ -25,15 +25,15 @@ abbrev μ-loop : tie.MeasureT-loop
 
 -- ---- a turn
 
-abbrev start-of : tie.In-loop Inv-loop μ-loop → tie.Start Inv-loop μ-loop
-start-of i = i .before .before .before .before .before .before .before .before .before .before
+abbrev start-of : tie.At-loop Inv-loop μ-loop → tie.Start Inv-loop μ-loop
+start-of h = h .before .before .before .before .before .before .before .before .before
 
 -- the neighbour
 abbrev place : tie.In-loop Inv-loop μ-loop → ℕ
-place i = getD (start-of i .args .near .now) (i .before .loop .j) 0
+place i = getD (start-of (i .before) .args .near .now) (i .before .loop .j) 0
 
-place-in : (i : tie.In-loop Inv-loop μ-loop) → place i < length (start-of i .args .x .now)
-place-in i = let s = start-of i in below-at (length (s .args .x .now)) (s .args .near .now) (i
+place-in : (i : tie.In-loop Inv-loop μ-loop) → place i < length (start-of (i .before) .args .x .now)
+place-in i = let s = start-of (i .before) in below-at (length (s .args .x .now)) (s .args .near .now) (i
     .before .loop .j) (s .pre .1) (i .loop-test .taken)
 
 abbrev table : tie.Start Inv-loop μ-loop → Table
@@ -41,15 +41,19 @@ table s = let a = s .args in rows (given (a .x) (a .y) (a .seen) (a .id) (a .par
 
 -- what the turn counts
 abbrev counts : tie.In-loop Inv-loop μ-loop → ℕ
-counts i = adds numOf (start-of i .args .z) (entry (table (start-of i)) (place i))
+counts i = adds numOf (start-of (i .before) .args .z) (entry (table (start-of (i .before))) (place i))
 
-turn : (i : tie.In-loop Inv-loop μ-loop) → let a = start-of i .args in let t = table (start-of i) in let j = i .before .loop .j in
+turn : (i : tie.In-loop Inv-loop μ-loop)
+    → let s = start-of (i .before) in let a = s .args in let t = table s in let j = i .before .loop .j in
     more (a .z) t (drop j (a .near .now)) ≡ counts i + more (a .z) t (drop (j + 1) (a .near .now))
-turn i = let a = start-of i .args in more-turn numOf (a .z) (table (start-of i)) (a .near .now) (i .before .loop .j) (i .loop-test .taken)
+turn i =
+    let s = start-of (i .before) in
+    let a = s .args in
+    more-turn numOf (a .z) (table s) (a .near .now) (i .before .loop .j) (i .loop-test .taken)
 
 added : (c : tie.After-counted Inv-loop μ-loop) → c .counted .result ≡ counts (c .before .before .before)
 added c =
-    let z = start-of (c .before .before .before) .args .z in
+    let z = start-of (c .before .before .before .before) .args .z in
     c .counted .ensures ∙ ap (λ (e : Entry). adds numOf z e) (c .before .entry-at .ensures)
 
 loop-holds : tie.Need-loop-holds Inv-loop μ-loop
@@ -62,19 +66,19 @@ shared-slice-read-k : tie.Need-shared-slice-read-k Inv-loop μ-loop
 shared-slice-read-k c = c .before .loop-test .taken
 
 cast-k : tie.Need-cast-k Inv-loop μ-loop
-cast-k c = omega (arith, place-in (c .before), start-of (c .before) .good .0 .0)
+cast-k c = omega (arith, place-in (c .before), start-of (c .before .before) .good .0 .0)
 
 entry-at-requires : tie.Need-entry-at-requires Inv-loop μ-loop
-entry-at-requires c κs = (start-of (c .before) .pre .0, place-in (c .before))
+entry-at-requires c κs = (start-of (c .before .before) .pre .0, place-in (c .before))
 
 counted-requires : tie.Need-counted-requires Inv-loop μ-loop
 counted-requires c κs = search needs
 
 add-total : tie.Need-add-total Inv-loop μ-loop
-add-total c = let i = c .before .before .before in omega (arith, added c, turn i, i .before .loop .inv, start-of i .pre .2)
+add-total c = let i = c .before .before .before in omega (arith, added c, turn i, i .before .loop .inv, start-of (i .before) .pre .2)
 
 add-j : tie.Need-add-j Inv-loop μ-loop
-add-j c = let i = c .before .before .before in omega (arith, i .loop-test .taken, start-of i .good .1 .1 .1 .1 .1 .1 .1 .0 .0)
+add-j c = let i = c .before .before .before in omega (arith, i .loop-test .taken, start-of (i .before) .good .1 .1 .1 .1 .1 .1 .1 .0 .0)
 
 loop-less : tie.Need-loop-less Inv-loop μ-loop
 loop-less c = omega (arith, c .before .before .before .loop-test .taken)
@@ -84,7 +88,7 @@ loop-again c = let i = c .before .before .before in omega (arith, added c, turn 
 
 returns : tie.Need-returns Inv-loop μ-loop
 returns c =
-    let s = c .before .before .before .before .before .before .before .before .before .before in
+    let s = start-of (c .before) in
     let l = c .before .loop in
     omega (arith, l .inv, more-end numOf (s .args .z) (table s) (s .args .near .now) (l .j) (c .loop-test .left))
 

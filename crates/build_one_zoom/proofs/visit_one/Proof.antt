@@ -36,12 +36,15 @@ len-in s = omega (arith, s .pre .3, rows-length (columns s))
 
 -- ---- after the total and its test
 
-abbrev start-of : tie.After-total-near → tie.Start
-start-of c = c .before .before .before .before .before .before .before .before .before .before .before .before .before .before .before .before .before .before .before .before .before .before .before .before
+abbrev asked : tie.After-entry-at-arg7 → tie.Start
+asked c = c .before .before .before .before .before .before .before .before .before .before .before .before .before .before .before
 
 -- the entry that was read
 abbrev reading : tie.After-total-near → tie.After-entry-at
 reading c = c .before .before .before .before .before .before .before .before
+
+abbrev start-of : tie.After-total-near → tie.Start
+start-of c = asked (reading c .before)
 
 own-is : (c : tie.After-total-near) → reading c .entry-at .result ≡ entry (scanned (start-of c)) (start-of c .args .i)
 own-is c = let s = start-of c in reading c .entry-at .ensures ∙ sym (getD-take (s .args .len) (table s) (s .args .i) none (s .pre .2))
@@ -66,8 +69,11 @@ enough-is c b e =
 abbrev making : tie.After-slice-known14 → tie.After-make-one
 making c = c .before .before .before .before .before .before .before .before .before .before .before .before .before .before
 
+abbrev to-make : tie.After-make-one-arg7 → tie.After-total-near
+to-make c = c .before .before .before .before .before .before .before .before .before
+
 abbrev total-made : tie.After-make-one → tie.After-total-near
-total-made c = c .before .before .before .before .before .before .before .before .before .before
+total-made c = to-make (c .before)
 
 kept-made : (c : tie.After-make-one) → Kept (columns (start-of (total-made c))) (lastCols (c .make-one .last))
 kept-made c = let s = start-of (total-made c) in keptCols (columns s) (lastCols (c .make-one .last)) (c .make-one .kept)
@@ -75,21 +81,25 @@ kept-made c = let s = start-of (total-made c) in keptCols (columns s) (lastCols 
 abbrev leaving : tie.After-slice-known21 → tie.After-leave-one
 leaving c = c .before .before .before .before .before .before .before .before .before .before .before .before .before .before
 
+abbrev to-leave : tie.After-leave-one-arg7 → tie.After-total-near
+to-leave c = c .before .before .before .before .before .before .before .before .before
+
 abbrev total-left : tie.After-leave-one → tie.After-total-near
-total-left c = c .before .before .before .before .before .before .before .before .before .before
+total-left c = to-leave (c .before)
 
 kept-left : (c : tie.After-leave-one) → Kept (columns (start-of (total-left c))) (lastCols (c .leave-one .last))
 kept-left c = let s = start-of (total-left c) in keptCols (columns s) (lastCols (c .leave-one .last)) (c .leave-one .kept)
 
 entry-at-requires : tie.Need-entry-at-requires
 entry-at-requires c κs =
-    let s = c .before .before .before .before .before .before .before .before .before .before .before .before .before .before .before in
+    let s = asked c in
     (s .pre .0, omega (arith, s .pre .2, s .pre .3))
 
 total-near-requires : tie.Need-total-near-requires
 total-near-requires c κs =
-    let s = c .before .before .before .before .before .before .before .before .before .before .before .before .before .before .before .before .before .before .before .before .before .before .before in
-    let r = c .before .before .before .before .before .before .before .entry-at in (
+    let q = c .before .before .before .before .before .before .before in
+    let s = asked (q .before) in
+    let r = q .entry-at in (
       s .pre .0,
       below-le (s .args .len) (length (s .args .x .now)) (s .args .near .now) (omega (arith, s .pre .3)) (s .pre .1),
       rw (r .ensures) (s .pre .7),
@@ -100,12 +110,12 @@ is-enough-requires c κs = search needs
 
 make-one-requires : tie.Need-make-one-requires
 make-one-requires c κs =
-    let p = c .before .before .before .before .before .before .before .before .before .before .before .before .before .before .before .before .before .before .before .before .before .before .before .before .before .before .before .before .before .before .before .before .before .pre in
+    let p = start-of (to-make c) .pre in
     (p .0, p .1, p .2, omega (arith, p .3), p .4, p .5, p .6, p .8)
 
 add-result : tie.Need-add-result
 add-result c =
-    let s = c .before .before .before .before .before .before .before .before .before .before .before .before .before .before .before .before .before .before .before .before .before .before .before .before .before .before .before .before .before .before .before .before .before .before .before .before .before .before .before .before .before .before .before .before .before .before .before .before in
+    let s = start-of (total-made (making c)) in
     omega (arith, s .pre .3, s .good .0 .0)
 
 same-length : tie.Need-same-length
@@ -142,7 +152,7 @@ returns c =
 
 leave-one-requires : tie.Need-leave-one-requires
 leave-one-requires c κs =
-    let p = c .before .before .before .before .before .before .before .before .before .before .before .before .before .before .before .before .before .before .before .before .before .before .before .before .before .before .before .before .before .before .before .before .before .pre in
+    let p = start-of (to-leave c) .pre in
     (p .0, p .1, p .2, p .3)
 
 same-length-8 : tie.Need-same-length-8

@@ -1,4 +1,4 @@
--- By monotone rounding every centre stays within [0,1]: the running sum of values of 0 to 1, each times its count, is from 0 to the
+-- A centre never leaves [0,1], since rounding is monotone: the running sum of values of 0 to 1, each times its count, is from 0 to the
 -- counts' total, and the sum over the total is from 0 to 1. First one step of a loop, then a whole list. Assumes nothing.
 use mathlib.Core.Path.{_∙_, subst}
 use mathlib.Core.List.{List, [], _∷_}

@@ -92,14 +92,14 @@ sort-same-length-2 t c =
 
 sort-returns-2 : (t : ℕ) → sort-lts.Need-returns-2 (sort-told t) (sort-at t) sort.Post
 sort-returns-2 t c =
-    let last = c .before .before .before .before .sort2 in
-    let first = c .before .before .before .before .before .before .before .before .before .before .before .sort in
-    let one = c .before .before .before .before .before .before .before .before .before .before .before .before .before .before .before .before .before .before .select in
-    let e = c .before .before .before .before .before .before .before .before .before .before .before .before .before .before .before .before .before .before .before .before .before in
+    let last = c .before .before .before .before in
+    let first = last .before .before .before .before .before .before .before in
+    let one = first .before .before .before .before .before .before .before in
+    let e = one .before .before .before in
     let a = e .before .before .before .args in
     let m = mid (a .lo) (a .hi) in
-    last .ensures
-    ∙ ap (λ (x : IndexCols). sorted (1 - a .axis) (m + 1) (a .hi) (shape (a .most) (m + 1) (a .hi)) x) (first .ensures ∙ ap (λ (x : IndexCols). sorted (1 - a .axis) (a .lo) m (shape (a .most) (a .lo) m) x) (one .ensures))
+    last .sort2 .ensures
+    ∙ ap (λ (x : IndexCols). sorted (1 - a .axis) (m + 1) (a .hi) (shape (a .most) (m + 1) (a .hi)) x) (first .sort .ensures ∙ ap (λ (x : IndexCols). sorted (1 - a .axis) (a .lo) m (shape (a .most) (a .lo) m) x) (one .select .ensures))
     ∙ sym (sorted-node (a .axis) (a .most) (a .lo) (a .hi) (indexCols (a .ids .now) (a .coords .now)) (e .if1 .left))
 
 pub +sort-spec : {M : Type 1} → statement M

@@ -16,30 +16,43 @@ use Rattle.kdsort.proofs.batch.Tie as tie
 abbrev Ready : Type 0
 Ready = tie.After-downs3
 
+-- the places before it: after the lesser number of stops, after each scan, and after the number of slots that they look at
+abbrev chosen : Ready → tie.After-lesser2
+chosen c = c .before .before .before .before
+
+abbrev scanned-down : Ready → tie.After-stops-down
+scanned-down c = chosen c .before .before
+
+abbrev scanned-up : Ready → tie.After-stops-up
+scanned-up c = scanned-down c .before .before .before .before
+
+abbrev measured : Ready → tie.After-lesser
+measured c = scanned-up c .before .before .before
+
 abbrev start : Ready → tie.Start
-start c = c .before .before .before .before .before .before .before .before .before .before .before .before .before .before .before .before .before
+start c = measured c .before .before .before .before
 
 abbrev columns : Ready → IndexCols
 columns c = indexCols (start c .args .ids .now) (start c .args .coords .now)
 
 -- how many slots each scan looks at, the two lists, their numbers of stops, and how many are exchanged
 abbrev len-of : Ready → ℕ
-len-of c = c .before .before .before .before .before .before .before .before .before .before .before .before .before .lesser .result
+len-of c = measured c .lesser .result
 
 abbrev ups-of : Ready → List ℕ
-ups-of c = c .before .before .before .before .before .before .before .before .before .before .stops-up .last .1 .0
+ups-of c = scanned-up c .stops-up .last .1 .0
 
 abbrev downs-of : Ready → List ℕ
-downs-of c = c .before .before .before .before .before .before .stops-down .last .1 .0
+downs-of c = scanned-down c .stops-down .last .1 .0
 
 abbrev m-of : Ready → ℕ
-m-of c = c .before .before .before .before .before .before .before .before .before .before .stops-up .result
+m-of c = scanned-up c .stops-up .result
 
 abbrev n-of : Ready → ℕ
-n-of c = c .before .before .before .before .before .before .stops-down .result
+n-of c = scanned-down c .stops-down .result
 
 abbrev count-of : Ready → ℕ
-count-of c = c .before .before .before .before .lesser2 .result
+count-of c = chosen c .lesser2 .result
 
 -- what is known of them
 record Known (i j len m n count : ℕ) (a : ℕ) (t : Float) (s : IndexCols) (xs ys : List ℕ) : Type 0 where
@@ -59,15 +72,15 @@ known : (c : Ready) → let a = start c .args in Known (a .i) (a .j) (len-of c) 
 known c =
     let a = start c .args in
     let h = start c .pre in
-    let far : a .i + 32 ≤ a .j = c .before .before .before .before .before .before .before .before .before .before .before .before .before .before .if1 .left in
-    let half = c .before .before .before .before .before .before .before .before .before .before .before .before .before .lesser .ensures in
-    let u = c .before .before .before .before .before .before .before .before .before .before .stops-up .ensures in
-    let d = c .before .before .before .before .before .before .stops-down .ensures in
-    let xs-is : length (ups-of c) ≡ 65 = c .before .before .before .before .before .before .before .before .before .before .stops-up .kept .1 .0 in
-    let ys-is : length (downs-of c) ≡ 65 = c .before .before .before .before .before .before .stops-down .kept .1 .0 in
+    let far : a .i + 32 ≤ a .j = measured c .before .if1 .left in
+    let half = measured c .lesser .ensures in
+    let u = scanned-up c .stops-up .ensures in
+    let d = scanned-down c .stops-down .ensures in
+    let xs-is : length (ups-of c) ≡ 65 = scanned-up c .stops-up .kept .1 .0 in
+    let ys-is : length (downs-of c) ≡ 65 = scanned-down c .stops-down .kept .1 .0 in
     let few-u : m-of c + a .i ≤ a .i + len-of c = u .few in
     let few-d : n-of c + (a .j - len-of c) ≤ a .j = d .few in
-    let least = c .before .before .before .before .lesser2 .ensures in
+    let least = chosen c .lesser2 .ensures in
     record {
       up = u;
       down = d;

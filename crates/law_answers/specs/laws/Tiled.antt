@@ -40,7 +40,7 @@ use Rattle.ask_base.specs.Answers.{answerNumber}
 use Rattle.ask_base.specs.Asked.{refused, told}
 use Rattle.ask_base.specs.Columns.{tableAt, idsAt, coordsAt}
 use Rattle.ask_tile_table.specs.declared.Item.{Item}
-use Rattle.ask_tile_table.specs.declared.Search.{Search}
+use Rattle.ask_tile_table.specs.declared.TileSearch.{TileSearch}
 use Rattle.ask_tile_table.specs.declared.Tally.{Tally}
 use Rattle.ask_tile_table.specs.declared.Tally.the-variants.{Sum, Tile as Tally·Tile, Spoiled as Tally·Spoiled}
 use Rattle.ask_tile_table.specs.laws.Framed.{tile-is}
@@ -71,7 +71,7 @@ abbrev pub tallyBy : Given → BuildColumns → ℕ → ℕ → ℕ → Tally
 tallyBy G l z x y = tallied (stateBy G) (columnsBy G l) z x y
 
 -- the items of places of a table, by a search
-abbrev pub itemsBy : Table → Search → List ℕ → List Item
+abbrev pub itemsBy : Table → TileSearch → List ℕ → List Item
 itemsBy t g ps = map (λ p. itemOf g p (entry t p)) ps
 
 -- where the tile has the strip, exactly the entries between its edges, each once; otherwise none
@@ -90,7 +90,7 @@ pub record Tiles (o : Options) (z x y : ℕ) (t : Table) (l : List Item) : Type 
   pub western : Strip (wraps o && eqb (x + 1) (2 ^ z)) zero (least o z y) (edge o z) (greatest o z y) t c
 
 -- the item is that of an entry of the table which lies between the edges, by the search g
-pub record FoundFrom (t : Table) (g : Search) (w s e n : Float) (i : Item) : Type 0 where
+pub record FoundFrom (t : Table) (g : TileSearch) (w s e n : Float) (i : Item) : Type 0 where
   pub place-in : i .place < length t
   pub inside : Lies w s e n (entry t (i .place))
   pub is : i ≡ itemOf g (i .place) (entry t (i .place))
@@ -129,7 +129,7 @@ items-append : (t : Table) (a b : List Visit) → tileItems t (a ++ b) ≡ tileI
 items-append t [] b = refl
 items-append t (v ∷ a) b = ap (λ (l : List Item). itemAt t v ∷ l) (items-append t a b)
 
-items-by : (t : Table) (g : Search) (ps : List ℕ) → tileItems t (visitsOf g ps) ≡ itemsBy t g ps
+items-by : (t : Table) (g : TileSearch) (ps : List ℕ) → tileItems t (visitsOf g ps) ≡ itemsBy t g ps
 items-by t g [] = refl
 items-by t g (p ∷ ps) = ap (λ (l : List Item). itemOf g p (entry t p) ∷ l) (items-by t g ps)
 
@@ -137,18 +137,18 @@ item-places : (t : Table) (v : List Visit) → map (λ j. j .place) (tileItems t
 item-places t [] = refl
 item-places t (w ∷ v) = ap (λ (l : List ℕ). w .place ∷ l) (item-places t v)
 
-places-by : (t : Table) (g : Search) (ps : List ℕ) → map (λ j. j .place) (itemsBy t g ps) ≡ ps
+places-by : (t : Table) (g : TileSearch) (ps : List ℕ) → map (λ j. j .place) (itemsBy t g ps) ≡ ps
 places-by t g [] = refl
 places-by t g (p ∷ ps) = ap (λ (l : List ℕ). p ∷ l) (places-by t g ps)
 
 -- an item stands among those of its search
-by-at : (t : Table) (g : Search) (pre : List ℕ) (p : ℕ) (post : List ℕ) (rest : List Item) → Lists (itemOf g p (entry t p)) (itemsBy t g (pre ++ p ∷ post) ++ rest)
+by-at : (t : Table) (g : TileSearch) (pre : List ℕ) (p : ℕ) (post : List ℕ) (rest : List Item) → Lists (itemOf g p (entry t p)) (itemsBy t g (pre ++ p ∷ post) ++ rest)
 by-at t g [] p post rest = ([], itemsBy t g post ++ rest, refl)
 by-at t g (q ∷ pre) p post rest =
     let w = by-at t g pre p post rest in
     (itemOf g q (entry t q) ∷ w .0, w .1, ap (λ (l : List Item). itemOf g q (entry t q) ∷ l) (w .2))
 
-by-in : (t : Table) (g : Search) (p : ℕ) (ps : List ℕ) (rest : List Item) → In p ps → Lists (itemOf g p (entry t p)) (itemsBy t g ps ++ rest)
+by-in : (t : Table) (g : TileSearch) (p : ℕ) (ps : List ℕ) (rest : List Item) → In p ps → Lists (itemOf g p (entry t p)) (itemsBy t g ps ++ rest)
 by-in t g p ps rest m = subst (λ (l : List ℕ). Lists (itemOf g p (entry t p)) (itemsBy t g l ++ rest)) (sym (m .2)) (by-at t g (m .0) p (m .1) rest)
 
 -- what holds of each holds of one that is listed
@@ -157,7 +157,7 @@ unfolding All
 lists-all P i [] post h = h .0
 lists-all P i (j ∷ pre) post h = lists-all P i pre post (h .1)
 
-all-by : (P : Item → Type 0) (t : Table) (g : Search) (ps : List ℕ) → ((p : ℕ) → In p ps → P (itemOf g p (entry t p))) → All P (itemsBy t g ps)
+all-by : (P : Item → Type 0) (t : Table) (g : TileSearch) (ps : List ℕ) → ((p : ℕ) → In p ps → P (itemOf g p (entry t p))) → All P (itemsBy t g ps)
 unfolding All
 all-by P t g [] f = tt
 all-by P t g (p ∷ ps) f = (f p ([], ps, refl), all-by P t g ps (λ q m. f q (in-right q (p ∷ []) ps m)))
@@ -185,10 +185,10 @@ module _ (size : ℕ) (t : Table) (old S : IndexCols) (I : Index size (xsOf t) (
 -- ---- why an item is listed
 
 module _ (o : Options) (z x y : ℕ) (t : Table) where
-  from-by : (g : Search) (w s e n : Float) (ps : List ℕ) → Boxes w s e n t ps → (p : ℕ) → In p ps → FoundFrom t g w s e n (itemOf g p (entry t p))
+  from-by : (g : TileSearch) (w s e n : Float) (ps : List ℕ) → Boxes w s e n t ps → (p : ℕ) → In p ps → FoundFrom t g w s e n (itemOf g p (entry t p))
   from-by g w s e n ps b p m = let q = b .inside p m in record { place-in = q .0; inside = q .1; is = refl }
 
-  strip-all : (g : Search) (w s e n : Float) (P : Item → Type 0) (made : Bool) (ps : List ℕ) → Strip made w s e n t ps
+  strip-all : (g : TileSearch) (w s e n : Float) (P : Item → Type 0) (made : Bool) (ps : List ℕ) → Strip made w s e n t ps
       → (made ≡ true → (i : Item) → FoundFrom t g w s e n i → P i) → All P (itemsBy t g ps)
   strip-all g w s e n P true ps b f = all-by P t g ps (λ p m. f refl _ (from-by g w s e n ps b p m))
   strip-all g w s e n P false ps b f = subst (λ (k : List ℕ). All P (itemsBy t g k)) (sym b) (unfold All in tt)

@@ -12,8 +12,8 @@ use Rattle.lister_text.specs.declared.Value.the-variants.{Number, Bad}
 use Rattle.lister_text.specs.declared.Cursor.{Cursor}
 use Rattle.lister_text.specs.declared.Parsed.{Parsed}
 use Rattle.lister_text.specs.declared.Parsed.the-variants.{Read, Refused}
-use Rattle.lister_text.specs.declared.Point.{Point}
-use Rattle.lister_text.specs.declared.Point.the-variants.{Stands, Missing}
+use Rattle.lister_text.specs.declared.WrittenPoint.{WrittenPoint}
+use Rattle.lister_text.specs.declared.WrittenPoint.the-variants.{Stands, Missing}
 use Rattle.lister_text.specs.laws.Scan.{lineOf}
 use Rattle.lister_text.specs.Text.{minZoomKey, maxZoomKey, minPointsKey, radiusKey, extentKey, nodeSizeKey, countKey, xKey, yKey, whKey}
 use Rattle.lister_text.specs.Text.{Place, PointCols, putPoints}
@@ -23,7 +23,7 @@ abbrev pub eachValue : {A : Type 0} → Value → A → (ℕ → ℕ → A) → 
 eachValue (Number v next) other f = f v (next .at)
 eachValue Bad other f = other
 
-abbrev pub eachPoint : {A : Type 0} → Point → A → (Place → ℕ → A) → A
+abbrev pub eachPoint : {A : Type 0} → WrittenPoint → A → (Place → ℕ → A) → A
 eachPoint (Stands x y wh next) other f = f (record { x = x; y = y; wh = wh }) (next .at)
 eachPoint Missing other f = other
 
@@ -40,7 +40,7 @@ headOfText s =
     Read (record { «min_zoom» = a; «max_zoom» = b; «min_points» = m; radius = r; extent = e; «node_size» = n; count = k; next = record { at = p7 } }))))))))
 
 -- the lines of a point
-unfoldable pub pointOf : List ℕ → ℕ → Point
+unfoldable pub pointOf : List ℕ → ℕ → WrittenPoint
 pointOf s at =
     eachValue (lineOf s at xKey 9999999) Missing (λ x p.
     eachValue (lineOf s p yKey 9999999) Missing (λ y q.
@@ -75,7 +75,7 @@ countIn Refused = Unit
 
 -- ---- one step of each, by what the next point was read as
 
-pub ok-step : (k : ℕ) (s : List ℕ) (at : ℕ) (q : Point) → 0 < k → pointOf s at ≡ q
+pub ok-step : (k : ℕ) (s : List ℕ) (at : ℕ) (q : WrittenPoint) → 0 < k → pointOf s at ≡ q
     → pointsOk k s at ≡ eachPoint q false (λ p r. pointsOk (k - 1) s r)
 unfolding pointsOk
 ok-step zero s at q h e = let z : ⊥ = omega arith in absurd z
@@ -86,7 +86,7 @@ unfolding pointsOk
 ok-end zero s at h = refl
 ok-end (suc k) s at h = let z : ⊥ = omega arith in absurd z
 
-pub filled-step : (k : ℕ) (s : List ℕ) (at i : ℕ) (c : PointCols) (q : Point) → 0 < k → pointOf s at ≡ q
+pub filled-step : (k : ℕ) (s : List ℕ) (at i : ℕ) (c : PointCols) (q : WrittenPoint) → 0 < k → pointOf s at ≡ q
     → filledForm k s at i c ≡ eachPoint q c (λ p r. filledForm (k - 1) s r (i + 1) (putPoints c i (p ∷ [])))
 unfolding filledForm
 filled-step zero s at i c q h e = let z : ⊥ = omega arith in absurd z

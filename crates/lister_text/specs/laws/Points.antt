@@ -7,8 +7,8 @@ use native.Mathlib.Numerals.{add-one}
 use native.Mathlib.Omega.{arith}
 use borrow.Author.Tests.{eq-eqb, eqb-true}
 use lib.ListN.{length, drop, length-drop, drop-of-length-le}
-use Rattle.lister_text.specs.declared.Point.{Point}
-use Rattle.lister_text.specs.declared.Point.the-variants.{Stands, Missing}
+use Rattle.lister_text.specs.declared.WrittenPoint.{WrittenPoint}
+use Rattle.lister_text.specs.declared.WrittenPoint.the-variants.{Stands, Missing}
 use Rattle.lister_text.specs.Text.{line, xKey, yKey, whKey, Place, PointCols, putPoints, pointText, pointsText, Small}
 use Rattle.lister_text.specs.laws.Form.{eachPoint, pointOf, pointsOk, filledForm}
 use Rattle.lister_text.specs.laws.Lines.{LeftText, past, goes-on, got}
@@ -47,9 +47,9 @@ points-read (p ∷ ps) s at w sm =
     let here = point-read s at p (pointsText ps) w (sm .0) in
     let r = points-read ps s (here .to) (here .rest) (sm .1) in
     record {
-      ok = ap (λ (q : Point). eachPoint q false (λ _ k. pointsOk (length ps) s k)) (here .reads) ∙ r .ok;
+      ok = ap (λ (q : WrittenPoint). eachPoint q false (λ _ k. pointsOk (length ps) s k)) (here .reads) ∙ r .ok;
       stored = λ i c.
-          ap (λ (q : Point). eachPoint q c (λ o k. filledForm (length ps) s k (i + 1) (putPoints c i (o ∷ [])))) (here .reads)
+          ap (λ (q : WrittenPoint). eachPoint q c (λ o k. filledForm (length ps) s k (i + 1) (putPoints c i (o ∷ [])))) (here .reads)
           ∙ r .stored (i + 1) (putPoints c i (p ∷ [])) ∙ rw add-one;
     }
 
@@ -71,7 +71,7 @@ points-end zero s at e =
     let le : length s ≤ at = omega arith in
     record { ps = []; count = refl; is = drop-of-length-le s le; small = tt }
 points-end (suc n) s at e =
-    let go : Point → Bool = λ q. eachPoint q false (λ _ k. pointsOk n s k) in
+    let go : WrittenPoint → Bool = λ q. eachPoint q false (λ _ k. pointsOk n s k) in
     let x = got s at xKey 9999999 Missing _ go true false-not e in
     let y = got s (x .to) yKey 9999999 Missing _ go true false-not (x .goes) in
     let w = got s (y .to) whKey 9999999 Missing _ go true false-not (y .goes) in

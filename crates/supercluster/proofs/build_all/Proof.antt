@@ -36,8 +36,11 @@ near-held s = omega (arith, need-two (s .args .o) (count s) (bounds s .zooms), s
 
 -- ---- once the tables are counted
 
+abbrev asked : tie.After-slice-known10 → tie.Start
+asked c = c .before .before .before .before .before .before .before .before .before .before .before .before .before
+
 abbrev start-of : tie.After-table-count → tie.Start
-start-of w = w .before .before .before .before .before .before .before .before .before .before .before .before .before .before
+start-of w = asked (w .before)
 
 abbrev size : tie.After-table-count → ℕ
 size w = w .table-count .result * count (start-of w)
@@ -59,8 +62,11 @@ even w = fronts-even (size w) (count (start-of w) + count (start-of w)) (old (st
 abbrev built-of : tie.After-slice-known20 → tie.After-build-in
 built-of c = c .before .before .before .before .before .before .before .before .before .before .before .before .before .before .before .before .before .before .before .before
 
+abbrev lending : tie.After-build-in-arg10 → tie.After-table-count
+lending c = c .before .before .before .before .before .before .before .before .before .before
+
 abbrev count-of : tie.After-build-in → tie.After-table-count
-count-of b = b .before .before .before .before .before .before .before .before .before .before .before
+count-of b = lending (b .before)
 
 abbrev front : tie.After-table-count → Cols
 front w = each (λ A q. take (size w) q) (old (start-of w) .table)
@@ -72,14 +78,10 @@ kept-built : (c : tie.After-build-in) → Kept (front (count-of c)) (built c)
 kept-built c = let w = c .build-in in (record { kx = w .kept .1 .1 .1 .1 .0; ky = w .kept .1 .1 .1 .1 .1 .0; ks = w .kept .1 .1 .1 .1 .1 .1 .0; ki = w .kept .1 .1 .1 .1 .1 .1 .1 .0; kp = w .kept .1 .1 .1 .1 .1 .1 .1 .1 .0; kn = w .kept .1 .1 .1 .1 .1 .1 .1 .1 .1 .0; kw = w .kept .1 .1 .1 .1 .1 .1 .1 .1 .1 .1 .0 })
 
 add-w : tie.Need-add-w
-add-w c =
-    let s = c .before .before .before .before .before .before .before .before .before .before .before .before .before in
-    omega (arith, accepted s .few)
+add-w c = omega (arith, accepted (asked c) .few)
 
 table-count-requires : tie.Need-table-count-requires
-table-count-requires c κs =
-    let s = c .before .before .before .before .before .before .before .before .before .before .before .before .before in
-    bounds s .zooms
+table-count-requires c κs = bounds (asked c) .zooms
 
 mul-m : tie.Need-mul-m
 mul-m c = omega (arith, few c)
@@ -145,11 +147,11 @@ slice-relend-prefix-build-in-10 : tie.Need-slice-relend-prefix-build-in-10
 slice-relend-prefix-build-in-10 c = let w = c .before .before .before .before .before .before .before .before .before in near-held (start-of w)
 
 slice-aggregate-build-in-10 : tie.Need-slice-aggregate-build-in-10
-slice-aggregate-build-in-10 c = let w = c .before .before .before .before .before .before .before .before .before .before in sym (length-take-le (count (start-of w) + count (start-of w)) (start-of w .args .near .now) (near-held (start-of w)))
+slice-aggregate-build-in-10 c = let w = lending c in sym (length-take-le (count (start-of w) + count (start-of w)) (start-of w .args .near .now) (near-held (start-of w)))
 
 build-in-requires : tie.Need-build-in-requires
 build-in-requires c κs =
-    let w = c .before .before .before .before .before .before .before .before .before .before in
+    let w = lending c in
     let s = start-of w in
     let a = s .args in
     let h = held w in

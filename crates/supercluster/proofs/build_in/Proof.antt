@@ -38,8 +38,12 @@ room s = omega (arith, need-some (s .args .o) (count s) (bounds s .zooms))
 
 -- ---- after the fill
 
+abbrev asked : tie.After-fill-arg7 → tie.Start
+asked c = c .before .before .before .before .before .before .before .before .before .before .before .before .before
+    .before .before .before .before .before .before .before
+
 abbrev start-of : tie.After-fill → tie.Start
-start-of w = w .before .before .before .before .before .before .before .before .before .before .before .before .before .before .before .before .before .before .before .before .before
+start-of w = asked (w .before)
 
 abbrev filled : tie.After-fill → Cols
 filled c = let w = c .fill in (cols (w .last .1 .1 .1 .1 .0) (w .last .1 .1 .1 .1 .1 .0) (w .last .1 .1 .1 .1 .1 .1 .0) (w .last .1 .1 .1 .1 .1 .1 .1 .0) (w .last .1 .1 .1 .1 .1 .1 .1 .1 .0) (w .last .1 .1 .1 .1 .1 .1 .1 .1 .1 .0) (w .last .1 .1 .1 .1 .1 .1 .1 .1 .1 .1 .0))
@@ -58,8 +62,12 @@ filled-long w = rows-length (filled w) ∙ long w
 
 -- ---- after its index
 
+abbrev indexing : tie.After-index-part-arg4 → tie.After-fill
+indexing c = c .before .before .before .before .before .before .before .before .before .before .before .before .before
+    .before .before .before .before .before
+
 abbrev fill-of : tie.After-index-part → tie.After-fill
-fill-of i = i .before .before .before .before .before .before .before .before .before .before .before .before .before .before .before .before .before .before .before
+fill-of i = indexing (i .before)
 
 ids-put : (i : tie.After-index-part) → let w = fill-of i in let s = start-of w in
     i .index-part .last .1 .1 .0 ≡ putAt 0 (count s) (indexOfTable (s .args .o .«node_size») (part 0 (count s) (rows (filled w))) .ids) (s .args .ids .now)
@@ -89,8 +97,11 @@ first w = w .first-state .ensures
 abbrev zooms-of : tie.After-slice-known30 → tie.After-run-zooms
 zooms-of c = c .before .before .before .before .before .before .before .before .before .before .before .before .before .before .before .before .before .before .before .before .before .before .before .before
 
+abbrev zooming : tie.After-run-zooms-arg10 → tie.After-first-state
+zooming c = c .before .before .before .before .before .before .before .before .before .before
+
 abbrev state-of : tie.After-run-zooms → tie.After-first-state
-state-of z = z .before .before .before .before .before .before .before .before .before .before .before
+state-of z = zooming (z .before)
 
 abbrev after : tie.After-run-zooms → Cols
 after c = let w = c .run-zooms in (cols (w .last .0) (w .last .1 .0) (w .last .1 .1 .0) (w .last .1 .1 .1 .0) (w .last .1 .1 .1 .1 .0) (w .last .1 .1 .1 .1 .1 .0) (w .last .1 .1 .1 .1 .1 .1 .0))
@@ -104,12 +115,12 @@ kept-by c =
 
 fill-requires : tie.Need-fill-requires
 fill-requires c κs =
-    let s = c .before .before .before .before .before .before .before .before .before .before .before .before .before .before .before .before .before .before .before .before in
+    let s = asked c in
     (s .pre .0, accepted s .same, omega (arith, room s, s .pre .2), accepted s .few, accepted s .weighed)
 
 index-part-requires : tie.Need-index-part-requires
 index-part-requires c κs =
-    let w = c .before .before .before .before .before .before .before .before .before .before .before .before .before .before .before .before .before .before in
+    let w = indexing c in
     let s = start-of w in
     let a = s .args in
     let r = room s in
@@ -128,12 +139,12 @@ first-state-requires c κs =
 
 cast-run-zooms : tie.Need-cast-run-zooms
 cast-run-zooms c =
-    let s = start-of (fill-of (index-of (c .before .before .before .before .before .before .before .before .before .before))) in
+    let s = start-of (fill-of (index-of (zooming c))) in
     omega (arith, accepted s .few)
 
 run-zooms-requires : tie.Need-run-zooms-requires
 run-zooms-requires c κs =
-    let e = c .before .before .before .before .before .before .before .before .before .before in
+    let e = zooming c in
     let i = index-of e in
     let w = fill-of i in
     let s = start-of w in

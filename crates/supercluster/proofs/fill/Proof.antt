@@ -24,8 +24,11 @@ Inv-loop c xs ys energies x₀ y₀ seen₀ id₀ parent₀ num₀ energy₀ i�
 abbrev μ-loop : tie.MeasureT-loop
 μ-loop c xs ys energies x₀ y₀ seen₀ id₀ parent₀ num₀ energy₀ i₀ x y seen id parent num energy i = length xs - i
 
+abbrev asked : tie.After-slice-known7 Inv-loop μ-loop → tie.Start Inv-loop μ-loop
+asked c = c .before .before .before .before .before .before .before .before .before .before
+
 abbrev start-of : tie.At-loop Inv-loop μ-loop → tie.Start Inv-loop μ-loop
-start-of l = l .before .before .before .before .before .before .before .before .before .before .before
+start-of l = asked (l .before)
 
 abbrev columns : tie.Start Inv-loop μ-loop → Cols
 columns s = let a = s .args in (given (a .x) (a .y) (a .seen) (a .id) (a .parent) (a .num) (a .energy))
@@ -40,12 +43,18 @@ kept-by h = kept-even (columns (start-of h)) (here h) (start-of h .pre .0) (h .l
 few : (i : tie.In-loop Inv-loop μ-loop) → i .before .loop .place < 1048576
 few i = omega (arith, i .loop-test .taken, start-of (i .before) .pre .3)
 
+abbrev lending : tie.After-put-entry-arg7 Inv-loop μ-loop → tie.In-loop Inv-loop μ-loop
+lending c = c .before .before .before .before .before .before .before .before .before .before .before
+
+abbrev putting : tie.After-slice-known14 Inv-loop μ-loop → tie.After-put-entry Inv-loop μ-loop
+putting c = c .before .before .before .before .before .before .before .before .before .before .before .before .before .before
+
 abbrev test-of : tie.After-slice-known14 Inv-loop μ-loop → tie.In-loop Inv-loop μ-loop
-test-of c = c .before .before .before .before .before .before .before .before .before .before .before .before .before .before .before .before .before .before .before .before .before .before .before .before .before .before
+test-of c = lending (putting c .before)
 
 loop-holds : tie.Need-loop-holds Inv-loop μ-loop
 loop-holds c =
-    let s = c .before .before .before .before .before .before .before .before .before .before in
+    let s = asked c in
     (omega arith, s .pre .0, refl, refl)
 
 mul-t15 : tie.Need-mul-t15 Inv-loop μ-loop
@@ -73,7 +82,7 @@ shared-slice-read-t25 : tie.Need-shared-slice-read-t25 Inv-loop μ-loop
 shared-slice-read-t25 c = let i = c .before .before .before .before in omega (arith, i .loop-test .taken, start-of (i .before) .pre .4)
 
 put-entry-requires : tie.Need-put-entry-requires Inv-loop μ-loop
-put-entry-requires c κs = let t = c .before .before .before .before .before .before .before .before .before .before .before in let l = t .before .loop in (l .inv .1, omega (arith, t .loop-test .taken, start-of (t .before) .pre .2, l .inv .2))
+put-entry-requires c κs = let t = lending c in let l = t .before .loop in (l .inv .1, omega (arith, t .loop-test .taken, start-of (t .before) .pre .2, l .inv .2))
 
 add-place : tie.Need-add-place Inv-loop μ-loop
 add-place c = omega (arith, few (test-of c))
@@ -84,13 +93,13 @@ loop-less c = omega (arith, test-of c .loop-test .taken)
 loop-again : tie.Need-loop-again Inv-loop μ-loop
 loop-again c =
     let t = test-of c in
-    let v = c .before .before .before .before .before .before .before .before .before .before .before .before .before .before .before .before .before .before .before .before .before .before .before in
+    let v = putting c .before .before .before .before .before .before .before .before .before in
     let h = t .before in
     let l = h .loop in
     let s = start-of h in
     let a = s .args in
     let i = t .loop-test .taken in
-    let w = c .before .before .before .before .before .before .before .before .before .before .before .before .before .before .put-entry in
+    let w = putting c .put-entry in
     let new : Cols = (cols (w .last .0) (w .last .1 .0) (w .last .1 .1 .0) (w .last .1 .1 .1 .0) (w .last .1 .1 .1 .1 .0) (w .last .1 .1 .1 .1 .1 .0) (w .last .1 .1 .1 .1 .1 .1 .0)) in
     let k : Kept (here h) new = (record { kx = w .kept .0; ky = w .kept .1 .0; ks = w .kept .1 .1 .0; ki = w .kept .1 .1 .1 .0; kp = w .kept .1 .1 .1 .1 .0; kn = w .kept .1 .1 .1 .1 .1 .0; kw = w .kept .1 .1 .1 .1 .1 .1 .0 }) in
     let e = getD (a .energies .now) (l .place) 0 in

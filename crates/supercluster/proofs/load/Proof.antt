@@ -35,9 +35,16 @@ check-requires c κs = search needs
 enum-told : tie.Need-enum-told
 enum-told c = search needs
 
+-- what was told of the check, before the call that builds, and after it
+abbrev lending : tie.After-build-all-arg10 → tie.After-enum-told
+lending c = c .before .before .before .before .before .before .before .before .before .before
+
+abbrev told-of : tie.After-build-all → tie.After-enum-told
+told-of b = lending (b .before)
+
 build-all-requires : tie.Need-build-all-requires
 build-all-requires c κs =
-    let e = c .before .before .before .before .before .before .before .before .before .before in
+    let e = lending c in
     let k = e .before .before in
     let s = start-of k in
     let a = s .args in
@@ -73,10 +80,6 @@ enum-told-4 c = search needs
 
 refused-requires-5 : tie.Need-refused-requires-5
 refused-requires-5 c κs = search needs
-
--- what was told of the check, before that call
-abbrev told-of : tie.After-build-all → tie.After-enum-told
-told-of b = b .before .before .before .before .before .before .before .before .before .before .before
 
 -- the call that builds, as its results stand
 abbrev build-of : tie.After-slice-known20 → tie.After-build-all

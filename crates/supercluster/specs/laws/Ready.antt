@@ -1,4 +1,4 @@
--- A build that is accepted: its first table is ready, and what the loop over the zooms leaves is the build. Assumes nothing.
+-- A build of what is within bounds: its first table is ready, and what the loop over the zooms leaves is the build. Assumes nothing.
 use mathlib.Core.Path.{_≡_, ap, sym, _∙_, subst}
 use mathlib.Core.Bool.{true}
 use mathlib.Core.List.{List, _++_}
@@ -34,7 +34,8 @@ use Rattle.supercluster.specs.Build.{convertedAll, tablesOf, builtState,
 use Rattle.supercluster.specs.laws.Fill.{lamps, lamps-length, converted-length, finest-fine, finest-total, finest-watts, pxs, pys}
 use Rattle.supercluster.specs.laws.Over.{over-over, run-long}
 
--- what is not refused
+-- what is refused neither 1, 2, 3 nor 15: what is given is within bounds, as it is in every accepted build; of the lent columns nothing is
+-- asked
 pub record Accepted (o : Options) (xs ys : List Float) (ws : List ℕ) : Type 0 where
   pub options : optionsOk o ≡ true
   pub same : length ys ≡ length xs

@@ -27,7 +27,7 @@ impl Options {
 }
 
 impl Range {
-    /// Whether the four numbers, offset and scale are finite and the scale is above 0.
+    /// Whether minima, maxima, offset and scale are finite, and the scale is above 0.
     fn in_bounds(&self) -> bool {
         let Range { min_x, min_y, max_x, max_y, .. } = *self;
         let offset = self.offset.unwrap_or(if min_y < min_x { min_y } else { min_x });

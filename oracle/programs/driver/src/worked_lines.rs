@@ -83,8 +83,8 @@ fn ids_and_walks<J: Judge>() -> Vec<Line> {
 /// 'The worked example': tiles, rounding, the largest max_zoom.
 fn tiles_and_bounds<J: Judge>() -> Vec<Line> {
     vec![
-        ("tile (0,0,0) lists entry 0 at (176,256)", "entry 0 at (176,256)", tile_000::<J>),
-        ("0.5 rounds to 1, -0.5 to -1: x in a tile", "(1,1),(-1,1),(2,1)", || rounded::<J>(0)),
+        ("tile (0,0,0) has one item", "entry 0 at (176,256)", tile_000::<J>),
+        ("0.5 becomes 1, -0.5 becomes -1: x in a tile", "(1,1),(-1,1),(2,1)", || rounded::<J>(0)),
         ("-0.5 rounds to -1: x and y in a tile", "(-1,-1),(2,-1)", || rounded::<J>(1)),
         ("max_zoom 30 built", "32 tables; 99 is 2,3 of table 31", zoom_30::<J>),
         ("a lamp at (1, 0.5) is listed twice", "(512,256),(0,256)", || edges::<J>(&[65_536])),

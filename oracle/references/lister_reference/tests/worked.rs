@@ -36,7 +36,7 @@ fn the_example_is_written_as_it_stands() {
     assert_eq!(example().text(), TEXT.as_bytes());
 }
 
-/// 'With min_points 3 all four lamps stay single down to table 0.'
+/// With min_points 3 each of the three tables has the four lamps, none of them clustered.
 #[test]
 fn four_single_lamps() {
     let lines = printed(&TEXT.replace("min_points=2", "min_points=3"));

@@ -44,8 +44,8 @@ pub(crate) fn walk_children(
 
 /// The expansion zoom of a cluster.
 ///
-/// Starts at table - 1; while at most max_zoom, fetches the children and adds 1; goes on only with a sole
-/// child that is a cluster.
+/// From table - 1 on, each search for children adds 1, to max_zoom + 1 at the most; another follows where it found
+/// a single cluster.
 pub fn expansion_zoom(state: &State, lent: &Lent, id: u32) -> Result<u64, Refusal> {
     state.check_all(lent)?;
     let mut cluster = state.asked(id)?;

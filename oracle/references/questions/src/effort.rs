@@ -7,7 +7,7 @@ use crate::{
 };
 
 /// What a box comes to within an allowance: the answer, how many slots were tested over both halves of the box, and
-/// whether it stopped with a test still due.
+/// whether a test was left.
 #[derive(Clone, Debug, PartialEq)]
 pub struct Effort {
     pub answer: Answer<u32>,

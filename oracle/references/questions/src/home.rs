@@ -1,6 +1,6 @@
 //! The tile that holds a coordinate, by whole numbers on the coordinate's bits.
 
-/// Along one axis, the tile of zoom z that holds c: floor of c * 2^z, with 1.0 belonging to the last tile (#104). c is
+/// Along one axis, the tile of zoom z that holds c: floor of c * 2^z; 1.0 is in the last tile (#104). c is
 /// within [0,1] and z at most 31.
 pub fn home(z: u8, c: f64) -> u32 {
     // c is whole / 2^places exactly; a zero may have a sign.

@@ -1,5 +1,5 @@
-//! The search of an index, as SCOPE's 'The index' says: of a split interval the median if it passes, then the
-//! right part, then the left; an unsplit interval slot by slot.
+//! The search of an index, as SCOPE's 'The index' says: an interval that is not split slot by slot; of any other the
+//! median first, where it passes, next the right part and last the left one.
 
 use crate::{state::Index, Refusal};
 
@@ -12,7 +12,7 @@ pub(crate) enum Query {
     Within([f64; 3]),
 }
 
-/// How many slots a search may still test, how many it has tested, and whether it stopped with a test still due.
+/// How many slots a search may still test, how many it has tested, and whether a test was left.
 pub(crate) struct Allowance {
     pub left: usize,
     pub tested: usize,

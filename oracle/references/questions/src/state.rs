@@ -73,7 +73,7 @@ impl State {
         usize::from(self.options.max_zoom) + 1
     }
 
-    /// Zoom used: zoom raised to min_zoom, then lowered to max_zoom + 1.
+    /// The zoom used: at least min_zoom, and at most max_zoom + 1.
     pub fn zoom_used(&self, zoom: u8) -> usize {
         usize::from(zoom).max(self.coarsest()).min(self.finest())
     }

@@ -36,7 +36,7 @@ pub fn tile(state: &State, lent: &Lent, z: u8, x: u32, y: u32) -> Answer<Item> {
     })
 }
 
-/// The sum of num over the distinct entries that are listed for tile (z, x, y) and whose centre it holds (#104).
+/// The nums of the entries that are listed for tile (z, x, y) and whose centre it holds, added up, each entry once (#104).
 pub fn tally(state: &State, lent: &Lent, z: u8, x: u32, y: u32) -> Result<u64, Refusal> {
     let Answer { items, refusal } = tile(state, lent, z, x, y);
     match refusal {

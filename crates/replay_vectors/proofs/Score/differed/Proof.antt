@@ -1,7 +1,7 @@
--- `Tally::differed` meets its contract. Assumes nothing.
+-- `Score::differed` meets its contract. Assumes nothing.
 use borrow.Author.Needs.{needs}
-use Rattle.replay_vectors.proofs.Tally.differed.Statement.{statement}
-use Rattle.replay_vectors.proofs.Tally.differed.Tie as tie
+use Rattle.replay_vectors.proofs.Score.differed.Statement.{statement}
+use Rattle.replay_vectors.proofs.Score.differed.Tie as tie
 
 add-t4 : tie.Need-add-t4
 add-t4 c = search needs

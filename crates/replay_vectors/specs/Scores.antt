@@ -1,4 +1,4 @@
--- The tally of a replay: what the contracts say of it, and the laws by which a program's loop keeps it right. Assumes nothing.
+-- The score of a replay: what the contracts say of it, and the laws by which a program's loop keeps it right. Assumes nothing.
 use Prim.Native.Nat.{ℕ, _+_, _≤_, _<_}
 use native.Mathlib.Omega.{arith}
 use mathlib.Core.Path.{_≡_, refl}
@@ -7,7 +7,7 @@ use Rattle.replay_vectors.specs.declared.Verdict.{Verdict}
 use Rattle.replay_vectors.specs.declared.Verdict.the-variants.{Agrees, Differs, Malformed as Verdict·Malformed, End}
 use Rattle.replay_vectors.specs.declared.First.{First}
 use Rattle.replay_vectors.specs.declared.First.the-variants.{Nothing, At}
-use Rattle.replay_vectors.specs.declared.Tally.{Tally}
+use Rattle.replay_vectors.specs.declared.Score.{Score}
 use Rattle.replay_vectors.specs.declared.Ending.{Ending}
 use Rattle.replay_vectors.specs.declared.Ending.the-variants.{Finished, Malformed, TooMany}
 
@@ -23,11 +23,11 @@ abbrev pub firstOf : First → ℕ → Function → First
 firstOf Nothing k f = At k f
 firstOf (At j g) k f = At j g
 
--- the tally with one more case that agrees, and with one more that differs
-abbrev pub withAgreed : Tally → Tally
+-- the score with one more case that agrees, and with one more that differs
+abbrev pub withAgreed : Score → Score
 withAgreed t = record { cases = t .cases + 1; differences = t .differences; first = t .first }
 
-abbrev pub withDiffered : Tally → Function → Tally
+abbrev pub withDiffered : Score → Function → Score
 withDiffered t f = record { cases = t .cases + 1; differences = t .differences + 1; first = firstOf (t .first) (t .cases + 1) f }
 
 -- there is a first difference exactly where differences were counted, and it is one of the cases
@@ -35,18 +35,18 @@ abbrev pub firstIs : ℕ → ℕ → First → Type 0
 firstIs cases differences Nothing = differences ≡ 0
 firstIs cases differences (At k f) = (0 < differences) × (0 < k) × (k ≤ cases)
 
-pub record SoundTally (t : Tally) : Type 0 where
+pub record SoundScore (t : Score) : Type 0 where
   pub most : t .differences ≤ t .cases
   pub told : firstIs (t .cases) (t .differences) (t .first)
 
--- a replay that went to the end has a tally that is right, and one that broke off names a case
+-- a replay that went to the end has a score that is right, and one that broke off names a case
 abbrev pub endingIs : Ending → Type 0
-endingIs (Finished t) = SoundTally t
+endingIs (Finished t) = SoundScore t
 endingIs (Malformed k) = 0 < k
 endingIs TooMany = Unit {0}
 
--- the tally of no case
-pub sound-none : SoundTally (record { cases = 0; differences = 0; first = Nothing })
+-- the score of no case
+pub sound-none : SoundScore (record { cases = 0; differences = 0; first = Nothing })
 sound-none = record { most = omega arith; told = refl }
 
 -- what is first stays first with one more case, and with one more difference
@@ -59,9 +59,9 @@ first-differs : (cases differences : ℕ) (t : First) (f : Function) → firstIs
 first-differs cases differences Nothing f p = omega arith
 first-differs cases differences (At k g) f p = (omega arith, p .1, omega arith)
 
-module _ (t : Tally) (p : SoundTally t) where
-  pub sound-agreed : SoundTally (withAgreed t)
+module _ (t : Score) (p : SoundScore t) where
+  pub sound-agreed : SoundScore (withAgreed t)
   sound-agreed = record { most = omega (arith, p .most); told = first-kept (t .cases) (t .differences) (t .first) (p .told) }
 
-  pub sound-differed : (f : Function) → SoundTally (withDiffered t f)
+  pub sound-differed : (f : Function) → SoundScore (withDiffered t f)
   sound-differed f = record { most = omega (arith, p .most); told = first-differs (t .cases) (t .differences) (t .first) f (p .told) }
