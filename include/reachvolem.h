@@ -175,12 +175,12 @@ uint8_t supercluster_zoom_used(
     uint8_t zoom);
 
 /* Builds the tables of N points, xs_len of them: xs and ys in the coordinates of the options, energies in watt-hours. With need =
-   (max_zoom - min_zoom + 2) * N, each of the ten columns from x to near has at least need entries, coords twice as many. Written are
-   the tables in x, y, seen, id, parent, num, energy, the finest first, their indexes in ids and coords, 0 in the first 2N of near,
-   and in starts and lens, by zoom, where each table starts and how long it is; what lies behind stays. Carried is 0. Refused in this
-   order, and then nothing but carried is written: 1 an option, 2 N is not from 1 to 1,048,576 or ys or energies has not N, 3 a
-   converted coordinate is not from 0 to 1, 15 an energy above 2^40 (3 and 15 carry the first such point, from 0), 4 a column is too
-   short. */
+   (max_zoom - min_zoom + 2) * N, each of the eleven columns from x to owners has at least need entries, coords twice as many. Written
+   are the tables in x, y, seen, id, parent, num, energy, the finest first, their indexes in ids and coords, 0 in the first 2N of near,
+   in the first need of owners each lamp's owner, N places a table, the finest first, and in starts and lens, by zoom, where each table
+   starts and how long it is; what lies behind stays. Carried is 0. Refused in this order, and then nothing but carried is written: 1 an
+   option, 2 N is not from 1 to 1,048,576 or ys or energies has not N, 3 a converted coordinate is not from 0 to 1, 15 an energy above
+   2^40 (3 and 15 carry the first such point, from 0), 4 a column is too short. */
 uint32_t supercluster_load(
     uint8_t min_zoom,
     uint8_t max_zoom,
@@ -211,6 +211,7 @@ uint32_t supercluster_load(
     uint32_t *ids, size_t ids_len,
     double *coords, size_t coords_len,
     uint32_t *near, size_t near_len,
+    uint32_t *owners, size_t owners_len,
     uint32_t starts[32],
     uint32_t lens[32],
     size_t *carried);
@@ -504,6 +505,34 @@ uint32_t supercluster_tally(
     uint32_t tile_y,
     size_t *carried);
 
+/* The entry that owns a lamp in the table of the zoom used: its place in that table goes into place, 0 where it is refused. owners is
+   the column that a build leaves beside its tables: N places for each table, the finest first. Refused in this order: 11 by the
+   state, or owners has fewer than (max_zoom - min_zoom + 2) * N entries, 16 lamp is not below N, 11 the table has no such place. */
+uint32_t supercluster_owner(
+    uint8_t min_zoom,
+    uint8_t max_zoom,
+    uint8_t min_points,
+    double radius,
+    double extent,
+    size_t node_size,
+    bool cartesian,
+    double min_x,
+    double min_y,
+    double max_x,
+    double max_y,
+    bool offset_given,
+    double offset,
+    bool scale_given,
+    double scale,
+    bool longitude_strips_only,
+    uint32_t count,
+    const uint32_t starts[32],
+    const uint32_t lens[32],
+    const uint32_t *owners, size_t owners_len,
+    uint32_t lamp,
+    uint8_t zoom,
+    size_t *place);
+
 /* The entry at a place of the table of a zoom, as a box or a tile lists it: its x and y in the tables' numbers from 0 to 1
    (supercluster_denormalize gives them back), the last zoom that marked it (255: none), its id, the id of the cluster that took it
    in (4,294,967,295: none), how many lamps it has, and their watt-hours. Refused in this order, and then nothing is written: 11 by
@@ -562,6 +591,7 @@ uint32_t supercluster_entry(
 #define RV_NO_ROOM 10u
 #define RV_SPOILED 11u
 #define RV_ENERGY_REFUSED 15u
+#define RV_NO_LAMP 16u
 #define RV_NEVER_SEEN 255u
 #define RV_NO_PARENT 4294967295u
 
@@ -605,6 +635,7 @@ typedef struct rv_map {
     uint32_t *ids;
     double *coords;
     uint32_t *near;      /* working room of rv_load; no question looks at it */
+    uint32_t *owners;    /* the places of the lamps' owners: count of them for each table, the finest first (rv_owner) */
 } rv_map;
 
 /* An entry of a table. */
@@ -642,6 +673,7 @@ static inline const char *rv_words(uint32_t number) {
     case RV_NO_ROOM: return "there are more items than the output has room for";
     case RV_SPOILED: return "the tables and their state do not fit together";
     case RV_ENERGY_REFUSED: return "a point brings more than 2^40 watt-hours";
+    case RV_NO_LAMP: return "there is no such lamp";
     default: return "no number of a reply";
     }
 }
@@ -654,12 +686,12 @@ static inline size_t rv_entries_needed(const rv_options *options, size_t n) {
     return ((size_t)options->max_zoom - options->min_zoom + 2) * n;
 }
 
-/* How many bytes the ten columns of so many entries take in one piece of memory. */
+/* How many bytes the eleven columns of so many entries take in one piece of memory. */
 static inline size_t rv_bytes_needed(size_t entries) {
-    return entries * (4 * sizeof(double) + sizeof(uint64_t) + 5 * sizeof(uint32_t) + sizeof(uint8_t));
+    return entries * (4 * sizeof(double) + sizeof(uint64_t) + 6 * sizeof(uint32_t) + sizeof(uint8_t));
 }
 
-/* Lays the ten columns of so many entries into memory, which is aligned for a double, as malloc's is, and as long as rv_bytes_needed
+/* Lays the eleven columns of so many entries into memory, which is aligned for a double, as malloc's is, and as long as rv_bytes_needed
    says. Who has columns of his own sets them by himself, and room. */
 static inline void rv_lend(rv_map *map, void *memory, size_t entries) {
     map->room = entries;
@@ -672,7 +704,8 @@ static inline void rv_lend(rv_map *map, void *memory, size_t entries) {
     map->num = map->parent + entries;
     map->ids = map->num + entries;
     map->near = map->ids + entries;
-    map->seen = (uint8_t *)(void *)(map->near + entries);
+    map->owners = map->near + entries;
+    map->seen = (uint8_t *)(void *)(map->owners + entries);
 }
 
 /* Where the id of a cluster leads, an id from count on: its children stand in the table of this zoom, around the entry at this place. */
@@ -695,12 +728,12 @@ static inline uint32_t rv_origin_of(const rv_map *map, uint32_t id) {
     (m)->energy, (m)->room
 #define RV_INDEX_(m) (m)->ids, (m)->room, (m)->coords, 2 * (m)->room
 
-/* supercluster_load: builds the tables of n points. A refusal leaves the map as it was. */
+/* supercluster_load: builds the tables of n points, and the owners beside them. A refusal leaves the map as it was. */
 static inline uint32_t rv_load(
     rv_map *map, const double *xs, const double *ys, const uint64_t *energies, size_t n, size_t *carried) {
     uint32_t number = supercluster_load(
-        RV_OPTIONS_(&map->options), xs, n, ys, n, energies, n, RV_ENTRIES_(map), RV_INDEX_(map), map->near, map->room, map->starts,
-        map->lens, carried);
+        RV_OPTIONS_(&map->options), xs, n, ys, n, energies, n, RV_ENTRIES_(map), RV_INDEX_(map), map->near, map->room, map->owners,
+        map->room, map->starts, map->lens, carried);
     if (number == 0)
         map->count = (uint32_t)n;
     return number;
@@ -763,7 +796,14 @@ static inline uint32_t rv_entry(const rv_map *map, uint8_t zoom, uint32_t place,
         &entry->num, &entry->energy);
 }
 
-/* supercluster_zoom_used: the zoom in whose table box, ring and tile list places. */
+/* supercluster_owner: the place of a lamp's owner in the table of the zoom used. *place is 0 where it is refused: 11 by the state or where
+   room is less than rv_entries_needed, 16 where count or more is asked for, 11 where the table has no such place. Each call looks at the
+   whole state; who reads many owners of a map that was built may read map->owners[(max_zoom + 1 - zoom) * count + lamp]. */
+static inline uint32_t rv_owner(const rv_map *map, uint32_t lamp, uint8_t zoom, size_t *place) {
+    return supercluster_owner(RV_STATE_(map), map->owners, map->room, lamp, zoom, place);
+}
+
+/* supercluster_zoom_used: the zoom in whose table box, ring and tile list places, and in whose table an owner has its place. */
 static inline uint8_t rv_zoom_used(const rv_options *options, uint8_t zoom) {
     return supercluster_zoom_used(RV_OPTIONS_(options), zoom);
 }

@@ -5,6 +5,7 @@ mod effort;
 mod index;
 mod load;
 mod memory;
+mod owners;
 mod points;
 mod port;
 mod questions;
@@ -53,13 +54,14 @@ fn main() -> ExitCode {
         ["--load"] => return ended(load::run(&WHOLE)),
         ["--questions"] => return ended(questions::run(&WHOLE)),
         ["--effort"] => return ended(effort::run(&WHOLE)),
+        ["--owners"] => return ended(owners::run(&WHOLE)),
         // What the benchmark runs of itself, in a process of its own.
         ["peak", side, shape, count] => return peak(side, shape, count),
         _ => {
             return usage();
         }
     };
-    let parts = [index::run, load::run, questions::run, effort::run];
+    let parts = [index::run, load::run, questions::run, effort::run, owners::run];
     ended(parts.iter().try_for_each(|part| part(&size)))
 }
 
@@ -86,6 +88,6 @@ fn peak(side: &str, shape: &str, count: &str) -> ExitCode {
 }
 
 fn usage() -> ExitCode {
-    eprintln!("usage: bench [--quick | --load | --questions | --effort]");
+    eprintln!("usage: bench [--quick | --load | --questions | --effort | --owners]");
     ExitCode::from(2)
 }

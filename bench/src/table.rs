@@ -67,7 +67,17 @@ fn ratio(port: &[u64], other: &[u64]) -> String {
     single.sort_by(f64::total_cmp);
     let (middle, quarter) = (single.len() / 2, single.len() / 4);
     let (low, high) = (single[quarter], single[single.len() - 1 - quarter]);
-    format!("{:.2} ({low:.2} to {high:.2})", single[middle])
+    let [middle, low, high] = [single[middle], low, high].map(digits);
+    format!("{middle} ({low} to {high})")
+}
+
+/// A ratio: with two digits behind the point, or with more where these would say too little.
+fn digits(ratio: f64) -> String {
+    match ratio {
+        0.095.. => format!("{ratio:.2}"),
+        0.0095.. => format!("{ratio:.3}"),
+        _ => format!("{ratio:.4}"),
+    }
 }
 
 /// A time with its unit.
@@ -76,8 +86,10 @@ fn shown(nanoseconds: f64) -> String {
         format!("{:.0} ms", nanoseconds / 1e6)
     } else if nanoseconds >= 1e6 {
         format!("{:.1} ms", nanoseconds / 1e6)
-    } else {
+    } else if nanoseconds >= 100.0 {
         format!("{:.2} µs", nanoseconds / 1e3)
+    } else {
+        format!("{nanoseconds:.1} ns")
     }
 }
 

@@ -147,6 +147,119 @@ static void walks(const rv_map *map) {
     }
 }
 
+/* Where the column keeps a lamp's owner in the table of a zoom. */
+static uint32_t *kept(const rv_map *map, uint8_t zoom, uint32_t lamp) {
+    return &map->owners[(map->options.max_zoom + 1u - zoom) * map->count + lamp];
+}
+
+/* Each owner is the one that the tables lead to: in the finest the lamp itself, then the entry with the id of the cluster that took its
+   last owner in or, if none did, with that owner's own. */
+static void owners(const rv_map *map) {
+    size_t place;
+    for (uint32_t lamp = 0; lamp < LAMPS; lamp++) {
+        size_t at = map->starts[7] + lamp;
+        hold(*kept(map, 7, lamp) == lamp, "in the finest table a lamp owns itself");
+        for (uint8_t zoom = 6; zoom >= 1; zoom--) {
+            uint32_t id = map->parent[at] == RV_NO_PARENT ? map->id[at] : map->parent[at];
+            at = map->starts[zoom] + *kept(map, zoom, lamp);
+            hold(*kept(map, zoom, lamp) < map->lens[zoom] && map->id[at] == id, "the owner is the one that the tables lead to");
+        }
+        for (int zoom = 0; zoom <= 9; zoom++) {
+            hold(rv_owner(map, lamp, (uint8_t)zoom, &place) == 0, "rv_owner");
+            hold(place == *kept(map, rv_zoom_used(&map->options, (uint8_t)zoom), lamp), "rv_owner is what the column keeps");
+        }
+    }
+}
+
+/* The num and the energy of each entry are those of the lamps that it owns, and a cluster's leaves are owned by it. */
+static void owned(const rv_map *map) {
+    for (uint8_t zoom = 1; zoom <= 7; zoom++) {
+        rv_fields e;
+        for (uint32_t p = 0; rv_entry(map, zoom, p, &e) == 0; p++) {
+            uint64_t energy = 0;
+            uint32_t lamps = 0;
+            size_t place;
+            for (uint32_t lamp = 0; lamp < LAMPS; lamp++)
+                if (*kept(map, zoom, lamp) == p)
+                    lamps += 1, energy += map->energy[map->starts[7] + lamp];
+            hold(lamps == e.num && energy == e.energy, "num and energy are those of the owned lamps");
+            if (e.num == 1)
+                continue;
+            hold(rv_leaves(map, e.id, e.num, 0, out, ROOM, &carried) == 0, "rv_leaves");
+            for (size_t i = 0; i < carried; i++)
+                hold(rv_owner(map, out[i], zoom, &place) == 0 && place == p, "a cluster owns its leaves");
+        }
+    }
+}
+
+static void refused_owners(rv_map map) {
+    size_t place = 7;
+    uint32_t *one = kept(&map, 3, 5), honest = *one;
+    hold(rv_owner(&map, LAMPS, 3, &place) == RV_NO_LAMP && place == 0, "past the lamps: 16, and place 0");
+    hold(rv_owner(&map, UINT32_MAX, 3, &place) == RV_NO_LAMP && place == 0, "far past the lamps: 16");
+    place = 7;
+    map.lens[6] += 1;
+    hold(rv_owner(&map, LAMPS, 3, &place) == RV_SPOILED && place == 0, "a spoiled state comes first: 11, and place 0");
+    map.lens[6] -= 1;
+    place = 7;
+    map.room -= 1;
+    hold(rv_owner(&map, LAMPS, 3, &place) == RV_SPOILED && place == 0, "a column of owners that is one too short: 11");
+    hold(rv_owner(&map, 0, 7, &place) == RV_SPOILED, "whatever is asked of it");
+    hold(rv_tally(&map, 0, 0, 0, &carried) == 0, "which the other questions do not look at");
+    map.room += 1;
+    place = 7;
+    *one = map.lens[3];
+    hold(rv_owner(&map, 5, 3, &place) == RV_SPOILED && place == 0, "a place that the table lacks: 11");
+    hold(rv_owner(&map, 4, 3, &place) == 0 && rv_owner(&map, 5, 4, &place) == 0, "the others are answered");
+    *one = map.lens[3] - 1;
+    hold(rv_owner(&map, 5, 3, &place) == 0 && place == map.lens[3] - 1, "any place that it has is answered");
+    *one = honest;
+}
+
+/* rv_load with a column of owners of another length than the rest have. */
+static uint32_t load_with(rv_map *map, const double *xs, const double *ys, const uint64_t *energies, size_t n, size_t owners_len) {
+    const rv_options *o = &map->options;
+    size_t room = map->room;
+    return supercluster_load(
+        o->min_zoom, o->max_zoom, o->min_points, o->radius, o->extent, o->node_size, o->cartesian, o->min_x, o->min_y, o->max_x, o->max_y,
+        o->offset_given, o->offset, o->scale_given, o->scale, o->longitude_strips_only, xs, n, ys, n, energies, n, map->x, room, map->y,
+        room, map->seen, room, map->id, room, map->parent, room, map->num, room, map->energy, room, map->ids, room, map->coords, 2 * room,
+        map->near, room, map->owners, owners_len, map->starts, map->lens, &carried);
+}
+
+/* A build looks at the length of the owners as at that of each other column. What it refuses, and what lies behind, stays. */
+static void owners_lent(rv_options options) {
+    enum { NEED = 7 * 3, MORE = NEED + 5 };
+    static const double xs[] = {1000, 1001, 3000}, outside[] = {1000, 1001, 3001};
+    static const uint64_t energies[] = {1, 2, 3}, too_much[] = {1, 2, (1ull << 40) + 1};
+    size_t bytes = rv_bytes_needed(MORE);
+    unsigned char *memory = (unsigned char *)malloc(bytes), *before = (unsigned char *)malloc(bytes);
+    rv_map map, painted;
+    memset(&map, 0, sizeof map);
+    map.options = options;
+    hold(rv_entries_needed(&options, 3) == NEED, "(max_zoom - min_zoom + 2) * n");
+    rv_lend(&map, memory, MORE);
+    hold(map.seen + MORE == memory + bytes, "the columns fill the memory");
+    memset(memory, 0xA5, bytes);
+    memcpy(before, memory, bytes);
+    painted = map;
+    hold(load_with(&map, xs, xs, energies, 3, NEED - 1) == RV_COLUMN_TOO_SHORT && carried == 0, "one place too few: 4");
+    hold(load_with(&map, xs, xs, energies, 3, 0) == RV_COLUMN_TOO_SHORT, "no places: 4");
+    hold(load_with(&map, xs, xs, too_much, 3, 0) == RV_ENERGY_REFUSED && carried == 2, "15 comes before 4");
+    hold(load_with(&map, outside, xs, too_much, 3, 0) == RV_POINT_REFUSED && carried == 2, "3 comes before 15");
+    hold(load_with(&map, xs, outside, energies, 3, MORE) == RV_POINT_REFUSED && carried == 2, "3 with room for the owners");
+    hold(memcmp(memory, before, bytes) == 0 && memcmp(&map, &painted, sizeof map) == 0, "a refusal writes no column and no state");
+    hold(load_with(&map, xs, xs, energies, 3, NEED) == 0, "just as many as are needed");
+    hold(memcmp(map.owners + NEED, before, 5 * sizeof *map.owners) == 0, "what lies behind the column stays");
+    memset(memory, 0xA5, bytes);
+    hold(rv_load(&map, xs, xs, energies, 3, &carried) == 0, "rv_load with more room than is needed");
+    hold(memcmp(map.owners + NEED, before, 5 * sizeof *map.owners) == 0, "what lies behind the owners in their column stays");
+    for (uint32_t lamp = 0; lamp < 3; lamp++)
+        hold(*kept(&map, 7, lamp) == lamp && *kept(&map, 6, lamp) == lamp / 2, "two of the lamps are one cluster");
+    free(memory);
+    free(before);
+}
+
 static void ranges(const rv_options *o) {
     for (int v = 0; v <= 4000; v += 125) {
         hold(rv_normalize(o, v) == (v - 1000.0) / 2000.0, "rv_normalize");
@@ -192,15 +305,18 @@ static void indexes(void) {
 
 /* Each number has words of its own; a map of zeros is refused, and a refused build leaves the map. */
 static void words_and_refusals(rv_map map) {
-    static const uint32_t numbers[] = {0, 1, 2, 3, 4, 5, 6, 7, 8, 9, 10, 11, 15, 16};
+    static const uint32_t numbers[] = {0, 1, 2, 3, 4, 5, 6, 7, 8, 9, 10, 11, 15, 16, 17}, none_of_ours[] = {12, 13, 14, 17, UINT32_MAX};
     double far_away[] = {999};
     uint64_t none[] = {0};
     rv_map empty, before = map;
     for (size_t i = 0; i < sizeof numbers / sizeof *numbers; i++)
         for (size_t j = 0; j < i; j++)
             hold(strcmp(rv_words(numbers[i]), rv_words(numbers[j])) != 0, "words of their own");
+    for (size_t i = 0; i < sizeof none_of_ours / sizeof *none_of_ours; i++)
+        hold(strcmp(rv_words(none_of_ours[i]), "no number of a reply") == 0, "no words for what no call answers");
     memset(&empty, 0, sizeof empty);
     hold(rv_box(&empty, 0, 0, 0, 1, 1, out, ROOM, &carried) == RV_SPOILED, "a map of zeros: 11");
+    hold(rv_owner(&empty, 0, 0, &carried) == RV_SPOILED && carried == 0, "a map of zeros: 11");
     hold(rv_load(&empty, NULL, NULL, NULL, 0, &carried) == RV_OPTIONS_REFUSED, "a map of zeros: 1");
     hold(rv_load(&map, NULL, NULL, NULL, 0, &carried) == RV_COUNT_REFUSED, "no points: 2");
     hold(rv_load(&map, far_away, far_away, none, 1, &carried) == RV_POINT_REFUSED && carried == 0, "outside the plan: 3");
@@ -213,6 +329,10 @@ int main(void) {
     refused_entries(map);
     searches(&map);
     walks(&map);
+    owners(&map);
+    owned(&map);
+    refused_owners(map);
+    owners_lent(map.options);
     ranges(&map.options);
     indexes();
     words_and_refusals(map);

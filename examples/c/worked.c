@@ -149,6 +149,29 @@ static void tables(const rv_map *map) {
     line(map, 3, 0, "refused 5");
 }
 
+/* The owners of the lamps first to last, in the table of the zoom used. */
+static void say_owners(const rv_map *map, uint8_t zoom, uint32_t first, uint32_t last) {
+    for (uint32_t lamp = first; lamp <= last; lamp++) {
+        size_t place;
+        uint32_t number = rv_owner(map, lamp, zoom, &place);
+        say(lamp > first ? "," : "");
+        if (answered(number))
+            say("%zu", place);
+    }
+}
+
+static void owners(const rv_map *map) {
+    for (uint8_t zoom = 3; zoom-- > 0; say(zoom ? "; " : ""))
+        say_owners(map, zoom, 0, 3);
+    row("owners of the lamps 0 to 3 in table 2; 1; 0", "0,1,2,3; 0,0,1,1; 0,0,0,0");
+    say_owners(map, 255, 0, 3);
+    row("at zoom 255, which table 2 answers", "0,1,2,3");
+    say_owners(map, 0, 4, 4);
+    row("owner of lamp 4", "refused 16");
+    say_list(0, map->owners, 12);
+    row("the column of owners", "0,1,2,3,0,0,1,1,0,0,0,0");
+}
+
 static void ids_and_walks(const rv_map *map) {
     say("origin %u, table %u; origin %u, table %u", rv_origin_of(map, 70), rv_table_of(map, 70), rv_origin_of(map, 5),
         rv_table_of(map, 5));
@@ -324,6 +347,7 @@ int main(void) {
     rv_map map = four_lamps(worked_options(), &number);
     answered(number);
     tables(&map);
+    owners(&map);
     ids_and_walks(&map);
     refused_walks(&map);
     tile_and_box(&map);

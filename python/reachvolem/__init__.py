@@ -1,7 +1,7 @@
 """Reachvolem from Python: clusters of lamps for every zoom, by the proved library. Standard library only.
 
-The build, the tables and the answers are the compiled library's, whose functions are proved; how it is called, the words of refusals,
-owners() and the latitudes are Python, and tested.
+The build, the tables, the owners and the answers are the compiled library's, whose functions are proved; how it is called, the words of
+refusals and the latitudes are Python, and tested.
 """
 from .index import Index
 from .library import NoLibrary

@@ -103,7 +103,6 @@ def _table_lines(asked: Asked, zoom: int) -> Iterator[str]:
 def owners(asked: Asked) -> None:
     """A line for each lamp, with its owner in the table of the zoom."""
     zoom = asked.zoom()
-    asked.tell("climbing to the owners")
     places = asked.build.owners(zoom)
     columns = (asked.build.table_column(zoom, name) for name in ("id", "num", "energy"))
     tails = [f"{id_},{num},{wh},{x!r},{y!r}" for (x, y), id_, num, wh in zip(asked.centres(zoom), *columns)]

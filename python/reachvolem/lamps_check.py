@@ -5,7 +5,7 @@ from array import array
 from typing import List, Sequence, Tuple
 
 from .lamps_answers import Asked
-from .supercluster import Supercluster
+from .supercluster import UNSET, Supercluster
 
 
 class Differs(Exception):
@@ -13,7 +13,7 @@ class Differs(Exception):
 
 
 def check(asked: Asked) -> None:
-    """One line of result: each lamp has one owner in each table; counts, energies and leaves agree."""
+    """One line of result: each lamp has one owner in each table, the one that the build keeps; counts, energies and leaves agree."""
     build = asked.build
     check_finest(build, asked.lamps.energies)
     owners, clusters = array("I", range(len(asked.lamps))), 0
@@ -22,6 +22,7 @@ def check(asked: Asked) -> None:
         if zoom != build.zooms[0]:
             owners = climbed(build, zoom, owners)
         clusters += check_table(build, zoom, owners, asked.lamps.energies)
+        check_owners(build, zoom, owners)
     entries = sum(build.length(zoom) for zoom in build.zooms)
     asked.out.write(f"ok lamps={len(asked.lamps)} tables={len(build.zooms)} entries={entries} clusters={clusters} "
                     f"wh={sum(asked.lamps.energies)} sha256={asked.lamps.digest}\n")
@@ -37,15 +38,25 @@ def check_finest(build: Supercluster, energies: Sequence[int]) -> None:
 
 
 def climbed(build: Supercluster, zoom: int, owners: array) -> array:
-    """The owner of each lamp, by place, from those of the table before. Differs where an entry there is owned by none here."""
+    """The owner of each lamp, by place, from those of the table before: the entry with the id of the cluster that took that owner in or,
+    where none did, with its own id. Differs where there is no such entry, or two. The owners that the build keeps are not looked at."""
     ids = build.table_column(zoom, "id")
-    if len(set(ids)) != len(ids):
+    place_of = {id_: place for place, id_ in enumerate(ids)}
+    if len(place_of) != len(ids):
         raise Differs(f"table {zoom}: two entries have one id")
+    finer = zip(build.table_column(zoom + 1, "id"), build.table_column(zoom + 1, "parent"))
     try:
-        step = build.owners(zoom, of=zoom + 1)
+        step = [place_of[id_ if parent == UNSET else parent] for id_, parent in finer]
     except KeyError as why:
         raise Differs(f"table {zoom}: no entry has the id {why}, which owns an entry of table {zoom + 1}") from None
     return array("I", map(step.__getitem__, owners))
+
+
+def check_owners(build: Supercluster, zoom: int, owners: array) -> None:
+    """The owners that the build keeps beside its tables are those that were climbed to."""
+    for lamp, (kept, climbed_to) in enumerate(zip(build.owners(zoom), owners)):
+        if kept != climbed_to:
+            raise Differs(f"table {zoom}, lamp {lamp}: the build keeps place {kept} as its owner's, the tables lead to place {climbed_to}")
 
 
 def check_table(build: Supercluster, zoom: int, owners: array, energies: Sequence[int]) -> int:

@@ -163,11 +163,19 @@ def panel(build: Supercluster, zoom: int, finer: Optional[int], frame: Frame) ->
     return "".join(svg + [circles("cluster", clusters), circles("lamp", lamps), *counts(clusters)])
 
 
+def taken_by(build: Supercluster, zoom: int, finer: int) -> List[int]:
+    """For each entry of a finer table the place of the one that has its lamps: those of one owner stay together."""
+    places = [0] * build.length(finer)
+    for place, owner in zip(build.owners(finer), build.owners(zoom)):
+        places[place] = owner
+    return places
+
+
 def lines(build: Supercluster, zoom: int, finer: int, frame: Frame, entries: List[Drawn], point: float) -> str:
     """A line from each entry of the finer table that a cluster took in, with a point where it lay."""
     columns = (build.table_column(finer, name) for name in ("x", "y", "num"))
     path, points = [], []
-    for x, y, num, owner in zip(*columns, build.owners(zoom, of=finer)):
+    for x, y, num, owner in zip(*columns, taken_by(build, zoom, finer)):
         if entries[owner].num != num:
             x, y = frame.at(x, y)
             path.append(f"M{x:.1f} {y:.1f}L{entries[owner].x:.1f} {entries[owner].y:.1f}")

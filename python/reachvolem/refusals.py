@@ -24,6 +24,7 @@ MEANINGS = {
     11: ("spoiled", "the state and the columns do not fit together"),
     12: ("text", "the text is not of the lister's form"),
     15: ("energy", f"a lamp brings more than {MOST_ENERGY:,} watt-hours (2^40)"),
+    16: ("lamp", "there is no such lamp: they are counted from 0"),
 }
 
 

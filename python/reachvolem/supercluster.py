@@ -2,7 +2,6 @@
 from __future__ import annotations
 
 import ctypes
-from array import array
 from typing import Any, Dict, Iterator, List, NamedTuple, Optional, Sequence, Tuple
 
 from .library import Call, Lent, column, room, whole
@@ -15,6 +14,8 @@ UNSEEN = 255
 # The columns of a build, in the order in which docs/SCOPE.md has them; `coords` has two numbers an entry.
 TABLE_COLUMNS = {"x": "f64", "y": "f64", "seen": "u8", "id": "u32", "parent": "u32", "num": "u32", "energy": "u64"}
 INDEX_COLUMNS = {"ids": "u32", "coords": "f64"}
+# Beside the tables: N places for each of them, the finest first.
+OWNER_COLUMN = {"owners": "u32"}
 
 Box = Sequence[float]
 
@@ -72,8 +73,8 @@ class Supercluster:
     [(6, 2, 30), (70, 2, 70)]
     >>> lamps.get_leaves(5), lamps.leaves_page(5, page=1, size=3)
     ([0, 1, 2, 3], [3])
-    >>> list(lamps.owners(1))
-    [0, 0, 1, 1]
+    >>> list(lamps.owners(1)), lamps.owner(3, 1)
+    ([0, 0, 1, 1], 1)
     """
 
     def __init__(self, options: Options, xs: Any, ys: Any, energies: Any) -> None:
@@ -84,7 +85,8 @@ class Supercluster:
         self.count = len(given["xs"])
         # Refused builds are refused before anything is written: then no column is needed.
         entries = options.tables * self.count if options.fault() is None and self.count <= MOST_LAMPS else 0
-        self._columns = {name: Lent(word, entries * (1 + (name == "coords"))) for name, word in {**TABLE_COLUMNS, **INDEX_COLUMNS}.items()}
+        words = {**TABLE_COLUMNS, **INDEX_COLUMNS, **OWNER_COLUMN}
+        self._columns = {name: Lent(word, entries * (1 + (name == "coords"))) for name, word in words.items()}
         self._starts, self._lens = (ctypes.c_uint32 * 32)(), (ctypes.c_uint32 * 32)()
         near = Lent("u32", entries)
         lent = {name: lent.array for name, lent in self._columns.items()}
@@ -134,6 +136,8 @@ class Supercluster:
 
         `seen` is 255 and `parent` 4,294,967,295 where they are not set.
         """
+        if name not in TABLE_COLUMNS:
+            raise KeyError(f"a table has no column {name}")
         used = self.zoom_used(zoom)
         return self._columns[name].view[self._starts[used]:self._starts[used] + self._lens[used]]
 
@@ -164,22 +168,10 @@ class Supercluster:
             return plan.denormalize(entry.x), plan.denormalize(entry.y)
         return longitude(entry.x), latitude(entry.y)
 
-    def owners(self, zoom: int, of: Optional[int] = None) -> array:
-        """For each lamp the place of its owner in the table of the zoom used, found by climbing from table to table; or for each entry
-        of another table, the finer one of the zoom `of`.
-
-        An entry of a finer table is owned by the cluster that took it in, its parent, or where none did by the entry with its own id.
-        Counted here, in Python, from the columns; that each lamp has just one owner is proved of them.
-        """
-        used = self.zoom_used(zoom)
-        finest = self.zooms[0] if of is None else self.zoom_used(of)
-        places = array("I", range(self.length(used)))
-        for finer in range(used + 1, finest + 1):
-            owner = dict(zip(self.table_column(finer - 1, "id"), places))
-            ids, parents = self.table_column(finer, "id"), self.table_column(finer, "parent")
-            owned_by = [id_ if parent == UNSET else parent for id_, parent in zip(ids, parents)]
-            places = array("I", map(owner.__getitem__, owned_by))
-        return places
+    def owners(self, zoom: int) -> memoryview:
+        """For each lamp the place of its owner in the table of the zoom used, where the build left it. It cannot be written to."""
+        start = (self.zooms[0] - self.zoom_used(zoom)) * self.count
+        return self._columns["owners"].view[start:start + self.count]
 
     # ---- the questions
 
@@ -295,6 +287,14 @@ class Supercluster:
             raise Refused(number, carried, f"tile {z}/{x}/{y} has no entries" if number == 8 else None)
         start = self._starts[self.zoom_used(z)]
         return [TileItem(px[i], py[i], self._entry(start, places[i])) for i in range(carried)]
+
+    def owner(self, lamp: int, zoom: int) -> int:
+        """The place of a lamp's owner in the table of the zoom used. Refused 16 where there is no such lamp."""
+        words = {"lamp": whole("u32", lamp, "lamp"), "zoom": whole("u8", zoom, "zoom")}
+        number, place = self._call("supercluster_owner", *OWNER_COLUMN)(**words)
+        if number:
+            raise Refused(number, place, f"there is no lamp {lamp}: the last one is {self.count - 1}" if number == 16 else None)
+        return place
 
     def tally(self, z: int, x: int, y: int) -> int:
         """The lamps of the entries whose centre the tile (z, x, y) holds; those of all tiles of a zoom come to N. Refused 7."""

@@ -8,6 +8,7 @@ import shlex
 import subprocess
 import sys
 import unittest
+from array import array
 
 from reachvolem import SERVICE, Options, Supercluster, lamps_check, mercator_y
 from reachvolem.lamps import COMMANDS
@@ -65,6 +66,15 @@ class Answers(unittest.TestCase):
                 self.assertEqual([int(row[key]) for key in ("owner", "lamps", "wh")], [entry.id, entry.num, entry.energy])
                 centre = build.centre(entry) if entry.num > 1 else (float(given[entry.id]["lng"]), float(given[entry.id]["lat"]))
                 self.assertEqual((float(row["lng"]), float(row["lat"])), centre)
+
+    def test_owners_are_those_that_the_tables_lead_to(self):
+        table = self.asked("tables", TOWN)
+        up = {(row["zoom"], row["id"]): row["parent"] or row["id"] for row in table}
+        owners = [str(lamp) for lamp in range(334)]
+        for zoom in range(16, -1, -1):
+            owners = [up[str(zoom + 1), owner] for owner in owners]
+            if zoom in (16, 13, 7, 0):
+                self.assertEqual([row["owner"] for row in self.asked("owners", TOWN, "--zoom", str(zoom))], owners)
 
     def test_leaves_and_children(self):
         given, build = town()
@@ -158,6 +168,12 @@ class Checks(unittest.TestCase):
                     found[place] = value(found)
                 return found
 
+            def owners(self, asked):
+                found = build.owners(asked).tolist()
+                if (asked, "owners") == (zoom, name):
+                    found[place] = value(found)
+                return found
+
         asked = type("Asked", (), dict(build=Spoiled(), lamps=given, out=io.StringIO(), tell=staticmethod(lambda sentence: None)))
         with self.assertRaises(lamps_check.Differs) as caught:
             lamps_check.check(asked)
@@ -171,6 +187,21 @@ class Checks(unittest.TestCase):
         self.assertIn("no entry has the id 999999", self.spoiled(15, "parent", 0, lambda found: 999999))
         self.assertIn("not those of the file", self.spoiled(17, "energy", 5, lambda found: found[5] + 1))
         self.assertIn("not those of the lamps", self.spoiled(17, "id", 5, lambda found: 6))
+
+    def test_a_spoiled_owner_is_found(self):
+        """In each table, whatever the place that is kept in another's stead."""
+        for zoom in range(18):
+            said = self.spoiled(zoom, "owners", 333, lambda found: found[333] + 1)
+            self.assertRegex(said, rf"^table {zoom}, lamp 333: the build keeps place \d+ as its owner's, the tables lead to place \d+$")
+        self.assertIn("the build keeps place 16 as its owner's, the tables lead to place 0", self.spoiled(17, "owners", 0, lambda _: 16))
+
+    def test_the_recount_does_not_look_at_the_owners_kept(self):
+        _, build = town()
+        build.owners = build.owner = None
+        places = array("I", range(334))
+        for zoom in build.zooms[1:]:
+            places = lamps_check.climbed(build, zoom, places)
+            lamps_check.check_table(build, zoom, places, build.table_column(17, "energy"))
 
     def test_spoiled_leaves_are_found(self):
         for wrong in (lambda found: found[:-1], lambda found: found[:-1] + found[:1], lambda found: found[:-1] + [333]):

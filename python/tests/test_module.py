@@ -1,4 +1,4 @@
-"""The module's own part: refusals, buffers, rooms that grow, the index, the range, and where the library is found."""
+"""The module's own part: refusals, owners, buffers, rooms that grow, the index, the range, and where the library is found."""
 import array
 import ctypes
 import math
@@ -12,9 +12,10 @@ import sys
 import tempfile
 import unittest
 
-from reachvolem import DataRange, Index, Refused, Supercluster, library, longitude
+from reachvolem import DataRange, Index, Refused, Supercluster, lamps_check, library, longitude
 from reachvolem.library import Call, column, room
 from reachvolem.refusals import MEANINGS
+from reachvolem.supercluster import INDEX_COLUMNS, TABLE_COLUMNS
 
 from .shared import ROOT, bits, of_bits, options, path, text_of, worked
 
@@ -81,9 +82,13 @@ class Refusals(unittest.TestCase):
         self.refused(9, 0, "not finite", lambda: build.get_clusters((0, 0, math.inf, 1), 1))
         self.refused(9, 0, "not finite", lambda: build.get_clusters_within_effort((0, 0, math.nan, 1), 1, 5))
         self.refused(9, 0, "radius is below 0", lambda: build.ring(1, 0.5, 0.5, -1.0))
-        for call in (lambda: build.get_leaves(2**32), lambda: build.get_leaves(5, limit=-1), lambda: build.ring(256, 0, 0, 0)):
+        self.refused(16, 0, "refused 16 (lamp): there is no lamp 4: the last one is 3", lambda: build.owner(4, 1))
+        self.refused(16, 0, "there is no lamp 4294967295", lambda: build.owner(2**32 - 1, 255))
+        for call in (lambda: build.get_leaves(2**32), lambda: build.get_leaves(5, limit=-1), lambda: build.ring(256, 0, 0, 0),
+                     lambda: build.owner(2**32, 0), lambda: build.owner(-1, 0), lambda: build.owner(0, 256), lambda: build.owners(256)):
             self.assertRaises(ValueError, call)
         self.assertRaises(IndexError, build.entry, 0, 1)
+        self.assertRaises(KeyError, build.table_column, 0, "owners")
 
     def test_of_an_index(self):
         self.refused(1, 0, "node_size is 0", lambda: Index(0, [0.5], [0.5]))
@@ -109,6 +114,90 @@ class Refusals(unittest.TestCase):
         self.assertEqual(sorted(MEANINGS), sorted(numbers))
         again = pickle.loads(pickle.dumps(Refused(3, 7, "words")))
         self.assertEqual((again.number, again.carried, str(again)), (3, 7, "refused 3 (point): words"))
+        self.assertEqual(Refused(17).name, "unknown")
+
+
+class Owners(unittest.TestCase):
+    """The owners beside the tables: those that the tables lead to; and what is refused where the columns are lent by hand."""
+
+    def lent(self, owners):
+        """The worked example's build in columns of our own, with this column of owners; its reply, and the state and columns left."""
+        words = options().words()
+        xs = column("f64", [0.25, 0.3125, 0.40625, 0.40625], "")
+        given = dict(xs=xs, ys=column("f64", [0.5] * 4, ""), energies=column("u64", [10, 20, 30, 40], ""))
+        kinds = {**TABLE_COLUMNS, **INDEX_COLUMNS, "near": "u32"}
+        lent = {name: library.names.WORDS[word] * (12 * (1 + (name == "coords"))) for name, word in kinds.items()}
+        lent = {name: kind.from_buffer(bytearray(b"\xa5" * ctypes.sizeof(kind))) for name, kind in lent.items()}
+        lent.update(starts=(ctypes.c_uint32 * 32)(), lens=(ctypes.c_uint32 * 32)(), owners=owners)
+        reply = Call("supercluster_load", **words, **given, **lent)()
+        return reply, dict(words, count=4, starts=lent["starts"], lens=lent["lens"]), lent
+
+    def painted(self, length):
+        return (ctypes.c_uint32 * length)(*[77] * length)
+
+    def test_those_that_the_tables_lead_to(self):
+        chance = random.Random(13)
+        xs, ys = ([chance.random() ** 2 for _ in range(500)] for _ in "xy")
+        for changes in (dict(max_zoom=6), dict(min_zoom=2, max_zoom=5, min_points=4), dict(max_zoom=0, radius=0.0)):
+            build = Supercluster(options(**changes), xs, ys, [1] * 500)
+            places = array.array("I", range(500))
+            for zoom in build.zooms:
+                if zoom != build.zooms[0]:
+                    places = lamps_check.climbed(build, zoom, places)
+                self.assertEqual(build.owners(zoom).tolist(), places.tolist())
+                self.assertEqual([build.owner(lamp, zoom) for lamp in range(500)], places.tolist())
+                owned = [places.tolist().count(place) for place in range(build.length(zoom))]
+                self.assertEqual(owned, build.table_column(zoom, "num").tolist())
+
+    def test_the_column_stands_where_the_build_left_it(self):
+        build = worked()
+        found = build.owners(1)
+        self.assertEqual((found.readonly, found.format, len(found)), (True, "I", 4))
+        with self.assertRaises(TypeError):
+            found[0] = 5
+        build._columns["owners"].array[4] = 1
+        self.assertEqual((list(found), build.owner(0, 1)), ([1, 0, 1, 1], 1))
+        build._columns["owners"].array[4] = 2
+        with self.assertRaisesRegex(Refused, "refused 11 .spoiled.") as caught:
+            build.owner(0, 1)
+        self.assertEqual((caught.exception.number, caught.exception.carried), (11, 0))
+
+    @unittest.skipIf(numpy is None, "numpy is not installed")
+    def test_numpy_reads_it_without_a_copy(self):
+        build = worked()
+        found = numpy.asarray(build.owners(1))
+        self.assertEqual((found.dtype, found.tolist()), (numpy.uint32, [0, 0, 1, 1]))
+        self.assertEqual(found.ctypes.data, ctypes.addressof(build._columns["owners"].array) + 16)
+
+    def test_a_build_leaves_what_lies_behind(self):
+        owners = self.painted(15)
+        reply, _, _ = self.lent(owners)
+        self.assertEqual((reply, list(owners)), ((0, 0), [0, 1, 2, 3, 0, 0, 1, 1, 0, 0, 0, 0, 77, 77, 77]))
+        self.assertEqual(self.lent(self.painted(12))[0], (0, 0))
+
+    def test_a_short_column_is_refused_4(self):
+        for length in (0, 1, 4, 11):
+            owners = self.painted(length)
+            reply, state, lent = self.lent(owners)
+            self.assertEqual((reply, list(owners)), ((4, 0), [77] * length))
+            self.assertEqual({byte for name in lent if name not in ("owners", "starts", "lens") for byte in bytes(lent[name])}, {0xa5})
+            self.assertEqual({*state["starts"], *state["lens"]}, {0})
+
+    def test_spoiled_is_refused_11(self):
+        owners = self.painted(12)
+        _, state, _ = self.lent(owners)
+        ask = Call("supercluster_owner", **state)
+        self.assertEqual([ask(owners=owners, lamp=lamp, zoom=1) for lamp in range(5)], [(0, 0), (0, 0), (0, 1), (0, 1), (16, 0)])
+        short = (ctypes.c_uint32 * 11)(*owners[:11])
+        self.assertEqual([ask(owners=short, lamp=lamp, zoom=2) for lamp in (0, 4)], [(11, 0)] * 2)
+        owners[7] = 2
+        self.assertEqual([ask(owners=owners, lamp=lamp, zoom=1) for lamp in (2, 3, 4)], [(0, 1), (11, 0), (16, 0)])
+        self.assertEqual([ask(owners=owners, lamp=3, zoom=zoom) for zoom in (2, 0)], [(0, 3), (0, 0)])
+        lens = (ctypes.c_uint32 * 32)(*state["lens"])
+        lens[1] += 1
+        self.assertEqual([ask(owners=owners, lens=lens, lamp=lamp, zoom=2) for lamp in (0, 4)], [(11, 0)] * 2)
+        self.assertEqual(ask(owners=owners, count=5, lamp=4, zoom=2), (11, 0))
+        self.assertEqual(ask(owners=owners, max_zoom=31, lamp=4, zoom=2), (11, 0))
 
 
 class Buffers(unittest.TestCase):
@@ -203,7 +292,7 @@ class Ranges(unittest.TestCase):
     def test_entries_are_those_of_the_c_name(self):
         build = worked()
         state = dict(build._words, count=build.count, starts=build._starts, lens=build._lens)
-        lent = {name: lent.array for name, lent in build._columns.items()}
+        lent = {name: build._columns[name].array for name in (*TABLE_COLUMNS, *INDEX_COLUMNS)}
         words = dict(x="f64", y="f64", seen="u8", id="u32", parent="u32", num="u32")
         for zoom in build.zooms:
             for entry in build.table(zoom):

@@ -83,6 +83,13 @@ class Worked(unittest.TestCase):
         self.assertEqual(ids(lamps.get_clusters(box, 2)), [2, 3, 4, 0, 1, 0, 1])
 
     def test_owners(self):
-        self.assertEqual([list(self.build.owners(zoom)) for zoom in (2, 1, 0)], [[0, 1, 2, 3], [0, 0, 1, 1], [0, 0, 0, 0]])
-        self.assertEqual(list(self.build.owners(0, of=1)), [0, 0])
+        page = [[0, 1, 2, 3], [0, 0, 1, 1], [0, 0, 0, 0]]
+        self.assertEqual([list(self.build.owners(zoom)) for zoom in (2, 1, 0)], page)
+        self.assertEqual([[self.build.owner(lamp, zoom) for lamp in range(4)] for zoom in (2, 1, 0)], page)
+        for zoom in (3, 255):
+            self.assertEqual([self.build.owners(zoom).tolist(), [self.build.owner(lamp, zoom) for lamp in range(4)]], [page[0]] * 2)
+        above = worked(min_zoom=1)
+        for zoom in (0, 1):
+            self.assertEqual([above.owners(zoom).tolist(), [above.owner(lamp, zoom) for lamp in range(4)]], [page[1]] * 2)
+        self.refused(16, self.build.owner, 4, 0)
         self.assertEqual([self.build.zoom_used(zoom) for zoom in (0, 1, 2, 9)], [0, 1, 2, 2])

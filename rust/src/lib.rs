@@ -16,6 +16,10 @@
 //! let entry = lamps.entry(0, places[0])?;
 //! assert_eq!((entry.num, entry.energy), (3, 2400));
 //! assert_eq!(lamps.get_leaves(entry.id, entry.num, 0)?.len(), 3);
+//!
+//! // And it is the owner of each of them there.
+//! assert_eq!((places[0], lamps.owner(2, 0)?), (0, 0));
+//! assert_eq!(lamps.owners(0)?, [0, 0, 0]);
 //! # Ok::<(), reachvolem::Refused>(())
 //! ```
 //!
@@ -37,7 +41,6 @@ pub mod mercator;
 #[allow(missing_docs)] // Written by tools/bindings, with the comments of crates/exports.
 mod names;
 mod options;
-mod owners;
 mod pages;
 mod refused;
 mod room;

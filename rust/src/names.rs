@@ -163,12 +163,12 @@ extern "C" {
     ) -> u8;
 
     /// Builds the tables of N points, xs_len of them: xs and ys in the coordinates of the options, energies in watt-hours. With need =
-    /// (max_zoom - min_zoom + 2) * N, each of the ten columns from x to near has at least need entries, coords twice as many. Written are
-    /// the tables in x, y, seen, id, parent, num, energy, the finest first, their indexes in ids and coords, 0 in the first 2N of near,
-    /// and in starts and lens, by zoom, where each table starts and how long it is; what lies behind stays. Carried is 0. Refused in this
-    /// order, and then nothing but carried is written: 1 an option, 2 N is not from 1 to 1,048,576 or ys or energies has not N, 3 a
-    /// converted coordinate is not from 0 to 1, 15 an energy above 2^40 (3 and 15 carry the first such point, from 0), 4 a column is too
-    /// short.
+    /// (max_zoom - min_zoom + 2) * N, each of the eleven columns from x to owners has at least need entries, coords twice as many. Written
+    /// are the tables in x, y, seen, id, parent, num, energy, the finest first, their indexes in ids and coords, 0 in the first 2N of near,
+    /// in the first need of owners each lamp's owner, N places a table, the finest first, and in starts and lens, by zoom, where each table
+    /// starts and how long it is; what lies behind stays. Carried is 0. Refused in this order, and then nothing but carried is written: 1 an
+    /// option, 2 N is not from 1 to 1,048,576 or ys or energies has not N, 3 a converted coordinate is not from 0 to 1, 15 an energy above
+    /// 2^40 (3 and 15 carry the first such point, from 0), 4 a column is too short.
     pub fn supercluster_load(
         min_zoom: u8,
         max_zoom: u8,
@@ -212,6 +212,8 @@ extern "C" {
         coords_len: usize,
         near: *mut u32,
         near_len: usize,
+        owners: *mut u32,
+        owners_len: usize,
         starts: *mut [u32; 32],
         lens: *mut [u32; 32],
         carried: *mut usize,
@@ -571,6 +573,36 @@ extern "C" {
         tile_x: u32,
         tile_y: u32,
         carried: *mut usize,
+    ) -> u32;
+
+    /// The entry that owns a lamp in the table of the zoom used: its place in that table goes into place, 0 where it is refused. owners is
+    /// the column that a build leaves beside its tables: N places for each table, the finest first. Refused in this order: 11 by the
+    /// state, or owners has fewer than (max_zoom - min_zoom + 2) * N entries, 16 lamp is not below N, 11 the table has no such place.
+    pub fn supercluster_owner(
+        min_zoom: u8,
+        max_zoom: u8,
+        min_points: u8,
+        radius: f64,
+        extent: f64,
+        node_size: usize,
+        cartesian: bool,
+        min_x: f64,
+        min_y: f64,
+        max_x: f64,
+        max_y: f64,
+        offset_given: bool,
+        offset: f64,
+        scale_given: bool,
+        scale: f64,
+        longitude_strips_only: bool,
+        count: u32,
+        starts: *const [u32; 32],
+        lens: *const [u32; 32],
+        owners: *const u32,
+        owners_len: usize,
+        lamp: u32,
+        zoom: u8,
+        place: *mut usize,
     ) -> u32;
 
     /// The entry at a place of the table of a zoom, as a box or a tile lists it: its x and y in the tables' numbers from 0 to 1

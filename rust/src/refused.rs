@@ -48,6 +48,8 @@ pub enum Refused {
         /// The first such lamp, counted from 0.
         at: usize,
     },
+    /// 16: the build has no lamp of this number: it is not below their count.
+    Lamp,
 }
 
 impl Refused {
@@ -71,6 +73,7 @@ impl Refused {
             10 => Refused::NoRoom { needed: carried },
             11 => Refused::Spoiled,
             15 => Refused::Energy { at: carried },
+            16 => Refused::Lamp,
             _ => unreachable!("no C name answers {number}"),
         })
     }
@@ -90,6 +93,7 @@ impl Refused {
             Refused::NoRoom { .. } => 10,
             Refused::Spoiled => 11,
             Refused::Energy { .. } => 15,
+            Refused::Lamp => 16,
         }
     }
 
@@ -129,6 +133,7 @@ impl fmt::Display for Refused {
             }
             Refused::Spoiled => f.write_str("the lent tables do not fit together"),
             Refused::Energy { at } => write!(f, "point {at} brings more than 2^40 watt-hours"),
+            Refused::Lamp => f.write_str("the build has no lamp of this number"),
         }
     }
 }

@@ -20,6 +20,7 @@ use crate::{
 /// let table = lamps.table(2)?;
 /// assert_eq!(table.iter().map(|entry| (entry.num, entry.energy)).collect::<Vec<_>>(), [(2, 30), (1, 30)]);
 /// assert_eq!(lamps.owners(2)?, [0, 0, 1]);
+/// assert_eq!((lamps.owner(1, 2)?, lamps.owner(1, 3)?), (0, 1));
 /// assert_eq!(range.denormalize(table[0].x), 102.0);
 /// assert_eq!(lamps.get_cluster_expansion_zoom(table[0].id)?, 3);
 /// # Ok::<(), reachvolem::Refused>(())
@@ -43,6 +44,7 @@ struct Owned {
     ids: Vec<u32>,
     coords: Vec<f64>,
     near: Vec<u32>,
+    owners: Vec<u32>,
 }
 
 impl Owned {
@@ -60,22 +62,24 @@ impl Owned {
             ids: vec![0; entries],
             coords: vec![0.0; 2 * entries],
             near: vec![0; entries],
+            owners: vec![0; entries],
         }
     }
 
     /// Lent to a build.
     fn written(&mut self) -> Written<'_> {
-        let Owned { x, y, seen, id, parent, num, energy, ids, coords, near } = self;
-        Written { x, y, seen, id, parent, num, energy, ids, coords, near }
+        let Owned { x, y, seen, id, parent, num, energy, ids, coords, near, owners } = self;
+        Written { x, y, seen, id, parent, num, energy, ids, coords, near, owners }
     }
 
     /// Lent to a question.
     fn lent(&self) -> Columns<'_> {
-        let Owned { x, y, seen, id, parent, num, energy, ids, coords, .. } = self;
-        Columns { x, y, seen, id, parent, num, energy, ids, coords }
+        let Owned { x, y, seen, id, parent, num, energy, ids, coords, owners, .. } = self;
+        Columns { x, y, seen, id, parent, num, energy, ids, coords, owners }
     }
 
-    /// Gives back what lies behind so many entries, and the working room.
+    /// Gives back what lies behind so many entries, and the working room. The owners stay: there is one of each lamp for each
+    /// table.
     fn shorten(&mut self, entries: usize) {
         cut(&mut self.x, entries);
         cut(&mut self.y, entries);
@@ -138,7 +142,7 @@ impl Supercluster {
         &self.state
     }
 
-    /// The columns of its tables, the finest first.
+    /// The columns of its tables, the finest first, and that of the owners.
     pub fn columns(&self) -> Columns<'_> {
         self.columns.lent()
     }
@@ -280,6 +284,21 @@ impl Supercluster {
     /// The entries of the table of the zoom used, in the order of their places.
     pub fn table(&self, zoom: u8) -> Result<Vec<Entry>, Refused> {
         self.tables().table(zoom)
+    }
+
+    /// The place of a lamp's owner in the table of the zoom used: the one entry that the lamp is counted in. A lamp that the
+    /// build does not have is refused 16.
+    ///
+    /// ```
+    /// # use reachvolem::{Options, Refused, Supercluster};
+    /// # let lamps = Supercluster::load(Options::default(), &[0.0, 90.0, 90.01], &[0.5; 3], &[1, 2, 3])?;
+    /// assert_eq!(lamps.owner(2, 5)?, lamps.owner(1, 5)?);
+    /// assert_ne!(lamps.owner(2, 5)?, lamps.owner(0, 5)?);
+    /// assert_eq!(lamps.owner(3, 5), Err(Refused::Lamp));
+    /// # Ok::<(), Refused>(())
+    /// ```
+    pub fn owner(&self, lamp: u32, zoom: u8) -> Result<u32, Refused> {
+        self.tables().owner(lamp, zoom)
     }
 
     /// The place of each lamp's owner in the table of the zoom used: see [`Tables::owners`].

@@ -2,7 +2,6 @@
 
 use crate::{
     lent::{self, Asked, Columns, State, ZOOMS},
-    owners,
     room::{listed, listed_in, FIRST_ROOM},
     Entry, LeafPages, Options, Refused,
 };
@@ -178,14 +177,35 @@ impl<'a> Tables<'a> {
         let zoom = self.zoom_used(zoom);
         // Where the first entry is not refused, the state is sound: each table lies within the columns, and has an entry.
         self.entry(zoom, 0)?;
-        let at = |words: &[u32; ZOOMS]| words[usize::from(zoom)] as usize;
-        let (start, length) = (at(self.asked.starts), at(self.asked.lens));
-        Ok((start..start + length).map(|at| Entry::at(&self.asked.columns, at)).collect())
+        let start = at(self.asked.starts, zoom);
+        let positions = start..start + at(self.asked.lens, zoom);
+        Ok(positions.map(|at| Entry::at(&self.asked.columns, at)).collect())
     }
 
-    /// The place of each lamp's owner in the table of the zoom used: the one entry that the lamp is counted in. It is found by
-    /// climbing from table to table, to the entry that has the parent's id, or the entry's own where no cluster took it in.
-    pub fn owners(&self, zoom: u8) -> Result<Vec<u32>, Refused> {
-        owners::climb(self, self.zoom_used(zoom))
+    /// The place of a lamp's owner in the table of the zoom used: the one entry that the lamp is counted in. A lamp that the
+    /// build does not have is refused 16.
+    pub fn owner(&self, lamp: u32, zoom: u8) -> Result<u32, Refused> {
+        // A place that is answered is one of a table, so that it is below N.
+        self.asked.owner(lamp, zoom).accepted().map(|place| place as u32)
     }
+
+    /// The same of every lamp, in their order.
+    pub fn owners(&self, zoom: u8) -> Result<Vec<u32>, Refused> {
+        // Where the first lamp's owner is not refused, the state is sound and the column has N places for each table, the
+        // finest first.
+        self.owner(0, zoom)?;
+        let (zoom, count) = (self.zoom_used(zoom), self.count() as usize);
+        let part = usize::from(self.zoom_used(u8::MAX) - zoom) * count;
+        let owners = &self.asked.columns.owners[part..part + count];
+        let length = at(self.asked.lens, zoom);
+        match owners.iter().all(|place| (*place as usize) < length) {
+            true => Ok(owners.to_vec()),
+            false => Err(Refused::Spoiled),
+        }
+    }
+}
+
+/// What a state has for a zoom.
+fn at(words: &[u32; ZOOMS], zoom: u8) -> usize {
+    words[usize::from(zoom)] as usize
 }

@@ -56,6 +56,7 @@ extern "C" {
 #define RV_NO_ROOM 10u
 #define RV_SPOILED 11u
 #define RV_ENERGY_REFUSED 15u
+#define RV_NO_LAMP 16u
 #define RV_NEVER_SEEN 255u
 #define RV_NO_PARENT 4294967295u
 
@@ -99,6 +100,7 @@ typedef struct rv_map {
     uint32_t *ids;
     double *coords;
     uint32_t *near;      /* working room of rv_load; no question looks at it */
+    uint32_t *owners;    /* the places of the lamps' owners: count of them for each table, the finest first (rv_owner) */
 } rv_map;
 
 /* An entry of a table. */
@@ -136,6 +138,7 @@ static inline const char *rv_words(uint32_t number) {
     case RV_NO_ROOM: return "there are more items than the output has room for";
     case RV_SPOILED: return "the tables and their state do not fit together";
     case RV_ENERGY_REFUSED: return "a point brings more than 2^40 watt-hours";
+    case RV_NO_LAMP: return "there is no such lamp";
     default: return "no number of a reply";
     }
 }
@@ -148,12 +151,12 @@ static inline size_t rv_entries_needed(const rv_options *options, size_t n) {
     return ((size_t)options->max_zoom - options->min_zoom + 2) * n;
 }
 
-/* How many bytes the ten columns of so many entries take in one piece of memory. */
+/* How many bytes the eleven columns of so many entries take in one piece of memory. */
 static inline size_t rv_bytes_needed(size_t entries) {
-    return entries * (4 * sizeof(double) + sizeof(uint64_t) + 5 * sizeof(uint32_t) + sizeof(uint8_t));
+    return entries * (4 * sizeof(double) + sizeof(uint64_t) + 6 * sizeof(uint32_t) + sizeof(uint8_t));
 }
 
-/* Lays the ten columns of so many entries into memory, which is aligned for a double, as malloc's is, and as long as rv_bytes_needed
+/* Lays the eleven columns of so many entries into memory, which is aligned for a double, as malloc's is, and as long as rv_bytes_needed
    says. Who has columns of his own sets them by himself, and room. */
 static inline void rv_lend(rv_map *map, void *memory, size_t entries) {
     map->room = entries;
@@ -166,7 +169,8 @@ static inline void rv_lend(rv_map *map, void *memory, size_t entries) {
     map->num = map->parent + entries;
     map->ids = map->num + entries;
     map->near = map->ids + entries;
-    map->seen = (uint8_t *)(void *)(map->near + entries);
+    map->owners = map->near + entries;
+    map->seen = (uint8_t *)(void *)(map->owners + entries);
 }
 
 /* Where the id of a cluster leads, an id from count on: its children stand in the table of this zoom, around the entry at this place. */
@@ -189,12 +193,12 @@ static inline uint32_t rv_origin_of(const rv_map *map, uint32_t id) {
     (m)->energy, (m)->room
 #define RV_INDEX_(m) (m)->ids, (m)->room, (m)->coords, 2 * (m)->room
 
-/* supercluster_load: builds the tables of n points. A refusal leaves the map as it was. */
+/* supercluster_load: builds the tables of n points, and the owners beside them. A refusal leaves the map as it was. */
 static inline uint32_t rv_load(
     rv_map *map, const double *xs, const double *ys, const uint64_t *energies, size_t n, size_t *carried) {
     uint32_t number = supercluster_load(
-        RV_OPTIONS_(&map->options), xs, n, ys, n, energies, n, RV_ENTRIES_(map), RV_INDEX_(map), map->near, map->room, map->starts,
-        map->lens, carried);
+        RV_OPTIONS_(&map->options), xs, n, ys, n, energies, n, RV_ENTRIES_(map), RV_INDEX_(map), map->near, map->room, map->owners,
+        map->room, map->starts, map->lens, carried);
     if (number == 0)
         map->count = (uint32_t)n;
     return number;
@@ -257,7 +261,14 @@ static inline uint32_t rv_entry(const rv_map *map, uint8_t zoom, uint32_t place,
         &entry->num, &entry->energy);
 }
 
-/* supercluster_zoom_used: the zoom in whose table box, ring and tile list places. */
+/* supercluster_owner: the place of a lamp's owner in the table of the zoom used. *place is 0 where it is refused: 11 by the state or where
+   room is less than rv_entries_needed, 16 where count or more is asked for, 11 where the table has no such place. Each call looks at the
+   whole state; who reads many owners of a map that was built may read map->owners[(max_zoom + 1 - zoom) * count + lamp]. */
+static inline uint32_t rv_owner(const rv_map *map, uint32_t lamp, uint8_t zoom, size_t *place) {
+    return supercluster_owner(RV_STATE_(map), map->owners, map->room, lamp, zoom, place);
+}
+
+/* supercluster_zoom_used: the zoom in whose table box, ring and tile list places, and in whose table an owner has its place. */
 static inline uint8_t rv_zoom_used(const rv_options *options, uint8_t zoom) {
     return supercluster_zoom_used(RV_OPTIONS_(options), zoom);
 }

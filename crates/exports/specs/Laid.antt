@@ -3,7 +3,8 @@
 use mathlib.Core.List.{List}
 use Prim.Native.Nat.{ℕ, zero, suc}
 use Rattle.supercluster.specs.declared.Loaded.{Loaded}
-use Rattle.supercluster.specs.Build.{BuildColumns, Outcome, loadNumber, loadCarried}
+use Rattle.supercluster.specs.Build.{BuildColumns, loadNumber, loadCarried}
+use Rattle.owners.specs.LoadedWith.{OwnedOutcome}
 
 -- the reply, as numbers
 pub record Replied : Type 0 where
@@ -26,13 +27,14 @@ repliedOf l starts lens =
     let n = loadNumber (l .reply) in
     replied n (loadCarried (l .reply)) (unlessRefused n (l .state .starts) starts) (unlessRefused n (l .state .lens) lens)
 
--- the reply with the columns
+-- the reply with the columns, and that of the owners
 pub record Laid : Type 0 where
   pub told : Replied
   pub columns : BuildColumns
+  pub owners : List ℕ
 
-abbrev pub laid : Replied → BuildColumns → Laid
-laid r c = record { told = r; columns = c }
+abbrev pub laid : Replied → BuildColumns → List ℕ → Laid
+laid r c own = record { told = r; columns = c; owners = own }
 
-abbrev pub laidOf : Outcome → List ℕ → List ℕ → Laid
-laidOf q starts lens = laid (repliedOf (q .reply) starts lens) (q .columns)
+abbrev pub laidOf : OwnedOutcome → List ℕ → List ℕ → Laid
+laidOf q starts lens = laid (repliedOf (q .build .reply) starts lens) (q .build .columns) (q .owners)

@@ -14,6 +14,8 @@ use Rattle.ask_cluster.specs.Expansion.{expansionNumber, expansionCarried}
 use Rattle.ask_tile_table.specs.declared.Tally.{Tally}
 use Rattle.ask_tile_table.specs.Tally.{tallyNumber, tallyValue}
 use Rattle.ask_tile.specs.Asked.{TileOutcome}
+use Rattle.ask_owner.specs.declared.OwnerReply.{OwnerReply}
+use Rattle.ask_owner.specs.Asked.{ownerNumber, ownerCarried}
 
 -- of a question that has no output column
 pub record Said : Type 0 where
@@ -28,6 +30,9 @@ zoomSaid r = said (expansionNumber r) (expansionCarried r)
 
 abbrev pub tallySaid : Tally → Said
 tallySaid r = said (tallyNumber r) (tallyValue r)
+
+abbrev pub ownerSaid : OwnerReply → Said
+ownerSaid r = said (ownerNumber r) (ownerCarried r)
 
 -- of a question that lists
 pub record Told : Type 0 where

@@ -15,10 +15,10 @@ ghost use lib.ListN.{length};
 ghost use Rattle.kdbush.specs.Reply.{buildNumber, buildCarried, built, indexChecked, searchNumber, searchCarried, searched, columnAfter};
 ghost use Rattle.kdwalk.specs.Reply.{stepNumber, stepCarried, firstStep, afterStep};
 ghost use Rattle.exports.specs.Given.{ranged, givenOptions};
-ghost use Rattle.exports.specs.Told.{said, zoomSaid, tallySaid, toldC, toldOf, effortTold, effortToldOf, tileTold, tileOf};
+ghost use Rattle.exports.specs.Told.{said, zoomSaid, tallySaid, ownerSaid, toldC, toldOf, effortTold, effortToldOf, tileTold, tileOf};
 ghost use Rattle.exports.specs.Laid.{replied, repliedOf, laid, laidOf};
 ghost use Rattle.exports.specs.Read.{entryAsked, lentEntry, readAs, readOf};
-ghost use Rattle.supercluster.specs.Build.{loaded};
+ghost use Rattle.owners.specs.LoadedWith.{loadedWith};
 ghost use Rattle.supercluster.specs.Lent.{lentAll};
 ghost use Rattle.kdsort.specs.Lent.{lentIndex};
 ghost use Rattle.range.specs.Range.{normalized, denormalized};
@@ -33,6 +33,7 @@ ghost use Rattle.ask_cluster.specs.Leaves.{leavesOf};
 ghost use Rattle.ask_cluster.specs.Expansion.{zoomOf};
 ghost use Rattle.ask_tile.specs.Asked.{tiled};
 ghost use Rattle.ask_tile.specs.Tallied.{tallied};
+ghost use Rattle.ask_owner.specs.Asked.{ownerAsked};
 
 // The index of N points, xs_len of them, whose coordinates are from 0 to 1. Written are the first N entries of ids (the place of
 // each slot) and the first 2N of coords (its x and y), sorted by node_size (1 to 65,535); what lies behind them stays. Refused in
@@ -429,12 +430,12 @@ fn tell(loaded: Loaded, starts: &mut [u32; 32], lens: &mut [u32; 32], carried: &
 }
 
 // Builds the tables of N points, xs_len of them: xs and ys in the coordinates of the options, energies in watt-hours. With need =
-// (max_zoom - min_zoom + 2) * N, each of the ten columns from x to near has at least need entries, coords twice as many. Written are
-// the tables in x, y, seen, id, parent, num, energy, the finest first, their indexes in ids and coords, 0 in the first 2N of near,
-// and in starts and lens, by zoom, where each table starts and how long it is; what lies behind stays. Carried is 0. Refused in this
-// order, and then nothing but carried is written: 1 an option, 2 N is not from 1 to 1,048,576 or ys or energies has not N, 3 a
-// converted coordinate is not from 0 to 1, 15 an energy above 2^40 (3 and 15 carry the first such point, from 0), 4 a column is too
-// short.
+// (max_zoom - min_zoom + 2) * N, each of the eleven columns from x to owners has at least need entries, coords twice as many. Written
+// are the tables in x, y, seen, id, parent, num, energy, the finest first, their indexes in ids and coords, 0 in the first 2N of near,
+// in the first need of owners each lamp's owner, N places a table, the finest first, and in starts and lens, by zoom, where each table
+// starts and how long it is; what lies behind stays. Carried is 0. Refused in this order, and then nothing but carried is written: 1 an
+// option, 2 N is not from 1 to 1,048,576 or ys or energies has not N, 3 a converted coordinate is not from 0 to 1, 15 an energy above
+// 2^40 (3 and 15 carry the first such point, from 0), 4 a column is too short.
 #[no_mangle]
 pub extern "C" fn supercluster_load(
     min_zoom: u8,
@@ -466,6 +467,7 @@ pub extern "C" fn supercluster_load(
     ids: &mut [u32],
     coords: &mut [f64],
     near: &mut [u32],
+    owners: &mut [u32],
     starts: &mut [u32; 32],
     lens: &mut [u32; 32],
     carried: &mut usize,
@@ -474,8 +476,8 @@ pub extern "C" fn supercluster_load(
         let o = givenOptions «min_zoom» «max_zoom» «min_points» radius extent «node_size» cartesian «min_x» «min_y» «max_x» «max_y»
         «offset_given» offset «scale_given» scale «longitude_strips_only» in
         let l = lentAll x y seen id parent num energy ids coords near in
-        ⌜ laid (replied r (new carried) (new starts) (new lens)) (l .exit)
-        ≡ laidOf (loaded o (old xs) (old ys) (old energies) (l .entry)) (old starts) (old lens) ⌝ }
+        ⌜ laid (replied r (new carried) (new starts) (new lens)) (l .exit) (new owners)
+        ≡ laidOf (loadedWith o (old xs) (old ys) (old energies) (l .entry) (old owners)) (old starts) (old lens) ⌝ }
 {
     let o = options(
         min_zoom,
@@ -495,7 +497,7 @@ pub extern "C" fn supercluster_load(
         scale,
         longitude_strips_only,
     );
-    let loaded = supercluster::load(
+    let loaded = owners::load(
         o,
         xs,
         ys,
@@ -510,6 +512,7 @@ pub extern "C" fn supercluster_load(
         ids,
         coords,
         near,
+        owners,
     );
     tell(loaded, starts, lens, carried)
 }
@@ -1132,6 +1135,65 @@ pub extern "C" fn supercluster_tally(
         tile_y,
     );
     *carried = r.value() as usize;
+    r.number()
+}
+
+// The entry that owns a lamp in the table of the zoom used: its place in that table goes into place, 0 where it is refused. owners is
+// the column that a build leaves beside its tables: N places for each table, the finest first. Refused in this order: 11 by the
+// state, or owners has fewer than (max_zoom - min_zoom + 2) * N entries, 16 lamp is not below N, 11 the table has no such place.
+#[no_mangle]
+pub extern "C" fn supercluster_owner(
+    min_zoom: u8,
+    max_zoom: u8,
+    min_points: u8,
+    radius: f64,
+    extent: f64,
+    node_size: usize,
+    cartesian: bool,
+    min_x: f64,
+    min_y: f64,
+    max_x: f64,
+    max_y: f64,
+    offset_given: bool,
+    offset: f64,
+    scale_given: bool,
+    scale: f64,
+    longitude_strips_only: bool,
+    count: u32,
+    starts: &[u32; 32],
+    lens: &[u32; 32],
+    owners: &[u32],
+    lamp: u32,
+    zoom: u8,
+    place: &mut usize,
+) -> u32
+    ensures { λ r.
+        let o = givenOptions «min_zoom» «max_zoom» «min_points» radius extent «node_size» cartesian «min_x» «min_y» «max_x» «max_y»
+        «offset_given» offset «scale_given» scale «longitude_strips_only» in
+        let s = stateOf o count (old starts) (old lens) in
+        ⌜ said r (new place) ≡ ownerSaid (ownerAsked s (old owners) lamp zoom) ⌝ }
+{
+    let o = options(
+        min_zoom,
+        max_zoom,
+        min_points,
+        radius,
+        extent,
+        node_size,
+        cartesian,
+        min_x,
+        min_y,
+        max_x,
+        max_y,
+        offset_given,
+        offset,
+        scale_given,
+        scale,
+        longitude_strips_only,
+    );
+    let s = state(o, count, starts, lens);
+    let r = ask_owner::owner(s, owners, lamp, zoom);
+    *place = r.carried();
     r.number()
 }
 

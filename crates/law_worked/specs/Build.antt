@@ -19,7 +19,8 @@ use Rattle.build_tables.specs.Entries.{Table, never, unset}
 use Rattle.kdbush.specs.Reply.{indexOf}
 use Rattle.build_all_zooms.specs.Zooms.{indexOfTable, joined, joinedIds, joinedCo, starts, lens}
 use Rattle.supercluster.specs.declared.LoadReply.the-variants.{Done, Tables}
-use Rattle.supercluster.specs.Build.{convertedAll, BuildColumns, firstOver, written, builtState, roomy, checked, Outcome, outcome, byReply, loaded}
+use Rattle.supercluster.specs.Build.{convertedAll, BuildColumns, firstOver, written, builtState, checked, Outcome, outcome, byReply, loaded}
+use Rattle.supercluster.specs.laws.Load.{roomy}
 use Rattle.build_tables.specs.Room.{Columns, columns, roomOf}
 use Rattle.law_worked.specs.Tables.{b, at, options, xs, ys, ws, shown, tables-are}
 use Rattle.law_answers.specs.Stored.{columnsOf}

@@ -28,7 +28,8 @@ use Rattle.build_one_zoom.specs.Zoom.{moreOf, absorbOne, absorb, copyOne, copyA
 use Rattle.kdbush.specs.Reply.{indexOf}
 use Rattle.build_all_zooms.specs.Zooms.{indexOfTable, runZooms, joined, joinedIds, joinedCo, starts, lens}
 use Rattle.supercluster.specs.declared.LoadReply.the-variants.{Done, Tables}
-use Rattle.supercluster.specs.Build.{convertedAll, finest, tablesOf, BuildColumns, written, roomy, firstOver, checked, loadNumber, Outcome, loaded}
+use Rattle.supercluster.specs.Build.{convertedAll, finest, tablesOf, BuildColumns, written, firstOver, checked, loadNumber, Outcome, loaded}
+use Rattle.supercluster.specs.laws.Load.{roomy}
 use Rattle.ask_base.specs.declared.Answer.the-variants.{NoRoom}
 use Rattle.ask_tile_table.specs.declared.Tally.the-variants.{Sum}
 use Rattle.ask_tile_table.specs.Floor.{homeOf}

@@ -19,7 +19,8 @@ use Rattle.ask_cluster.specs.Expansion.{zoomOf}
 use Rattle.ask_cluster.specs.Leaves.{leavesOf}
 use Rattle.ask_tile.specs.Asked.{tileAsked}
 use Rattle.supercluster.specs.declared.LoadReply.the-variants.{Done}
-use Rattle.supercluster.specs.Build.{BuildColumns, roomy, Outcome, loaded}
+use Rattle.supercluster.specs.Build.{tablesOf, BuildColumns, Outcome, loaded}
+use Rattle.supercluster.specs.laws.Load.{roomy}
 use Rattle.lister_text.specs.Text.{text, headIs, givenXs, givenYs, givenEnergies}
 use Rattle.lister_text.specs.Values.{optionsOf}
 use Rattle.lister_report.specs.Report.{listerColumns as zeros, linesOf}
@@ -27,6 +28,9 @@ use Rattle.law_answers.specs.Stored.{columnsOf}
 use Rattle.law_worked.specs.Build.{workedBuilt, stateIn, columnsIn, state, workedHeld, built-is}
 use Rattle.law_worked.specs.Walks.{Refused, children-5, leaves-10-0, leaves-3-1, leaves-0-0, leaves-0-1, zoom-5, zoom-6, refused-3}
 use Rattle.law_worked.specs.Walks.{refused-4, refused-7, refused-134}
+use Rattle.build_owners.specs.OwnerColumn.{ownerColumn}
+use Rattle.law_worked.specs.Tables.{options, xs, ys, ws}
+use Rattle.law_worked.specs.Kept.{worked-owners}
 use Rattle.law_worked.specs.Tiles.{tile-000}
 use Rattle.law_worked.specs.Printed.{example, example-built, exampleText, sevenLines, text-is, lines-are}
 
@@ -56,6 +60,8 @@ pub record Worked (s : State) (c : Columns) : Type 0 where
   pub id-134 : Refused s c 134 6
   -- tile (0,0,0) has one item: the entry at place 0, at (176,256)
   pub tile : tileAsked s c 0 0 0 ≡ told true (record { place = 0; x = pos 176; y = pos 256 } ∷ [])
+  -- the owner column: the lamps themselves in table 2, two places in table 1, one in table 0
+  pub owners-kept : ownerColumn 4 (tablesOf (options 64) xs ys ws) ≡ 0 ∷ 1 ∷ 2 ∷ 3 ∷ 0 ∷ 0 ∷ 1 ∷ 1 ∷ 0 ∷ 0 ∷ 0 ∷ 0 ∷ []
   -- a half is rounded away from zero
   pub half-up : away half ≡ pos 1
   pub half-down : away (neg half) ≡ negsuc 0
@@ -81,6 +87,7 @@ table l =
       id-7 = refused-7 l;
       id-134 = refused-134 l;
       tile = tile-000 l;
+      owners-kept = worked-owners;
       half-up = half-away;
       half-down = minus-half-away;
     }

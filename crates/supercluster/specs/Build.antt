@@ -93,10 +93,6 @@ need o n = tableCount o * n
 abbrev pub roomIn : BuildColumns → ℕ
 roomIn l = min (roomOf (columns (l .table) (l .ids) (l .coords))) (length (l .near))
 
--- the lent columns hold m entries each
-abbrev pub roomy : ℕ → BuildColumns → Bool
-roomy m l = leb m (roomIn l)
-
 -- the largest energy of a point, in watt-hours: 2^40
 abbrev pub mostEnergy : ℕ
 mostEnergy = 1099511627776
@@ -125,12 +121,15 @@ ordered options count points energies room =
 abbrev pub tripleOk : List Float → List Float → List ℕ → Bool
 tripleOk xs ys ws = pairOk xs ys && eqb (length ws) (length xs)
 
--- what is tested of each
-unfoldable pub checked : Options → List Float → List Float → List ℕ → BuildColumns → LoadReply
-checked o xs ys ws l =
+-- what is tested of each, in columns with room for so many entries
+abbrev pub checkedIn : Options → List Float → List Float → List ℕ → ℕ → LoadReply
+checkedIn o xs ys ws room =
     let ps = convertedAll (o .«coordinate_system») xs ys in
     ordered (optionsOk o) (tripleOk xs ys ws) (firstOutside (map (λ p. p .x) ps) (map (λ p. p .y) ps) 0) (firstOver ws 0)
-    (roomy (need o (length xs)) l)
+    (leb (need o (length xs)) room)
+
+unfoldable pub checked : Options → List Float → List Float → List ℕ → BuildColumns → LoadReply
+checked o xs ys ws l = checkedIn o xs ys ws (roomIn l)
 
 -- the number of a reply, SCOPE's, and what it carries
 abbrev pub loadNumber : LoadReply → ℕ

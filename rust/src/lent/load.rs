@@ -15,7 +15,7 @@ pub struct Given<'a> {
 }
 
 /// Columns as a build is lent them: [`entries_needed`] entries each, and twice as many of `coords`. What they hold before
-/// does not matter.
+/// does not matter, and behind what is written it stays.
 #[derive(Debug)]
 pub struct Written<'a> {
     /// x of each entry.
@@ -38,6 +38,8 @@ pub struct Written<'a> {
     pub coords: &'a mut [f64],
     /// Working room.
     pub near: &'a mut [u32],
+    /// The place of each lamp's owner: N of them for each table, the finest first.
+    pub owners: &'a mut [u32],
 }
 
 /// How many entries SCOPE asks of each column for a build of so many lamps: (max_zoom - min_zoom + 2) * N.
@@ -56,7 +58,7 @@ pub fn load(
     lens: &mut [u32; ZOOMS],
 ) -> Reply {
     let Given { xs, ys, energies } = *given;
-    let Written { x, y, seen, id, parent, num, energy, ids, coords, near } = columns;
+    let Written { x, y, seen, id, parent, num, energy, ids, coords, near, owners } = columns;
     macro_rules! lend {
         ([$($read:ident),*] [$($written:ident),*]) => {
             replied!(
@@ -70,5 +72,5 @@ pub fn load(
             )
         };
     }
-    lend!([xs, ys, energies] [x, y, seen, id, parent, num, energy, ids, coords, near])
+    lend!([xs, ys, energies] [x, y, seen, id, parent, num, energy, ids, coords, near, owners])
 }

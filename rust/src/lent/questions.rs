@@ -40,6 +40,9 @@ pub struct Columns<'a> {
     pub ids: &'a [u32],
     /// The coordinates of each slot, x and y.
     pub coords: &'a [f64],
+    /// The place of each lamp's owner: N of them for each table, the finest first. [`Asked::owner`] is lent this column
+    /// alone, and no other question is lent it.
+    pub owners: &'a [u32],
 }
 
 /// A build as a question is lent it: its state, and its columns.
@@ -106,7 +109,7 @@ macro_rules! ask {
     };
 }
 
-/// The same with all columns.
+/// The same with all columns of the tables.
 macro_rules! ask_all {
     ($asked:ident, $name:ident($($word:expr),*)) => {
         ask_all!($asked, $name($($word),*), by replied)
@@ -217,6 +220,12 @@ impl<'a> Asked<'a> {
     pub fn tally(&self, (z, x, y): (u8, u32, u32)) -> Reply {
         ask_all!(self, supercluster_tally(z, x, y))
     }
+
+    /// The place of a lamp's owner in the table of the zoom used, as the carried number. Refused 11 or 16.
+    pub fn owner(&self, lamp: u32, zoom: u8) -> Reply {
+        ask!(self[owners], supercluster_owner(lamp, zoom))
+    }
+
     /// The entry at a place of the table of exactly this zoom, in `entry`; a refusal, 11, 5 or 6, leaves that as it was.
     /// Nothing is carried.
     pub fn entry(&self, zoom: u8, place: u32, entry: &mut Entry) -> Reply {

@@ -17,6 +17,7 @@ struct Elsewhere {
     energy: [u64; 4],
     ids: [u32; 5],
     coords: [f64; 7],
+    owners: [u32; 5],
 }
 
 const ELSEWHERE: Elsewhere = Elsewhere {
@@ -29,12 +30,13 @@ const ELSEWHERE: Elsewhere = Elsewhere {
     energy: [5, 6, 11, 0],
     ids: [0, 1, 0, 77, 78],
     coords: [0.25, 0.5, 0.3125, 0.5, 0.28125, 0.5, f64::NAN],
+    owners: [0, 1, 0, 0, 77],
 };
 
 impl Elsewhere {
     fn columns(&self) -> Columns<'_> {
-        let Elsewhere { x, y, seen, id, parent, num, energy, ids, coords } = self;
-        Columns { x, y, seen, id, parent, num, energy, ids, coords }
+        let Elsewhere { x, y, seen, id, parent, num, energy, ids, coords, owners } = self;
+        Columns { x, y, seen, id, parent, num, energy, ids, coords, owners }
     }
 }
 
@@ -59,7 +61,9 @@ fn answers() {
     assert_eq!(tables.get_tile(0, 0, 0), Ok(vec![TileItem { place: 0, x: 144, y: 256 }]));
     assert_eq!(tables.tally(0, 0, 0), Ok(2));
     assert_eq!(tables.get_clusters([0.3, 0.0, 1.0, 1.0], 1), Ok(vec![1]));
-    assert_eq!(tables.owners(0), Ok(vec![0, 0]));
+    assert_eq!((tables.owners(0), tables.owners(1)), (Ok(vec![0, 0]), Ok(vec![0, 1])));
+    assert_eq!((tables.owner(1, 0), tables.owner(1, 9)), (Ok(0), Ok(1)));
+    assert_eq!(tables.owner(2, 0), Err(Refused::Lamp));
     let cluster = tables.entry(0, 0).unwrap();
     assert_eq!((cluster.id, cluster.num, cluster.energy), (3, 2, 11));
     assert_eq!((cluster.parent, cluster.seen), (None, None));
@@ -76,6 +80,7 @@ fn they_are_what_a_build_leaves() {
         assert_eq!(built.table(zoom), lent.table(zoom));
     }
     assert_eq!((found.ids, found.coords), (&ELSEWHERE.ids[..3], &ELSEWHERE.coords[..6]));
+    assert_eq!(found.owners, &ELSEWHERE.owners[..4]);
 }
 
 #[test]
@@ -89,6 +94,14 @@ fn what_does_not_fit_together_is_refused() {
     let short = Columns { num: &ELSEWHERE.num[..2], ..ELSEWHERE.columns() };
     assert_eq!(Tables::lent(&state, short).get_leaves(3, 1, 0), Err(refused));
     assert_eq!(Tables::lent(&state, short).table(0), Err(refused));
+    let elsewhere = Elsewhere { owners: [0, 1, 0, 1, 77], ..ELSEWHERE };
+    let tables = Tables::lent(&state, elsewhere.columns());
+    assert_eq!((tables.owner(0, 0), tables.owner(1, 0)), (Ok(0), Err(refused)));
+    assert_eq!((tables.owners(0), tables.owners(1)), (Err(refused), Ok(vec![0, 1])));
+    let short = Columns { owners: &ELSEWHERE.owners[..3], ..ELSEWHERE.columns() };
+    assert_eq!(Tables::lent(&state, short).owner(0, 1), Err(refused));
+    assert_eq!(Tables::lent(&state, short).owner(2, 1), Err(refused));
+    assert_eq!(Tables::lent(&state, short).tally(0, 0, 0), Ok(2));
     let other = State { count: 3, ..state };
     assert_eq!(Tables::lent(&other, ELSEWHERE.columns()).tally(0, 0, 0), Err(refused));
 }

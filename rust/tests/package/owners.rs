@@ -34,6 +34,9 @@ fn every_table_recounted() {
     for zoom in (0..=9).rev() {
         let (table, owners) = (lamps.table(zoom).unwrap(), lamps.owners(zoom).unwrap());
         assert_eq!(owners.len(), 600);
+        let singly: Result<Vec<u32>, Refused> =
+            (0..600).map(|lamp| lamps.owner(lamp, zoom)).collect();
+        assert_eq!(singly.unwrap(), owners);
         let told: Vec<(u32, u64)> = table.iter().map(|entry| (entry.num, entry.energy)).collect();
         assert_eq!(recounted(table.len(), &owners, &energies), told, "zoom {zoom}");
         let mut owned = vec![BTreeSet::new(); table.len()];
@@ -59,17 +62,29 @@ fn of_the_worked_example() {
     assert_eq!(lamps.owners(1), Ok(vec![0, 0, 1, 1]));
     assert_eq!(lamps.owners(0), Ok(vec![0; 4]));
     assert_eq!(lamps.owners(200), lamps.owners(2));
+    assert_eq!(lamps.columns().owners, [0, 1, 2, 3, 0, 0, 1, 1, 0, 0, 0, 0]);
+    assert_eq!((lamps.owner(3, 2), lamps.owner(3, 1), lamps.owner(3, 0)), (Ok(3), Ok(1), Ok(0)));
+    assert_eq!(lamps.owner(3, 200), Ok(3));
 }
 
 #[test]
-fn a_lent_table_without_the_parent() {
+fn of_a_lent_column() {
     let lamps = worked();
-    let ids: Vec<u32> =
-        lamps.columns().id.iter().map(|id| if *id == 70 { 71 } else { *id }).collect();
-    let columns = reachvolem::lent::Columns { id: &ids, ..lamps.columns() };
-    let tables = reachvolem::Tables::lent(lamps.state(), columns);
-    assert_eq!(tables.owners(2), Ok(vec![0, 1, 2, 3]));
-    assert_eq!(tables.owners(1), Err(Refused::Spoiled));
+    let mut owners = lamps.columns().owners.to_vec();
+    // The table of zoom 1 has two entries. Only the lamp that is asked for is looked at.
+    owners[7] = 2;
+    let asked = |owners: &[u32], lamp, zoom| {
+        let columns = reachvolem::lent::Columns { owners, ..lamps.columns() };
+        let tables = reachvolem::Tables::lent(lamps.state(), columns);
+        (tables.owner(lamp, zoom), tables.owners(zoom).map(|owners| owners[0]))
+    };
+    let refused = Refused::Spoiled;
+    assert_eq!(asked(&owners, 3, 1), (Err(refused), Err(refused)));
+    assert_eq!(asked(&owners, 2, 1), (Ok(1), Err(refused)));
+    assert_eq!(asked(&owners, 3, 0), (Ok(0), Ok(0)));
+    assert_eq!(asked(&owners, 4, 0), (Err(Refused::Lamp), Ok(0)));
+    assert_eq!(asked(&owners[..11], 4, 0), (Err(refused), Err(refused)));
+    assert_eq!(asked(&[], 0, 2), (Err(refused), Err(refused)));
 }
 
 #[test]

@@ -46,11 +46,12 @@ fn of_short_columns() {
     let given = Given { xs: &xs, ys: &ys, energies: &energies };
     let needed = lent::entries_needed(&worked_options(), 4);
     assert_eq!(needed, 12);
-    let reply = |entries: usize, near: usize| {
+    let reply = |entries: usize, near: usize, owners: usize| {
         let [mut x, mut y] = [(); 2].map(|()| vec![0.0; entries]);
         let [mut id, mut parent, mut num, mut ids] = [(); 4].map(|()| vec![0; entries]);
         let (mut seen, mut energy) = (vec![0; entries], vec![0; entries]);
         let (mut coords, mut near) = (vec![0.0; 2 * entries], vec![0; near]);
+        let mut owners = vec![9; owners];
         let written = Written {
             x: &mut x,
             y: &mut y,
@@ -62,15 +63,23 @@ fn of_short_columns() {
             ids: &mut ids,
             coords: &mut coords,
             near: &mut near,
+            owners: &mut owners,
         };
         let (mut starts, mut lens) = ([7; ZOOMS], [7; ZOOMS]);
         let reply = lent::load(&worked_options(), &given, written, &mut starts, &mut lens);
         assert_eq!(reply.number == 0, lens[2] == 4, "a refusal leaves the state as it was");
+        if reply.number == 0 {
+            assert_eq!(owners[..12], [0, 1, 2, 3, 0, 0, 1, 1, 0, 0, 0, 0]);
+            owners.drain(..12);
+        }
+        assert!(owners.iter().all(|place| *place == 9), "the rest of the owners as it was");
         reply
     };
-    assert_eq!(reply(12, 12), Reply { number: 0, carried: 0 });
-    is_refused(reply(11, 12).accepted(), 4, 0);
-    is_refused(reply(12, 11).accepted(), 4, 0);
+    assert_eq!(reply(12, 12, 12), Reply { number: 0, carried: 0 });
+    assert_eq!(reply(13, 14, 15), Reply { number: 0, carried: 0 });
+    is_refused(reply(11, 12, 12).accepted(), 4, 0);
+    is_refused(reply(12, 11, 12).accepted(), 4, 0);
+    is_refused(reply(12, 12, 11).accepted(), 4, 0);
 }
 
 #[test]
@@ -90,6 +99,8 @@ fn of_questions() {
     let tables = lamps.tables();
     is_refused(tables.asked().leaves(5, 4, 0, &mut [0; 3]).accepted(), 10, 4);
     is_refused(lamps.entry(0, 1), 6, 0);
+    is_refused(lamps.owner(4, 0), 16, 0);
+    is_refused(lamps.owner(u32::MAX, 255), 16, 0);
 }
 
 #[test]
@@ -114,6 +125,7 @@ fn of_spoiled_tables() {
     is_refused(spoiled.table(0), 11, 0);
     is_refused(spoiled.entry(0, 0), 11, 0);
     is_refused(spoiled.owners(0), 11, 0);
+    is_refused(spoiled.owner(9, 0), 11, 0);
 }
 
 #[test]

@@ -19,7 +19,8 @@ use Rattle.build_tables.specs.declared.Options.{Options}
 use Rattle.build_tables.specs.declared.State.{State}
 use Rattle.build_tables.specs.declared.Entry.{Entry}
 use Rattle.build_tables.specs.Options.{zoomUsed}
-use Rattle.supercluster.specs.Build.{BuildColumns, loaded}
+use Rattle.supercluster.specs.Build.{BuildColumns}
+use Rattle.owners.specs.LoadedWith.{loadedWith}
 use Rattle.build_tables.specs.Room.{Columns}
 use Rattle.ask_box.specs.Lists.{boxAsked, ringAsked}
 use Rattle.ask_effort.specs.Effort.{effortAsked}
@@ -28,7 +29,8 @@ use Rattle.ask_cluster.specs.Leaves.{leavesOf}
 use Rattle.ask_cluster.specs.Expansion.{zoomOf}
 use Rattle.ask_tile.specs.Asked.{tiled}
 use Rattle.ask_tile.specs.Tallied.{tallied}
-use Rattle.exports.specs.Told.{Said, zoomSaid, tallySaid, Told, toldOf, EffortTold, effortToldOf, TileTold, tileOf}
+use Rattle.ask_owner.specs.Asked.{ownerAsked}
+use Rattle.exports.specs.Told.{Said, zoomSaid, tallySaid, ownerSaid, Told, toldOf, EffortTold, effortToldOf, TileTold, tileOf}
 use Rattle.exports.specs.Laid.{Laid, laidOf}
 use Rattle.exports.specs.Read.{entryAsked, ReadAs, readOf}
 
@@ -70,9 +72,9 @@ module _ (q : Query) (size n : ℕ) (co : List Float) where
 -- ---- the build, and the questions to it
 
 -- `supercluster_load`
-pub load-replies : (o : Options) (xs ys : List Float) (ws : List ℕ) (l : BuildColumns) (starts lens : List ℕ) (r t : Laid)
-    → r ≡ laidOf (loaded o xs ys ws l) starts lens → t ≡ laidOf (loaded o xs ys ws l) starts lens → r ≡ t
-load-replies o xs ys ws l starts lens r t = same-reply
+pub load-replies : (o : Options) (xs ys : List Float) (ws : List ℕ) (l : BuildColumns) (own starts lens : List ℕ) (r t : Laid)
+    → r ≡ laidOf (loadedWith o xs ys ws l own) starts lens → t ≡ laidOf (loadedWith o xs ys ws l own) starts lens → r ≡ t
+load-replies o xs ys ws l own starts lens r t = same-reply
 
 -- `supercluster_box`, `supercluster_box_effort`, `supercluster_ring`
 module _ (s : State) (ids : List ℕ) (co : List Float) (zoom : ℕ) (out : List ℕ) where
@@ -108,6 +110,11 @@ module _ (s : State) (c : Columns) (z x y : ℕ) where
 
   pub tally-replies : (r t : Said) → r ≡ tallySaid (tallied s c z x y) → t ≡ tallySaid (tallied s c z x y) → r ≡ t
   tally-replies r t = same-reply
+
+-- `supercluster_owner`
+pub owner-replies : (s : State) (owners : List ℕ) (lamp zoom : ℕ) (r t : Said) → r ≡ ownerSaid (ownerAsked s owners lamp zoom)
+    → t ≡ ownerSaid (ownerAsked s owners lamp zoom) → r ≡ t
+owner-replies s owners lamp zoom r t = same-reply
 
 -- `supercluster_entry`
 pub entry-replies : (s : State) (c : Columns) (zoom place : ℕ) (before : Entry) (r t : ReadAs)

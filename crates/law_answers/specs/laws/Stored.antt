@@ -219,13 +219,25 @@ module _ (G : Given) (a : AcceptedBuild G) where
       ∙ laid-long (S .starts) (S .lens) (minZ G) Ts 0 recorded (z - minZ G) (p .0)
       ∙ ap length (which z h k)
 
+  -- the tables fit in columns that hold the build
+  pub fits : length (joined (tablesOfBuild G)) ≤ need (G .options) (points G)
+  fits = tables-room (G .options) (G .xs) (G .ys) (G .energies) a
+
+  -- the state passes its check over columns that they fit in
+  pub sound-in : (cap : ℕ) → length (joined (tablesOfBuild G)) ≤ cap → stateOk (stateBy G) cap ≡ true
+  unfolding stateOk
+  sound-in cap h =
+      let b = options-are (G .options) (a .options) in
+      let n : tableCount (G .options) ≡ length Ts = omega (arith, b .zooms, how-many) in
+      let f : lenOf S (maxZ G + 1) ≡ points G = long-is (maxZ G + 1) (omega (arith, b .zooms)) (omega arith) ∙ finest-long in
+      let p : packed S cap (tableCount (G .options)) 0 ≡ true =
+      ap (λ (k : ℕ). packed S cap k 0) n ∙ laid-packed S cap (energyIn G) Ts 0 recorded rights (omega (arith, h)) in
+      rw (a .options, le-leb 1 (points G) (a .some), le-leb (points G) 1048576 (a .few), eq-eqb _ _ f, p)
+
   -- in columns that hold the build
   module _ (l : BuildColumns) (r : Holds (need (G .options) (points G)) l) where
     abbrev C : Columns
     C = columnsBy G l
-
-    fits : length (joined Ts) ≤ need (G .options) (points G)
-    fits = tables-room (G .options) (G .xs) (G .ys) (G .energies) a
 
     -- a column of the tables, over one that holds them
     wide : {A : Type 0} (f : Entry → A) (d : List A) → need (G .options) (points G) ≤ length d
@@ -249,15 +261,7 @@ module _ (G : Given) (a : AcceptedBuild G) where
 
     -- the state passes its check
     pub state-sound : stateOk (stateBy G) (roomOf (columnsBy G l)) ≡ true
-    unfolding stateOk
-    state-sound =
-        let b = options-are (G .options) (a .options) in
-        let cap = roomOf C in
-        let n : tableCount (G .options) ≡ length Ts = omega (arith, b .zooms, how-many) in
-        let f : lenOf S (maxZ G + 1) ≡ points G = long-is (maxZ G + 1) (omega (arith, b .zooms)) (omega arith) ∙ finest-long in
-        let p : packed S cap (tableCount (G .options)) 0 ≡ true =
-        ap (λ (k : ℕ). packed S cap k 0) n ∙ laid-packed S cap (energyIn G) Ts 0 recorded rights (omega (arith, fits, room)) in
-        rw (a .options, le-leb 1 (points G) (a .some), le-leb (points G) 1048576 (a .few), eq-eqb _ _ f, p)
+    state-sound = sound-in (roomOf C) (omega (arith, fits, room))
 
     -- the table of each zoom
     pub table-is : (z : ℕ) → minZ G ≤ z → z ≤ maxZ G + 1 → tableAt (stateBy G) (columnsBy G l) z ≡ built G z

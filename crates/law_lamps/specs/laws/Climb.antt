@@ -27,10 +27,10 @@ use Rattle.law_lamps.specs.laws.PlaceIn.{place-in, place-has, copy-is}
 use Rattle.law_lamps.specs.laws.Owners.{owner-next, owner-in, group-id, group-fits, groups-long, place-once}
 
 -- an entry with no parent, and one with a parent
-up-lone : (e : Entry) → e .parent ≡ unset → ownerUp e ≡ e .id
+pub up-lone : (e : Entry) → e .parent ≡ unset → ownerUp e ≡ e .id
 up-lone e h = ap (λ (b : Bool). cond b (e .id) (e .parent)) (eq-eqb (e .parent) unset h)
 
-up-under : (e : Entry) → e .parent < unset → ownerUp e ≡ e .parent
+pub up-under : (e : Entry) → e .parent < unset → ownerUp e ≡ e .parent
 up-under e h = ap (λ (b : Bool). cond b (e .id) (e .parent)) (ne-eqb (e .parent) unset (λ q. omega arith))
 
 module _ (G : Given) (a : AcceptedBuild G) where

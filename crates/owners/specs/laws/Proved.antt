@@ -205,7 +205,7 @@ module _ (G : Given) (a : AcceptedBuild G) (l : BuildColumns) (r : Holds (need (
         }
 
   -- demand 3 of a build
-  owners : Owners (stateBy G) (columnsBy G l) (G .energies) (owner G)
+  pub owners : Owners (stateBy G) (columnsBy G l) (G .energies) (owner G)
   owners =
       record {
         first = owner-first G;
@@ -241,10 +241,3 @@ module _ (G : Given) (a : AcceptedBuild G) (l : BuildColumns) (r : Holds (need (
 pub one-owner : (G : Given) (l : BuildColumns) → loadedOf G l .reply .reply ≡ Done
     → Owners (loadedOf G l .reply .state) (columnsOf (loadedOf G l .columns)) (G .energies) (owner G)
 one-owner G l e = of-load (λ s c. Owners s c (G .energies) (owner G)) G l (λ a r. owners G a l r) e
-
--- so of any outcome that meets the contract of `load`
-pub outcome-owners : (G : Given) (l : BuildColumns) (x : Outcome) → x ≡ loadedOf G l → x .reply .reply ≡ Done
-    → Owners (x .reply .state) (columnsOf (x .columns)) (G .energies) (owner G)
-outcome-owners G l x e d =
-    subst (λ (v : Outcome). Owners (v .reply .state) (columnsOf (v .columns)) (G .energies) (owner G)) (sym e)
-    (one-owner G l (ap (λ (v : Outcome). v .reply .reply) (sym e) ∙ d))

@@ -29,13 +29,17 @@ use Rattle.build_tables.specs.declared.Entry.{Entry}
 use Rattle.build_tables.specs.declared.Options.{Options}
 use Rattle.build_tables.specs.declared.State.{State}
 use Rattle.build_all_zooms.specs.Zooms.{joined, joinedIds, joinedCo, laidOver}
-use Rattle.supercluster.specs.Build.{convertedAll, tablesOf, BuildColumns, buildColumns, written, need, roomy, tripleOk, ordered, firstOver}
+use Rattle.supercluster.specs.Build.{convertedAll, tablesOf, BuildColumns, buildColumns, written, need, roomIn, tripleOk, ordered, firstOver}
 use Rattle.supercluster.specs.Build.{checked, byReply, loaded, outcome, refusedBuild, builtState}
 use Rattle.build_tables.specs.State.{newState}
 use Rattle.supercluster.specs.declared.Loaded.{Loaded}
 use Rattle.supercluster.specs.laws.Fill.{pxs, pys, none-over}
 use Rattle.supercluster.specs.laws.Over.{over-map, cut-over}
 use Rattle.supercluster.specs.laws.Ready.{Accepted, Made}
+
+-- the lent columns hold m entries each
+abbrev pub roomy : ℕ → BuildColumns → Bool
+roomy m l = leb m (roomIn l)
 
 -- every test of a build that is not refused
 done-by : (a b : Bool) (p q : Outside) (r : Bool) → ordered a b p q r ≡ Done → (a ≡ true) × (b ≡ true) × (p ≡ Nothing) × (q ≡ Nothing) × (r ≡ true)

@@ -22,6 +22,8 @@ pub struct Build {
     pub on_the_globe: bool,
     pub state: State,
     pub columns: Columns,
+    /// For each table, the finest first, the place of the entry that the Rust lists each lamp for; nothing where no build made them.
+    pub listed: Vec<u32>,
 }
 
 impl Build {
@@ -38,10 +40,10 @@ impl Build {
         let energies = points::energies(xs, ys);
         let tables = rust_builds::patched::tables(&options, &Given { xs, ys, energies: &energies });
         let ys = tables.lent_ys(&options.plane, ys);
-        let Tables { columns, starts, lens } = tables;
+        let Tables { columns, starts, lens, listed } = tables;
         let state = State { options, count: points[0].len() as u32, starts, lens };
         let on_the_globe = matches!(options.plane, Plane::Globe);
-        Build { what, points, ys, energies, on_the_globe, state, columns }
+        Build { what, points, ys, energies, on_the_globe, state, columns, listed }
     }
 
     /// What it is, and its options.

@@ -15,12 +15,13 @@ use std::{hint::black_box, process::ExitCode};
 type Line = (&'static str, &'static str, fn() -> String);
 
 /// Lines of 'The worked example' that the Rust does not have: it refuses no option and no id, and lists all at
-/// limit 0 where SCOPE lists nothing.
-const NOT_THE_RUSTS: [&str; 4] = [
+/// limit 0 where SCOPE lists nothing. It keeps no owners: theirs are found by its leaves.
+const NOT_THE_RUSTS: [&str; 5] = [
     "id 3 refused 6",
     "max_zoom 31 refused 1",
     "node_size 0 refused 1",
     "leaves of 5: limit 0 offset 0 lists nothing",
+    "owner of lamp 4 refused 16",
 ];
 
 /// The seven lines of 'The table lister', with the energies.
@@ -62,7 +63,7 @@ fn compare(lines: Vec<Line>, build: &str, report: &mut Report) {
     }
 }
 
-/// 'The worked example': ids, children, leaves, expansion zoom.
+/// 'The worked example': ids, children, leaves, expansion zoom, owners.
 fn ids_and_walks<J: Judge>() -> Vec<Line> {
     vec![
         ("id 70 decodes to origin 2, table 2", "2,2", || decoded::<J>(70)),
@@ -77,6 +78,7 @@ fn ids_and_walks<J: Judge>() -> Vec<Line> {
         ("id 4 refused 6", "ClusterNotFound", || children::<J>(4)),
         ("id 7 refused 5", "TreeNotFound", || children::<J>(7)),
         ("id 134 refused 6", "ClusterNotFound", || children::<J>(134)),
+        ("owners in table 2; 1; 0, by its leaves", "0,1,2,3; 0,0,1,1; 0,0,0,0", owners::<J>),
     ]
 }
 
@@ -181,13 +183,29 @@ fn fields(entry: &Entry) -> String {
 
 /// The energies of an entry's lamps, added up.
 fn energy<J: Judge>(build: &J, entry: &Entry) -> u64 {
+    lamps(build, entry).iter().map(|lamp| ENERGIES[*lamp]).sum()
+}
+
+/// The lamps of an entry: its leaves, or itself.
+fn lamps<J: Judge>(build: &J, entry: &Entry) -> Vec<usize> {
+    let id = entry.id as usize;
     match entry.num > 1.0 {
-        true => {
-            let lamps = build.leaves(entry.id as usize, usize::MAX, 0);
-            lamps.iter().map(|lamp| ENERGIES[lamp.id]).sum()
-        }
-        false => ENERGIES[entry.id as usize],
+        true => build.leaves(id, usize::MAX, 0).iter().map(|lamp| lamp.id).collect(),
+        false => vec![id],
     }
+}
+
+/// For each table the place of the entry that has each lamp.
+fn owners<J: Judge>() -> String {
+    let build = example::<J>();
+    let in_table = |zoom| {
+        let mut owners = LAMPS.map(|_| "none".to_string());
+        for (place, entry) in table(&build, zoom).iter().enumerate() {
+            lamps(&build, entry).iter().for_each(|lamp| owners[*lamp] = place.to_string());
+        }
+        listed(&owners)
+    };
+    [2, 1, 0].map(in_table).join("; ")
 }
 
 fn decoded<J: Judge>(id: usize) -> String {

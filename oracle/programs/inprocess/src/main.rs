@@ -6,6 +6,7 @@
 mod effort;
 mod index;
 mod leaves;
+mod owners;
 mod package;
 mod questions;
 mod tables;
@@ -16,7 +17,7 @@ use group_counts as report;
 use std::{env, process::ExitCode};
 
 const USAGE: &str =
-    "usage: inprocess index|tables|questions|overlap|leaves|effort|tallies|package [--full], or questions --spoiled";
+    "usage: inprocess index|tables|questions|overlap|leaves|effort|tallies|owners|package [--full], or questions --spoiled";
 
 /// How many entries stand behind a lent column, out of the callee's reach.
 const GUARD: usize = 2;
@@ -40,6 +41,8 @@ fn main() -> ExitCode {
         ["effort", "--full"] => effort::run(Form::Full),
         ["tallies"] => tallies::run(Form::Short),
         ["tallies", "--full"] => tallies::run(Form::Full),
+        ["owners"] => owners::run(Form::Short),
+        ["owners", "--full"] => owners::run(Form::Full),
         ["package"] => package::run(Form::Short),
         ["package", "--full"] => package::run(Form::Full),
         _ => {

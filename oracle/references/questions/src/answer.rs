@@ -28,13 +28,14 @@ pub enum Refusal {
     EmptyTile = 8,
     Box = 9,
     Spoiled = 11,
+    Lamp = 16,
 }
 
 impl Refusal {
     /// The refusal with this number.
     pub fn numbered(number: u32) -> Option<Refusal> {
         use Refusal::*;
-        let all = [NoTree, NoCluster, Tile, EmptyTile, Box, Spoiled];
+        let all = [NoTree, NoCluster, Tile, EmptyTile, Box, Spoiled, Lamp];
         all.into_iter().find(|refusal| *refusal as u32 == number)
     }
 }

@@ -39,7 +39,7 @@ impl State {
     }
 
     /// Refuses what is spoiled where there is room for so many entries in each column.
-    fn check(&self, room: usize) -> Result<(), Refusal> {
+    pub(crate) fn check(&self, room: usize) -> Result<(), Refusal> {
         match self.end() {
             Some(end) if room as u64 >= end => Ok(()),
             _ => Err(Refusal::Spoiled),

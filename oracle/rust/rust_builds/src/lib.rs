@@ -8,7 +8,7 @@
 pub mod skipped;
 mod tables;
 
-pub use tables::{data, Row, Table, Tables};
+pub use tables::{data, Row, Table, Tables, NOT_ONE};
 
 use geojson::{feature::Id, Feature, Geometry, JsonObject, Value};
 

@@ -62,16 +62,22 @@ fn whole(number: f64) -> u32 {
     whole
 }
 
+/// What stands for the owner of a lamp that no entry of a table lists, or that two do.
+pub const NOT_ONE: u32 = u32::MAX;
+
 /// The tables of a build in columns, and where each starts and how long it is, by zoom.
 #[derive(Clone, Debug, Default)]
 pub struct Tables {
     pub columns: Columns,
     pub starts: [u32; ZOOMS],
     pub lens: [u32; ZOOMS],
+    /// For each table, the finest first, the place of the one entry that lists each lamp, or `NOT_ONE`.
+    pub listed: Vec<u32>,
 }
 
 impl Tables {
-    /// Packs tables from position 0. An entry's energy is that of the lamps that `lamps` lists for its id, or its own.
+    /// Packs tables from position 0. An entry's energy is that of the lamps that `lamps` lists for its id, or its own; and these
+    /// are the lamps that it owns.
     pub(crate) fn packed<'a>(
         tables: impl Iterator<Item = Table<'a>>,
         energies: &[u64],
@@ -79,18 +85,25 @@ impl Tables {
     ) -> Tables {
         let mut all = Tables::default();
         // A cluster that is carried on keeps its id.
-        let mut sums: HashMap<u32, u64> = HashMap::new();
+        let mut lists: HashMap<u32, Vec<usize>> = HashMap::new();
         for table in tables {
             all.starts[table.zoom] = all.columns.x.len() as u32;
             all.lens[table.zoom] = table.ids.len() as u32;
-            for Row { entry, slot } in table.rows() {
-                let sum = || lamps(entry.id).iter().map(|lamp| energies[*lamp]).sum();
-                let energy = match entry.num {
-                    0 | 1 => energies[entry.id as usize],
-                    _ => *sums.entry(entry.id).or_insert_with(sum),
+            let mut owners = vec![None; energies.len()];
+            for (place, Row { entry, slot }) in table.rows().enumerate() {
+                let own = [entry.id as usize];
+                let listed = match entry.num {
+                    0 | 1 => &own[..],
+                    _ => lists.entry(entry.id).or_insert_with(|| lamps(entry.id)),
                 };
+                let energy = listed.iter().map(|lamp| energies[*lamp]).sum();
+                for lamp in listed {
+                    let owner = &mut owners[*lamp];
+                    *owner = Some(if owner.is_none() { place as u32 } else { NOT_ONE });
+                }
                 all.columns.push(&Entry { energy, ..entry }, &slot);
             }
+            all.listed.extend(owners.into_iter().map(|owner| owner.unwrap_or(NOT_ONE)));
         }
         all
     }

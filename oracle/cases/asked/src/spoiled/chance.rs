@@ -54,7 +54,8 @@ fn made(
         (points[1], ys) = (vec![0.0; count], vec![0.5; count]);
     }
     let energies = columns.energy[..count].to_vec();
-    Build { what: what.to_string(), points, ys, energies, on_the_globe, state, columns }
+    let (what, listed) = (what.to_string(), Vec::new());
+    Build { what, points, ys, energies, on_the_globe, state, columns, listed }
 }
 
 /// Tables on their way, and the ids of clusters that have children in them.

@@ -8,8 +8,12 @@
 mod chance;
 mod entries;
 mod most;
+mod owners;
 mod slots;
 mod states;
+
+pub use most::states as most;
+pub use owners::owners;
 
 use crate::{large, lengthen, Build, Form};
 use options::{corners, Options};
@@ -51,7 +55,7 @@ const LARGE_TIMES: usize = 10;
 
 /// Every spoiled state of a form.
 pub fn each(form: Form, source: &mut Splitmix, mut ask: impl FnMut(&Build, &mut Splitmix)) {
-    most::states().iter().for_each(|build| ask(build, source));
+    most().iter().for_each(|build| ask(build, source));
     large::each(form, source, |build, source| changed_slots(build, source, &mut ask));
     for number in 0..form.of([20_000, 200_000]) {
         ask(&one(number, source), source);

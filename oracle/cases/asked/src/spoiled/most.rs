@@ -17,7 +17,8 @@ pub fn states() -> [Build; 2] {
         let energies = vec![1; count as usize];
         let state = State { options, count, starts, lens };
         let what = format!("{count} lamps");
-        Build { what, points, ys, energies, on_the_globe: false, state, columns }
+        let listed = Vec::new();
+        Build { what, points, ys, energies, on_the_globe: false, state, columns, listed }
     })
 }
 

@@ -45,11 +45,12 @@ pub fn built(what: &str, options: Options, points: [Vec<f64>; 2]) -> Build {
     let [xs, ys] = &points;
     let energies = energies_of(&points);
     let given = Given { xs, ys, energies: &energies };
-    let Tables { columns, starts, lens } = tables(&options, &given);
+    let Tables { columns, starts, lens, listed } = tables(&options, &given);
     let state = State { options, count: xs.len() as u32, starts, lens };
     let ys = ys.clone();
     // The Rust is asked for latitudes of which y is the same everywhere: the poles and the equator.
-    Build { what: what.to_string(), points, ys, energies, on_the_globe: false, state, columns }
+    let what = what.to_string();
+    Build { what, points, ys, energies, on_the_globe: false, state, columns, listed }
 }
 
 /// Each question with lengths of output columns around its answer's.

@@ -2,12 +2,14 @@
 //!
 //! Its own part, `inprocess package`, is what the package adds to that, on the builds and the spoiled tables of `questions`:
 //! conversions and the zoom used beside the Rust's, latitudes beside the y of its finest table, the columns that a build keeps
-//! beside the patched Rust's, and beside the references the lists that grow, tables and entries, and each lamp's owner.
+//! beside the patched Rust's, and beside the references the lists that grow, tables and entries, and each lamp's owner, over spoiled
+//! columns of owners too.
 //!
 //! That this can fail was tried, in the short form of 503,098 cases, with a package that is wrong in these things at once:
 //! normalising that denormalises, a zoom used of at most max_zoom, columns an entry too long, a second call with room for one item
 //! less, tables without their last entry, owners by the id and 1 where there is no parent, 11 told as 6. Of the groups in their
-//! order 30,860, 2,876, 0, 361, 57, 6,935, 5,892 and 124,126 cases differ. With latitudes by `atanh` 3,753 of theirs do.
+//! order 30,860, 2,876, 0, 361, 57, 6,935, 5,892 and 124,126 cases differ. With latitudes by `atanh` 3,753 of theirs do. With owners read
+//! from the column's coarsest part on 2,968 and 1,239 of theirs differ, with the length of a table taken for a place 34.
 
 mod numbers;
 mod upper;
@@ -34,9 +36,9 @@ pub fn run(form: Form) -> ExitCode {
 
 macro_rules! names {
     ([$($entry:ident: $number:ty),*] [$($slot:ident: $kind:ty),*]) => {
-        /// The names of the columns, in the order in which they are lent: those of the tables, and the neighbours.
-        pub const COLUMNS: [&str; columns::NAMES.len() + 1] =
-            [$(stringify!($entry),)* $(stringify!($slot),)* "near"];
+        /// The names of the columns, in the order in which they are lent: those of the tables, the neighbours, and the owners.
+        pub const COLUMNS: [&str; columns::NAMES.len() + 2] =
+            [$(stringify!($entry),)* $(stringify!($slot),)* "near", "owners"];
     };
 }
 
@@ -51,38 +53,42 @@ pub fn needed(options: &Options, count: usize) -> Lengths {
     COLUMNS.map(|name| entries * width(name))
 }
 
-/// The columns of a build: those of the tables, and the neighbours.
+/// The columns of a build: those of the tables, the neighbours, and the owners.
 #[derive(Clone, Debug, Default)]
 pub struct Columns {
     pub tables: columns::Columns,
     pub near: Vec<u32>,
+    pub owners: Vec<u32>,
 }
 
 impl Columns {
     /// Zeros of these lengths.
     pub fn zeros(lengths: Lengths) -> Columns {
-        let (tables, near) = parts(lengths);
-        Columns { tables: columns::Columns::zeros(tables), near: vec![0; near] }
+        let (tables, [near, owners]) = parts(lengths);
+        let [near, owners] = [near, owners].map(|length| vec![0; length]);
+        Columns { tables: columns::Columns::zeros(tables), near, owners }
     }
 
     /// The first so many numbers of each, lent to a build.
     fn fronts(&mut self, lengths: Lengths) -> lent::Written<'_> {
         macro_rules! written {
-            ([$($entry:ident: $number:ty),*] [$($slot:ident: $kind:ty),*] $tables:ident, $near:expr) => {{
+            ([$($entry:ident: $number:ty),*] [$($slot:ident: $kind:ty),*] $tables:ident, $others:ident) => {{
                 let Written { $($entry,)* $($slot,)* } = $tables;
-                lent::Written { $($entry,)* $($slot,)* near: $near }
+                let [near, owners] = $others;
+                lent::Written { $($entry,)* $($slot,)* near, owners }
             }};
         }
-        let (tables, near) = parts(lengths);
+        let (tables, [near, owners]) = parts(lengths);
         let tables = self.tables.fronts(tables);
-        with_columns!(written! tables, &mut self.near[..near])
+        let others = [&mut self.near[..near], &mut self.owners[..owners]];
+        with_columns!(written! tables, others)
     }
 }
 
-/// The lengths of the tables' columns, and that of the neighbours.
-fn parts(lengths: Lengths) -> (columns::Lengths, usize) {
-    let (near, tables) = lengths.split_last().expect("a length for each column");
-    (tables.try_into().expect("a length for each column of the tables"), *near)
+/// The lengths of the tables' columns, and those of the neighbours and of the owners.
+fn parts(lengths: Lengths) -> (columns::Lengths, [usize; 2]) {
+    let (tables, others) = lengths.split_last_chunk().expect("a length for each column");
+    (tables.try_into().expect("a length for each column of the tables"), *others)
 }
 
 /// The build of points in the first so many numbers of each column; starts and lengths go into the two arrays.
@@ -111,14 +117,22 @@ fn as_state(state: &questions::State) -> lent::State {
     lent::State { options: as_options(options), count: *count, starts: *starts, lens: *lens }
 }
 
-/// The columns of the tables as they are lent.
+/// The columns of the tables as they are lent, without that of the owners.
 fn as_columns<'a>(lent: &columns::Lent<'a>) -> lent::Columns<'a> {
     macro_rules! columns {
         ([$($entry:ident: $number:ty),*] [$($slot:ident: $kind:ty),*] $lent:ident) => {
-            lent::Columns { $($entry: $lent.$entry,)* $($slot: $lent.$slot,)* }
+            lent::Columns { $($entry: $lent.$entry,)* $($slot: $lent.$slot,)* owners: &[] }
         };
     }
     with_columns!(columns! lent)
+}
+
+/// The owner of a lamp, asked of a state and the column of the owners alone.
+pub fn owner(state: &questions::State, owners: &[u32], lamp: u32, zoom: u8) -> Reply {
+    let questions::State { options, count, starts, lens } = state;
+    let columns = lent::Columns { owners, ..lent::Columns::default() };
+    let asked = Asked { options: as_options(options), count: *count, starts, lens, columns };
+    asked.owner(lamp, zoom)
 }
 
 /// The options as the package has them.

@@ -1,10 +1,10 @@
 //! The upper layer of the package: what it builds and lists by itself, beside the reference over the Rust's tables.
 
 use super::{as_columns, as_options, as_state};
-use crate::report::{other, Group};
+use crate::report::{other, other_column, Group};
 use asked::{spoiled, Build, Form};
 use columns::{Lent, ReadBoth, Value};
-use questions::{Outcome, Question};
+use questions::{climbed, Outcome, Question};
 use reachvolem::{lent, Entry, Refused, Supercluster, Tables};
 use splitmix::Splitmix;
 
@@ -15,6 +15,7 @@ pub struct Upper {
     entries: Group,
     owners: Group,
     spoiled: Group,
+    spoiled_owners: Group,
 }
 
 impl Upper {
@@ -25,6 +26,7 @@ impl Upper {
             entries: Group::new("package, entries and tables"),
             owners: Group::new("package, owners beside the leaves"),
             spoiled: Group::new("package, questions over spoiled tables"),
+            spoiled_owners: Group::new("package, owners over spoiled columns"),
         }
     }
 
@@ -39,8 +41,21 @@ impl Upper {
                 self.spoiled.compare(about, differs(&tables, build, &question));
             }
         });
-        let Upper { loads, questions, entries, owners, spoiled } = self;
-        vec![loads, questions, entries, owners, spoiled]
+        self.over_spoiled_owners(form);
+        let Upper { loads, questions, entries, owners, spoiled, spoiled_owners } = self;
+        vec![loads, questions, entries, owners, spoiled, spoiled_owners]
+    }
+
+    /// The owners of all lamps and of each, over states and columns of owners that no build made.
+    fn over_spoiled_owners(&mut self, form: Form) {
+        let mut source = Splitmix(1_115);
+        for number in 0..form.of([4_000, 40_000]) {
+            let build = spoiled::one(number, &mut source);
+            let (what, owners) = spoiled::owners(&build, &mut source);
+            let zoom = source.below(34) as u8;
+            let about = || format!("{}, {what}, zoom {zoom}", build.name());
+            self.spoiled_owners.compare(about, other_spoiled_owners(&build, &owners, zoom));
+        }
     }
 
     /// One build of the Rust's, loaded by the package.
@@ -55,7 +70,9 @@ impl Upper {
         let mut other_columns = Other(None);
         build.columns.lent().read_beside(&as_lent(&lamps.columns()), &mut other_columns);
         let other_state = other("state", &as_state(&build.state), lamps.state());
-        self.loads.compare(|| build.name(), other_state.or(other_columns.0));
+        let owners = climbed(&build.state, &build.columns.lent()).unwrap_or_default();
+        let other_column = other_column("owners", &owners, lamps.columns().owners);
+        self.loads.compare(|| build.name(), other_state.or(other_columns.0).or(other_column));
         for question in asked::few(&build.scene(), source) {
             let about = || format!("{}, {question:?}", build.name());
             self.questions.compare(about, differs(&lamps.tables(), build, &question));
@@ -174,5 +191,30 @@ fn other_owners(lamps: &Supercluster, build: &Build, zoom: usize) -> Option<Stri
         leaves.iter().for_each(|lamp| expected[*lamp as usize] = Some(place as u32));
     }
     let found = lamps.owners(zoom as u8).map(|owners| owners.into_iter().map(Some).collect());
-    other("owners", &Ok(expected), &found)
+    let one = |lamp| lamps.owner(lamp, zoom as u8);
+    let singly = (0..lamps.count()).map(|lamp| one(lamp).map(Some)).collect();
+    other("owners", &Ok(&expected), &found.as_ref())
+        .or_else(|| other("owner", &Ok(&expected), &Result::as_ref(&singly)))
+        .or_else(|| other("past the last", Err(Refused::Lamp), one(lamps.count())))
+}
+
+/// How the owners over a state and a column that no build made are not the reference's, if they are not: all of them, which one that
+/// is refused spoils, and that of each lamp.
+fn other_spoiled_owners(build: &Build, owners: &[u32], zoom: u8) -> Option<String> {
+    let state = as_state(&build.state);
+    let tables = Tables::lent(&state, lent::Columns { owners, ..lent::Columns::default() });
+    let number = |refused: Refused| refused.number();
+    let by_reference = |lamp| {
+        let place = questions::owner(&build.state, owners, lamp, zoom);
+        place.map(|place| place as u32).map_err(|refusal| refusal as u32)
+    };
+    // Where a state asks for more lamps than these it is out of bounds, or the column too short.
+    let lamps = 0..build.state.count.min(1 << 20);
+    let each = |lamp| other("owner", by_reference(lamp), tables.owner(lamp, zoom).map_err(number));
+    let all: Result<Vec<u32>, u32> = match lamps.is_empty() {
+        true => Err(11),
+        false => lamps.clone().map(by_reference).collect(),
+    };
+    other("owners", all, tables.owners(zoom).map_err(number))
+        .or_else(|| lamps.take(64).chain([build.state.count, u32::MAX]).find_map(each))
 }

@@ -13,6 +13,7 @@ use reachvolem::lent::Reply;
 pub struct Port {
     pub state: State,
     columns: columns::Columns,
+    owners: Vec<u32>,
 }
 
 impl Port {
@@ -24,9 +25,9 @@ impl Port {
         match outcome.is_not_of(&build.columns.lent(), [starts, lens]) {
             Some(difference) => Err(format!("the port's tables are others: {difference}")),
             None => {
-                let (columns, [starts, lens]) = outcome.left();
+                let (left, [starts, lens]) = outcome.left();
                 let state = State { options: *options, count: *count, starts, lens };
-                Ok(Port { state, columns })
+                Ok(Port { state, columns: left.tables, owners: left.owners })
             }
         }
     }
@@ -35,6 +36,11 @@ impl Port {
     pub fn lent(&self) -> Lent<'_> {
         let entries = self.state.lens.iter().map(|length| *length as usize).sum();
         self.columns.lent().fronts(columns::needed(entries))
+    }
+
+    /// The column of the owners, without what stands behind it.
+    pub fn owners(&self) -> &[u32] {
+        &self.owners[..self.state.options.tables() * self.state.count as usize]
     }
 
     /// What it answers, as it stands in columns with room for all; or what is amiss with that.

@@ -7,6 +7,7 @@ use crate::{
 };
 use columns::{Change, Given, Lent, ReadBoth, Value};
 use options::Options;
+use questions::{climbed, State};
 use reachvolem::lent::{Reply, ZOOMS};
 use rust_builds::Tables;
 
@@ -19,6 +20,7 @@ pub struct Request<'a> {
 
 /// What a build left.
 pub struct Outcome {
+    options: Options,
     count: usize,
     reply: Reply,
     columns: Columns,
@@ -33,7 +35,8 @@ impl Request<'_> {
         let [mut starts, mut lens] = [STARTS, LENS].map(|name| old(name, ZOOMS + GUARD));
         let state = [whole(&mut starts), whole(&mut lens)];
         let reply = package::load(self.options, &self.given, &mut columns, self.lengths, state);
-        Outcome { count: self.given.xs.len(), reply, columns, starts, lens }
+        let (options, count) = (*self.options, self.given.xs.len());
+        Outcome { options, count, reply, columns, starts, lens }
     }
 }
 
@@ -43,12 +46,31 @@ impl Outcome {
         self.is_not_of(&tables.columns.lent(), [&tables.starts, &tables.lens])
     }
 
-    /// The same of tables in these columns, with their starts and lengths.
-    pub fn is_not_of(&self, columns: &Lent, [starts, lens]: [&[u32]; 2]) -> Option<String> {
+    /// The same of tables in these columns, with their starts and lengths. The owners are those that are climbed to in them.
+    pub fn is_not_of(&self, columns: &Lent, state: [&[u32; ZOOMS]; 2]) -> Option<String> {
+        let [starts, lens] = state;
         let near = vec![0; 2 * self.count];
+        let Some(owners) = self.climbed(columns, state) else {
+            return Some("a lamp without one owner in the Rust's tables".to_string());
+        };
         other("reply", Reply { number: 0, carried: 0 }, self.reply)
             .or_else(|| self.other_state(starts, lens))
-            .or_else(|| self.other_columns(columns, &near))
+            .or_else(|| self.other_columns(columns, &near, &owners))
+    }
+
+    /// The owners that are climbed to in tables of these options and points.
+    pub fn climbed(&self, columns: &Lent, [starts, lens]: [&[u32; ZOOMS]; 2]) -> Option<Vec<u32>> {
+        let Outcome { options, count, .. } = *self;
+        let state = State { options, count: count as u32, starts: *starts, lens: *lens };
+        climbed(&state, columns)
+    }
+
+    /// The owners of each table that was built, by its zoom, the finest first; of a refused build there are none.
+    pub fn owners(&self) -> impl Iterator<Item = (usize, &[u32])> + '_ {
+        let Options { min_zoom, max_zoom, .. } = self.options;
+        let zooms = (usize::from(min_zoom)..=usize::from(max_zoom) + 1).rev();
+        let parts = self.columns.owners.chunks_exact(self.count.max(1));
+        zooms.zip(parts).filter(|_| self.reply.number == 0)
     }
 
     /// The energies of each table that was built, by its zoom, added up; of a refused build there are none.
@@ -62,32 +84,36 @@ impl Outcome {
         })
     }
 
-    /// What is left: the columns of the tables, starts and lengths.
-    pub fn left(self) -> (columns::Columns, [[u32; ZOOMS]; 2]) {
-        (self.columns.tables, [self.starts, self.lens].map(|mut column| *whole(&mut column)))
+    /// What is left: the columns, starts and lengths.
+    pub fn left(self) -> (Columns, [[u32; ZOOMS]; 2]) {
+        (self.columns, [self.starts, self.lens].map(|mut column| *whole(&mut column)))
     }
 
     /// How this is not a build refused by this reply, if it is not.
     pub fn is_not_refused(&self, reply: Reply) -> Option<String> {
         other("reply", reply, self.reply)
             .or_else(|| self.other_state(&[], &[]))
-            .or_else(|| self.other_columns(&columns::Columns::default().lent(), &[]))
+            .or_else(|| self.other_columns(&columns::Columns::default().lent(), &[], &[]))
     }
 
     fn other_state(&self, starts: &[u32], lens: &[u32]) -> Option<String> {
         other_front(STARTS, starts, &self.starts).or_else(|| other_front(LENS, lens, &self.lens))
     }
 
-    fn other_columns(&self, columns: &Lent, near: &[u32]) -> Option<String> {
+    fn other_columns(&self, columns: &Lent, near: &[u32], owners: &[u32]) -> Option<String> {
         let mut other = Other(None);
         columns.read_beside(&self.columns.tables.lent(), &mut other);
-        other.0.or_else(|| other_front(NEAR, near, &self.columns.near))
+        other
+            .0
+            .or_else(|| other_front(NEAR, near, &self.columns.near))
+            .or_else(|| other_front(OWNERS, owners, &self.columns.owners))
     }
 }
 
 const STARTS: &str = "starts";
 const LENS: &str = "lens";
 const NEAR: &str = "near";
+const OWNERS: &str = "owners";
 
 /// Where a column first is not the expected one and old contents from its end on.
 struct Other(Option<String>);
@@ -110,6 +136,7 @@ fn old_columns(lengths: Lengths) -> Columns {
     let mut columns = Columns::zeros(lengths.map(|length| length + GUARD));
     columns.tables.change(&mut Old);
     columns.near = old(NEAR, columns.near.len());
+    columns.owners = old(OWNERS, columns.owners.len());
     columns
 }
 

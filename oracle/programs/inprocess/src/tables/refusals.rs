@@ -204,6 +204,10 @@ fn some_lengths(options: &Options, count: usize) -> Vec<Lengths> {
     all
 }
 
+/// The places of the neighbours and of the owners among the columns.
+const NEAR: usize = COLUMNS.len() - 2;
+const OWNERS: usize = COLUMNS.len() - 1;
+
 /// One point more than a build can have, and the last one outside or of too large an energy; as many as it can have,
 /// in columns that are too short.
 fn too_many(group: &mut Group) {
@@ -232,7 +236,7 @@ pub fn of_short_columns() -> Group {
                 let mut all = some_lengths(&options, count);
                 // As many neighbours as points, and no more: that is too short.
                 let mut few_neighbours = needed(&options, count);
-                few_neighbours[COLUMNS.len() - 1] = count;
+                few_neighbours[NEAR] = count;
                 all.push(few_neighbours);
                 for lengths in all {
                     let points = points.clone();
@@ -242,4 +246,52 @@ pub fn of_short_columns() -> Group {
         }
     }
     group
+}
+
+/// A column of the owners that is too short, just long enough or longer, where the others are just long enough or one of them
+/// is too short: beside 1, 2, 3 and 15 in every combination, and for several numbers of tables.
+pub fn by_the_owners() -> Group {
+    let mut group = Group::new("tables, refusals by the owner column");
+    for options in some_options() {
+        for counts in COUNTS {
+            for changes in CHANGES {
+                for energies in &ENERGIES[..3] {
+                    let points = changed(counts, changes, energies);
+                    for lengths in owner_lengths(&options, counts[0]) {
+                        let points = points.clone();
+                        judge(&Asked { options, points, lengths }, &mut group);
+                    }
+                }
+            }
+        }
+    }
+    for [min_zoom, max_zoom] in [[0, 0], [0, 30], [7, 16], [29, 30], [30, 30]] {
+        let options = Options { min_zoom, max_zoom, ..USUAL };
+        for count in [1, 2, 17, 300] {
+            for lengths in owner_lengths(&options, count) {
+                judge(&Asked { options, points: spread(count), lengths }, &mut group);
+            }
+        }
+    }
+    group
+}
+
+/// Lengths of the column of the owners: none, one, one lamp's and one table's too few, just enough, more. The others are just long
+/// enough; in the last ones the neighbours are one short.
+fn owner_lengths(options: &Options, count: usize) -> Vec<Lengths> {
+    let enough = needed(options, count);
+    let with = |owners: usize| {
+        let mut lengths = enough;
+        lengths[OWNERS] = owners;
+        lengths
+    };
+    let needed = enough[OWNERS];
+    let few = [0, 1, needed.saturating_sub(count), needed.saturating_sub(1)];
+    let mut all: Vec<Lengths> =
+        few.into_iter().chain([needed, needed + 1, needed + 9]).map(with).collect();
+    for mut lengths in [with(needed.saturating_sub(1)), with(needed + 1)] {
+        lengths[NEAR] = lengths[NEAR].saturating_sub(1);
+        all.push(lengths);
+    }
+    all
 }

@@ -1,0 +1,2 @@
+-- Laws that only this crate's own proofs use.
+pub mod Reach
