@@ -1,5 +1,5 @@
-// The question 'owner' to a build: the entry that owns a lamp in the table of a zoom, read from the column that the build leaves. Nothing is
-// asked of the caller: what SCOPE does not take is refused with its number.
+// The question 'owner' to a build: the entry that owns a lamp in the table of a zoom, read from the column that the build leaves. Nothing
+// is asked of the caller: what SCOPE does not take is refused with its number.
 use build_tables::State;
 ghost use mathlib.Core.Path.{_≡_};
 ghost use mathlib.Core.Bool.{true};

@@ -1,5 +1,5 @@
--- What `load` replies and leaves: the build, and beside its tables the owner column. The build is that of `supercluster`; only 4 looks at the
--- owner column too. Definitions only.
+-- What `load` replies and leaves: the build, and beside its tables the owner column. The build is that of `supercluster`; only 4 looks at
+-- the owner column too. Definitions only.
 use mathlib.Core.Bool.{true, false}
 use mathlib.Core.List.{List}
 use Prim.Native.Nat.{ℕ, min}

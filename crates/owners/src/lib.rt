@@ -1,5 +1,5 @@
-// The public build: that of `supercluster`, with the owner column filled beside its tables, and one owner for every lamp as what it ensures:
-// demand 3 in the contract of the code that runs. The statements are in specs/Owners and specs/KeptOwners.
+// The public build: that of `supercluster`, with the owner column filled beside its tables, and one owner for every lamp as what it
+// ensures: demand 3 in the contract of the code that runs. The statements are in specs/Owners and specs/KeptOwners.
 use build_tables::Options;
 use supercluster::Loaded;
 ghost use mathlib.Core.Path.{_≡_};
