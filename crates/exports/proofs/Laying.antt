@@ -4,9 +4,9 @@ use mathlib.Core.List.{List}
 use Prim.Native.Nat.{ℕ, zero, suc, _<_, _≤_}
 use native.Mathlib.Omega.{arith}
 use Rattle.supercluster.specs.declared.Loaded.{Loaded}
-use Rattle.supercluster.specs.Build.{BuildColumns, outcome}
+use Rattle.supercluster.specs.Build.{BuildColumns, outcome, unlessRefused}
 use Rattle.owners.specs.LoadedWith.{OwnedOutcome, ownedOutcome}
-use Rattle.exports.specs.Laid.{Replied, replied, unlessRefused, repliedOf, laid, laidOf}
+use Rattle.exports.specs.Laid.{Replied, replied, repliedOf, laid, laidOf}
 
 replied-is : {n m k l : ℕ} {a b c d : List ℕ} → n ≡ m → k ≡ l → a ≡ b → c ≡ d → replied n k a c ≡ replied m l b d
 replied-is e f g h = λ i. replied (e i) (f i) (g i) (h i)

@@ -148,6 +148,11 @@ loadCarried (No·Point i) = i
 loadCarried (Energy i) = i
 loadCarried Tables = 0
 
+-- what a reply with this number leaves of a column: 0 writes it, a refusal does not
+abbrev pub unlessRefused : ℕ → List ℕ → List ℕ → List ℕ
+unlessRefused zero written old = written
+unlessRefused (suc n) written old = old
+
 -- a reply beside its state, and what it leaves in the columns
 pub record Outcome : Type 0 where
   pub reply : Loaded

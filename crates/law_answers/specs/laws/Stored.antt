@@ -3,15 +3,14 @@
 use mathlib.Core.Path.{_≡_, refl, ap, ap₂, sym, _∙_, subst}
 use mathlib.Core.Logic.{⊎-elim}
 use mathlib.Core.Bool.{true}
-use mathlib.Core.List.{List, [], _∷_, _++_, map, append-assoc}
-use Prim.Native.Nat.{ℕ, zero, suc, _+_, _-_, _*_, _/_, _<_, _≤_, min}
+use mathlib.Core.List.{List, [], _∷_, _++_, append-assoc}
+use Prim.Native.Nat.{ℕ, zero, suc, _+_, _-_, _*_, _/_, _<_, _≤_}
 use native.Mathlib.Omega.{arith}
 use borrow.Author.Tests.{le-leb, eq-eqb}
-use lib.ListN.{length, getD, take, drop, length-append, length-map}
+use lib.ListN.{length, getD, take, drop, length-append}
 use lib.Seq.{drop-drop, drop-append-seam, take-append-seam}
 use lib.Ieee.{Float}
 use Rattle.kdslots.specs.laws.All.{All, all-map}
-use Rattle.build_tables.specs.declared.Entry.{Entry}
 use Rattle.build_tables.specs.declared.State.{State}
 use Rattle.build_tables.specs.laws.Bounds.{options-are}
 use Rattle.build_tables.specs.Columns.{part, heldAt}
@@ -22,15 +21,16 @@ use Rattle.build_tables.specs.Sound.{packed, stateOk}
 use Rattle.build_one_zoom.specs.laws.Keeps.{cluster-long}
 use Rattle.law_groups.specs.laws.Sums.{below}
 use Rattle.build_tables.specs.Room.{Columns, columns, roomOf}
+use Rattle.build_tables.specs.laws.Roomy.{both, roomy-room}
 use Rattle.ask_base.specs.Columns.{tableAt, idsAt, coordsAt}
-use Rattle.build_all_zooms.specs.Zooms.{Plan, runZooms, indexOfTable, zoomsOf, joined, joinedIds, joinedCo, laidOver}
+use Rattle.build_all_zooms.specs.Zooms.{Plan, runZooms, indexOfTable, zoomsOf, joined, joinedIds, joinedCo}
 use Rattle.build_all_zooms.specs.laws.Running.{slots-ids, slots-co}
 use Rattle.supercluster.specs.declared.LoadReply.the-variants.{Done}
 use Rattle.supercluster.specs.Build.{tablesOf, builtState, BuildColumns, Outcome, written, need, checked, byReply, loaded}
 use Rattle.supercluster.specs.laws.Held.{LaidOut, held, built-laid, built-held}
 use Rattle.supercluster.specs.laws.Load.{Holds, accepted, holds, replies, rowsIn}
 use Rattle.supercluster.specs.laws.Over.{over-length}
-use Rattle.supercluster.specs.laws.Right.{Right, tables-right, tables-count, tables-room}
+use Rattle.supercluster.specs.laws.Right.{Right, tables-right, tables-count, tables-room, roomy-written}
 use Rattle.law_builds.specs.Given.{Given, AcceptedBuild, points, minZ, maxZ, plan, tablesOfBuild, lampsIn, energyIn, lampsIn-length}
 use Rattle.law_builds.specs.Came.{tableOfZoom as built}
 use Rattle.law_answers.specs.Stored.{columnsOf}
@@ -135,9 +135,6 @@ laid-packed s cap e (t ∷ ts) at d w h =
 
 -- ---- of a build
 
-both : (m a b : ℕ) → m ≤ a → m ≤ b → m ≤ min a b
-both m a b p q = omega arith
-
 half : (m h : ℕ) → m * 2 ≤ h → m ≤ h / 2
 half m h p = omega arith
 
@@ -239,11 +236,6 @@ module _ (G : Given) (a : AcceptedBuild G) where
     abbrev C : Columns
     C = columnsBy G l
 
-    -- a column of the tables, over one that holds them
-    wide : {A : Type 0} (f : Entry → A) (d : List A) → need (G .options) (points G) ≤ length d
-        → need (G .options) (points G) ≤ length (laidOver (map f (joined Ts)) d)
-    wide f d h = omega (arith, over-length (map f (joined Ts)) d (omega (arith, fits, length-map (joined Ts) f, h)), h)
-
     room : need (G .options) (points G) ≤ roomOf (columnsBy G l)
     unfolding written
     room =
@@ -253,11 +245,7 @@ module _ (G : Given) (a : AcceptedBuild G) where
         let c = co-joined Ts slots-long in
         let k : n ≤ length (C .ids) = omega (arith, over-length (joinedIds size Ts) (l .ids) (omega (arith, f, i, r .hd)), r .hd) in
         let t : n * 2 ≤ length (C .coords) = omega (arith, over-length (joinedCo size Ts) (l .coords) (omega (arith, f, c, r .hc)), r .hc) in
-        let c = l .table in
-        both n _ _ (both n _ _ (both n _ _ (wide (λ e. e .x) (c .x) (r .hx)) (wide (λ e. e .y) (c .y) (r .hy)))
-        (both n _ _ (wide (λ e. e .seen) (c .seen) (r .hs)) (wide (λ e. e .id) (c .id) (r .hi))))
-        (both n _ _ (both n _ _ (wide (λ e. e .parent) (c .parent) (r .hp)) (wide (λ e. e .num) (c .num) (r .hn)))
-        (both n _ _ (wide (λ e. e .energy) (c .energy) (r .hw)) (both n _ _ k (half n (length (C .coords)) t))))
+        roomy-room C n (roomy-written (G .options) (G .xs) (G .ys) (G .energies) l a (r .table)) (both n _ _ k (half n (length (C .coords)) t))
 
     -- the state passes its check
     pub state-sound : stateOk (stateBy G) (roomOf (columnsBy G l)) ≡ true

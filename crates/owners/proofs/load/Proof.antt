@@ -1,8 +1,8 @@
 -- `owners::load` meets its contract: what `supercluster::load` leaves, lent a front of `near`, and what `build_owners::fill` leaves then, are
 -- the build and its owner column; and they have one owner for every lamp. Assumes nothing.
-use mathlib.Core.Path.{_≡_, sym, ap, _∙_, subst}
+use mathlib.Core.Path.{_≡_, sym}
 use mathlib.Core.List.{List, _++_}
-use Prim.Native.Nat.{ℕ, _*_, _<_, _≤_, min}
+use Prim.Native.Nat.{ℕ, _*_, _<_, _≤_}
 use native.Mathlib.Omega.{arith}
 use lib.ListN.{length, drop}
 use lib.Seq.{length-take-le}
@@ -10,16 +10,16 @@ use denote.Ref.{now}
 use borrow.Author.Needs.{needs}
 use Rattle.build_tables.specs.Options.{tableCount}
 use Rattle.build_tables.specs.Rows.{Cols, cols, rows}
-use Rattle.build_tables.specs.laws.Roomy.{Roomy}
+use Rattle.build_tables.specs.laws.Roomy.{Roomy, frontCols}
 use Rattle.supercluster.specs.declared.LoadReply.the-variants.{Done}
-use Rattle.supercluster.specs.Build.{BuildColumns, buildColumns, Outcome, outcome, loadNumber}
+use Rattle.supercluster.specs.Build.{BuildColumns, buildColumns, outcome, loadNumber}
 use Rattle.supercluster.specs.Lent.{givenAll}
+use Rattle.supercluster.specs.laws.Load.{number-done}
 use Rattle.law_builds.specs.Given.{Given, givenBuild}
 use Rattle.law_lamps.specs.Owner.{owner}
 use Rattle.build_owners.specs.laws.Climbs.{Climbable}
-use Rattle.build_owners.specs.laws.Fronts.{frontOf}
 use Rattle.owners.specs.LoadedWith.{ownedOutcome, loadedWith}
-use Rattle.owners.specs.laws.Keeping.{zero-done, refused-told, fill-ready, done-told}
+use Rattle.owners.specs.laws.Keeping.{refused-told, fill-ready, done-told}
 use Rattle.owners.specs.laws.KeptProved.{loaded-owners}
 use Rattle.owners.proofs.load.Statement.{statement}
 use Rattle.owners.proofs.load.Tie as tie
@@ -69,10 +69,10 @@ abbrev load-of : tie.Else1 → tie.After-load
 load-of e = search
 
 done : (e : tie.Else1) → load-of e .load .result .reply ≡ Done
-done e = let n : tie.After-number = search in zero-done (load-of e .load .result .reply) (omega (arith, n .number .ensures, e .if1 .left))
+done e = let n : tie.After-number = search in number-done (load-of e .load .result .reply) (omega (arith, n .number .ensures, e .if1 .left))
 
 filling : (e : tie.Else1) → let w = load-of e in let s = start-of w in let q = w .load .result .state in let k = tableCount (q .options) * q .count in
-    Roomy k (table w) × Climbable q (rows (frontOf k (table w)))
+    Roomy k (table w) × Climbable q (rows (frontCols k (table w)))
     × (q .count ≤ length (front w ++ drop (less-of w .less .result) (now (s .args .near)))) × (k ≤ length (now (s .args .owners)))
 filling e =
     let w = load-of e in

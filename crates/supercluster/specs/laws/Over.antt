@@ -1,13 +1,13 @@
--- Columns of which a front is written, and the rows of columns whose front is a table. Assumes nothing.
+-- Columns of which a front is written, the rows of columns whose front is a table, and that these keep their room. Assumes nothing.
 use mathlib.Core.Path.{_≡_, refl, ap, sym, _∙_}
 use mathlib.Core.List.{List, [], _∷_, _++_, map, append-assoc}
 use Prim.Native.Nat.{ℕ, zero, suc, _+_, _-_, _≤_}
 use native.Mathlib.Omega.{arith}
-use lib.ListN.{length, take, drop, length-append, length-drop, length-map, take-append-drop}
+use lib.ListN.{length, take, drop, replicate, length-append, length-drop, length-map, length-replicate, take-append-drop}
 use lib.Seq.{drop-append-add, drop-drop, length-take-le, drop-append-le}
-use lib.Ieee.{Float}
 use Rattle.build_tables.specs.laws.Columns.{map-drop, rows-drop}
 use Rattle.build_tables.specs.Entries.{Table}
+use Rattle.build_tables.specs.laws.Roomy.{Roomy}
 use Rattle.build_tables.specs.Rows.{Cols, rows, each2}
 use Rattle.build_tables.specs.declared.Entry.{Entry}
 use Rattle.build_one_zoom.specs.laws.Keeps.{cluster-long}
@@ -64,3 +64,25 @@ rows-over T c =
 
 pub over-length : {A : Type 0} (l d : List A) → length l ≤ length d → length (laidOver l d) ≡ length d
 over-length l d h = omega (arith, length-append l (drop (length l) d), length-drop (length l) d)
+
+-- a front that came back as zeros
+pub zeros-front : (n : ℕ) (p l : List ℕ) → p ≡ replicate n 0 → p ++ drop n l ≡ laidOver (replicate n 0) l
+zeros-front n p l h =
+    ap (λ (q : List ℕ). q ++ drop n l) h ∙ ap (λ (k : ℕ). replicate n 0 ++ drop k l) (sym (length-replicate {A = ℕ} n 0))
+
+-- ---- columns with room for n entries, once a table of no more was laid over them
+
+wide : {B : Type 0} (f : Entry → B) (n : ℕ) (T : Table) (d : List B) → length T ≤ n → n ≤ length d → n ≤ length (laidOver (map f T) d)
+wide f n T d t h = omega (arith, over-length (map f T) d (omega (arith, length-map T f, t, h)), h)
+
+pub roomy-over : (n : ℕ) (T : Table) (c : Cols) → length T ≤ n → Roomy n c → Roomy n (each2 (λ A l q. laidOver l q) (colsOf T) c)
+roomy-over n T c t r =
+    record {
+      hx = wide (λ e. e .x) n T (c .x) t (r .hx);
+      hy = wide (λ e. e .y) n T (c .y) t (r .hy);
+      hs = wide (λ e. e .seen) n T (c .seen) t (r .hs);
+      hi = wide (λ e. e .id) n T (c .id) t (r .hi);
+      hp = wide (λ e. e .parent) n T (c .parent) t (r .hp);
+      hn = wide (λ e. e .num) n T (c .num) t (r .hn);
+      hw = wide (λ e. e .energy) n T (c .energy) t (r .hw);
+    }

@@ -13,6 +13,7 @@ use Rattle.kdslots.specs.laws.All.{All, all-map}
 use Rattle.kdslots.specs.laws.Members.{Distinct}
 use Rattle.build_tables.specs.laws.Bounds.{options-are}
 use Rattle.build_tables.specs.Entries.{Table}
+use Rattle.build_tables.specs.laws.Roomy.{Roomy}
 use Rattle.build_tables.specs.Radius.{radiusAt}
 use Rattle.build_tables.specs.declared.Options.{Options}
 use Rattle.build_one_zoom.specs.laws.Lamps.{sumOf, lampTotal}
@@ -20,8 +21,9 @@ use Rattle.build_one_zoom.specs.Zoom.{energyOf}
 use Rattle.build_one_zoom.specs.laws.Sound.{Body, Next, cluster-sound}
 use Rattle.build_all_zooms.specs.Zooms.{nearIn, Plan, zoomPlan, zoomed, runZooms, zoomsOf, joined}
 use Rattle.build_all_zooms.specs.laws.Running.{Able, total-some, slots-promised}
-use Rattle.supercluster.specs.Build.{convertedAll, tablesOf, need}
+use Rattle.supercluster.specs.Build.{convertedAll, tablesOf, need, BuildColumns, written}
 use Rattle.supercluster.specs.laws.Fill.{lamps-length, finest-fine, finest-total, lamps}
+use Rattle.supercluster.specs.laws.Over.{roomy-over}
 use Rattle.supercluster.specs.laws.Ready.{Accepted, need-some, able}
 
 -- what is true of a table of a build of n lamps
@@ -87,4 +89,12 @@ pub tables-room : (o : Options) (xs ys : List Float) (ws : List ℕ) → Accepte
 tables-room o xs ys ws a =
     let z = options-are o (a .options) in
     let e : length (tablesOf o xs ys ws) * length xs ≡ zoomsOf o * length xs + length xs = ap (λ (k : ℕ). k * length xs) (tables-count o xs ys ws) ∙ suc-mul (zoomsOf o) (length xs) in
-    omega (arith, each-few (length xs) (sumOf energyOf (lamps (o .«coordinate_system») xs ys ws)) (tablesOf o xs ys ws) (tables-right o xs ys ws a), e, need-some o (length xs) (z .zooms))
+    let w = sumOf energyOf (lamps (o .«coordinate_system») xs ys ws) in
+    omega (arith, each-few (length xs) w (tablesOf o xs ys ws) (tables-right o xs ys ws a), e, need-some o (length xs) (z .zooms))
+
+-- and has as much room once they are written
+pub roomy-written : (o : Options) (xs ys : List Float) (ws : List ℕ) (l : BuildColumns) → Accepted o xs ys ws → Roomy (need o (length xs)) (l .table)
+    → Roomy (need o (length xs)) (written (o .«node_size») (length xs) (tablesOf o xs ys ws) l .table)
+unfolding written
+roomy-written o xs ys ws l a r =
+    roomy-over (need o (length xs)) (joined (tablesOf o xs ys ws)) (l .table) (tables-room o xs ys ws a) r
