@@ -70,7 +70,8 @@ module _ (p : Plan) (size n : ℕ) (ids : List ℕ) (co : List Float) (out : Lis
         pub plan-second-past : Past ≡ partOf (whole n two) (length two) → Leaves Spoiled (back s o x)
         unfolding flatMap
         plan-second-past d =
-            let w = second-past n one two out (part-all (whole n one) (length one) k e .0) s begins (part-past (whole n two) (length two) d) in
+            let w = second-past n one two out (part-all (whole n one) (length one) k e .0) s begins
+            (part-past (whole n two) (length two) d) in
             rw (f, append-nil two) (w .0, put ∙ w .1)
 
         pub plan-both : (j : ℕ) → All j ≡ partOf (whole n two) (length two) → (a : Answer) (m : ℕ) → m ≡ length (back s o x)

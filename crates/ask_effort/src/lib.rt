@@ -79,8 +79,8 @@ fn effort_used(
 }
 
 // The places of the table of the zoom used in the box from (west, least_y) to (east, greatest_y), within so many tests, which the two
-// halves of a box that crosses the date line share. y grows downwards on a mercator map, so that least_y is the northern edge of a longitude
-// build; on a Cartesian plan it is the least y as given.
+// halves of a box that crosses the date line share. y grows downwards on a mercator map, so that least_y is the northern edge of a
+// longitude build; on a Cartesian plan it is the least y as given.
 pub fn effort_box(
     s: State,
     ids: &[u32],

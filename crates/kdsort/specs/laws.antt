@@ -12,14 +12,14 @@ pub mod Perms
 -- Scans: what a scan of the partition stops at, and how a partition begins: the pivot stands at one end, and each scan has a slot that
 -- stops it.
 pub mod Scans
--- Passes: the passes of a partition, said as the turns of a loop: what is left of them comes to the same end from turn to turn, be it said
--- of two slots that are exchanged next or of two slots from which the scans go on.
+-- Passes: the scans and passes of a partition: the scans stop within the interval, and the passes leave what is not above the pivot left
+-- and what is not below it right.
 pub mod Passes
 -- Batches: a batch of exchanges: where a scan stops, one stop after another, and that the stops of a scan up and those of a scan down,
 -- exchanged in pairs, are the exchanges that the next passes make.
 pub mod Batches
--- Cuts: a partition: its scans stop within the interval, its passes leave what is not above the pivot left and what is not below it right,
--- the slots are permuted, and the fuel of its steps is never used up.
+-- Cuts: a partition: after its passes what is not above the pivot stands left and what is not below it right, the slots are permuted, and
+-- the fuel of its steps is never used up.
 pub mod Cuts
 -- Selects: the selection: around k the interval is in order, its slots are permuted, and the fuel is never used up.
 pub mod Selects

@@ -86,7 +86,8 @@ unfolding listerColumns
 reply-is = accepted listerColumns refl
 
 -- so the build that the lister makes of it, in any columns, is the worked build
-pub example-built : (l : BuildColumns) → loaded (optionsOf (headIs example)) (givenXs example) (givenYs example) (givenEnergies example) l ≡ workedBuilt l
+pub example-built : (l : BuildColumns) → loaded (optionsOf (headIs example)) (givenXs example) (givenYs example) (givenEnergies example) l
+    ≡ workedBuilt l
 example-built l i = loaded (options-are i) (xs-are i) (ys-are i) (ws-are i) l
 
 shown-text : tablesText 2 shown ≡ sevenLines

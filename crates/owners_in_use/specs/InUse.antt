@@ -45,7 +45,8 @@ module _ (G : Given) (l : BuildColumns) (own : List ℕ) where
       ap (λ (q : LoadReply). byReply o (G .xs) (G .ys) (G .energies) l q .reply .state) c
 
   pub c-name-owners : (number carried : ℕ) (starts lens starts′ lens′ own′ : List ℕ) (c : BuildColumns)
-      → laid (replied number carried starts′ lens′) c own′ ≡ laidOf (loadedWith (G .options) (G .xs) (G .ys) (G .energies) l own) starts lens
+      → laid (replied number carried starts′ lens′) c own′ ≡ laidOf (loadedWith (G .options) (G .xs) (G .ys) (G .energies) l own) starts
+      lens
       → number ≡ 0
       → Owners (stateOf (G .options) (points G) starts′ lens′) (columnsOf c) (G .energies) (owner G)
       × KeptOwners (stateOf (G .options) (points G) starts′ lens′) own′ (owner G)

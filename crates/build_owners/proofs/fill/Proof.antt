@@ -1,4 +1,5 @@
--- `build_owners::fill` meets its contract: the fronts of the columns just hold the tables, and what `fill_in` leaves in the front of `near`,
+-- `build_owners::fill` meets its contract: the fronts of the columns just hold the tables, and what `fill_in` leaves in the front of
+-- `near`,
 -- with what follows it, is the definition's. Assumes nothing.
 use mathlib.Core.Path.{_≡_, sym, ap, ap₂, _∙_, subst}
 use Prim.Native.Nat.{ℕ, _*_, _≤_}
@@ -121,7 +122,8 @@ returns c =
       zeros-front k (f .fill-in .last .1 .1 .1 .1 .1 .1 .1 .1 .0) near (f .fill-in .ensures .0 ∙ ap (λ (j : ℕ). replicate j 0) e)
           ∙ ap (λ (j : ℕ). laidOver (replicate j 0) near) (w .before .wide .ensures),
       f .fill-in .ensures .1
-          ∙ ap (λ (m : ℕ). laidOver (ownerColumn n (heldBy (s .args .s) (rows (frontCols m (cols-of s))))) (now (s .args .owners))) (size-is w),
+          ∙ ap (λ (m : ℕ). laidOver (ownerColumn n (heldBy (s .args .s) (rows (frontCols m (cols-of s))))) (now (s .args .owners)))
+          (size-is w),
     )
 
 pub fill-spec : {M : Type 1} → statement M

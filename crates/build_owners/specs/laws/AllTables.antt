@@ -48,7 +48,8 @@ pub record Going (s : State) (R : Table) (z at : ℕ) (a b : List ℕ) : Type 0 
   pub filled : Filled (s .count) (heldBy s R) (s .options .«max_zoom» + 1 - z) a b
 
 module _ (s : State) (R : Table) (C : Climbable s R) where
-  pub going-first : (z at : ℕ) (a b : List ℕ) → z ≡ s .options .«max_zoom» + 1 → at ≡ 0 → Wrote 0 (s .count) (λ l. l) a b → Going s R z at b b
+  pub going-first : (z at : ℕ) (a b : List ℕ) → z ≡ s .options .«max_zoom» + 1 → at ≡ 0 → Wrote 0 (s .count) (λ l. l) a b
+      → Going s R z at b b
   going-first z at a b e q w =
       let i : 0 ≡ s .options .«max_zoom» + 1 - z = omega arith in
       let n = zero-mul (s .count) in
@@ -84,7 +85,8 @@ module _ (s : State) (R : Table) (C : Climbable s R) where
           let i = s .options .«max_zoom» + 1 - z in
           let u = g .high in
           let e : suc (s .options .«max_zoom» + 1 - z) ≡ s .options .«max_zoom» + 1 - (z - 1) = omega arith in
-          let m : suc (s .options .«max_zoom» + 1 - z) * s .count ≡ (s .options .«max_zoom» + 1 - z) * s .count + s .count = suc-mul i (s .count) in
+          let m : suc (s .options .«max_zoom» + 1 - z) * s .count ≡ (s .options .«max_zoom» + 1 - z) * s .count + s .count =
+          suc-mul i (s .count) in
           let p : at + s .count ≡ suc (s .options .«max_zoom» + 1 - z) * s .count = let q = g .at-is in omega arith in
           record {
             low = omega arith;

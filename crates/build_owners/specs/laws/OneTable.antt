@@ -58,7 +58,8 @@ module _ (s : State) (R : Table) (z : ℕ) (C : Climbable s R) (lo : s .options 
         small = C .starts-small z lo (omega arith);
         chained = W .chained;
         led = λ d h. (let a = W .led d h in let b = part-long k e in omega arith);
-        room = λ d h. (let a = spot-at k e d h in let b = W .finer-there (leadAt s R z d) (W .led d h) in let c = W .finer-few in omega arith);
+        room = λ d h. (let a = spot-at k e d h in let b = W .finer-there (leadAt s R z d) (W .led d h) in let c = W .finer-few in
+            omega arith);
         once = λ d f h g v.
             sym (W .owned d h)
             ∙ owner-same s R z hi (leadAt s R z d) (leadAt s R z f) (sym (spot-at k e d h) ∙ v ∙ spot-at k e f g)
@@ -116,5 +117,7 @@ module _ (s : State) (R : Table) (z : ℕ) (C : Climbable s R) (lo : s .options 
     where
       t′ : Sent (λ d. getD (take (at + k - at) (drop at owners)) (leadFrom (s .count) (s .starts) R (startOf s z) d) 0) (lenOf s z) to
       t′ =
-          subst (λ (x : ℕ). Sent (λ d. getD (take (at + k - at) (drop at owners)) (leadFrom (s .count) (s .starts) R x d) 0) (lenOf s z) to) ea
-          (subst (λ (x : ℕ). Sent (λ d. getD (take (at + k - at) (drop at owners)) (leadFrom (s .count) (s .starts) R start d) 0) x to) el t)
+          subst (λ (x : ℕ). Sent (λ d. getD (take (at + k - at) (drop at owners)) (leadFrom (s .count) (s .starts) R x d) 0) (lenOf s z) to)
+          ea
+          (subst (λ (x : ℕ). Sent (λ d. getD (take (at + k - at) (drop at owners)) (leadFrom (s .count) (s .starts) R start d) 0) x to) el
+          t)

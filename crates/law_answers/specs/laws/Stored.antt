@@ -64,7 +64,8 @@ co-pieces size [] = refl
 co-pieces size (t ∷ ts) = ap (λ (q : List Float). indexOfTable size t .co ++ q) (co-pieces size ts)
 
 module _ (ss ll : List ℕ) (low : ℕ) where
-  shift : (t : Table) (ts : List Table) (k : ℕ) → k < length ts → getD ts (length ts - 1 - k) [] ≡ getD (t ∷ ts) (length (t ∷ ts) - 1 - k) []
+  shift : (t : Table) (ts : List Table) (k : ℕ) → k < length ts
+      → getD ts (length ts - 1 - k) [] ≡ getD (t ∷ ts) (length (t ∷ ts) - 1 - k) []
   shift t ts k h =
       let e : suc (length ts - 1 - k) ≡ length (t ∷ ts) - 1 - k = omega arith in
       ap (λ (i : ℕ). getD (t ∷ ts) i []) e
@@ -73,23 +74,28 @@ module _ (ss ll : List ℕ) (low : ℕ) where
   first t ts = let e : length (t ∷ ts) - 1 - length ts ≡ 0 = omega arith in ap (λ (i : ℕ). getD (t ∷ ts) i []) e
 
   -- the length of each
-  laid-long : (ts : List Table) (at : ℕ) → LaidOut ss ll low at ts → (k : ℕ) → k < length ts → getD ll (low + k) 0 ≡ length (getD ts (length ts - 1 - k) [])
+  laid-long : (ts : List Table) (at : ℕ) → LaidOut ss ll low at ts → (k : ℕ) → k < length ts
+      → getD ll (low + k) 0 ≡ length (getD ts (length ts - 1 - k) [])
   unfolding LaidOut
   laid-long [] at d k h = absurd (omega arith)
-  laid-long (t ∷ ts) at d k h = ⊎-elim (λ l. laid-long ts (at + length t) (d .2) k l ∙ ap length (shift t ts k l)) here (below k (length ts))
+  laid-long (t ∷ ts) at d k h = ⊎-elim (λ l. laid-long ts (at + length t) (d .2) k l ∙ ap length (shift t ts k l)) here
+      (below k (length ts))
     where
       here : length ts ≤ k → getD ll (low + k) 0 ≡ length (getD (t ∷ ts) (length (t ∷ ts) - 1 - k) [])
       here l =
           let e : length ts ≡ k = omega arith in
-          subst (λ (i : ℕ). getD ll (low + i) 0 ≡ length (getD (t ∷ ts) (length (t ∷ ts) - 1 - i) [])) e (d .1 ∙ sym (ap length (first t ts)))
+          subst (λ (i : ℕ). getD ll (low + i) 0 ≡ length (getD (t ∷ ts) (length (t ∷ ts) - 1 - i) [])) e
+          (d .1 ∙ sym (ap length (first t ts)))
 
   -- a column that holds a piece g of each, of m times its length
   module _ {A : Type 0} (g : Table → List A) (m : ℕ → ℕ) (madd : (a b : ℕ) → m (a + b) ≡ m a + m b) where
-    laid-piece : (ts : List Table) (at : ℕ) (C rest : List A) → LaidOut ss ll low at ts → All (λ t. length (g t) ≡ m (length t)) ts → drop (m at) C ≡ pieces g ts ++ rest
+    laid-piece : (ts : List Table) (at : ℕ) (C rest : List A) → LaidOut ss ll low at ts → All (λ t. length (g t) ≡ m (length t)) ts
+        → drop (m at) C ≡ pieces g ts ++ rest
         → (k : ℕ) → k < length ts → part (m (getD ss (low + k) 0)) (m (getD ll (low + k) 0)) C ≡ g (getD ts (length ts - 1 - k) [])
     unfolding LaidOut All pieces
     laid-piece [] at C rest d w e k h = absurd (omega arith)
-    laid-piece (t ∷ ts) at C rest d w e k h = ⊎-elim (λ l. laid-piece ts (at + length t) C rest (d .2) (w .1) after k l ∙ ap g (shift t ts k l)) here (below k (length ts))
+    laid-piece (t ∷ ts) at C rest d w e k h =
+        ⊎-elim (λ l. laid-piece ts (at + length t) C rest (d .2) (w .1) after k l ∙ ap g (shift t ts k l)) here (below k (length ts))
       where
         e′ : drop (m at) C ≡ g t ++ (pieces g ts ++ rest)
         e′ = e ∙ append-assoc (g t) (pieces g ts) rest
@@ -107,7 +113,8 @@ module _ (ss ll : List ℕ) (low : ℕ) where
         here : length ts ≤ k → part (m (getD ss (low + k) 0)) (m (getD ll (low + k) 0)) C ≡ g (getD (t ∷ ts) (length (t ∷ ts) - 1 - k) [])
         here l =
             let e : length ts ≡ k = omega arith in
-            subst (λ (i : ℕ). part (m (getD ss (low + i) 0)) (m (getD ll (low + i) 0)) C ≡ g (getD (t ∷ ts) (length (t ∷ ts) - 1 - i) [])) e (whole ∙ sym (ap g (first t ts)))
+            subst (λ (i : ℕ). part (m (getD ss (low + i) 0)) (m (getD ll (low + i) 0)) C ≡ g (getD (t ∷ ts) (length (t ∷ ts) - 1 - i) [])) e
+            (whole ∙ sym (ap g (first t ts)))
 
 -- the tables that are held, by their places
 held-at : (ss ll : List ℕ) (t : Table) (low k i : ℕ) → i < k → getD (held ss ll t low k) i [] ≡ heldAt ss ll t (low + (k - 1 - i))
@@ -169,14 +176,24 @@ module _ (G : Given) (a : AcceptedBuild G) where
       all-map (Right (points G) (energyIn G)) Slots
       (λ t r.
       let m : length t ≤ 1048576 = omega (arith, r .few, a .few) in
-      record { ids = slots-ids size t (b .size-from) (b .size-to) (r .some) m (r .unit); co = slots-co size t (b .size-from) (b .size-to) (r .some) m (r .unit) ∙ (omega arith) })
+      record {
+        ids = slots-ids size t (b .size-from) (b .size-to) (r .some) m (r .unit);
+        co =
+            slots-co size t (b .size-from) (b .size-to) (r .some) m (r .unit) ∙ (omega arith);
+      })
       Ts rights
 
   ids-joined : (ts : List Table) → All Slots ts → length (joinedIds size ts) ≡ length (joined ts)
   unfolding All joinedIds joined
   ids-joined [] w = refl
   ids-joined (t ∷ ts) w =
-      omega (arith, length-append (indexOfTable size t .ids) (joinedIds size ts), length-append t (joined ts), w .0 .ids, ids-joined ts (w .1))
+      omega (
+        arith,
+        length-append (indexOfTable size t .ids) (joinedIds size ts),
+        length-append t (joined ts),
+        w .0 .ids,
+        ids-joined ts (w .1),
+      )
 
   co-joined : (ts : List Table) → All Slots ts → length (joinedCo size ts) ≡ 2 * length (joined ts)
   unfolding All joinedCo joined
@@ -244,8 +261,10 @@ module _ (G : Given) (a : AcceptedBuild G) where
         let i = ids-joined Ts slots-long in
         let c = co-joined Ts slots-long in
         let k : n ≤ length (C .ids) = omega (arith, over-length (joinedIds size Ts) (l .ids) (omega (arith, f, i, r .hd)), r .hd) in
-        let t : n * 2 ≤ length (C .coords) = omega (arith, over-length (joinedCo size Ts) (l .coords) (omega (arith, f, c, r .hc)), r .hc) in
-        roomy-room C n (roomy-written (G .options) (G .xs) (G .ys) (G .energies) l a (r .table)) (both n _ _ k (half n (length (C .coords)) t))
+        let t : n * 2 ≤ length (C .coords) =
+        omega (arith, over-length (joinedCo size Ts) (l .coords) (omega (arith, f, c, r .hc)), r .hc) in
+        roomy-room C n (roomy-written (G .options) (G .xs) (G .ys) (G .energies) l a (r .table))
+        (both n _ _ k (half n (length (C .coords)) t))
 
     -- the state passes its check
     pub state-sound : stateOk (stateBy G) (roomOf (columnsBy G l)) ≡ true

@@ -64,7 +64,8 @@ put-wide c ps e =
     record {
       x = ap (λ (d : PointCols). length (d .xs)) e ∙ length-sets (points .xs) 0 (map xOf ps) ∙ length-replicate 1152 zero;
       y = ap (λ (d : PointCols). length (d .ys)) e ∙ length-sets (points .ys) 0 (map yOf ps) ∙ length-replicate 1152 zero;
-      energy = ap (λ (d : PointCols). length (d .energies)) e ∙ length-sets (points .energies) 0 (map whOf ps) ∙ length-replicate {A = ℕ} 1152 0;
+      energy = ap (λ (d : PointCols). length (d .energies)) e ∙ length-sets (points .energies) 0 (map whOf ps)
+          ∙ length-replicate {A = ℕ} 1152 0;
     }
 
 wide-of : (c : tie.After-px2) → Wide (points-after (parse-of c))

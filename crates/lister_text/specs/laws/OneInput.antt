@@ -5,7 +5,8 @@ use Prim.Native.Nat.{ℕ, _+_, _≤_}
 use native.Mathlib.Omega.{arith}
 use lib.ListN.{length, drop, length-append}
 use Rattle.lister_text.specs.laws.Reading.{line-read, line-length, after}
-use Rattle.lister_text.specs.Text.{line, minZoomKey, maxZoomKey, minPointsKey, radiusKey, extentKey, nodeSizeKey, countKey, xKey, yKey}
+use Rattle.lister_text.specs.Text.{line, minZoomKey, maxZoomKey, minPointsKey, radiusKey, extentKey, nodeSizeKey, countKey, xKey}
+use Rattle.lister_text.specs.Text.{yKey}
 use Rattle.lister_text.specs.Text.{whKey}
 use Rattle.lister_text.specs.Text.{Place, Input, pointsText, text, Small, Valid}
 
@@ -52,4 +53,13 @@ text-one i j v w e =
     let n = line-one nodeSizeKey (i .nodeSize) (j .nodeSize) _ _ (x .1) (v .nodeSize) (w .nodeSize) in
     let k = line-one countKey (length (i .points)) (length (j .points)) _ _ (n .1) (omega (arith, v .count)) (omega (arith, w .count)) in
     let p = points-one (i .points) (j .points) (v .points) (w .points) (k .1) in
-    λ d. record { minZoom = a .0 d; maxZoom = b .0 d; minPoints = m .0 d; radius = r .0 d; extent = x .0 d; nodeSize = n .0 d; points = p d }
+    λ d. record {
+      minZoom = a .0 d;
+      maxZoom = b .0 d;
+      minPoints = m .0 d;
+      radius = r .0 d;
+      extent = x .0 d;
+      nodeSize = n .0 d;
+      points =
+          p d;
+    }

@@ -20,7 +20,8 @@ use Rattle.lister_text.specs.laws.OneInput.{text-one}
 use Rattle.lister_text.specs.laws.Heads.{refused-not, read-inj, head-read, head-ends}
 
 -- each text of the form is read, as what it is the text of
-pub accepts : (i : Input) → Valid i → (parsedOf (text i) ≡ Read (headIs i)) × Found (length (i .points)) (text i) (headIs i .next .at) (i .points)
+pub accepts : (i : Input) → Valid i → (parsedOf (text i) ≡ Read (headIs i))
+    × Found (length (i .points)) (text i) (headIs i .next .at) (i .points)
 unfolding parsedOf
 accepts i v =
     let s = text i in
@@ -72,7 +73,8 @@ only s h e =
       nodeSize = h .«node_size»;
       points = pt .ps;
     } in
-    let headed : ℕ → List ℕ → List ℕ = headText (h .«min_zoom») (h .«max_zoom») (h .«min_points») (h .radius) (h .extent) (h .«node_size») in
+    let headed : ℕ → List ℕ → List ℕ = headText (h .«min_zoom») (h .«max_zoom») (h .«min_points») (h .radius) (h .extent)
+    (h .«node_size») in
     let all : s ≡ text i = hd .is ∙ ap (headed (h .count)) (pt .is) ∙ ap (λ (k : ℕ). headed k (pointsText (pt .ps))) (sym (pt .count)) in
     let v : Valid i =
     record {

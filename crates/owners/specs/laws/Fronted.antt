@@ -30,7 +30,8 @@ front-over n p d h k =
     let e : length (laidOver p (take n d)) ≡ n = over-length p (take n d) (omega arith) ∙ t in
     ap (take n) (sym (cut-over p d (laidOver p (take n d)) n k refl e)) ∙ take-at (laidOver p (take n d)) (drop n d) n e
 
-module _ (o : Options) (xs ys : List Float) (ws : List ℕ) (a : Accepted o xs ys ws) (l : BuildColumns) (r : Holds (need o (length xs)) l) where
+module _ (o : Options) (xs ys : List Float) (ws : List ℕ) (a : Accepted o xs ys ws) (l : BuildColumns)
+    (r : Holds (need o (length xs)) l) where
   abbrev n : ℕ
   n = need o (length xs)
 

@@ -1,4 +1,5 @@
--- What `load` leaves, from what `supercluster::load` and `build_owners::fill` leave: the first is lent a front of `near`, the second fills the
+-- What `load` leaves, from what `supercluster::load` and `build_owners::fill` leave: the first is lent a front of `near`, the second fills
+-- the
 -- owners from the fronts of the columns. Assumes nothing.
 use mathlib.Core.Path.{_≡_, refl, sym, ap, ap₂, _∙_, subst}
 use mathlib.Core.List.{List, _++_, append-assoc}
@@ -166,7 +167,8 @@ module _ (o : Options) (xs ys : List Float) (ws : List ℕ) (l : BuildColumns) (
     unfolding loadedWith
     refused-told h =
         let k : 0 < loadNumber reply = subst (λ (r : LoadReply). 0 < loadNumber r) reply-is h in
-        ap₂ ownedOutcome back-told (sym (left-refused (loadNumber reply) (laidOver (ownerColumn (length xs) (tablesOf o xs ys ws)) own) own k))
+        ap₂ ownedOutcome back-told (sym
+        (left-refused (loadNumber reply) (laidOver (ownerColumn (length xs) (tablesOf o xs ys ws)) own) own k))
 
     -- ---- no refusal
 
@@ -187,7 +189,8 @@ module _ (o : Options) (xs ys : List Float) (ws : List ℕ) (l : BuildColumns) (
       Ready x =
           let s = x .reply .state in
           let k = tableCount (s .options) * s .count in
-          Roomy k (x .columns .table) × Climbable s (rows (frontCols k (x .columns .table))) × (s .count ≤ length (x .columns .near)) × (k ≤ length own)
+          Roomy k (x .columns .table) × Climbable s (rows (frontCols k (x .columns .table))) × (s .count ≤ length (x .columns .near))
+          × (k ≤ length own)
 
       ready-built : Ready (byReply o xs ys ws l Done)
       ready-built =

@@ -58,7 +58,10 @@ module _ (G : Given) (a : AcceptedBuild G) (own : List ℕ) (r : need (G .option
   reached : ownersReach (stateBy G) (length (laidOver (ownerColumn (points G) (tablesOfBuild G)) own)) ≡ true
   reached =
       let n = kept-long in
-      rw (sound-in G a (length kept) (omega (arith, fits G a, r, n)), le-leb (need (G .options) (points G)) (length kept) (omega (arith, r, n))) refl
+      rw (
+        sound-in G a (length kept) (omega (arith, fits G a, r, n)),
+        le-leb (need (G .options) (points G)) (length kept) (omega (arith, r, n)),
+      ) refl
 
   pub kept-owners : KeptOwners (stateBy G) (laidOver (ownerColumn (points G) (tablesOfBuild G)) own) (owner G)
   unfolding ownerAsked
@@ -71,7 +74,8 @@ module _ (G : Given) (a : AcceptedBuild G) (own : List ℕ) (r : need (G .option
           let u = used-between (G .options) zoom low in
           let p = owner-in G a z (u .0) (u .1) l h in
           let q = long-is G a z (u .0) (u .1) in
-          let w : ownerWithin (owner G z l) (lenOf (stateBy G) z) ≡ Place (owner G z l) = rw (lt-ltb (owner G z l) (lenOf (stateBy G) z) (omega (arith, p, q))) refl in
+          let w : ownerWithin (owner G z l) (lenOf (stateBy G) z) ≡ Place (owner G z l) =
+          rw (lt-ltb (owner G z l) (lenOf (stateBy G) z) (omega (arith, p, q))) refl in
           rw (reached, lt-ltb l (points G) h) (ap (λ (v : ℕ). ownerWithin v (lenOf (stateBy G) z)) (stored-at z l (u .0) (u .1) h) ∙ w)
 
 -- so of any outcome that meets the contract of `load`, where it is no refusal

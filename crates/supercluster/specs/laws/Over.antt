@@ -19,7 +19,8 @@ pub over-over : {A : Type 0} (T F R : List A) → length F ≤ length T → laid
 over-over T F R h =
     let q : length T ≡ length F + (length T - length F) = omega arith in
     ap (λ (l : List _). T ++ l)
-    (ap (λ (k : ℕ). drop k (laidOver F R)) q ∙ drop-append-add F (drop (length F) R) (length T - length F) ∙ drop-drop (length T - length F) (length F) R ∙ ap (λ (k : ℕ). drop k R) (sym q))
+    (ap (λ (k : ℕ). drop k (laidOver F R)) q ∙ drop-append-add F (drop (length F) R) (length T - length F)
+    ∙ drop-drop (length T - length F) (length F) R ∙ ap (λ (k : ℕ). drop k R) (sym q))
 
 map-append : {B : Type 0} (f : Entry → B) (a b : Table) → map f (a ++ b) ≡ map f a ++ map f b
 map-append f [] b = refl
@@ -27,16 +28,19 @@ map-append f (e ∷ a) b = ap (λ (l : List _). f e ∷ l) (map-append f a b)
 
 pub over-map : {B : Type 0} (f : Entry → B) (T R : Table) → map f (laidOver T R) ≡ laidOver (map f T) (map f R)
 over-map f T R =
-    map-append f T (drop (length T) R) ∙ ap (λ (l : List _). map f T ++ l) (map-drop f (length T) R ∙ ap (λ (k : ℕ). drop k (map f R)) (sym (length-map T f)))
+    map-append f T (drop (length T) R)
+    ∙ ap (λ (l : List _). map f T ++ l) (map-drop f (length T) R ∙ ap (λ (k : ℕ). drop k (map f R)) (sym (length-map T f)))
 
 -- the front of a column was lent, and came back with a front of its own
-pub cut-over : {A : Type 0} (l d x : List A) (m : ℕ) → m ≤ length d → x ≡ laidOver l (take m d) → length x ≡ m → x ++ drop m d ≡ laidOver l d
+pub cut-over : {A : Type 0} (l d x : List A) (m : ℕ) → m ≤ length d → x ≡ laidOver l (take m d) → length x ≡ m
+    → x ++ drop m d ≡ laidOver l d
 cut-over l d x m h e k =
     let lt : length (take m d) ≡ m = length-take-le m d h in
     let n : length l ≤ m = omega (arith, ap length e, length-append l (drop (length l) (take m d)), k) in
     ap (λ (q : List _). q ++ drop m d) e
     ∙ append-assoc l (drop (length l) (take m d)) (drop m d)
-    ∙ ap (λ (q : List _). l ++ q) (sym (drop-append-le (length l) (take m d) (drop m d) (omega (arith, n, lt))) ∙ ap (drop (length l)) (take-append-drop m d))
+    ∙ ap (λ (q : List _). l ++ q) (sym (drop-append-le (length l) (take m d) (drop m d) (omega (arith, n, lt)))
+    ∙ ap (drop (length l)) (take-append-drop m d))
 
 -- and as long as it was lent, so that the column is as long as it was
 pub cut-long : {A : Type 0} (m : ℕ) (x d : List A) → length x ≡ length (take m d) → length (x ++ drop m d) ≡ length d
@@ -48,8 +52,14 @@ pub run-long : (p : Plan) (k : ℕ) (t : Table) → length t ≤ length (joined 
 unfolding runZooms joined
 run-long p zero t = omega (arith, length-append t [])
 run-long p (suc k) t =
-    let h : length (zoomed p (p .options .«min_zoom» + k) t .table) ≡ length t = cluster-long (p .count) (p .options .«min_points») (p .options .«min_zoom» + k) _ t in
-    omega (arith, length-append (zoomed p (p .options .«min_zoom» + k) t .table) (joined (runZooms p k (zoomed p (p .options .«min_zoom» + k) t .next))), h)
+    let h : length (zoomed p (p .options .«min_zoom» + k) t .table) ≡ length t =
+    cluster-long (p .count) (p .options .«min_points») (p .options .«min_zoom» + k) _ t in
+    omega (
+      arith,
+      length-append (zoomed p (p .options .«min_zoom» + k) t .table)
+          (joined (runZooms p k (zoomed p (p .options .«min_zoom» + k) t .next))),
+      h,
+    )
 
 -- ---- the rows of columns that have a table at their front
 
