@@ -12,8 +12,8 @@ pub mod Perms
 -- Scans: what a scan of the partition stops at, and how a partition begins: the pivot stands at one end, and each scan has a slot that
 -- stops it.
 pub mod Scans
--- Passes: the scans and passes of a partition: the scans stop within the interval, and the passes leave what is not above the pivot left
--- and what is not below it right.
+-- Passes: the passes of a partition, said as the turns of a loop: what is left of them comes to the same end from turn to turn, be it said
+-- of two slots that are exchanged next or of two slots from which the scans go on.
 pub mod Passes
 -- Batches: a batch of exchanges: where a scan stops, one stop after another, and that the stops of a scan up and those of a scan down,
 -- exchanged in pairs, are the exchanges that the next passes make.
@@ -27,3 +27,6 @@ pub mod Selects
 pub mod Trees
 -- Indexes: the index of points: the columns as the points fill them, and what their sort is.
 pub mod Indexes
+-- Splits: the scans and passes of a partition: the scans stop within the interval, and the passes leave what is not above the pivot left
+-- and what is not below it right.
+pub mod Splits

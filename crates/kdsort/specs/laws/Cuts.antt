@@ -19,7 +19,7 @@ use Rattle.kdsort.specs.Tree.{Permuted}
 use Rattle.kdsort.specs.laws.Swaps.{tr-left, tr-right, tr-other, key-swap, length-swapIds, length-swapCo}
 use Rattle.kdsort.specs.laws.Perms.{perm-swap, perm-trans}
 use Rattle.kdsort.specs.laws.Scans.{up-stops, down-stops, placed-stops}
-use Rattle.kdsort.specs.laws.Passes.{up-finds, down-finds, Split, Fits, Passed, swap-up, swap-down, fits-swap, passes-end}
+use Rattle.kdsort.specs.laws.Splits.{up-finds, down-finds, Split, Fits, split-turn, Passed, swap-up, swap-down, fits-swap, passes-end}
 
 -- ---- before the passes
 

@@ -1,236 +1,115 @@
--- The scans and passes of a partition: the scans stop within the interval, and the passes leave what is not above the pivot left and what
--- is not below it right. Assumes nothing.
-use mathlib.Core.Path.{_≡_, refl, sym, ap, _∙_}
-use mathlib.Core.Logic.{_⊎_, ⊎-elim, inl, inr}
-use mathlib.Core.Bool.{Bool, true, false}
+-- The passes of a partition, said as the turns of a loop: what is left of them comes to the same end from turn to turn, be it said of two
+-- slots that are exchanged next or of two slots from which the scans go on. Assumes nothing.
+use mathlib.Core.Path.{_≡_, refl, sym, ap, _∙_, subst}
+use mathlib.Core.Logic.{⊎-elim}
+use mathlib.Core.Bool.{true, false}
 use mathlib.Core.List.{List}
 use Prim.Native.Nat.{ℕ, zero, suc, _+_, _-_, _*_, _<_, _≤_}
-use native.Mathlib.Nat.{le-refl, eq-or-lt-of-le}
+use native.Mathlib.Nat.{le-refl, le-trans, eq-or-lt-of-le}
 use native.Mathlib.Omega.{arith}
 use lib.Dec.{ltb}
 use lib.ListN.{length}
 use lib.Ieee.{Float, lt}
-use borrow.Author.Tests.{ltb-true, ltb-false}
+use borrow.Author.Tests.{lt-ltb, le-ltb}
 use Rattle.floats.specs.laws.NotAbove.{below-not-above}
-use Rattle.kdsort.specs.Cols.{IndexCols, swapItem, swapCo, swapIds, key}
-use Rattle.kdsort.specs.Select.{Cut, up, down, scanUp, scanDown, passes}
-use Rattle.kdsort.specs.Tree.{Permuted}
-use Rattle.kdsort.specs.laws.Swaps.{tr, tr-left, tr-right, tr-other, key-swap, length-swapIds, length-swapCo}
-use Rattle.kdsort.specs.laws.Perms.{le-or-lt, perm-same, perm-swap, perm-trans}
-use Rattle.kdsort.specs.laws.Scans.{Up, Down, before-stop, after-stop}
+use Rattle.kdsort.specs.Cols.{IndexCols, swapItem, swapCo, key}
+use Rattle.kdsort.specs.laws.Perms.{le-or-lt}
+use Rattle.kdsort.specs.Select.{Cut, cut, scanUp, scanDown, passes}
+use Rattle.kdsort.specs.laws.Scans.{Up, Down, up-none, down-none, up-stops, down-stops, swap-stops}
 
--- ---- the scans
+-- ---- at two slots that are exchanged next
 
--- the scan up from i, which q stops at the latest, ends at e
-pub record UpAt (a : ℕ) (t : Float) (c : List Float) (i q e : ℕ) : Type 0 where
-  pub scan : Up a t c i e
-  pub to : e ≤ q
-  pub stop : lt (key a c e) t ≡ false
+-- with some fuel that is enough, the passes from here on come to P
+pub Passing : Cut → ℕ → Float → IndexCols → ℕ → ℕ → Type 0
+Passing P a t s i j = (f : ℕ) × (j - i ≤ f) × (passes f (ltb i j) a t s i j ≡ P)
 
-pub record DownAt (a : ℕ) (t : Float) (c : List Float) (j q e : ℕ) : Type 0 where
-  pub scan : Down a t c j e
-  pub to : q ≤ e
-  pub stop : lt t (key a c e) ≡ false
+pub passing-starts : (a : ℕ) (t : Float) (s : IndexCols) (i j : ℕ) → Passing (passes (j - i) (ltb i j) a t s i j) a t s i j
+unfolding Passing
+passing-starts a t s i j = (j - i, le-refl (j - i), refl)
 
-pub up-finds : (f : ℕ) (b : Bool) (a : ℕ) (t : Float) (c : List Float) (i q : ℕ) → lt (key a c i) t ≡ b → i ≤ q → q - i ≤ f
-    → lt (key a c q) t ≡ false → UpAt a t c i q (up f b a t c i)
-unfolding up
-up-finds zero b a t c i q e le fu at =
-    let s : q ≡ i = omega arith in
+passing-turn : (P : Cut) (a : ℕ) (t : Float) (s : IndexCols) (i j i' j' : ℕ) → Passing P a t s i j → i < j → i + 1 ≤ i' → j' ≤ j - 1
+    → scanUp j a t (swapCo (s .co) i j) (i + 1) ≡ i' → scanDown j a t (swapCo (s .co) i j) (j - 1) ≡ j'
+    → Passing P a t (swapItem s i j) i' j'
+unfolding Passing passes
+passing-turn P a t s i j i' j' h l li lj ui dj = go (h .0) (h .1) (rw (lt-ltb i j l) at (h .2)) where
+  go : (f : ℕ) → j - i ≤ f → passes f true a t s i j ≡ P → (f : ℕ) × (j' - i' ≤ f) × (passes f (ltb i' j') a t (swapItem s i j) i' j' ≡ P)
+  go zero fu e = absurd (omega arith)
+  go (suc f) fu e = (f, omega arith, rw (← ui, ← dj) e)
+
+pub passing-ends : (P : Cut) (a : ℕ) (t : Float) (s : IndexCols) (i j : ℕ) → Passing P a t s i j → j ≤ i → P ≡ cut s j
+unfolding Passing passes
+passing-ends P a t s i j h l = go (h .0) (rw (le-ltb i j l) at (h .2)) where
+  go : (f : ℕ) → passes f false a t s i j ≡ P → P ≡ cut s j
+  go zero e = sym e
+  go (suc f) e = sym e
+
+-- ---- at two slots from which the scans go on
+
+-- wherever the scan up from i and the scan down from j stop, the passes from there on come to P; what stands before i stops a scan down,
+-- and what stands after j a scan up
+pub record PassScanning (P : Cut) (a : ℕ) (t : Float) (s : IndexCols) (i j : ℕ) : Type 0 where
+  pub goes : (i' j' : ℕ) → i' ≤ j + 1 → Up a t (s .co) i i' → lt (key a (s .co) i') t ≡ false → Down a t (s .co) j j'
+      → lt t (key a (s .co) j') ≡ false → Passing P a t s i' j'
+  pub i-stop : lt t (key a (s .co) (i - 1)) ≡ false
+  pub j-stop : lt (key a (s .co) (j + 1)) t ≡ false
+
+-- an exchange
+pub scanning-turn : (P : Cut) (a : ℕ) (t : Float) (s : IndexCols) (i j : ℕ) → Passing P a t s i j → i < j → a < 2
+    → 2 * j + 1 < length (s .co)
+    → lt (key a (s .co) i) t ≡ false → lt t (key a (s .co) j) ≡ false → PassScanning P a t (swapItem s i j) (i + 1) (j - 1)
+scanning-turn P a t s i j h l a2 lj si sj =
+    let w = swap-stops a t (s .co) i j a2 (omega arith) lj si sj in
+    let ei : i + 1 - 1 ≡ i = omega arith in
+    let ej : j - 1 + 1 ≡ j = omega arith in
     record {
-      scan = record { from = le-refl i; past = λ p h k. absurd (omega arith) };
-      to = le;
-      stop =
-          ap (λ (x : ℕ). lt (key a c x) t) (sym s) ∙ at;
-    }
-up-finds (suc f) false a t c i q e le fu at =
-    record { scan = record { from = le-refl i; past = λ p h k. absurd (omega arith) }; to = le; stop = e }
-up-finds (suc f) true a t c i q e le fu at =
-    let l = before-stop a t c i q le e at in
-    let w = up-finds f (lt (key a c (i + 1)) t) a t c (i + 1) q refl (omega arith) (omega arith) at in
-    let v = w .scan .from in
-    record {
-      scan = record {
-        from = omega arith;
-        past = λ p h k. ⊎-elim (λ s. ap (λ (x : ℕ). lt (key a c x) t) (sym s) ∙ e)
-            (λ s. w .scan .past p (omega arith) k) (eq-or-lt-of-le h);
-      };
-      to = w .to;
-      stop = w .stop;
-    }
-
-pub down-finds : (f : ℕ) (b : Bool) (a : ℕ) (t : Float) (c : List Float) (j q : ℕ) → lt t (key a c j) ≡ b → q ≤ j → j - q ≤ f
-    → lt t (key a c q) ≡ false → DownAt a t c j q (down f b a t c j)
-unfolding down
-down-finds zero b a t c j q e le fu at =
-    let s : q ≡ j = omega arith in
-    record {
-      scan = record { from = le-refl j; past = λ p h k. absurd (omega arith) };
-      to = le;
-      stop =
-          ap (λ (x : ℕ). lt t (key a c x)) (sym s) ∙ at;
-    }
-down-finds (suc f) false a t c j q e le fu at =
-    record { scan = record { from = le-refl j; past = λ p h k. absurd (omega arith) }; to = le; stop = e }
-down-finds (suc f) true a t c j q e le fu at =
-    let l = after-stop a t c j q le e at in
-    let w = down-finds f (lt t (key a c (j - 1))) a t c (j - 1) q refl (omega arith) (omega arith) at in
-    let v = w .scan .from in
-    record {
-      scan = record {
-        from = omega arith;
-        past = λ p h k. ⊎-elim (λ s. ap (λ (x : ℕ). lt t (key a c x)) s ∙ e)
-            (λ s. w .scan .past p h (omega arith)) (eq-or-lt-of-le k);
-      };
-      to = w .to;
-      stop = w .stop;
+      goes = λ i' j' le u ui d dj.
+          let li : i + 1 ≤ i' = u .from in
+          passing-turn P a t s i j i' j' h l li (d .from) (up-stops j a t (swapCo (s .co) i j) (i + 1) i' u (omega arith) ui)
+          (down-stops j a t (swapCo (s .co) i j) (j - 1) j' d (omega arith) dj);
+      i-stop = ap (λ (q : ℕ). lt t (key a (swapCo (s .co) i j) q)) ei ∙ w .1;
+      j-stop = ap (λ (q : ℕ). lt (key a (swapCo (s .co) i j) q) t) ej ∙ w .0;
     }
 
--- ---- the passes
+up-trans : (a : ℕ) (t : Float) (c : List Float) (i j k : ℕ) → Up a t c i j → Up a t c j k → Up a t c i k
+up-trans a t c i j k u v =
+    record { from = le-trans (u .from) (v .from); past = λ p l h. ⊎-elim (λ g. v .past p g h) (λ g. u .past p l g) (le-or-lt j p) }
 
--- at the head of a pass: what stands left of i is not above the pivot t, what stands right of j not below it, and t stands at one end
-pub record Split (a : ℕ) (t : Float) (l r : ℕ) (c : List Float) (i j : ℕ) : Type 0 where
-  pub i-from : l ≤ i
-  pub i-to : i ≤ r
-  pub j-from : l ≤ j
-  pub j-to : j ≤ r
-  pub i-stop : lt (key a c i) t ≡ false
-  pub j-stop : lt t (key a c j) ≡ false
-  pub low : (p : ℕ) → l ≤ p → p < i → lt t (key a c p) ≡ false
-  pub high : (p : ℕ) → j < p → p ≤ r → lt (key a c p) t ≡ false
-  pub ends : (key a c l ≡ t) ⊎ (key a c r ≡ t)
-  pub stage : ((i ≡ l) × (j ≡ r)) ⊎ ((l < i) × (j < r))
+down-trans : (a : ℕ) (t : Float) (c : List Float) (i j k : ℕ) → Down a t c i j → Down a t c j k → Down a t c i k
+down-trans a t c i j k u v =
+    record { from = le-trans (v .from) (u .from); past = λ p l h. ⊎-elim (λ g. v .past p l g) (λ g. u .past p g h) (le-or-lt p j) }
 
-pub record Fits (l r a n m : ℕ) : Type 0 where
-  pub lr : l < r
-  pub rn : r < n
-  pub nm : 2 * r + 1 < m
-  pub a2 : a < 2
+-- what stands before the slot that a scan up has reached, and after the one that a scan down has
+up-before : (a : ℕ) (t : Float) (c : List Float) (i i' : ℕ) → Up a t c i i' → lt t (key a c (i - 1)) ≡ false
+    → lt t (key a c (i' - 1)) ≡ false
+up-before a t c i i' u h =
+    ⊎-elim (λ e. subst (λ (q : ℕ). lt t (key a c (q - 1)) ≡ false) e h)
+    (λ l. below-not-above (key a c (i' - 1)) t (u .past (i' - 1) (omega arith) (omega arith)))
+    (eq-or-lt-of-le (u .from))
 
-module _ (a : ℕ) (t : Float) (l r : ℕ) (c : List Float) (i j i' j' n : ℕ) (F : Fits l r a n (length c)) (S : Split a t l r c i j)
-    (ij : i < j)
-    (U : UpAt a t (swapCo c i j) (i + 1) j i') (D : DownAt a t (swapCo c i j) (j - 1) i j') where
-  at : (p : ℕ) → key a (swapCo c i j) p ≡ key a c (tr i j p)
-  at p = let x = S .i-from in let y = S .j-to in key-swap c i j p (omega arith) (omega arith) a (F .a2)
+down-after : (a : ℕ) (t : Float) (c : List Float) (j j' : ℕ) → Down a t c j j' → lt (key a c (j + 1)) t ≡ false
+    → lt (key a c (j' + 1)) t ≡ false
+down-after a t c j j' d h =
+    ⊎-elim (λ e. subst (λ (q : ℕ). lt (key a c (q + 1)) t ≡ false) (sym e) h)
+    (λ l. below-not-above t (key a c (j' + 1)) (d .past (j' + 1) (omega arith) (omega arith)))
+    (eq-or-lt-of-le (d .from))
 
-  at-i : key a (swapCo c i j) i ≡ key a c j
-  at-i = at i ∙ ap (key a c) (tr-left i j)
+-- the scans, part of their way
+pub scanning-on : (P : Cut) (a : ℕ) (t : Float) (s : IndexCols) (i j i' j' : ℕ) → PassScanning P a t s i j → Up a t (s .co) i i'
+    → Down a t (s .co) j j' → PassScanning P a t s i' j'
+scanning-on P a t s i j i' j' h u d =
+    let lj : j' ≤ j = d .from in
+    record {
+      goes = λ i'' j'' le v si e sj. h .goes i'' j'' (omega arith) (up-trans a t (s .co) i i' i'' u v) si
+          (down-trans a t (s .co) j j' j'' d e) sj;
+      i-stop = up-before a t (s .co) i i' u (h .i-stop);
+      j-stop = down-after a t (s .co) j j' d (h .j-stop);
+    }
 
-  at-j : key a (swapCo c i j) j ≡ key a c i
-  at-j = at j ∙ ap (key a c) (tr-right i j)
+-- the scans, where they stand already at their stops
+pub scanning-stops : (P : Cut) (a : ℕ) (t : Float) (s : IndexCols) (i j : ℕ) → PassScanning P a t s i j → i ≤ j + 1
+    → lt (key a (s .co) i) t ≡ false → lt t (key a (s .co) j) ≡ false → Passing P a t s i j
+scanning-stops P a t s i j h le si sj = h .goes i j le (up-none a t (s .co) i) si (down-none a t (s .co) j) sj
 
-  at-other : (p : ℕ) → (p ≡ i → ⊥) → (p ≡ j → ⊥) → key a (swapCo c i j) p ≡ key a c p
-  at-other p x y = at p ∙ ap (key a c) (tr-other i j p x y)
-
-  low' : (p : ℕ) → l ≤ p → p < i' → lt t (key a (swapCo c i j) p) ≡ false
-  low' p h k =
-      ⊎-elim
-      (λ u. ⊎-elim
-      (λ e. ap (λ (x : ℕ). lt t (key a (swapCo c i j) x)) e ∙ ap (lt t) at-i ∙ S .j-stop)
-      (λ v. ap (lt t) (at-other p (λ e. omega arith) (λ e. omega arith)) ∙ S .low p h v)
-      (eq-or-lt-of-le u))
-      (λ u. below-not-above (key a (swapCo c i j) p) t (U .scan .past p (omega arith) k))
-      (le-or-lt p i)
-
-  high' : (p : ℕ) → j' < p → p ≤ r → lt (key a (swapCo c i j) p) t ≡ false
-  high' p h k =
-      ⊎-elim
-      (λ u. ⊎-elim
-      (λ e. ap (λ (x : ℕ). lt (key a (swapCo c i j) x) t) (sym e) ∙ ap (λ (x : Float). lt x t) at-j ∙ S .i-stop)
-      (λ v. ap (λ (x : Float). lt x t) (at-other p (λ e. omega arith) (λ e. omega arith)) ∙ S .high p v k)
-      (eq-or-lt-of-le u))
-      (λ u. below-not-above t (key a (swapCo c i j) p) (D .scan .past p h (omega arith)))
-      (le-or-lt j p)
-
-  ends' : (key a (swapCo c i j) l ≡ t) ⊎ (key a (swapCo c i j) r ≡ t)
-  ends' =
-      ⊎-elim
-      (λ w. ⊎-elim
-      (λ e. inr (ap (key a (swapCo c i j)) (sym (w .1)) ∙ at-j ∙ ap (key a c) (w .0) ∙ e))
-      (λ e. inl (ap (key a (swapCo c i j)) (sym (w .0)) ∙ at-i ∙ ap (key a c) (w .1) ∙ e))
-      (S .ends))
-      (λ w.
-      let x = w .0 in
-      let y = w .1 in
-      ⊎-elim
-      (λ e. inl (at-other l (λ q. omega arith) (λ q. omega arith) ∙ e))
-      (λ e. inr (at-other r (λ q. omega arith) (λ q. omega arith) ∙ e))
-      (S .ends))
-      (S .stage)
-
-  split-turn : Split a t l r (swapCo c i j) i' j'
-  split-turn =
-      let x = S .i-from in
-      let y = S .j-to in
-      let u = U .scan .from in
-      let d = D .scan .from in
-      let u' = U .to in
-      let d' = D .to in
-      record {
-        i-from = omega arith;
-        i-to = omega arith;
-        j-from = omega arith;
-        j-to = omega arith;
-        i-stop = U .stop;
-        j-stop = D .stop;
-        low = low';
-        high = high';
-        ends = ends';
-        stage = inr (omega arith, omega arith);
-      }
-
--- how the passes end
-pub record Passed (a : ℕ) (t : Float) (l r : ℕ) (s : IndexCols) (P : Cut) : Type 0 where
-  pub i-end : ℕ
-  pub met : P .slot ≤ i-end
-  pub split : Split a t l r (P .at .co) i-end (P .slot)
-  pub perm : Permuted l r s (P .at)
-
-pub swap-up : (a : ℕ) (t : Float) (l r : ℕ) (s : IndexCols) (i j : ℕ) → Fits l r a (length (s .ids)) (length (s .co))
-    → Split a t l r (s .co) i j → i < j → UpAt a t (swapCo (s .co) i j) (i + 1) j (scanUp j a t (swapCo (s .co) i j) (i + 1))
-swap-up a t l r s i j F S ij =
-    let x = S .i-from in
-    let y = S .j-to in
-    up-finds j (lt (key a (swapCo (s .co) i j) (i + 1)) t) a t (swapCo (s .co) i j) (i + 1) j refl (omega arith) (omega arith)
-    (ap (λ (x : Float). lt x t) (key-swap (s .co) i j j (omega arith) (omega arith) a (F .a2) ∙ ap (key a (s .co)) (tr-right i j))
-    ∙ S .i-stop)
-
-pub swap-down : (a : ℕ) (t : Float) (l r : ℕ) (s : IndexCols) (i j : ℕ) → Fits l r a (length (s .ids)) (length (s .co))
-    → Split a t l r (s .co) i j → i < j → DownAt a t (swapCo (s .co) i j) (j - 1) i (scanDown j a t (swapCo (s .co) i j) (j - 1))
-swap-down a t l r s i j F S ij =
-    let x = S .i-from in
-    let y = S .j-to in
-    down-finds j (lt t (key a (swapCo (s .co) i j) (j - 1))) a t (swapCo (s .co) i j) (j - 1) i refl (omega arith) (omega arith)
-    (ap (lt t) (key-swap (s .co) i j i (omega arith) (omega arith) a (F .a2) ∙ ap (key a (s .co)) (tr-left i j)) ∙ S .j-stop)
-
-pub fits-swap : (l r a : ℕ) (s : IndexCols) (i j : ℕ) → Fits l r a (length (s .ids)) (length (s .co))
-    → Fits l r a (length (swapIds (s .ids) i j)) (length (swapCo (s .co) i j))
-fits-swap l r a s i j F = rw (length-swapIds (s .ids) i j, length-swapCo (s .co) i j) F
-
-pub passes-end : (f : ℕ) (b : Bool) (a : ℕ) (t : Float) (l r : ℕ) (s : IndexCols) (i j : ℕ) → ltb i j ≡ b → j - i ≤ f
-    → Fits l r a (length (s .ids)) (length (s .co)) → Split a t l r (s .co) i j → Passed a t l r s (passes f b a t s i j)
-unfolding passes
-passes-end zero b a t l r s i j e fu F S = record { i-end = i; met = omega arith; split = S; perm = perm-same l r s }
-passes-end (suc f) false a t l r s i j e fu F S = record { i-end = i; met = ltb-false i j e; split = S; perm = perm-same l r s }
-passes-end (suc f) true a t l r s i j e fu F S = passes-more f a t l r s i j (ltb-true i j e) fu F S
-    (passes-end f (ltb (scanUp j a t (swapCo (s .co) i j) (i + 1)) (scanDown j a t (swapCo (s .co) i j) (j - 1))) a t l r (swapItem s i j)
-    (scanUp j a t (swapCo (s .co) i j) (i + 1)) (scanDown j a t (swapCo (s .co) i j) (j - 1)) refl
-    (let ij = ltb-true i j e in let u = swap-up a t l r s i j F S ij .scan .from in let d = swap-down a t l r s i j F S ij .scan .from in
-    omega arith)
-    (fits-swap l r a s i j F)
-    (split-turn a t l r (s .co) i j _ _ (length (s .ids)) F S (ltb-true i j e) (swap-up a t l r s i j F S (ltb-true i j e))
-    (swap-down a t l r s i j F S (ltb-true i j e)))) where
-      passes-more : (f : ℕ) (a : ℕ) (t : Float) (l r : ℕ) (s : IndexCols) (i j : ℕ) → i < j → j - i ≤ suc f
-          → Fits l r a (length (s .ids)) (length (s .co)) → Split a t l r (s .co) i j
-          → {P : Cut} → Passed a t l r (swapItem s i j) P → Passed a t l r s P
-      passes-more f a t l r s i j ij fu F S Q =
-          let x = S .i-from in
-          let y = S .j-to in
-          record {
-            i-end = Q .i-end;
-            met = Q .met;
-            split = Q .split;
-            perm =
-                perm-trans l r s (swapItem s i j) _ (perm-swap l r s i j (S .i-from) (S .i-to) (S .j-from) (S .j-to) (F .rn) (F .nm))
-                (Q .perm);
-          }
+pub scanning-cols : (P : Cut) (a : ℕ) (t : Float) (s s' : IndexCols) (i j : ℕ) → s ≡ s' → PassScanning P a t s' i j
+    → PassScanning P a t s i j
+scanning-cols P a t s s' i j e h = subst (λ (x : IndexCols). PassScanning P a t x i j) (sym e) h
