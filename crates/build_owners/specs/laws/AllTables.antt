@@ -13,7 +13,7 @@ use Rattle.build_tables.specs.Options.{tableCount}
 use Rattle.build_all_zooms.specs.Zooms.{laidOver}
 use Rattle.supercluster.specs.laws.Held.{held, heldBy}
 use Rattle.build_owners.specs.OwnerColumn.{ownerIn, ownerColumn}
-use Rattle.build_owners.specs.laws.Climbs.{ownerAt, finer, Climbable}
+use Rattle.build_owners.specs.laws.Climbs.{ownerOn, finer, Climbable}
 use Rattle.build_owners.specs.laws.Fills.{Wrote, Filled, filled-first, filled-since, filled-more, filled-all}
 
 -- of t tables, the one behind table i has its n places
@@ -78,9 +78,9 @@ module _ (s : State) (R : Table) (C : Climbable s R) where
       going-own l q =
           let i = s .options .«max_zoom» + 1 - z in
           let e : suc (z - 1) ≡ z = omega arith in
-          ap (λ (k : ℕ). getD b (k + l) 0) (g .at-is) ∙ g .filled .each i l (le-refl i) q ∙ ap (λ (v : ℕ). ownerAt s R v l) (sym e)
+          ap (λ (k : ℕ). getD b (k + l) 0) (g .at-is) ∙ g .filled .each i l (le-refl i) q ∙ ap (λ (v : ℕ). ownerOn s R v l) (sym e)
 
-      pub going-next : (c : List ℕ) → Wrote (at + s .count) (s .count) (ownerAt s R (z - 1)) b c → Going s R (z - 1) (at + s .count) a c
+      pub going-next : (c : List ℕ) → Wrote (at + s .count) (s .count) (ownerOn s R (z - 1)) b c → Going s R (z - 1) (at + s .count) a c
       going-next c w =
           let i = s .options .«max_zoom» + 1 - z in
           let u = g .high in

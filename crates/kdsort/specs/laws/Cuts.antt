@@ -19,7 +19,8 @@ use Rattle.kdsort.specs.Tree.{Permuted}
 use Rattle.kdsort.specs.laws.Swaps.{tr-left, tr-right, tr-other, key-swap, length-swapIds, length-swapCo}
 use Rattle.kdsort.specs.laws.Perms.{perm-swap, perm-trans}
 use Rattle.kdsort.specs.laws.Scans.{up-stops, down-stops, placed-stops}
-use Rattle.kdsort.specs.laws.Splits.{up-finds, down-finds, Split, Fits, split-turn, Passed, swap-up, swap-down, fits-swap, passes-end}
+use Rattle.kdsort.specs.laws.Splits.{up-finds, down-finds, Split, PartFits, split-turn, Passed, swap-up, swap-down, fits-swap}
+use Rattle.kdsort.specs.laws.Splits.{passes-end}
 
 -- ---- before the passes
 
@@ -90,7 +91,7 @@ pub record Parted (a : ℕ) (t : Float) (l r : ℕ) (c : List Float) (j : ℕ) :
 last-stage : (a : ℕ) (t : Float) (l r : ℕ) (c : List Float) (i j : ℕ) → l < r → Split a t l r c i j → j ≤ i → (l < i) × (j < r)
 last-stage a t l r c i j lr S m = ⊎-elim (λ w. let x = w .0 in let y = w .1 in absurd (omega arith)) (λ w. w) (S .stage)
 
-settled-then : (a : ℕ) (t : Float) (l r : ℕ) (c : List Float) (i j n : ℕ) → Fits l r a n (length c) → Split a t l r c i j → j ≤ i
+settled-then : (a : ℕ) (t : Float) (l r : ℕ) (c : List Float) (i j n : ℕ) → PartFits l r a n (length c) → Split a t l r c i j → j ≤ i
     → eq (key a c l) t ≡ true → Parted a t l r (swapCo c l j) j
 settled-then a t l r c i j n F S m e =
     let st = last-stage a t l r c i j (F .lr) S m in
@@ -114,7 +115,7 @@ settled-then a t l r c i j n F S m e =
       at-high = ap (λ (x : Float). lt x t) at-j ∙ equal-not-above (key a c l) t e .0;
     }
 
-settled-else : (a : ℕ) (t : Float) (l r : ℕ) (c : List Float) (i j n : ℕ) → Fits l r a n (length c) → Split a t l r c i j → j ≤ i
+settled-else : (a : ℕ) (t : Float) (l r : ℕ) (c : List Float) (i j n : ℕ) → PartFits l r a n (length c) → Split a t l r c i j → j ≤ i
     → T (not (isNan t)) → eq (key a c l) t ≡ false → Parted a t l r (swapCo c (j + 1) r) (j + 1)
 settled-else a t l r c i j n F S m num e =
     let st = last-stage a t l r c i j (F .lr) S m in
@@ -152,7 +153,7 @@ pub record Cutting (a : ℕ) (t : Float) (l r : ℕ) (s : IndexCols) (P : Cut) :
   pub part : Parted a t l r (P .at .co) (P .slot)
   pub perm : Permuted l r s (P .at)
 
-settled-ok : (a : ℕ) (t : Float) (l r : ℕ) (s : IndexCols) (P : Cut) → Fits l r a (length (P .at .ids)) (length (P .at .co))
+settled-ok : (a : ℕ) (t : Float) (l r : ℕ) (s : IndexCols) (P : Cut) → PartFits l r a (length (P .at .ids)) (length (P .at .co))
     → T (not (isNan t)) → Passed a t l r s P → Cutting a t l r s (settled a t P l r)
 settled-ok a t l r s P F num W = go (eq (key a (P .at .co) l) t) refl where
   go : (b : Bool) → eq (key a (P .at .co) l) t ≡ b
@@ -186,7 +187,7 @@ parted-ok a k s l r h num =
       P : Permuted l r s s1
       P = placed-perm a t s k l r h
 
-      F : Fits l r a (length (s1 .ids)) (length (s1 .co))
+      F : PartFits l r a (length (s1 .ids)) (length (s1 .co))
       F = rw (P .ids-long, P .co-long) (record { lr = h .lr; rn = h .rn; nm = h .nm; a2 = h .a2 })
 
       W : Passed a t l r s1 (passes (r - l) (ltb l r) a t s1 l r)
@@ -195,7 +196,7 @@ parted-ok a k s l r h num =
       W' : Passed a t l r s (passes (r - l) (ltb l r) a t s1 l r)
       W' = record { i-end = W .i-end; met = W .met; split = W .split; perm = perm-trans l r s s1 _ P (W .perm) }
 
-      F' : Fits l r a (length (passes (r - l) (ltb l r) a t s1 l r .at .ids)) (length (passes (r - l) (ltb l r) a t s1 l r .at .co))
+      F' : PartFits l r a (length (passes (r - l) (ltb l r) a t s1 l r .at .ids)) (length (passes (r - l) (ltb l r) a t s1 l r .at .co))
       F' = rw (W .perm .ids-long, W .perm .co-long) F
 
 -- ---- the fuel is never used up: with any that is enough a step comes to the same
@@ -215,7 +216,7 @@ down-enough f f' a t c j q le h h' at =
     down-stops f a t c j (scanDown f' a t c j) (D .scan) (omega arith) (D .stop)
 
 passes-same : (f f' : ℕ) (b : Bool) (a : ℕ) (t : Float) (l r : ℕ) (s : IndexCols) (i j : ℕ) → ltb i j ≡ b → j - i ≤ f → j - i ≤ f'
-    → Fits l r a (length (s .ids)) (length (s .co)) → Split a t l r (s .co) i j
+    → PartFits l r a (length (s .ids)) (length (s .co)) → Split a t l r (s .co) i j
     → passes f b a t s i j ≡ passes f' b a t s i j
 unfolding passes
 passes-same zero zero b a t l r s i j e h h' F S = refl

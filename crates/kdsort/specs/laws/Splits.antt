@@ -101,13 +101,13 @@ pub record Split (a : ℕ) (t : Float) (l r : ℕ) (c : List Float) (i j : ℕ) 
   pub ends : (key a c l ≡ t) ⊎ (key a c r ≡ t)
   pub stage : ((i ≡ l) × (j ≡ r)) ⊎ ((l < i) × (j < r))
 
-pub record Fits (l r a n m : ℕ) : Type 0 where
+pub record PartFits (l r a n m : ℕ) : Type 0 where
   pub lr : l < r
   pub rn : r < n
   pub nm : 2 * r + 1 < m
   pub a2 : a < 2
 
-module _ (a : ℕ) (t : Float) (l r : ℕ) (c : List Float) (i j i' j' n : ℕ) (F : Fits l r a n (length c)) (S : Split a t l r c i j)
+module _ (a : ℕ) (t : Float) (l r : ℕ) (c : List Float) (i j i' j' n : ℕ) (F : PartFits l r a n (length c)) (S : Split a t l r c i j)
     (ij : i < j)
     (U : UpAt a t (swapCo c i j) (i + 1) j i') (D : DownAt a t (swapCo c i j) (j - 1) i j') where
   at : (p : ℕ) → key a (swapCo c i j) p ≡ key a c (tr i j p)
@@ -186,7 +186,7 @@ pub record Passed (a : ℕ) (t : Float) (l r : ℕ) (s : IndexCols) (P : Cut) : 
   pub split : Split a t l r (P .at .co) i-end (P .slot)
   pub perm : Permuted l r s (P .at)
 
-pub swap-up : (a : ℕ) (t : Float) (l r : ℕ) (s : IndexCols) (i j : ℕ) → Fits l r a (length (s .ids)) (length (s .co))
+pub swap-up : (a : ℕ) (t : Float) (l r : ℕ) (s : IndexCols) (i j : ℕ) → PartFits l r a (length (s .ids)) (length (s .co))
     → Split a t l r (s .co) i j → i < j → UpAt a t (swapCo (s .co) i j) (i + 1) j (scanUp j a t (swapCo (s .co) i j) (i + 1))
 swap-up a t l r s i j F S ij =
     let x = S .i-from in
@@ -195,7 +195,7 @@ swap-up a t l r s i j F S ij =
     (ap (λ (x : Float). lt x t) (key-swap (s .co) i j j (omega arith) (omega arith) a (F .a2) ∙ ap (key a (s .co)) (tr-right i j))
     ∙ S .i-stop)
 
-pub swap-down : (a : ℕ) (t : Float) (l r : ℕ) (s : IndexCols) (i j : ℕ) → Fits l r a (length (s .ids)) (length (s .co))
+pub swap-down : (a : ℕ) (t : Float) (l r : ℕ) (s : IndexCols) (i j : ℕ) → PartFits l r a (length (s .ids)) (length (s .co))
     → Split a t l r (s .co) i j → i < j → DownAt a t (swapCo (s .co) i j) (j - 1) i (scanDown j a t (swapCo (s .co) i j) (j - 1))
 swap-down a t l r s i j F S ij =
     let x = S .i-from in
@@ -203,12 +203,12 @@ swap-down a t l r s i j F S ij =
     down-finds j (lt t (key a (swapCo (s .co) i j) (j - 1))) a t (swapCo (s .co) i j) (j - 1) i refl (omega arith) (omega arith)
     (ap (lt t) (key-swap (s .co) i j i (omega arith) (omega arith) a (F .a2) ∙ ap (key a (s .co)) (tr-left i j)) ∙ S .j-stop)
 
-pub fits-swap : (l r a : ℕ) (s : IndexCols) (i j : ℕ) → Fits l r a (length (s .ids)) (length (s .co))
-    → Fits l r a (length (swapIds (s .ids) i j)) (length (swapCo (s .co) i j))
+pub fits-swap : (l r a : ℕ) (s : IndexCols) (i j : ℕ) → PartFits l r a (length (s .ids)) (length (s .co))
+    → PartFits l r a (length (swapIds (s .ids) i j)) (length (swapCo (s .co) i j))
 fits-swap l r a s i j F = rw (length-swapIds (s .ids) i j, length-swapCo (s .co) i j) F
 
 pub passes-end : (f : ℕ) (b : Bool) (a : ℕ) (t : Float) (l r : ℕ) (s : IndexCols) (i j : ℕ) → ltb i j ≡ b → j - i ≤ f
-    → Fits l r a (length (s .ids)) (length (s .co)) → Split a t l r (s .co) i j → Passed a t l r s (passes f b a t s i j)
+    → PartFits l r a (length (s .ids)) (length (s .co)) → Split a t l r (s .co) i j → Passed a t l r s (passes f b a t s i j)
 unfolding passes
 passes-end zero b a t l r s i j e fu F S = record { i-end = i; met = omega arith; split = S; perm = perm-same l r s }
 passes-end (suc f) false a t l r s i j e fu F S = record { i-end = i; met = ltb-false i j e; split = S; perm = perm-same l r s }
@@ -221,7 +221,7 @@ passes-end (suc f) true a t l r s i j e fu F S = passes-more f a t l r s i j (lt
     (split-turn a t l r (s .co) i j _ _ (length (s .ids)) F S (ltb-true i j e) (swap-up a t l r s i j F S (ltb-true i j e))
     (swap-down a t l r s i j F S (ltb-true i j e)))) where
       passes-more : (f : ℕ) (a : ℕ) (t : Float) (l r : ℕ) (s : IndexCols) (i j : ℕ) → i < j → j - i ≤ suc f
-          → Fits l r a (length (s .ids)) (length (s .co)) → Split a t l r (s .co) i j
+          → PartFits l r a (length (s .ids)) (length (s .co)) → Split a t l r (s .co) i j
           → {P : Cut} → Passed a t l r (swapItem s i j) P → Passed a t l r s P
       passes-more f a t l r s i j ij fu F S Q =
           let x = S .i-from in

@@ -17,14 +17,14 @@ use Rattle.lister_text.specs.declared.WrittenPoint.the-variants.{Stands,
 use Rattle.lister_text.specs.laws.Scan.{lineOf}
 use Rattle.lister_text.specs.Text.{minZoomKey, maxZoomKey, minPointsKey, radiusKey, extentKey, nodeSizeKey, countKey, xKey, yKey}
 use Rattle.lister_text.specs.Text.{whKey}
-use Rattle.lister_text.specs.Text.{Place, PointCols, putPoints}
+use Rattle.lister_text.specs.Text.{LampText, PointCols, putPoints}
 
 -- what a line was read as goes on, or all ends with `other`; the same of a point
 abbrev pub eachValue : {A : Type 0} → Value → A → (ℕ → ℕ → A) → A
 eachValue (Number v next) other f = f v (next .at)
 eachValue Bad other f = other
 
-abbrev pub eachPoint : {A : Type 0} → WrittenPoint → A → (Place → ℕ → A) → A
+abbrev pub eachPoint : {A : Type 0} → WrittenPoint → A → (LampText → ℕ → A) → A
 eachPoint (Stands x y wh next) other f = f (record { x = x; y = y; wh = wh }) (next .at)
 eachPoint Missing other f = other
 

@@ -12,7 +12,7 @@ use lib.Seq.{sets, length-sets, sets-eq, take-at}
 use Rattle.lister_text.specs.declared.Head.{Head}
 use Rattle.lister_text.specs.declared.Parsed.{Parsed}
 use Rattle.lister_text.specs.declared.Parsed.the-variants.{Read, Refused}
-use Rattle.lister_text.specs.Text.{Place, Input, pointsText, headText, headIs, text, Valid}
+use Rattle.lister_text.specs.Text.{LampText, Input, pointsText, headText, headIs, text, Valid}
 use Rattle.lister_text.specs.Text.{PointCols, pointCols, pointsOf, frontOf, Fits, putPoints, Reads, Parsing, xOf, yOf, whOf}
 use Rattle.lister_text.specs.laws.Form.{headOfText, pointsOk, withPoints, parsedOf, filledBy}
 use Rattle.lister_text.specs.laws.Points.{Found, points-read, points-end}
@@ -124,7 +124,7 @@ pub record Wide (c : PointCols) : Type 0 where
   pub y : length (c .ys) ≡ 1152
   pub energy : length (c .energies) ≡ 1152
 
-front : {A : Type 0} (f : Place → A) (ps : List Place) (n : ℕ) (d d′ : List A) → d′ ≡ sets d 0 (map f ps)
+front : {A : Type 0} (f : LampText → A) (ps : List LampText) (n : ℕ) (d d′ : List A) → d′ ≡ sets d 0 (map f ps)
     → n ≡ length ps → n ≤ length d′ → take n d′ ≡ map f ps
 front f ps n d d′ e k h =
     let long : length (map f ps) ≡ n = length-map ps f ∙ sym k in
