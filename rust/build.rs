@@ -1,6 +1,6 @@
 //! Links the proved library: from the folder that REACHVOLEM_LIB names, else from ../target/native, where tools/native-lib
-//! leaves it, else from ../dist/lib, where make-dist does. A file `links` beside it names further libraries, one a line:
-//! the library that checks what its compiler assumes needs the address sanitizer's.
+//! leaves it, else from ../dist/lib, where tools/make-dist does. A file `links` beside it names further libraries, one a
+//! line: the library that checks what its compiler assumes needs the address sanitizer's.
 
 use std::{
     env, fs,

@@ -30,7 +30,8 @@ came false c k = refl
 module _ (q : Query) (size n : ℕ) (ids : List ℕ) (co : List Float) (e : indexOk size n ids co ≡ true) (out : List ℕ) where
   pub came-out : cameOut (listed q size n ids co (length out)) ≡ partOf (whole n (found q size n ids co)) (length (found q size n ids co))
   unfolding listed
-  came-out = rw e (came (whole n (found q size n ids co)) (leb (length (found q size n ids co)) (length out)) (length (found q size n ids co)))
+  came-out = rw e (came (whole n (found q size n ids co)) (leb (length (found q size n ids co)) (length out))
+      (length (found q size n ids co)))
 
   pub left-there : listedColumn q size n ids co out ≡ filled (sound n (found q size n ids co)) out
   unfolding listedColumn

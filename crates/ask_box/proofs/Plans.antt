@@ -17,13 +17,13 @@ use Rattle.ask_base.specs.declared.Answer.the-variants.{Spoiled}
 use Rattle.ask_base.specs.Answers.{fitted}
 use Rattle.ask_base.specs.Asked.{answerOf, columnOf}
 use Rattle.ask_base.specs.laws.Filled.{filled-length}
-use Rattle.ask_box_plan.specs.declared.Plan.{Plan}
+use Rattle.ask_box_plan.specs.declared.BoxPlan.{BoxPlan}
 use Rattle.ask_box_plan.specs.laws.Queries.{queriesOf}
 use Rattle.ask_box.specs.declared.Part.the-variants.{All, Past}
 use Rattle.ask_box.specs.Lists.{walked, planned}
 use Rattle.ask_box.specs.laws.Joined.{partOf, part-all, part-past, found-length, first-past, only-first, second-past, both-whole}
 
-module _ (p : Plan) (size n : ℕ) (ids : List ℕ) (co : List Float) (out : List ℕ) where
+module _ (p : BoxPlan) (size n : ℕ) (ids : List ℕ) (co : List Float) (out : List ℕ) where
   abbrev one : List ℕ
   one = found (p .first) size n ids co
 
@@ -70,7 +70,8 @@ module _ (p : Plan) (size n : ℕ) (ids : List ℕ) (co : List Float) (out : Lis
         pub plan-second-past : Past ≡ partOf (whole n two) (length two) → Leaves Spoiled (back s o x)
         unfolding flatMap
         plan-second-past d =
-            let w = second-past n one two out (part-all (whole n one) (length one) k e .0) s begins (part-past (whole n two) (length two) d) in
+            let w = second-past n one two out (part-all (whole n one) (length one) k e .0) s begins
+            (part-past (whole n two) (length two) d) in
             rw (f, append-nil two) (w .0, put ∙ w .1)
 
         pub plan-both : (j : ℕ) → All j ≡ partOf (whole n two) (length two) → (a : Answer) (m : ℕ) → m ≡ length (back s o x)
@@ -84,7 +85,7 @@ module _ (p : Plan) (size n : ℕ) (ids : List ℕ) (co : List Float) (out : Lis
             rw (f, append-nil two) (r ∙ rw (q, l, v .1, u .1) (w .0), put ∙ w .1)
 
 -- two counts fit into one
-pub counts-fit : (p : Plan) (size n : ℕ) (ids : List ℕ) (co : List Float) → indexOk size n ids co ≡ true → (k j : ℕ)
+pub counts-fit : (p : BoxPlan) (size n : ℕ) (ids : List ℕ) (co : List Float) → indexOk size n ids co ≡ true → (k j : ℕ)
     → All k ≡ partOf (whole n (found (p .first) size n ids co)) (length (found (p .first) size n ids co))
     → All j ≡ partOf (whole n (found (p .second) size n ids co)) (length (found (p .second) size n ids co)) → k + j ≤ 2097152
 counts-fit p size n ids co e k j f g =

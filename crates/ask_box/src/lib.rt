@@ -1,7 +1,7 @@
 // Box and ring: the places of a table that a search finds. Nothing is asked of the caller: what SCOPE does not take is refused with its
 // number.
 use ask_base::Answer;
-use ask_box_plan::Plan;
+use ask_box_plan::BoxPlan;
 use build_tables::Options;
 use build_tables::State;
 use kdbush::SearchReply;
@@ -66,7 +66,7 @@ fn list_one(
 
 // Lists the places that a plan finds: the second search is lent what the first has left of the column.
 fn list_plan(
-    p: Plan,
+    p: BoxPlan,
     node_size: usize,
     n: usize,
     ids: &[u32],
@@ -95,7 +95,7 @@ fn list_plan(
 
 // The same in a table of n entries that starts at a place of the columns.
 fn list_at(
-    p: Plan,
+    p: BoxPlan,
     node_size: usize,
     start: usize,
     n: usize,
@@ -116,7 +116,7 @@ fn list_at(
 }
 
 // The same in the table of the zoom used.
-fn list_used(p: Plan, s: State, ids: &[u32], coords: &[f64], zoom: u8, out: &mut [u32]) -> Answer
+fn list_used(p: BoxPlan, s: State, ids: &[u32], coords: &[f64], zoom: u8, out: &mut [u32]) -> Answer
     requires { ⌜ stateOk s (indexRoom (now ids) (now coords)) ≡ true ⌝ }
     ensures { λ r.
         let a = listedAt s (old ids) (old coords) (zoomUsed (s .options) zoom) (queriesOf p) in
@@ -168,7 +168,7 @@ pub fn list_ring(
         qy: y,
         radius,
     };
-    let p = Plan {
+    let p = BoxPlan {
         first: q,
         second: q,
         two: false,

@@ -15,7 +15,7 @@ struct Edges {
 }
 
 // What is searched: the first, and then the second if there are two.
-pub struct Plan {
+pub struct BoxPlan {
     pub first: Query,
     pub second: Query,
     pub two: bool,
@@ -74,13 +74,13 @@ fn box_of(c: CoordinateSystem, west: f64, least_y: f64, east: f64, greatest_y: f
 }
 
 // What is searched for a box.
-pub fn plan_box(c: CoordinateSystem, west: f64, least_y: f64, east: f64, greatest_y: f64) -> Plan
+pub fn plan_box(c: CoordinateSystem, west: f64, least_y: f64, east: f64, greatest_y: f64) -> BoxPlan
     ensures { λ r. ⌜ queriesOf r ≡ planOf c west «least_y» east «greatest_y» ⌝ }
 {
     match c {
         CoordinateSystem::Cartesian { range } => {
             let q = box_of(c, west, least_y, east, greatest_y);
-            Plan {
+            BoxPlan {
                 first: q,
                 second: q,
                 two: false,
@@ -93,14 +93,14 @@ pub fn plan_box(c: CoordinateSystem, west: f64, least_y: f64, east: f64, greates
                 let b = rule(-180.0, r.east);
                 let f = box_of(c, a.west, least_y, a.east, greatest_y);
                 let g = box_of(c, b.west, least_y, b.east, greatest_y);
-                return Plan {
+                return BoxPlan {
                     first: f,
                     second: g,
                     two: true,
                 };
             }
             let q = box_of(c, r.west, least_y, r.east, greatest_y);
-            Plan {
+            BoxPlan {
                 first: q,
                 second: q,
                 two: false,

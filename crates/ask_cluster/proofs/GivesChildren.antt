@@ -20,7 +20,8 @@ use Rattle.ask_child_walk.specs.declared.Kids.{Kids}
 use Rattle.ask_child_walk.specs.declared.Kids.the-variants.{All, Spoiled as Kids·Spoiled}
 use Rattle.ask_child_walk.specs.Kids.{kidsAt}
 use Rattle.ask_cluster.specs.Children.{atTarget, childrenAt, childrenOf}
-use Rattle.ask_cluster.proofs.Led.{Gives, gives, gives-refused, Led, leads, none-is, Looked, looked-column, looked-spoiled, looked-all}
+use Rattle.ask_cluster.proofs.Led.{Gives, gives, gives-refused, Led, leads, none-is, Looked, looked-column, looked-spoiled}
+use Rattle.ask_cluster.proofs.Led.{looked-all}
 
 module _ {s : State} {c : Columns} {id cap : ℕ} {t : Target} (q : Led s c id cap t) where
   pub children-refused : (u : Target) (a : Answer) → t ≡ u → atTarget u (λ z o. childrenAt s c id z o) ≡ refused a → (out : List ℕ)

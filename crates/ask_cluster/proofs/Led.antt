@@ -16,7 +16,8 @@ use Rattle.build_tables.specs.declared.State.{State}
 use Rattle.ask_base.specs.declared.Answer.{Answer}
 use Rattle.ask_base.specs.declared.Ring.{Ring}
 use Rattle.ask_base.specs.declared.Target.{Target}
-use Rattle.ask_base.specs.declared.Target.the-variants.{At, Spoiled as Target·Spoiled, NoTree as Target·NoTree, NoCluster as Target·NoCluster}
+use Rattle.ask_base.specs.declared.Target.the-variants.{At, Spoiled as Target·Spoiled, NoTree as Target·NoTree}
+use Rattle.ask_base.specs.declared.Target.the-variants.{NoCluster as Target·NoCluster}
 use Rattle.ask_base.specs.Asked.{Asked, refused, answerOf, columnOf}
 use Rattle.build_tables.specs.Room.{Columns, roomOf}
 use Rattle.ask_base.specs.Columns.{tableAt}

@@ -10,7 +10,8 @@ use lib.ListN.{length, set, length-append}
 use Rattle.build_tables.specs.declared.Entry.{Entry}
 use Rattle.build_tables.specs.declared.State.{State}
 use Rattle.ask_base.specs.declared.Target.{Target}
-use Rattle.ask_base.specs.declared.Target.the-variants.{At, Spoiled as Target·Spoiled, NoTree as Target·NoTree, NoCluster as Target·NoCluster}
+use Rattle.ask_base.specs.declared.Target.the-variants.{At, Spoiled as Target·Spoiled, NoTree as Target·NoTree}
+use Rattle.ask_base.specs.declared.Target.the-variants.{NoCluster as Target·NoCluster}
 use Rattle.build_tables.specs.Room.{Columns}
 use Rattle.ask_base.specs.laws.Filled.{filled-next}
 use Rattle.ask_base.specs.Ids.{onward}

@@ -209,7 +209,8 @@ module _ (s : State) (c : Columns) (limit offset id t o : ℕ) (was : Sofar) (ou
             }
           where
             goes : (f : ℕ) → 32 ≤ f + 1 + t → (u : Walk) (out₁ : List ℕ)
-                → Does (so' .listed) out' u out₁ (S f (kidsAhead to) (so' .skipped)) → Does (so .listed) out u out₁ (S f (kidsAhead ah) (so .skipped))
+                → Does (so' .listed) out' u out₁ (S f (kidsAhead to) (so' .skipped))
+                → Does (so .listed) out u out₁ (S f (kidsAhead ah) (so .skipped))
             goes f h u out₁ x base m b =
                 let q = tells f h base m b in
                 let n : length (q .lamps) ≡ limit → ⊥ = λ j. y (q .behind .count ∙ j) in

@@ -31,7 +31,8 @@ module _ (s : State) (ids : List ℕ) (co : List Float) (zoom : ℕ) where
     asked-spoiled f = rw f
 
     module _ (f : stateOk s (indexRoom ids co) ≡ true) where
-      pub asked-box : boxOk (s .options .«coordinate_system») west least east greatest ≡ false → refused Box ≡ effortAsked s ids co zoom west least east greatest
+      pub asked-box : boxOk (s .options .«coordinate_system») west least east greatest ≡ false
+          → refused Box ≡ effortAsked s ids co zoom west least east greatest
       unfolding effortAsked
       asked-box g = rw (f, g)
 

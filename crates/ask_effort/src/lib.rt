@@ -1,6 +1,6 @@
 // A box question with a stated effort: it tests at most as many slots as the caller allows, and replies what it found, how many it tested,
 // and whether a test was left. Nothing is asked of the caller: what SCOPE does not take is refused with its number, as for a box.
-use ask_box_plan::Plan;
+use ask_box_plan::BoxPlan;
 use ask_effort_tests::EffortReply;
 use build_tables::State;
 ghost use mathlib.Core.Path.{_≡_};
@@ -20,7 +20,7 @@ ghost use Rattle.ask_effort.specs.Effort.{effortReplyOf, effortColumnOf,
 
 // Lists what a plan finds within so many tests in a table of n entries that starts at a place of the columns.
 fn effort_at(
-    p: Plan,
+    p: BoxPlan,
     node_size: usize,
     start: usize,
     n: usize,
@@ -51,7 +51,7 @@ fn effort_at(
 
 // The same in the table of the zoom used.
 fn effort_used(
-    p: Plan,
+    p: BoxPlan,
     s: State,
     ids: &[u32],
     coords: &[f64],
@@ -79,8 +79,8 @@ fn effort_used(
 }
 
 // The places of the table of the zoom used in the box from (west, least_y) to (east, greatest_y), within so many tests, which the two
-// halves of a box that crosses the date line share. y grows downwards on a mercator map, so that least_y is the northern edge of a longitude
-// build; on a Cartesian plan it is the least y as given.
+// halves of a box that crosses the date line share. y grows downwards on a mercator map, so that least_y is the northern edge of a
+// longitude build; on a Cartesian plan it is the least y as given.
 pub fn effort_box(
     s: State,
     ids: &[u32],

@@ -23,7 +23,8 @@ module _ (S : Search) (ids : List ℕ) (n : ℕ) where
       → thenSpent (due o z v l (getD ids i 0) s out) (λ t p. wentTests t p) ≡ spend n (marks S ids (i ∷ [])) s out
   unfolding spend marks
   put-is i s out {o} {z} {v} {l} e f g h =
-      sym (ap (λ (x : Bool). thenSpent (due x (eqb (s .left) 0) (S .test i) (ltb (getD ids i 0) n) (getD ids i 0) s out) (λ t p. wentTests t p)) e
+      sym (ap (λ (x : Bool). thenSpent (due x (eqb (s .left) 0) (S .test i) (ltb (getD ids i 0) n) (getD ids i 0) s out)
+      (λ t p. wentTests t p)) e
       ∙ ap (λ (x : Bool). thenSpent (due o x (S .test i) (ltb (getD ids i 0) n) (getD ids i 0) s out) (λ t p. wentTests t p)) f
       ∙ ap (λ (x : Bool). thenSpent (due o z x (ltb (getD ids i 0) n) (getD ids i 0) s out) (λ t p. wentTests t p)) g
       ∙ ap (λ (x : Bool). thenSpent (due o z v x (getD ids i 0) s out) (λ t p. wentTests t p)) h)
@@ -31,7 +32,8 @@ module _ (S : Search) (ids : List ℕ) (n : ℕ) where
   -- a test that passes, where the column does not reach so far
   pub put-past : (i : ℕ) (s : Spent) (out : List ℕ) → s .over ≡ false → eqb (s .left) 0 ≡ false → S .test i ≡ true
       → ltb (getD ids i 0) n ≡ true → length out ≤ s .found
-      → wentTests (record { found = s .found + 1; left = s .left - 1; over = false; spoiled = false }) out ≡ spend n (marks S ids (i ∷ [])) s out
+      → wentTests (record { found = s .found + 1; left = s .left - 1; over = false; spoiled = false }) out
+      ≡ spend n (marks S ids (i ∷ [])) s out
   put-past i s out e f g h l =
       ap (wentTests (record { found = s .found + 1; left = s .left - 1; over = false; spoiled = false }))
       (sym (set-out out (s .found) (getD ids i 0) l)) ∙ put-is i s out e f g h
@@ -60,13 +62,15 @@ module _ (S : Search) (ids : List ℕ) (n : ℕ) where
       go : (a : ℕ) → a ≡ 0 → scanned (testing S) i a ≡ []
       go a e = rw e
 
-  pub scan-done : (i hi : ℕ) (k : Spent) (out : List ℕ) → hi ≤ i → wentTests k out ≡ spend n (marks S ids (scanned (testing S) i (hi - i))) k out
+  pub scan-done : (i hi : ℕ) (k : Spent) (out : List ℕ) → hi ≤ i
+      → wentTests k out ≡ spend n (marks S ids (scanned (testing S) i (hi - i))) k out
   unfolding spend marks
   scan-done i hi k out h = sym (ap (λ (l : List ℕ). spend n (marks S ids l) k out) (scanned-none i hi h))
 
   -- ---- an interval
 
-  pub part-skipped : (go : Bool) (l : List ℕ) (s : Spent) (out : List ℕ) → go ≡ false → wentTests s out ≡ spend n (marks S ids (when go l)) s out
+  pub part-skipped : (go : Bool) (l : List ℕ) (s : Spent) (out : List ℕ) → go ≡ false
+      → wentTests s out ≡ spend n (marks S ids (when go l)) s out
   unfolding spend marks
   part-skipped go l s out e = rw e
 
@@ -79,7 +83,8 @@ module _ (S : Search) (ids : List ℕ) (n : ℕ) where
 
   pub part-node : (go : Bool) (ax most lo hi : ℕ) (s k j r : Spent) (out o p y : List ℕ) → go ≡ true → most < hi - lo
       → wentTests k o ≡ spend n (marks S ids (mid lo hi ∷ [])) s out
-      → wentTests j p ≡ spend n (marks S ids (when (S .right ax (mid lo hi)) (slots (testing S) (1 - ax) (shape most (mid lo hi + 1) hi)))) k o
+      → wentTests j p ≡ spend n (marks S ids (when (S .right ax (mid lo hi)) (slots (testing S) (1 - ax) (shape most (mid lo hi + 1) hi))))
+      k o
       → wentTests r y ≡ spend n (marks S ids (when (S .left ax (mid lo hi)) (slots (testing S) (1 - ax) (shape most lo (mid lo hi))))) j p
       → wentTests r y ≡ spend n (marks S ids (when go (slots (testing S) ax (shape most lo hi)))) s out
   unfolding marks

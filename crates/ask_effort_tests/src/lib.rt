@@ -2,7 +2,7 @@
 // count, and say how many were made and whether one was left. The tests are those of the definition of the search, each slot of an
 // interval that is not split and each median of one that is; nothing is narrowed away first, since the definition tests what narrowing
 // leaves out.
-use ask_box_plan::Plan;
+use ask_box_plan::BoxPlan;
 use kdslots::Query;
 ghost use mathlib.Core.Path.{_≡_};
 ghost use mathlib.Core.Bool.{true};
@@ -235,7 +235,7 @@ fn settle(s: Spent, allowance: usize, room: usize) -> EffortReply
 // Lists the places that a plan finds within so many tests over an index that may be searched: the second search goes on with what the
 // first has left.
 pub fn search(
-    p: Plan,
+    p: BoxPlan,
     node_size: usize,
     n: usize,
     ids: &[u32],

@@ -38,4 +38,9 @@ spotted s n lamp zoom e l =
     let u = used-between (s .options) zoom (g .zooms) in
     let k = s .options .«max_zoom» + 1 - zoomUsed (s .options) zoom in
     let h : k < t = omega (arith, u, g .zooms) in
-    record { top = u .1; small = omega (arith, u, g .zoom-to); inside = omega (arith, row k t (s .count) lamp h l, leb-true (t * s .count) n (a .1)) }
+    record {
+      top = u .1;
+      small = omega (arith, u, g .zoom-to);
+      inside =
+          omega (arith, row k t (s .count) lamp h l, leb-true (t * s .count) n (a .1));
+    }

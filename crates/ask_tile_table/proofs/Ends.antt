@@ -14,7 +14,8 @@ use Rattle.kdpages.specs.Pages.{next-end}
 
 no-slot : (s : Step) → OneOf (1 ∷ 2 ∷ 3 ∷ []) (tagOf the-type s) → (i : ℕ) → s ≡ Slot i → ⊥
 no-slot s h i e =
-    ⊎-elim (λ e. omega (arith, e)) (λ w. ⊎-elim (λ e. omega (arith, e)) (λ e. omega (arith, e)) w) (subst (λ (r : Step). OneOf (1 ∷ 2 ∷ 3 ∷ []) (tagOf the-type r)) e h)
+    ⊎-elim (λ e. omega (arith, e)) (λ w. ⊎-elim (λ e. omega (arith, e)) (λ e. omega (arith, e)) w)
+    (subst (λ (r : Step). OneOf (1 ∷ 2 ∷ 3 ∷ []) (tagOf the-type r)) e h)
 
 pub no-more : (l : List ℕ) (s : Step) → OneOf (1 ∷ 2 ∷ 3 ∷ []) (tagOf the-type s) → s ≡ nextStep Done l → l ≡ []
 no-more l s h e = next-end l s (no-slot s h) e

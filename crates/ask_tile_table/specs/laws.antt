@@ -32,3 +32,5 @@ pub mod Told
 pub mod Home
 -- Replies: any two replies that meet the contract of a method of `Tally`, which is public, are equal.
 pub mod Replies
+-- Wraps: when strips run: always where the option is off, and for longitude either way; on a plan with the option on never.
+pub mod Wraps

@@ -22,6 +22,3 @@ pub mod ClimbableBuilds
 pub mod OneTable
 -- AllTables: table after table: at the head of the loop over the zooms the owners down to table z are written, and at its end all of them.
 pub mod AllTables
--- Fronts: the fronts of the columns that hold m entries each: as long as each other; and what is left where the front of a column came back
--- as zeros.
-pub mod Fronts

@@ -11,14 +11,13 @@ ghost use Rattle.lent.specs.Lent.{old, new};
 ghost use Rattle.build_tables.specs.Entries.{entry, unset};
 ghost use Rattle.build_tables.specs.Rows.{rows};
 ghost use Rattle.build_tables.specs.laws.Rows.{Even};
-ghost use Rattle.build_tables.specs.laws.Roomy.{Roomy};
+ghost use Rattle.build_tables.specs.laws.Roomy.{Roomy, frontCols};
 ghost use Rattle.build_tables.specs.Lent.{given, lentCols};
 ghost use Rattle.build_tables.specs.Options.{tableCount};
 ghost use Rattle.build_all_zooms.specs.Zooms.{laidOver};
 ghost use Rattle.supercluster.specs.laws.Held.{heldBy};
 ghost use Rattle.build_owners.specs.OwnerColumn.{ownerColumn};
-ghost use Rattle.build_owners.specs.laws.Climbs.{leadOf, Chain, seatOf, ownerAt, finer, Climbable};
-ghost use Rattle.build_owners.specs.laws.Fronts.{frontOf};
+ghost use Rattle.build_owners.specs.laws.Climbs.{leadOf, Chain, seatOf, ownerOn, finer, Climbable};
 ghost use Rattle.build_owners.specs.laws.Fills.{Wrote, leadFrom, Sends, Sent, nextOwner, Sits};
 
 fn wide(x: u32) -> usize
@@ -46,7 +45,7 @@ fn lead(
         ⌜ r ≡ leadOf n (old starts) (rows (c .entry)) 32 from ⌝ }
 {
     let mut c = from;
-    let mut left: u32 = 32;
+    let mut left = build_tables::ZOOMS;
     while n <= c {
         let t = build_tables::table_of(c, n);
         let at = wide(starts[t]) + build_tables::origin_of(c, n);
@@ -172,13 +171,13 @@ fn one_table(
     owners: &mut [u32],
     at: usize,
 )
-    requires { let R = rows (given x y seen id parent num energy) in
-        ⌜ Even (given x y seen id parent num energy) × Climbable s R × (s .options .«min_zoom» ≤ z) × (z ≤ s .options .«max_zoom»)
+    requires { let c = given x y seen id parent num energy in
+        ⌜ Even c × Climbable s (rows c) × (s .options .«min_zoom» ≤ z) × (z ≤ s .options .«max_zoom»)
         × (length (now to) ≡ s .count) × (at + s .count + s .count ≤ length (now owners))
-        × ((l : ℕ) → l < s .count → getD (now owners) (at + l) 0 ≡ finer s R z l) ⌝ }
+        × ((l : ℕ) → l < s .count → getD (now owners) (at + l) 0 ≡ finer s (rows c) z l) ⌝ }
     ensures { λ _.
         let c = lentCols x y seen id parent num energy in
-        ⌜ Wrote (at + s .count) (s .count) (ownerAt s (rows (c .entry)) z) (old owners) (new owners) ⌝ }
+        ⌜ Wrote (at + s .count) (s .count) (ownerOn s (rows (c .entry)) z) (old owners) (new owners) ⌝ }
 {
     let n = s.count;
     let starts = s.starts;
@@ -267,10 +266,10 @@ pub fn fill(
 )
     requires { let c = given x y seen id parent num energy in
         let m = tableCount (s .options) * s .count in
-        ⌜ Roomy m c × Climbable s (rows (frontOf m c)) × (s .count ≤ length (now near)) × (m ≤ length (now owners)) ⌝ }
+        ⌜ Roomy m c × Climbable s (rows (frontCols m c)) × (s .count ≤ length (now near)) × (m ≤ length (now owners)) ⌝ }
     ensures { λ _.
         let c = lentCols x y seen id parent num energy in
-        let R = rows (frontOf (tableCount (s .options) * s .count) (c .entry)) in
+        let R = rows (frontCols (tableCount (s .options) * s .count) (c .entry)) in
         ⌜ (new near ≡ laidOver (replicate (s .count) 0) (old near))
         × (new owners ≡ laidOver (ownerColumn (s .count) (heldBy s R)) (old owners)) ⌝ }
 {

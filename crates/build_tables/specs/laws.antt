@@ -6,7 +6,7 @@ pub mod Bounds
 pub mod Sound
 -- Rows: how a store in the lent columns is in the table that they hold: a whole entry, a mark, a parent.
 pub mod Rows
--- Roomy: what the room of the nine columns says of each of them.
+-- Roomy: what the room of the nine columns says of each of them, and the fronts of columns with room.
 pub mod Roomy
 -- Columns: the columns of a table's rows are the columns; rows of parts are parts of the rows; and what becomes of a column whose part is
 -- lent and comes back.

@@ -4,9 +4,9 @@ use mathlib.Core.List.{List}
 use Prim.Native.Nat.{ℕ, zero, suc, _<_, _≤_}
 use native.Mathlib.Omega.{arith}
 use Rattle.supercluster.specs.declared.Loaded.{Loaded}
-use Rattle.supercluster.specs.Build.{BuildColumns, outcome}
+use Rattle.supercluster.specs.Build.{BuildColumns, outcome, unlessRefused}
 use Rattle.owners.specs.LoadedWith.{OwnedOutcome, ownedOutcome}
-use Rattle.exports.specs.Laid.{Replied, replied, unlessRefused, repliedOf, laid, laidOf}
+use Rattle.exports.specs.Laid.{Replied, replied, repliedOf, laid, laidOf}
 
 replied-is : {n m k l : ℕ} {a b c d : List ℕ} → n ≡ m → k ≡ l → a ≡ b → c ≡ d → replied n k a c ≡ replied m l b d
 replied-is e f g h = λ i. replied (e i) (f i) (g i) (h i)
@@ -23,6 +23,7 @@ pub replied-done : (n m : ℕ) {k l : ℕ} {a b c d : List ℕ} (x y : List ℕ)
 replied-done n zero x y e h f p q = replied-is e f p q
 replied-done n (suc m) x y e h f p q = let z : ⊥ = omega arith in absurd z
 
-pub laid-is : (starts lens : List ℕ) {r : Replied} {l : Loaded} {c : BuildColumns} {own : List ℕ} {q : OwnedOutcome} → r ≡ repliedOf l starts lens
+pub laid-is : (starts lens : List ℕ) {r : Replied} {l : Loaded} {c : BuildColumns} {own : List ℕ} {q : OwnedOutcome}
+    → r ≡ repliedOf l starts lens
     → ownedOutcome (outcome l c) own ≡ q → laid r c own ≡ laidOf q starts lens
 laid-is starts lens {c = c} {own = own} e f = ap (λ (t : Replied). laid t c own) e ∙ ap (λ (o : OwnedOutcome). laidOf o starts lens) f

@@ -18,13 +18,15 @@ use Rattle.ask_tile.specs.Asked.{TileOutcome, tileOutcome}
 use Rattle.exports.specs.Told.{said, toldC, toldOf, effortTold, repliedWith, effortToldOf, tileTold, tileOf}
 
 -- the state that is passed on
-pub state-is : (s : State) (o p : Options) (n : ℕ) (starts lens : List ℕ) → s ≡ stateOf o n starts lens → o ≡ p → s ≡ stateOf p n starts lens
+pub state-is : (s : State) (o p : Options) (n : ℕ) (starts lens : List ℕ) → s ≡ stateOf o n starts lens → o ≡ p
+    → s ≡ stateOf p n starts lens
 state-is s o p n starts lens e f = e ∙ ap (λ (q : Options). stateOf q n starts lens) f
 
 pub said-is : {n m k l : ℕ} → n ≡ m → k ≡ l → said n k ≡ said m l
 said-is {m = m} {k = k} e f = ap (λ (i : ℕ). said i k) e ∙ ap (λ (i : ℕ). said m i) f
 
-pub told-is : (out : List ℕ) (a b : Asked) {n k : ℕ} {r : Answer} {l : List ℕ} → n ≡ answerNumber r → k ≡ answerCarried r → r ≡ answerOf a (length out) → l ≡ columnOf a out → a ≡ b
+pub told-is : (out : List ℕ) (a b : Asked) {n k : ℕ} {r : Answer} {l : List ℕ} → n ≡ answerNumber r → k ≡ answerCarried r
+    → r ≡ answerOf a (length out) → l ≡ columnOf a out → a ≡ b
     → toldC n k l ≡ toldOf b out
 told-is out a b {k = k} {r = r} {l = l} e f g h q =
     ap (λ (i : ℕ). toldC i k l) e
@@ -33,7 +35,8 @@ told-is out a b {k = k} {r = r} {l = l} e f g h q =
     ∙ ap (λ (t : List ℕ). toldC (answerNumber (answerOf a (length out))) (answerCarried (answerOf a (length out))) t) h
     ∙ ap (λ (t : Asked). toldOf t out) q
 
-pub effort-told-is : (a : ℕ) (out : List ℕ) (x y : EffortAsked) {n : ℕ} {k : Effort} {r : EffortReply} {l : List ℕ} → n ≡ effortNumber r → k ≡ effortCarried r → r ≡ effortReplyOf x a (length out)
+pub effort-told-is : (a : ℕ) (out : List ℕ) (x y : EffortAsked) {n : ℕ} {k : Effort} {r : EffortReply} {l : List ℕ} → n ≡ effortNumber r
+    → k ≡ effortCarried r → r ≡ effortReplyOf x a (length out)
     → l ≡ effortColumn x a out → x ≡ y → effortTold n (k .items) (k .tested) (k .stopped) l ≡ effortToldOf y a out
 effort-told-is a out x y {k = k} {r = r} {l = l} e f g h q =
     ap (λ (i : ℕ). effortTold i (k .items) (k .tested) (k .stopped) l) e
@@ -42,7 +45,8 @@ effort-told-is a out x y {k = k} {r = r} {l = l} e f g h q =
     ∙ ap (λ (t : List ℕ). repliedWith (effortReplyOf x a (length out)) t) h
     ∙ ap (λ (t : EffortAsked). effortToldOf t a out) q
 
-pub tile-told-is : {n k : ℕ} {r : Answer} {places : List ℕ} {xs ys : List ℤ} {o : TileOutcome} → n ≡ answerNumber r → k ≡ answerCarried r → tileOutcome r places xs ys ≡ o
+pub tile-told-is : {n k : ℕ} {r : Answer} {places : List ℕ} {xs ys : List ℤ} {o : TileOutcome} → n ≡ answerNumber r → k ≡ answerCarried r
+    → tileOutcome r places xs ys ≡ o
     → tileTold n k places xs ys ≡ tileOf o
 tile-told-is {k = k} {r = r} {places = places} {xs = xs} {ys = ys} e f g =
     ap (λ (i : ℕ). tileTold i k places xs ys) e ∙ ap (λ (i : ℕ). tileTold (answerNumber r) i places xs ys) f ∙ ap tileOf g

@@ -1,9 +1,9 @@
 -- A build as a C caller sees it: SCOPE's number, what is carried, where the tables start and how long they are, and the lent columns
 -- afterwards. Definitions only.
 use mathlib.Core.List.{List}
-use Prim.Native.Nat.{ℕ, zero, suc}
+use Prim.Native.Nat.{ℕ}
 use Rattle.supercluster.specs.declared.Loaded.{Loaded}
-use Rattle.supercluster.specs.Build.{BuildColumns, loadNumber, loadCarried}
+use Rattle.supercluster.specs.Build.{BuildColumns, loadNumber, loadCarried, unlessRefused}
 use Rattle.owners.specs.LoadedWith.{OwnedOutcome}
 
 -- the reply, as numbers
@@ -15,11 +15,6 @@ pub record Replied : Type 0 where
 
 abbrev pub replied : ℕ → ℕ → List ℕ → List ℕ → Replied
 replied n k starts lens = record { number = n; carried = k; starts = starts; lens = lens }
-
--- what a reply with this number leaves of an array: 0 writes it, a refusal does not
-abbrev pub unlessRefused : ℕ → List ℕ → List ℕ → List ℕ
-unlessRefused zero written old = written
-unlessRefused (suc n) written old = old
 
 -- what it comes to, with arrays of these old contents for starts and lengths
 abbrev pub repliedOf : Loaded → List ℕ → List ℕ → Replied

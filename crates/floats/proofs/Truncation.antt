@@ -53,7 +53,8 @@ values-le (fin false m e) nan a c b d h k l = absurd k
 values-le (fin false m e) (inf t) a c b d h k l = absurd k
 values-le (fin false m e) (fin true n g) a c b d h k l = absurd (true≢false (k .0))
 values-le (fin false m e) (fin false n g) a c b d h k l =
-    transfer a b c d (m * up e) (n * up g) (down e) (down g) (down-pos e) (down-pos g) (sym (h .1)) (sym (k .1)) (drop (m * up e * down g) (n * up g * down e) (down e) (down g) (le→cross (fin false m e) (fin false n g) tt tt l))
+    transfer a b c d (m * up e) (n * up g) (down e) (down g) (down-pos e) (down-pos g) (sym (h .1)) (sym (k .1))
+    (drop (m * up e * down g) (n * up g * down e) (down e) (down g) (le→cross (fin false m e) (fin false n g) tt tt l))
   where
     drop : (a b u v : ℕ) → a + 0 * u ≤ b + 0 * v → a ≤ b
     drop a b u v h = omega arith
@@ -80,14 +81,16 @@ pick f a b c h = go (ltb a b) (ltb→lt a b)
     go true k = absurd (not-le-of-lt (k tt) h)
     go false k = refl
 
-rest-is : (f : Format) (m : ℕ) (e : ℤ) (y : Float) (q r : ℕ) → m * up e ≡ q * down e + r → HasValue y false q 1 → sub f (fin false m e) y ≡ round f false r (down e)
+rest-is : (f : Format) (m : ℕ) (e : ℤ) (y : Float) (q r : ℕ) → m * up e ≡ q * down e + r → HasValue y false q 1
+    → sub f (fin false m e) y ≡ round f false r (down e)
 unfolding sub
 rest-is f m e nan q r h k = absurd k
 rest-is f m e (inf t) q r h k = absurd k
 rest-is f m e (fin true n g) q r h k = absurd (true≢false (k .0))
 rest-is f m e (fin false n g) q r h k =
     pick f (m * up e * down g) (n * up g * down e) (down e * down g) (below-it (m * up e) (down e) q r (n * up g) (down g) h (k .1))
-    ∙ round-same f false (m * up e * down g - n * up g * down e) (down e * down g) r (down e) (mul-pos (down-pos e) (down-pos g)) (down-pos e) (rest-cross (m * up e) (down e) q r (n * up g) (down g) h (k .1))
+    ∙ round-same f false (m * up e * down g - n * up g * down e) (down e * down g) r (down e) (mul-pos (down-pos e) (down-pos g))
+    (down-pos e) (rest-cross (m * up e) (down e) q r (n * up g) (down g) h (k .1))
 
 -- the remainder is a value of the format
 none-exact : (f : Format) (r d : ℕ) → 0 < d → r ≡ 0 → HasValue (round f false r d) false r d
@@ -95,8 +98,10 @@ none-exact f r d D e =
     subst (λ (z : ℕ). HasValue (round f false z d) false z d) (sym e)
     (subst (λ (z : Float). HasValue z false 0 d) (sym (round-zero f false d D)) (refl, zero-mul d))
 
-rest-exact : (f : Format) (m : ℕ) (e : ℤ) → T (fits f (fin false m e)) → HasValue (round f false (m * up e % down e) (down e)) false (m * up e % down e) (down e)
-rest-exact f zero e t = none-exact f (zero * up e % down e) (down e) (down-pos e) (ap (λ (z : ℕ). z % down e) (zero-mul (up e)) ∙ zero-mod (down e))
+rest-exact : (f : Format) (m : ℕ) (e : ℤ) → T (fits f (fin false m e))
+    → HasValue (round f false (m * up e % down e) (down e)) false (m * up e % down e) (down e)
+rest-exact f zero e t = none-exact f (zero * up e % down e) (down e) (down-pos e) (ap (λ (z : ℕ). z % down e) (zero-mul (up e))
+    ∙ zero-mod (down e))
 rest-exact f (suc m) (pos k) t = none-exact f (suc m * 2 ^ k % 1) 1 (zero-lt-suc 0) (mod-one (suc m * 2 ^ k))
 rest-exact f (suc m) (negsuc k) t =
     let h = held f false m (negsuc k) t in
@@ -108,7 +113,8 @@ rest-exact f (suc m) (negsuc k) t =
 
 -- ---- the whole part of a value up to 2 ^ 48
 part-le : (m : ℕ) (e : ℤ) → T (le (fin false m e) pow48) → m * up e / down e ≤ 2 ^ 48
-part-le m e h = div-mono (m * up e) (down e) (2 ^ 48) 1 (down-pos e) (zero-lt-suc 0) (values-le (fin false m e) pow48 (m * up e) (down e) (2 ^ 48) 1 (refl, refl) (refl, refl) h)
+part-le m e h = div-mono (m * up e) (down e) (2 ^ 48) 1 (down-pos e) (zero-lt-suc 0)
+    (values-le (fin false m e) pow48 (m * up e) (down e) (2 ^ 48) 1 (refl, refl) (refl, refl) h)
 
 uncapped : (a : ℕ) → a ≤ 2 ^ 48 → min a (2 ^ 64 - 1) ≡ a
 uncapped a h = omega arith
@@ -131,12 +137,14 @@ part-small (fin false m e) h k = le-trans (le-of-eq (part-is m e k)) (part-le m 
 abbrev pub rest : Float → Float
 rest x = sub binary64 x (ofInt binary64 (pos (toUnsigned 64 x)))
 
-rest-val : (m : ℕ) (e : ℤ) → T (fits binary64 (fin false m e)) → T (le (fin false m e) pow48) → HasValue (rest (fin false m e)) false (m * up e % down e) (down e)
+rest-val : (m : ℕ) (e : ℤ) → T (fits binary64 (fin false m e)) → T (le (fin false m e) pow48)
+    → HasValue (rest (fin false m e)) false (m * up e % down e) (down e)
 rest-val m e t h =
     let q : ℕ = m * up e / down e in
     subst (λ (z : Float). HasValue z false (m * up e % down e) (down e))
     (sym (ap (λ (z : ℕ). sub binary64 (fin false m e) (ofInt binary64 (pos z))) (part-is m e h)
-    ∙ rest-is binary64 m e (ofInt binary64 (pos q)) q (m * up e % down e) (sym (div-add-mod' (m * up e) (down e))) (ofInt-value binary64 q (le-trans (part-le m e h) (lit≤ tt)))))
+    ∙ rest-is binary64 m e (ofInt binary64 (pos q)) q (m * up e % down e) (sym (div-add-mod' (m * up e) (down e)))
+    (ofInt-value binary64 q (le-trans (part-le m e h) (lit≤ tt)))))
     (rest-exact binary64 m e t)
 
 -- ---- halves and more go up
@@ -146,7 +154,8 @@ size-is m e = ap (λ (z : ℕ). (2 * z + down e) / (2 * down e)) (sym (div-add-m
 -- a minus zero leaves a minus zero
 left-zero : (m : ℕ) (e : ℤ) → m * up e ≡ 0 → rest (fin true m e) ≡ fin true 0 (pos 0)
 unfolding toUnsigned sub add sum ofInt round
-left-zero m e z = ap (λ (n : ℕ). round binary64 true n (down e * 1)) all ∙ round-zero binary64 true (down e * 1) (mul-pos (down-pos e) (zero-lt-suc 0))
+left-zero m e z = ap (λ (n : ℕ). round binary64 true n (down e * 1)) all
+    ∙ round-zero binary64 true (down e * 1) (mul-pos (down-pos e) (zero-lt-suc 0))
   where
     all : m * up e * 1 + 0 * down e ≡ 0
     all = omega arith
@@ -165,29 +174,36 @@ away-up (fin true m e) t h k l = absurd (unfold le in subst (λ (z : Float). T (
 away-up (fin false m e) t h k l =
     size-is m e
     ∙ up-case (m * up e / down e) (m * up e % down e) (down e) (mod-lt (m * up e) (down-pos e))
-    (le-trans (le-of-eq (sym (one-mul (down e)))) (values-le half (rest (fin false m e)) 1 2 (m * up e % down e) (down e) (refl, refl) (rest-val m e t k) l))
+    (le-trans (le-of-eq (sym (one-mul (down e))))
+    (values-le half (rest (fin false m e)) 1 2 (m * up e % down e) (down e) (refl, refl) (rest-val m e t k) l))
     ∙ ap (λ (z : ℕ). z + 1) (sym (part-is m e k))
 
 pub away-down : (x : Float) → T (fits binary64 x) → T (le fzero x) → T (le x pow48) → T (not (le half (rest x))) → awayN x ≡ toUnsigned 64 x
 away-down nan t h k l = absurd (unfold le in h)
 away-down (inf true) t h k l = absurd (unfold le in h)
 away-down (inf false) t h k l = absurd (unfold le in k)
-away-down (fin true m e) t h k l = ap (λ (z : ℕ). (2 * z + down e) / (2 * down e)) (no-size m e h) ∙ nothing (down e) (down-pos e) ∙ (unfold toUnsigned in refl)
+away-down (fin true m e) t h k l = ap (λ (z : ℕ). (2 * z + down e) / (2 * down e)) (no-size m e h) ∙ nothing (down e) (down-pos e)
+    ∙ (unfold toUnsigned in refl)
 away-down (fin false m e) t h k l =
     size-is m e
     ∙ down-case (m * up e / down e) (m * up e % down e) (down e) (mod-lt (m * up e) (down-pos e))
     (lt-of-not-le (λ g. T-not (le half (rest (fin false m e))) l
-    (le-of-values half (rest (fin false m e)) 1 2 (m * up e % down e) (down e) (zero-lt-suc 1) (down-pos e) (refl, refl) (rest-val m e t k) (le-trans (le-of-eq (one-mul (down e))) g))))
+    (le-of-values half (rest (fin false m e)) 1 2 (m * up e % down e) (down e) (zero-lt-suc 1) (down-pos e) (refl, refl) (rest-val m e t k)
+    (le-trans (le-of-eq (one-mul (down e))) g))))
     ∙ sym (part-is m e k)
 
 -- ---- as code has it: t is the whole part, and b the test's answer
-pub took-up : (x : Float) (t : ℕ) → T (fits binary64 x) → T (le fzero x) → T (le x pow48) → t ≡ toUnsigned 64 x → le half (sub binary64 x (ofInt binary64 (pos t))) ≡ true → t + 1 ≡ awayN x
+pub took-up : (x : Float) (t : ℕ) → T (fits binary64 x) → T (le fzero x) → T (le x pow48) → t ≡ toUnsigned 64 x
+    → le half (sub binary64 x (ofInt binary64 (pos t))) ≡ true → t + 1 ≡ awayN x
 took-up x t f h k e b =
-    ap (λ (z : ℕ). z + 1) e ∙ sym (away-up x f h k (subst T (sym (ap (λ (z : ℕ). le half (sub binary64 x (ofInt binary64 (pos z)))) (sym e) ∙ b)) tt))
+    ap (λ (z : ℕ). z + 1) e ∙ sym (away-up x f h k
+    (subst T (sym (ap (λ (z : ℕ). le half (sub binary64 x (ofInt binary64 (pos z)))) (sym e) ∙ b)) tt))
 
-pub took-down : (x : Float) (t : ℕ) → T (fits binary64 x) → T (le fzero x) → T (le x pow48) → t ≡ toUnsigned 64 x → le half (sub binary64 x (ofInt binary64 (pos t))) ≡ false → t ≡ awayN x
+pub took-down : (x : Float) (t : ℕ) → T (fits binary64 x) → T (le fzero x) → T (le x pow48) → t ≡ toUnsigned 64 x
+    → le half (sub binary64 x (ofInt binary64 (pos t))) ≡ false → t ≡ awayN x
 took-down x t f h k e b =
-    e ∙ sym (away-down x f h k (subst (λ (z : Bool). T (not z)) (sym (ap (λ (z : ℕ). le half (sub binary64 x (ofInt binary64 (pos z)))) (sym e) ∙ b)) tt))
+    e ∙ sym (away-down x f h k (subst (λ (z : Bool). T (not z))
+    (sym (ap (λ (z : ℕ). le half (sub binary64 x (ofInt binary64 (pos z)))) (sym e) ∙ b)) tt))
 
 -- ---- the signs
 pub neg-fin : (v : Float) → T (le (neg pow48) v) → T (le v pow48) → T (finite v)

@@ -21,7 +21,8 @@ use Rattle.kdbush.specs.Run.{places, sound, filled}
 
 -- ---- one slot
 
-pub put-none : (n at : ℕ) (ids : List ℕ) (i : ℕ) (b : Bool) (out : List ℕ) → b ≡ false → ran (All at) out ≡ run n at (places ids (when b (i ∷ []))) out
+pub put-none : (n at : ℕ) (ids : List ℕ) (i : ℕ) (b : Bool) (out : List ℕ) → b ≡ false
+    → ran (All at) out ≡ run n at (places ids (when b (i ∷ []))) out
 unfolding run places
 put-none n at ids i b out e = rw e
 
@@ -64,7 +65,8 @@ unfolding run allOf
 count n at [] out d e = sym (add-zero at)
 count n at (p ∷ ps) out d e = go (ltb p n) refl (count n (at + 1) ps (set out at p) d (omega arith))
   where
-    go : (b : Bool) → ltb p n ≡ b → allOf (run n (at + 1) ps (set out at p)) d ≡ at + 1 + length ps → allOf (run n at (p ∷ ps) out) d ≡ at + suc (length ps)
+    go : (b : Bool) → ltb p n ≡ b → allOf (run n (at + 1) ps (set out at p)) d ≡ at + 1 + length ps
+        → allOf (run n at (p ∷ ps) out) d ≡ at + suc (length ps)
     go true f h = rw (f, run) (h ∙ omega arith)
     go false f h = rw (f, run) e
 
@@ -77,14 +79,17 @@ run-count n at k ps out o e = ap (λ (r : Ran). allOf r (at + length ps)) e ∙ 
 pub scan-more : (s : Search) (ids : List ℕ) (n k j i hi : ℕ) (out o : List ℕ) → i < hi
     → ran (All j) o ≡ run n k (places ids (when (s .test i) (i ∷ []))) out
     → run n k (places ids (scanned s i (hi - i))) out ≡ run n j (places ids (scanned s (i + 1) (hi - (i + 1)))) o
-scan-more s ids n k j i hi out o h e = ap (λ (l : List ℕ). run n k (places ids l) out) (scanned-suc s i hi h) ∙ run-more n k j ids _ _ out o e
+scan-more s ids n k j i hi out o h e = ap (λ (l : List ℕ). run n k (places ids l) out) (scanned-suc s i hi h)
+    ∙ run-more n k j ids _ _ out o e
 
 pub scan-ends : (s : Search) (ids : List ℕ) (n k i hi : ℕ) (out o : List ℕ) → i < hi
     → ran Spoiled o ≡ run n k (places ids (when (s .test i) (i ∷ []))) out
     → ran Spoiled o ≡ run n k (places ids (scanned s i (hi - i))) out
-scan-ends s ids n k i hi out o h e = run-ends n k ids _ _ out o e ∙ sym (ap (λ (l : List ℕ). run n k (places ids l) out) (scanned-suc s i hi h))
+scan-ends s ids n k i hi out o h e = run-ends n k ids _ _ out o e
+    ∙ sym (ap (λ (l : List ℕ). run n k (places ids l) out) (scanned-suc s i hi h))
 
-pub scan-done : (s : Search) (ids : List ℕ) (n k i hi : ℕ) (out : List ℕ) → hi ≤ i → ran (All k) out ≡ run n k (places ids (scanned s i (hi - i))) out
+pub scan-done : (s : Search) (ids : List ℕ) (n k i hi : ℕ) (out : List ℕ) → hi ≤ i
+    → ran (All k) out ≡ run n k (places ids (scanned s i (hi - i))) out
 unfolding run scanned places
 scan-done s ids n k i hi out h = go (hi - i) (omega arith)
   where
@@ -92,7 +97,8 @@ scan-done s ids n k i hi out h = go (hi - i) (omega arith)
     go a e = rw e
 
 -- one slot adds one at most
-pub put-count : (n k j : ℕ) (ids : List ℕ) (i : ℕ) (b : Bool) (out o : List ℕ) → ran (All j) o ≡ run n k (places ids (when b (i ∷ []))) out → j ≤ k + 1
+pub put-count : (n k j : ℕ) (ids : List ℕ) (i : ℕ) (b : Bool) (out o : List ℕ) → ran (All j) o ≡ run n k (places ids (when b (i ∷ []))) out
+    → j ≤ k + 1
 put-count n k j ids i true out o e = omega (arith, run-count n k j _ out o e, places-length ids (i ∷ []))
 put-count n k j ids i false out o e = omega (arith, run-count n k j _ out o e, places-length ids [])
 
@@ -117,7 +123,8 @@ pub part-leaf : (s : Search) (ids : List ℕ) (n most lo hi ax at : ℕ) (out : 
 part-leaf s ids n most lo hi ax at out x o h e = rw (slots-leaf s ax most lo hi h) e
 
 -- a part that is gone into, and one that is not
-pub went : (n k : ℕ) (ids l : List ℕ) (b : Bool) (x : Found) (out o : List ℕ) → b ≡ true → ran x o ≡ run n k (places ids l) out → ran x o ≡ run n k (places ids (when b l)) out
+pub went : (n k : ℕ) (ids l : List ℕ) (b : Bool) (x : Found) (out o : List ℕ) → b ≡ true → ran x o ≡ run n k (places ids l) out
+    → ran x o ≡ run n k (places ids (when b l)) out
 went n k ids l b x out o e f = rw e f
 
 pub skipped : (n k : ℕ) (ids l : List ℕ) (b : Bool) (out : List ℕ) → b ≡ false → ran (All k) out ≡ run n k (places ids (when b l)) out
@@ -125,23 +132,28 @@ unfolding run places
 skipped n k ids l b out e = rw e
 
 module _ (s : Search) (ids : List ℕ) (n most lo hi ax at : ℕ) (out : List ℕ) (h : most < hi - lo) where
-  whole : (x : Ran) → x ≡ run n at (places ids (when (s .test (mid lo hi)) (mid lo hi ∷ []) ++ below s ax most lo hi)) out → x ≡ run n at (places ids (slots s ax (shape most lo hi))) out
+  whole : (x : Ran) → x ≡ run n at (places ids (when (s .test (mid lo hi)) (mid lo hi ∷ []) ++ below s ax most lo hi)) out
+      → x ≡ run n at (places ids (slots s ax (shape most lo hi))) out
   whole x e = rw (slots-node s ax most lo hi h) e
 
   -- the median is spoiled
-  pub node-put : (o : List ℕ) → ran Spoiled o ≡ run n at (places ids (when (s .test (mid lo hi)) (mid lo hi ∷ []))) out → ran Spoiled o ≡ run n at (places ids (slots s ax (shape most lo hi))) out
+  pub node-put : (o : List ℕ) → ran Spoiled o ≡ run n at (places ids (when (s .test (mid lo hi)) (mid lo hi ∷ []))) out
+      → ran Spoiled o ≡ run n at (places ids (slots s ax (shape most lo hi))) out
   node-put o e = whole _ (run-ends n at ids _ _ out o e)
 
   -- the right part is spoiled
   pub node-right : (k : ℕ) (o : List ℕ) → ran (All k) o ≡ run n at (places ids (when (s .test (mid lo hi)) (mid lo hi ∷ []))) out
-      → (p : List ℕ) → ran Spoiled p ≡ run n k (places ids (when (s .right ax (mid lo hi)) (slots s (1 - ax) (shape most (mid lo hi + 1) hi)))) o
+      → (p : List ℕ) → ran Spoiled p ≡ run n k
+      (places ids (when (s .right ax (mid lo hi)) (slots s (1 - ax) (shape most (mid lo hi + 1) hi)))) o
       → ran Spoiled p ≡ run n at (places ids (slots s ax (shape most lo hi))) out
   node-right k o e p f = whole _ (run-ends n k ids _ _ o p f ∙ sym (run-more n at k ids _ _ out o e))
 
   -- and the left part is the last
   pub node-left : (k : ℕ) (o : List ℕ) → ran (All k) o ≡ run n at (places ids (when (s .test (mid lo hi)) (mid lo hi ∷ []))) out
-      → (j : ℕ) (p : List ℕ) → ran (All j) p ≡ run n k (places ids (when (s .right ax (mid lo hi)) (slots s (1 - ax) (shape most (mid lo hi + 1) hi)))) o
-      → (x : Found) (y : List ℕ) → ran x y ≡ run n j (places ids (when (s .left ax (mid lo hi)) (slots s (1 - ax) (shape most lo (mid lo hi))))) p
+      → (j : ℕ) (p : List ℕ) → ran (All j) p
+      ≡ run n k (places ids (when (s .right ax (mid lo hi)) (slots s (1 - ax) (shape most (mid lo hi + 1) hi)))) o
+      → (x : Found) (y : List ℕ) → ran x y
+      ≡ run n j (places ids (when (s .left ax (mid lo hi)) (slots s (1 - ax) (shape most lo (mid lo hi))))) p
       → ran x y ≡ run n at (places ids (slots s ax (shape most lo hi))) out
   node-left k o e j p f x y d = whole _ (d ∙ sym (run-more n k j ids _ _ o p f) ∙ sym (run-more n at k ids _ _ out o e))
 

@@ -23,7 +23,8 @@ byte-most false = omega arith
 
 -- ---- slot by slot
 
-pub count-more : (s : Search) (i hi : ℕ) → i < hi → length (scanned s i (hi - i)) ≡ boolByte (s .test i) + length (scanned s (i + 1) (hi - (i + 1)))
+pub count-more : (s : Search) (i hi : ℕ) → i < hi
+    → length (scanned s i (hi - i)) ≡ boolByte (s .test i) + length (scanned s (i + 1) (hi - (i + 1)))
 count-more s i hi h =
     ap length (scanned-suc s i hi h)
     ∙ length-append (when (s .test i) (i ∷ [])) (scanned s (i + 1) (hi - (i + 1)))
@@ -39,11 +40,13 @@ count-done s i hi h = go (hi - i) (omega arith)
 -- ---- how many there are at most
 
 pub count-few : (s : Search) (b : Bool) (ax most lo hi : ℕ) → length (when b (slots s ax (shape most lo hi))) ≤ hi - lo
-count-few s b ax most lo hi = omega (arith, when-length b (slots s ax (shape most lo hi)), slots-length s ax lo hi (shape most lo hi) (spans most lo hi))
+count-few s b ax most lo hi = omega
+    (arith, when-length b (slots s ax (shape most lo hi)), slots-length s ax lo hi (shape most lo hi) (spans most lo hi))
 
 pub scanned-few : (s : Search) (lo hi : ℕ) → length (scanned s lo (hi - lo)) ≤ hi - lo
 scanned-few s lo hi =
-    let e : length (slots s 0 (shape (hi - lo) lo hi)) ≡ length (scanned s lo (hi - lo)) = ap length (slots-leaf s 0 (hi - lo) lo hi (le-refl (hi - lo))) in
+    let e : length (slots s 0 (shape (hi - lo) lo hi)) ≡ length (scanned s lo (hi - lo)) =
+    ap length (slots-leaf s 0 (hi - lo) lo hi (le-refl (hi - lo))) in
     omega (arith, e, slots-length s 0 lo hi (shape (hi - lo) lo hi) (spans (hi - lo) lo hi))
 
 -- ---- an interval
@@ -51,17 +54,20 @@ scanned-few s lo hi =
 pub count-skipped : (s : Search) (b : Bool) (ax most lo hi : ℕ) → b ≡ false → 0 ≡ length (when b (slots s ax (shape most lo hi)))
 count-skipped s b ax most lo hi e = rw e
 
-pub count-leaf : (s : Search) (b : Bool) (ax most lo hi : ℕ) → b ≡ true → hi - lo ≤ most → length (scanned s lo (hi - lo)) ≡ length (when b (slots s ax (shape most lo hi)))
+pub count-leaf : (s : Search) (b : Bool) (ax most lo hi : ℕ) → b ≡ true → hi - lo ≤ most
+    → length (scanned s lo (hi - lo)) ≡ length (when b (slots s ax (shape most lo hi)))
 count-leaf s b ax most lo hi e h = rw e (sym (ap length (slots-leaf s ax most lo hi h)))
 
 -- the median, then the right part, then the left
 pub count-node : (s : Search) (b : Bool) (ax most lo hi : ℕ) → b ≡ true → most < hi - lo
-    → boolByte (s .test (mid lo hi)) + length (when (s .right ax (mid lo hi)) (slots s (1 - ax) (shape most (mid lo hi + 1) hi))) + length (when (s .left ax (mid lo hi)) (slots s (1 - ax) (shape most lo (mid lo hi))))
+    → boolByte (s .test (mid lo hi)) + length (when (s .right ax (mid lo hi)) (slots s (1 - ax) (shape most (mid lo hi + 1) hi)))
+    + length (when (s .left ax (mid lo hi)) (slots s (1 - ax) (shape most lo (mid lo hi))))
     ≡ length (when b (slots s ax (shape most lo hi)))
 count-node s b ax most lo hi e h =
     let m = mid lo hi in
     let R = when (s .right ax m) (slots s (1 - ax) (shape most (m + 1) hi)) in
     let L = when (s .left ax m) (slots s (1 - ax) (shape most lo m)) in
     let o = one (s .test m) m in
-    let n : length (slots s ax (shape most lo hi)) ≡ length (when (s .test m) (m ∷ []) ++ (R ++ L)) = ap length (slots-node s ax most lo hi h) in
+    let n : length (slots s ax (shape most lo hi)) ≡ length (when (s .test m) (m ∷ []) ++ (R ++ L)) =
+    ap length (slots-node s ax most lo hi h) in
     rw e (omega (arith, n, o, length-append (when (s .test m) (m ∷ [])) (R ++ L), length-append R L))

@@ -51,8 +51,10 @@ more k j a b page o e = store-append k a b page ∙ ap (λ (x : Stored). goOn x 
 -- ---- slot by slot
 
 module _ (s : Search) (i hi : ℕ) where
-  pub scan-skips : (k : ℕ) (page : List ℕ) → i < hi → s .test i ≡ false → store k (scanned s i (hi - i)) page ≡ store k (scanned s (i + 1) (hi - (i + 1))) page
-  scan-skips k page h e = ap (λ (l : List ℕ). store k l page) (scanned-suc s i hi h ∙ ap (λ (b : Bool). when b (i ∷ []) ++ scanned s (i + 1) (hi - (i + 1))) e)
+  pub scan-skips : (k : ℕ) (page : List ℕ) → i < hi → s .test i ≡ false
+      → store k (scanned s i (hi - i)) page ≡ store k (scanned s (i + 1) (hi - (i + 1))) page
+  scan-skips k page h e = ap (λ (l : List ℕ). store k l page)
+      (scanned-suc s i hi h ∙ ap (λ (b : Bool). when b (i ∷ []) ++ scanned s (i + 1) (hi - (i + 1))) e)
 
   pub scan-stores : (k : ℕ) (page : List ℕ) → i < hi → s .test i ≡ true → k < length page
       → store k (scanned s i (hi - i)) page ≡ store (k + 1) (scanned s (i + 1) (hi - (i + 1))) (set page k i)
@@ -74,14 +76,18 @@ pub in-leaf : (s : Search) (ax most lo hi at : ℕ) (page : List ℕ) (x : Store
 in-leaf s ax most lo hi at page x h e = e ∙ ap (λ (l : List ℕ). store at l page) (sym (slots-leaf s ax most lo hi h))
 
 module _ (s : Search) (ax most lo hi at : ℕ) (page : List ℕ) (x : Stored) where
-  split : most < hi - lo → (b : Bool) → s .test (mid lo hi) ≡ b → slots s ax (shape most lo hi) ≡ when b (mid lo hi ∷ []) ++ below s ax most lo hi
+  split : most < hi - lo → (b : Bool) → s .test (mid lo hi) ≡ b
+      → slots s ax (shape most lo hi) ≡ when b (mid lo hi ∷ []) ++ below s ax most lo hi
   split h b e = slots-node s ax most lo hi h ∙ ap (λ (t : Bool). when t (mid lo hi ∷ []) ++ below s ax most lo hi) e
 
-  pub in-median : most < hi - lo → s .test (mid lo hi) ≡ true → at < length page → x ≡ store (at + 1) (below s ax most lo hi) (set page at (mid lo hi))
+  pub in-median : most < hi - lo → s .test (mid lo hi) ≡ true → at < length page
+      → x ≡ store (at + 1) (below s ax most lo hi) (set page at (mid lo hi))
       → x ≡ store at (slots s ax (shape most lo hi)) page
-  in-median h e l f = f ∙ sym (ap (λ (m : List ℕ). store at m page) (split h true e) ∙ one-more at (mid lo hi) (below s ax most lo hi) page l)
+  in-median h e l f = f ∙ sym (ap (λ (m : List ℕ). store at m page) (split h true e)
+      ∙ one-more at (mid lo hi) (below s ax most lo hi) page l)
 
-  pub in-parts : most < hi - lo → s .test (mid lo hi) ≡ false → x ≡ store at (below s ax most lo hi) page → x ≡ store at (slots s ax (shape most lo hi)) page
+  pub in-parts : most < hi - lo → s .test (mid lo hi) ≡ false → x ≡ store at (below s ax most lo hi) page
+      → x ≡ store at (slots s ax (shape most lo hi)) page
   in-parts h e f = f ∙ sym (ap (λ (m : List ℕ). store at m page) (split h false e))
 
   abbrev rights : List ℕ

@@ -124,7 +124,8 @@ scanned-again s i hi pre c post h e =
     (w .0, omega (arith, w .1), rw k at (w .2))
 
 -- where what follows a slot d of the interval has a slot c, `rest` is what follows c
-pub rest-again : (s : Search) (ax lo hi : ℕ) (t : Shape) → Spans lo hi t → (d : ℕ) → lo ≤ d → d < hi → (pre : List ℕ) (c : ℕ) (post : List ℕ) → rest s ax t d ≡ pre ++ c ∷ post
+pub rest-again : (s : Search) (ax lo hi : ℕ) (t : Shape) → Spans lo hi t → (d : ℕ) → lo ≤ d → d < hi
+    → (pre : List ℕ) (c : ℕ) (post : List ℕ) → rest s ax t d ≡ pre ++ c ∷ post
     → (lo ≤ c) × (c < hi) × (rest s ax t c ≡ post)
 unfolding rest slots
 rest-again s ax lo hi _ all d h k pre c post e =
@@ -136,7 +137,8 @@ rest-again s ax lo hi _ (both {m = m} {r = r} {l = l} a b p q) d h k pre c post 
     C : List ℕ
     C = when (s .left ax m) (slots s (1 - ax) l)
 
-    in-right : (x : List ℕ) → (m + 1 ≤ c) × (c < hi) × (rest s (1 - ax) r c ≡ x) → post ≡ x ++ C → (lo ≤ c) × (c < hi) × (rest s ax (node m r l) c ≡ post)
+    in-right : (x : List ℕ) → (m + 1 ≤ c) × (c < hi) × (rest s (1 - ax) r c ≡ x) → post ≡ x ++ C → (lo ≤ c) × (c < hi)
+        × (rest s ax (node m r l) c ≡ post)
     in-right x w z =
         let g : m < c = omega (arith, w .0) in
         (omega arith, w .1, rw (ne-eqb c m (λ f. omega arith), lt-ltb m c g, rest) (ap (λ (y : List ℕ). y ++ C) (w .2) ∙ sym z))
@@ -150,14 +152,17 @@ rest-again s ax lo hi _ (both {m = m} {r = r} {l = l} a b p q) d h k pre c post 
     left-part x f = in-left (rest-follows s (1 - ax) lo m l q x c post (when-all (s .left ax m) (slots s (1 - ax) l) x c post f))
 
     go : (x y : Bool) → eqb d m ≡ x → ltb m d ≡ y
-        → (m + 1 ≤ d → d < hi → (pre : List ℕ) (c : ℕ) (post : List ℕ) → rest s (1 - ax) r d ≡ pre ++ c ∷ post → (m + 1 ≤ c) × (c < hi) × (rest s (1 - ax) r c ≡ post))
-        → (lo ≤ d → d < m → (pre : List ℕ) (c : ℕ) (post : List ℕ) → rest s (1 - ax) l d ≡ pre ++ c ∷ post → (lo ≤ c) × (c < m) × (rest s (1 - ax) l c ≡ post))
+        → (m + 1 ≤ d → d < hi → (pre : List ℕ) (c : ℕ) (post : List ℕ) → rest s (1 - ax) r d ≡ pre ++ c ∷ post → (m + 1 ≤ c) × (c < hi)
+        × (rest s (1 - ax) r c ≡ post))
+        → (lo ≤ d → d < m → (pre : List ℕ) (c : ℕ) (post : List ℕ) → rest s (1 - ax) l d ≡ pre ++ c ∷ post → (lo ≤ c) × (c < m)
+        × (rest s (1 - ax) l c ≡ post))
         → (lo ≤ c) × (c < hi) × (rest s ax (node m r l) c ≡ post)
     go true y f g R L =
         let B = when (s .right ax m) (slots s (1 - ax) r) in
         let e' : B ++ C ≡ pre ++ c ∷ post = rw (f, rest) at e in
         ⊎-elim
-        (λ w. in-right (w .0) (rest-follows s (1 - ax) (m + 1) hi r p pre c (w .0) (when-all (s .right ax m) (slots s (1 - ax) r) pre c (w .0) (w .1))) (w .2))
+        (λ w. in-right (w .0) (rest-follows s (1 - ax) (m + 1) hi r p pre c (w .0)
+        (when-all (s .right ax m) (slots s (1 - ax) r) pre c (w .0) (w .1))) (w .2))
         (λ w. left-part (w .0) (w .1))
         (split B C pre c post e')
     go false true f g R L =
@@ -177,16 +182,19 @@ rest-again s ax lo hi _ (both {m = m} {r = r} {l = l} a b p q) d h k pre c post 
 
 module _ (q : Query) (size n : ℕ) (co : List Float) where
   -- a walk goes on after each of its slots with what follows it
-  pub onward-follows : (from : Onward) (d : ℕ) (pre : List ℕ) (c : ℕ) (post : List ℕ) → onwardOf q size n co from d ≡ pre ++ c ∷ post → walkAfter q size n co c ≡ post
+  pub onward-follows : (from : Onward) (d : ℕ) (pre : List ℕ) (c : ℕ) (post : List ℕ) → onwardOf q size n co from d ≡ pre ++ c ∷ post
+      → walkAfter q size n co c ≡ post
   onward-follows Start d pre c post e =
       let w = walk-follows q size n co pre c post e in
       let b : (coordsOk size n (length co) && queryOk q && ltb c n) ≡ true = rw (goes q size n co pre c post e, lt-ltb c n (w .0)) in
       ap (λ (t : Bool). cond t (restOf q co size n c) []) b ∙ w .1
   onward-follows After d pre c post e = go (coordsOk size n (length co) && queryOk q) (ltb d n) refl refl e
     where
-      go : (a b : Bool) → (coordsOk size n (length co) && queryOk q) ≡ a → ltb d n ≡ b → cond (a && b) (restOf q co size n d) [] ≡ pre ++ c ∷ post → walkAfter q size n co c ≡ post
+      go : (a b : Bool) → (coordsOk size n (length co) && queryOk q) ≡ a → ltb d n ≡ b
+          → cond (a && b) (restOf q co size n d) [] ≡ pre ++ c ∷ post → walkAfter q size n co c ≡ post
       go true true f g x =
-          let w = rest-again (over q co) 0 0 n (shape (size + 1) 0 n) (spans (size + 1) 0 n) d (omega arith) (ltb-true d n g) pre c post x in
+          let w = rest-again (over q co) 0 0 n (shape (size + 1) 0 n) (spans (size + 1) 0 n) d (omega arith)
+          (ltb-true d n g) pre c post x in
           let b : (coordsOk size n (length co) && queryOk q && ltb c n) ≡ true = rw (f, lt-ltb c n (w .1)) in
           ap (λ (t : Bool). cond t (restOf q co size n c) []) b ∙ w .2
       go true false f g x = absurd (no-nil pre c post x)

@@ -19,15 +19,18 @@ and-no-more [] = refl
 and-no-more (i ∷ l) = ap (λ (z : List ℕ). i ∷ z) (and-no-more l)
 
 module _ (s : Search) (ax most lo hi : ℕ) (h : most < hi - lo) (no : s .test (mid lo hi) ≡ false) where
-  pub only-right : s .right ax (mid lo hi) ≡ true → s .left ax (mid lo hi) ≡ false → slots s ax (shape most lo hi) ≡ slots s (1 - ax) (shape most (mid lo hi + 1) hi)
+  pub only-right : s .right ax (mid lo hi) ≡ true → s .left ax (mid lo hi) ≡ false
+      → slots s ax (shape most lo hi) ≡ slots s (1 - ax) (shape most (mid lo hi + 1) hi)
   only-right r l = rw (slots-node s ax most lo hi h, no, r, l) (and-no-more (slots s (1 - ax) (shape most (mid lo hi + 1) hi)))
 
-  pub only-left : s .right ax (mid lo hi) ≡ false → s .left ax (mid lo hi) ≡ true → slots s ax (shape most lo hi) ≡ slots s (1 - ax) (shape most lo (mid lo hi))
+  pub only-left : s .right ax (mid lo hi) ≡ false → s .left ax (mid lo hi) ≡ true
+      → slots s ax (shape most lo hi) ≡ slots s (1 - ax) (shape most lo (mid lo hi))
   only-left r l = rw (slots-node s ax most lo hi h, no, r, l)
 
 -- ---- where a side is skipped, the median does not pass
 
-pub unanswered : (q : Query) (cs : List Float) (ax m : ℕ) → ax < 2 → (over q cs .right ax m && over q cs .left ax m) ≡ false → over q cs .test m ≡ false
+pub unanswered : (q : Query) (cs : List Float) (ax m : ℕ) → ax < 2 → (over q cs .right ax m && over q cs .left ax m) ≡ false
+    → over q cs .test m ≡ false
 unanswered q cs ax m h e = go (over q cs .test m) refl
   where
     go : (b : Bool) → over q cs .test m ≡ b → b ≡ false

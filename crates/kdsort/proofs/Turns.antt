@@ -23,7 +23,8 @@ pub selecting-starts : (a k : ℕ) (s : IndexCols) (l r : ℕ) → Selecting (se
 unfolding Selecting selected
 selecting-starts a k s l r = (r - l, le-refl (r - l), refl)
 
-pub selecting-turn : (S : IndexCols) (a k : ℕ) (s : IndexCols) (l r l' r' : ℕ) (s' : IndexCols) (j : ℕ) → Selecting S a k s l r → l < r → r' - l' < r - l
+pub selecting-turn : (S : IndexCols) (a k : ℕ) (s : IndexCols) (l r l' r' : ℕ) (s' : IndexCols) (j : ℕ) → Selecting S a k s l r → l < r
+    → r' - l' < r - l
     → parted a k s l r ≡ cut s' j → cond (leb j k) (j + 1) l ≡ l' → cond (leb k j) (j - 1) r ≡ r' → Selecting S a k s' l' r'
 unfolding Selecting sel
 selecting-turn S a k s l r l' r' s' j h lr less p el er = go (h .0) (h .1) (rw (lt-ltb l r lr) at (h .2)) where
@@ -70,28 +71,34 @@ pub record Parts (S : IndexCols) (a k last n m : ℕ) (ids : List ℕ) (co : Lis
 
 -- ---- before and after the passes
 
-pub placed-then : (a : ℕ) (t : Float) (s S S' : IndexCols) (k l r : ℕ) → S ≡ swapItem s l k → lt t (key a (S .co) r) ≡ true → S' ≡ swapItem S l r → S' ≡ placed a t s k l r
+pub placed-then : (a : ℕ) (t : Float) (s S S' : IndexCols) (k l r : ℕ) → S ≡ swapItem s l k → lt t (key a (S .co) r) ≡ true
+    → S' ≡ swapItem S l r → S' ≡ placed a t s k l r
 placed-then a t s S S' k l r e y e' =
     e' ∙ sym (ap (λ (b : Bool). cond b (swapItem S l r) S) y) ∙ ap (λ (Z : IndexCols). cond (lt t (key a (Z .co) r)) (swapItem Z l r) Z) e
 
-pub placed-else : (a : ℕ) (t : Float) (s S : IndexCols) (k l r : ℕ) → S ≡ swapItem s l k → lt t (key a (S .co) r) ≡ false → S ≡ placed a t s k l r
+pub placed-else : (a : ℕ) (t : Float) (s S : IndexCols) (k l r : ℕ) → S ≡ swapItem s l k → lt t (key a (S .co) r) ≡ false
+    → S ≡ placed a t s k l r
 placed-else a t s S k l r e n =
     sym (ap (λ (b : Bool). cond b (swapItem S l r) S) n) ∙ ap (λ (Z : IndexCols). cond (lt t (key a (Z .co) r)) (swapItem Z l r) Z) e
 
 -- the cut, by how the passes end
 pub parted-then : (a k : ℕ) (s S : IndexCols) (l r j : ℕ)
-    → passes (r - l) (ltb l r) a (key a (s .co) k) (placed a (key a (s .co) k) s k l r) l r ≡ cut S j → eq (key a (S .co) l) (key a (s .co) k) ≡ true
+    → passes (r - l) (ltb l r) a (key a (s .co) k) (placed a (key a (s .co) k) s k l r) l r ≡ cut S j
+    → eq (key a (S .co) l) (key a (s .co) k) ≡ true
     → parted a k s l r ≡ cut (swapItem S l j) j
 unfolding parted
 parted-then a k s S l r j e y =
-    ap (λ (p : Cut). settled a (key a (s .co) k) p l r) e ∙ ap (λ (b : Bool). cond b (cut (swapItem S l j) j) (cut (swapItem S (j + 1) r) (j + 1))) y
+    ap (λ (p : Cut). settled a (key a (s .co) k) p l r) e
+    ∙ ap (λ (b : Bool). cond b (cut (swapItem S l j) j) (cut (swapItem S (j + 1) r) (j + 1))) y
 
 pub parted-else : (a k : ℕ) (s S : IndexCols) (l r j : ℕ)
-    → passes (r - l) (ltb l r) a (key a (s .co) k) (placed a (key a (s .co) k) s k l r) l r ≡ cut S j → eq (key a (S .co) l) (key a (s .co) k) ≡ false
+    → passes (r - l) (ltb l r) a (key a (s .co) k) (placed a (key a (s .co) k) s k l r) l r ≡ cut S j
+    → eq (key a (S .co) l) (key a (s .co) k) ≡ false
     → parted a k s l r ≡ cut (swapItem S (j + 1) r) (j + 1)
 unfolding parted
 parted-else a k s S l r j e y =
-    ap (λ (p : Cut). settled a (key a (s .co) k) p l r) e ∙ ap (λ (b : Bool). cond b (cut (swapItem S l j) j) (cut (swapItem S (j + 1) r) (j + 1))) y
+    ap (λ (p : Cut). settled a (key a (s .co) k) p l r) e
+    ∙ ap (λ (b : Bool). cond b (cut (swapItem S l j) j) (cut (swapItem S (j + 1) r) (j + 1))) y
 
 -- ---- small things
 pub cols-eq : {l l' : List ℕ} {c c' : List Float} → l ≡ l' → c ≡ c' → indexCols l c ≡ indexCols l' c'

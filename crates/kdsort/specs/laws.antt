@@ -18,8 +18,8 @@ pub mod Passes
 -- Batches: a batch of exchanges: where a scan stops, one stop after another, and that the stops of a scan up and those of a scan down,
 -- exchanged in pairs, are the exchanges that the next passes make.
 pub mod Batches
--- Cuts: a partition: its scans stop within the interval, its passes leave what is not above the pivot left and what is not below it right,
--- the slots are permuted, and the fuel of its steps is never used up.
+-- Cuts: a partition: after its passes what is not above the pivot stands left and what is not below it right, the slots are permuted, and
+-- the fuel of its steps is never used up.
 pub mod Cuts
 -- Selects: the selection: around k the interval is in order, its slots are permuted, and the fuel is never used up.
 pub mod Selects
@@ -27,3 +27,6 @@ pub mod Selects
 pub mod Trees
 -- Indexes: the index of points: the columns as the points fill them, and what their sort is.
 pub mod Indexes
+-- Splits: the scans and passes of a partition: the scans stop within the interval, and the passes leave what is not above the pivot left
+-- and what is not below it right.
+pub mod Splits

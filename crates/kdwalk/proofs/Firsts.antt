@@ -32,7 +32,8 @@ none s i hi h = go (hi - i) (omega arith)
 
 -- ---- the first of an interval
 
-pub first-leaf : (s : Search) (ax most lo hi : ℕ) (x : Next) → hi - lo ≤ most → x ≡ headOf (scanned s lo (hi - lo)) → x ≡ headOf (slots s ax (shape most lo hi))
+pub first-leaf : (s : Search) (ax most lo hi : ℕ) (x : Next) → hi - lo ≤ most → x ≡ headOf (scanned s lo (hi - lo))
+    → x ≡ headOf (slots s ax (shape most lo hi))
 first-leaf s ax most lo hi x h e = rw (slots-leaf s ax most lo hi h) e
 
 -- the answer of one list, or else of the next
@@ -53,7 +54,8 @@ module _ (s : Search) (ax most lo hi : ℕ) (h : most < hi - lo) where
   pub first-median : s .test (mid lo hi) ≡ true → Slot (mid lo hi) ≡ headOf (slots s ax (shape most lo hi))
   first-median e = rw (slots-node s ax most lo hi h, e)
 
-  pub first-parts : (x : Next) → s .test (mid lo hi) ≡ false → x ≡ headOf (below s ax most lo hi) → x ≡ headOf (slots s ax (shape most lo hi))
+  pub first-parts : (x : Next) → s .test (mid lo hi) ≡ false → x ≡ headOf (below s ax most lo hi)
+      → x ≡ headOf (slots s ax (shape most lo hi))
   first-parts x e f = rw (slots-node s ax most lo hi h, e) f
 
   -- ---- what follows a slot

@@ -37,11 +37,13 @@ module _ (q : Query) (size n : ℕ) (co : List Float) where
   unfolding firstStep
   first-box e f = sym (ap (nextStep (ending q size n co)) (no _ _ _ (second-false e f)) ∙ yes _ _ _ e ∙ no _ _ _ f)
 
-  pub first-found : coordsOk size n (length co) ≡ true → queryOk q ≡ true → (x : Next) → x ≡ headOf (answers q co size n) → stepOf x ≡ firstStep q size n co
+  pub first-found : coordsOk size n (length co) ≡ true → queryOk q ≡ true → (x : Next) → x ≡ headOf (answers q co size n)
+      → stepOf x ≡ firstStep q size n co
   unfolding firstStep
   first-found e f x g =
       ap stepOf g ∙ step-head (answers q co size n)
-      ∙ sym (ap (nextStep (ending q size n co)) (yes _ _ _ (both-true e f)) ∙ ap (λ (s : Step). nextStep s (answers q co size n)) (yes _ _ _ e ∙ yes _ _ _ f))
+      ∙ sym (ap (nextStep (ending q size n co)) (yes _ _ _ (both-true e f))
+      ∙ ap (λ (s : Step). nextStep s (answers q co size n)) (yes _ _ _ e ∙ yes _ _ _ f))
 
   module _ (c : ℕ) where
     pub after-spoiled : coordsOk size n (length co) ≡ false → Spoiled ≡ afterStep q size n co c
@@ -50,14 +52,17 @@ module _ (q : Query) (size n : ℕ) (co : List Float) where
 
     pub after-box : coordsOk size n (length co) ≡ true → queryOk q ≡ false → Box ≡ afterStep q size n co c
     unfolding afterStep
-    after-box e f = sym (ap (nextStep (ending q size n co)) (no _ _ _ (first-false (ltb c n) (second-false e f))) ∙ yes _ _ _ e ∙ no _ _ _ f)
+    after-box e f = sym (ap (nextStep (ending q size n co)) (no _ _ _ (first-false (ltb c n) (second-false e f))) ∙ yes _ _ _ e
+        ∙ no _ _ _ f)
 
     pub after-past : coordsOk size n (length co) ≡ true → queryOk q ≡ true → ltb c n ≡ false → Done ≡ afterStep q size n co c
     unfolding afterStep
     after-past e f g = sym (ap (nextStep (ending q size n co)) (no _ _ _ (second-false (both-true e f) g)) ∙ yes _ _ _ e ∙ yes _ _ _ f)
 
-    pub after-found : coordsOk size n (length co) ≡ true → queryOk q ≡ true → ltb c n ≡ true → (x : Next) → x ≡ headOf (restOf q co size n c) → stepOf x ≡ afterStep q size n co c
+    pub after-found : coordsOk size n (length co) ≡ true → queryOk q ≡ true → ltb c n ≡ true → (x : Next)
+        → x ≡ headOf (restOf q co size n c) → stepOf x ≡ afterStep q size n co c
     unfolding afterStep
     after-found e f g x h =
         ap stepOf h ∙ step-head (restOf q co size n c)
-        ∙ sym (ap (nextStep (ending q size n co)) (yes _ _ _ (both-true (both-true e f) g)) ∙ ap (λ (s : Step). nextStep s (restOf q co size n c)) (yes _ _ _ e ∙ yes _ _ _ f))
+        ∙ sym (ap (nextStep (ending q size n co)) (yes _ _ _ (both-true (both-true e f) g))
+        ∙ ap (λ (s : Step). nextStep s (restOf q co size n c)) (yes _ _ _ e ∙ yes _ _ _ f))

@@ -98,7 +98,8 @@ module _ (G : Given) (a : AcceptedBuild G) where
       B : Entry
       B = entry (tableOfZoom G w) j
 
-      by : Known G z (entry (tableOfZoom G z) i) → Known G w (entry (tableOfZoom G w) j) → SameBuild (entry (tableOfZoom G z) i) (entry (tableOfZoom G w) j)
+      by : Known G z (entry (tableOfZoom G z) i) → Known G w (entry (tableOfZoom G w) j)
+          → SameBuild (entry (tableOfZoom G z) i) (entry (tableOfZoom G w) j)
       by (inl u) (inl v) =
           subst (λ (k : ℕ). SameBuild A (entry (lampsIn G) k)) e (u .same) ∙ sym (v .same)
       by (inl u) (inr v) = absurd (let b = u .below in let c = v .above in omega arith)

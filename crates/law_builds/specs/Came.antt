@@ -39,12 +39,14 @@ run-at : (p : Plan) (k : ℕ) (t : Table) (j : ℕ) → j < k →
     getD (runZooms p k t) j [] ≡ zoomed p (p .options .«min_zoom» + k - suc j) (comes p (p .options .«min_zoom» + k) t j) .table
 unfolding runZooms comes
 run-at p zero t j h = absurd (omega arith)
-run-at p (suc k) t zero h = let e : p .options .«min_zoom» + k ≡ p .options .«min_zoom» + suc k - 1 = omega arith in ap (λ (z : ℕ). zoomed p z t .table) e
+run-at p (suc k) t zero h = let e : p .options .«min_zoom» + k ≡ p .options .«min_zoom» + suc k - 1 = omega arith in
+    ap (λ (z : ℕ). zoomed p z t .table) e
 run-at p (suc k) t (suc j) h =
     let m = p .options .«min_zoom» in
     let e : m + k - suc j ≡ m + suc k - suc (suc j) = omega arith in
     run-at p k (zoomed p (m + k) t .next) j (omega arith)
-    ∙ ap₂ (λ (z : ℕ) (q : Table). zoomed p z q .table) e (sym (comes-shift p (m + k) t j) ∙ ap (λ (w : ℕ). comes p w t (suc j)) (sym (add-suc m k)))
+    ∙ ap₂ (λ (z : ℕ) (q : Table). zoomed p z q .table) e
+    (sym (comes-shift p (m + k) t j) ∙ ap (λ (w : ℕ). comes p w t (suc j)) (sym (add-suc m k)))
 
 run-last : (p : Plan) (k : ℕ) (t : Table) → getD (runZooms p k t) k [] ≡ comes p (p .options .«min_zoom» + k) t k
 unfolding runZooms comes

@@ -43,7 +43,8 @@ unfoldable pub Stepwise : Plan → ℕ → Table → Type 0
 Stepwise p zero t = Unit
 Stepwise p (suc k) t = Grouped p (p .options .«min_zoom» + k) t × Stepwise p k (zoomed p (p .options .«min_zoom» + k) t .next)
 
-pub run-grouped : (p : Plan) → Able p → (k : ℕ) (t : Table) → p .options .«min_zoom» + k ≤ 31 → Coming p (p .options .«min_zoom» + k) t → Stepwise p k t
+pub run-grouped : (p : Plan) → Able p → (k : ℕ) (t : Table) → p .options .«min_zoom» + k ≤ 31 → Coming p (p .options .«min_zoom» + k) t
+    → Stepwise p k t
 unfolding Stepwise
 run-grouped p a zero t h c = tt
 run-grouped p a (suc k) t h c =

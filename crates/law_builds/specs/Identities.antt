@@ -66,7 +66,16 @@ module _ (G : Given) where
       subst (λ (i : ℕ). Cluster G w i (a .num)) (sym (ap idOf s))
       (subst (λ (n : ℕ). Cluster G w (b .id) n) (sym (ap numOf s))
       (let t = c .table-from in
-      record { above = c .above; many = c .many; table-from = omega arith; table-to = c .table-to; origin = c .origin; origin-parent = c .origin-parent; decodes = c .decodes }))
+      record {
+        above = c .above;
+        many = c .many;
+        table-from = omega arith;
+        table-to = c .table-to;
+        origin = c .origin;
+        origin-parent =
+            c .origin-parent;
+        decodes = c .decodes;
+      }))
 
   -- what an entry is, it is in each coarser table that it is copied to
   pub known-same : (z w : ℕ) (a b : Entry) → w ≤ z → SameBuild a b → Known G z b → Known G w a
@@ -159,7 +168,8 @@ module _ (G : Given) (a : AcceptedBuild G) where
       0 < count k (from (groupAt (groupsBy G z) i)) → 0 < count m (from (groupAt (groupsBy G z) j)) → i ≡ j
   alone z h l i j p q k m e u v =
       let g = groups-of-build G a z h l in
-      sole (points G) (G .options .«min_points») z (nearBy G z) (came G (suc z)) (tableOfZoom G (suc z)) (came G z) (groupsBy G z) (g .groups)
+      sole (points G) (G .options .«min_points») z (nearBy G z) (came G (suc z)) (tableOfZoom G (suc z)) (came G z) (groupsBy G z)
+      (g .groups)
       (g .next) k i j p q
       u (subst (λ (w : ℕ). 0 < count w (from (groupAt (groupsBy G z) j))) (sym e) v)
 
@@ -178,10 +188,14 @@ module _ (G : Given) (a : AcceptedBuild G) where
           Arose (points G) z (came G (suc z)) (tableOfZoom G (suc z)) (came G z) (groupsBy G z) i →
           Arose (points G) z (came G (suc z)) (tableOfZoom G (suc z)) (came G z) (groupsBy G z) j → i ≡ j
       step z h l ih i j p q e (inl (k, s)) (inl (m, t)) =
-          alone z h l i j p q k m (ih k m (s .place) (t .place) (ap (λ (v : Entry). v .id) (sym (s .copy)) ∙ e ∙ ap (λ (v : Entry). v .id) (t .copy))) (s .has) (t .has)
-      step z h l ih i j p q e (inl (k, s)) (inr (m, t)) = absurd (not-new z m k h l (s .place) (ap (λ (v : Entry). v .id) (sym (s .copy)) ∙ e ∙ t .id))
-      step z h l ih i j p q e (inr (k, s)) (inl (m, t)) = absurd (not-new z k m h l (t .place) (ap (λ (v : Entry). v .id) (sym (t .copy)) ∙ sym e ∙ s .id))
-      step z h l ih i j p q e (inr (k, s)) (inr (m, t)) = alone z h l i j p q k m (let w = s .id in let v = t .id in omega arith) (s .has) (t .has)
+          alone z h l i j p q k m (ih k m (s .place) (t .place) (ap (λ (v : Entry). v .id) (sym (s .copy)) ∙ e
+          ∙ ap (λ (v : Entry). v .id) (t .copy))) (s .has) (t .has)
+      step z h l ih i j p q e (inl (k, s)) (inr (m, t)) =
+          absurd (not-new z m k h l (s .place) (ap (λ (v : Entry). v .id) (sym (s .copy)) ∙ e ∙ t .id))
+      step z h l ih i j p q e (inr (k, s)) (inl (m, t)) =
+          absurd (not-new z k m h l (t .place) (ap (λ (v : Entry). v .id) (sym (t .copy)) ∙ sym e ∙ s .id))
+      step z h l ih i j p q e (inr (k, s)) (inr (m, t)) = alone z h l i j p q k m (let w = s .id in let v = t .id in omega arith) (s .has)
+          (t .has)
 
   -- ---- each table of the build
 

@@ -71,7 +71,8 @@ module _ (G : Given) (a : AcceptedBuild G) where
       × (entry t j .seen ≡ m))) (sym e) (marks-exact m (le-refl m) w j (omega arith))
 
   -- a cluster is new at one place of one table
-  pub made-once : (z w : ℕ) → minZ G ≤ z → z ≤ maxZ G → w ≤ maxZ G → (j l : ℕ) → j < length (tableOfZoom G z) → l < length (tableOfZoom G w) →
+  pub made-once : (z w : ℕ) → minZ G ≤ z → z ≤ maxZ G → w ≤ maxZ G → (j l : ℕ) → j < length (tableOfZoom G z) → l < length (tableOfZoom G w)
+      →
       MadeAt (points G) z (entry (tableOfZoom G z) j) → MadeAt (points G) w (entry (tableOfZoom G w) l) →
       entry (tableOfZoom G z) j .id ≡ entry (tableOfZoom G w) l .id →
       (z ≡ w) × (j ≡ l)

@@ -31,20 +31,25 @@ find k (g ∷ gs) h = ⊎-elim (λ a. (0, omega arith, a)) (λ a. later a (find 
   where
     later : count k (from g) ≤ 0 → (0 < count k (froms gs) → (j : ℕ) × (j < length gs) × (0 < count k (from (groupAt gs j)))) →
         (j : ℕ) × (j < length (g ∷ gs)) × (0 < count k (from (groupAt (g ∷ gs) j)))
-    later a ih = let s = sum-append (λ x. oneIf (eqb k x)) (from g) (froms gs) in let w = ih (omega arith) in (suc (w .0), (let l = w .1 in omega arith), w .2)
+    later a ih = let s = sum-append (λ x. oneIf (eqb k x)) (from g) (froms gs) in let w = ih (omega arith) in
+        (suc (w .0), (let l = w .1 in omega arith), w .2)
 
 -- what is in one of them is in the groups
 inside : (k : ℕ) (gs : List Group) (j : ℕ) → j < length gs → count k (from (groupAt gs j)) ≤ count k (froms gs)
 inside k [] j h = absurd (omega arith)
 inside k (g ∷ gs) zero h = let s = sum-append (λ x. oneIf (eqb k x)) (from g) (froms gs) in omega arith
-inside k (g ∷ gs) (suc j) h = let s = sum-append (λ x. oneIf (eqb k x)) (from g) (froms gs) in let w = inside k gs j (omega arith) in omega arith
+inside k (g ∷ gs) (suc j) h = let s = sum-append (λ x. oneIf (eqb k x)) (from g) (froms gs) in let w = inside k gs j (omega arith) in
+    omega arith
 
 -- and where it is in the groups once, in no other
-sole-at : (k : ℕ) (gs : List Group) → count k (froms gs) ≤ 1 → (a b : ℕ) → a < length gs → b < length gs → 0 < count k (from (groupAt gs a)) → 0 < count k (from (groupAt gs b)) → a ≡ b
+sole-at : (k : ℕ) (gs : List Group) → count k (froms gs) ≤ 1 → (a b : ℕ) → a < length gs → b < length gs → 0 < count k (from (groupAt gs a))
+    → 0 < count k (from (groupAt gs b)) → a ≡ b
 sole-at k [] c a b h l p q = absurd (omega arith)
 sole-at k (g ∷ gs) c zero zero h l p q = refl
-sole-at k (g ∷ gs) c zero (suc b) h l p q = absurd (let s = sum-append (λ x. oneIf (eqb k x)) (from g) (froms gs) in let w = inside k gs b (omega arith) in omega arith)
-sole-at k (g ∷ gs) c (suc a) zero h l p q = absurd (let s = sum-append (λ x. oneIf (eqb k x)) (from g) (froms gs) in let w = inside k gs a (omega arith) in omega arith)
+sole-at k (g ∷ gs) c zero (suc b) h l p q =
+    absurd (let s = sum-append (λ x. oneIf (eqb k x)) (from g) (froms gs) in let w = inside k gs b (omega arith) in omega arith)
+sole-at k (g ∷ gs) c (suc a) zero h l p q =
+    absurd (let s = sum-append (λ x. oneIf (eqb k x)) (from g) (froms gs) in let w = inside k gs a (omega arith) in omega arith)
 sole-at k (g ∷ gs) c (suc a) (suc b) h l p q =
     let s = sum-append (λ x. oneIf (eqb k x)) (from g) (froms gs) in
     ap suc (sole-at k gs (omega arith) a b (omega arith) (omega arith) p q)
@@ -90,7 +95,8 @@ module _ (n z : ℕ) (T T' U : Table) (gs : List Group) where
   abbrev pub Arose : ℕ → Type 0
   Arose j = ((k : ℕ) × KeptPlace j k) ⊎ ((i : ℕ) × MadePlace j i)
 
-module _ (n least z : ℕ) (near : ℕ → List ℕ) (T T' U : Table) (gs : List Group) (Z : OneZoom n least z near T T' gs) (u : U ≡ map entryOf gs) where
+module _ (n least z : ℕ) (near : ℕ → List ℕ) (T T' U : Table) (gs : List Group) (Z : OneZoom n least z near T T' gs)
+    (u : U ≡ map entryOf gs) where
   at-most-once : (k : ℕ) → count k (froms gs) ≤ 1
   at-most-once k = ⊎-elim (λ h. let a = Z .once k h in omega arith) (λ h. let a = Z .none k h in omega arith) (below k (length T))
 
@@ -111,7 +117,8 @@ module _ (n least z : ℕ) (near : ℕ → List ℕ) (T T' U : Table) (gs : List
   self k x h = ⊎-elim (λ e. sym (e .0)) (λ e. absurd (let w = e .1 in omega arith)) (hit k x)
 
   pub went : (k : ℕ) → k < length T → WentOn n z T T' U gs k
-  went k h = let w = find k gs (let a = Z .once k h in omega arith) in by (w .0) (let a = w .1 in let b = long in omega arith) (w .2) (groupAt gs (w .0)) refl
+  went k h = let w = find k gs (let a = Z .once k h in omega arith) in by (w .0) (let a = w .1 in let b = long in omega arith) (w .2)
+      (groupAt gs (w .0)) refl
     where
       by : (j : ℕ) → j < length U → 0 < count k (from (groupAt gs j)) → (g : Group) → groupAt gs j ≡ g → WentOn n z T T' U gs k
       by j l c (copied x e) q =
@@ -148,7 +155,15 @@ module _ (n least z : ℕ) (near : ℕ → List ℕ) (T T' U : Table) (gs : List
       by (copied k e) q =
           let f : Copied n least z near T T' k e = subst (λ (g : Group). FitsZoom n least z near T T' g) q (fit-at j l) in
           let h : 0 < count k (k ∷ []) = count-head k [] in
-          inl (k, record { place = f .place; has = subst (λ (g : Group). 0 < count k (from g)) (sym q) h; copy = is-entry j l ∙ ap entryOf q ∙ f .same })
+          inl (
+            k,
+            record {
+              place = f .place;
+              has = subst (λ (g : Group). 0 < count k (from g)) (sym q) h;
+              copy = is-entry j l ∙ ap entryOf q
+                  ∙ f .same;
+            },
+          )
       by (joinedGroup i ks e) q =
           let f : Joined n least z near T T' i ks e = subst (λ (g : Group). FitsZoom n least z near T T' g) q (fit-at j l) in
           let m : entry U j ≡ e = is-entry j l ∙ ap entryOf q in

@@ -51,7 +51,8 @@ alike-self s t q = subst (λ (u : Table). Alike u t) (sym q) (record { long = re
 
 -- ---- the index of a table is that of each table that is like it, and so are its answers
 
-columns-alike : (c : Entry → Float) → (s t : Table) → length s ≡ length t → ((i : ℕ) → i < length t → c (entry s i) ≡ c (entry t i)) → map c s ≡ map c t
+columns-alike : (c : Entry → Float) → (s t : Table) → length s ≡ length t → ((i : ℕ) → i < length t → c (entry s i) ≡ c (entry t i))
+    → map c s ≡ map c t
 columns-alike c s t l h =
     ext-getD (c none) (map c s) (map c t) (length-map s c ∙ l ∙ sym (length-map t c))
     (λ i k. List·getD-map c s i none ∙ h i (let w = length-map s c in omega arith) ∙ sym (List·getD-map c t i none))
@@ -70,7 +71,8 @@ module _ (G : Given) (a : AcceptedBuild G) where
       WentOn (points G) z (came G (suc z)) (tableOfZoom G (suc z)) (came G z) (groupsBy G z) k
   went-by z h l k =
       let g = groups-of-build G a z h l in
-      went (points G) (G .options .«min_points») z (nearBy G z) (came G (suc z)) (tableOfZoom G (suc z)) (came G z) (groupsBy G z) (g .groups)
+      went (points G) (G .options .«min_points») z (nearBy G z) (came G (suc z)) (tableOfZoom G (suc z)) (came G z) (groupsBy G z)
+      (g .groups)
       (g .next) k
 
   -- where the place j of table z is from
@@ -78,7 +80,8 @@ module _ (G : Given) (a : AcceptedBuild G) where
       Arose (points G) z (came G (suc z)) (tableOfZoom G (suc z)) (came G z) (groupsBy G z) j
   arose-by z h l j =
       let g = groups-of-build G a z h l in
-      arose (points G) (G .options .«min_points») z (nearBy G z) (came G (suc z)) (tableOfZoom G (suc z)) (came G z) (groupsBy G z) (g .groups)
+      arose (points G) (G .options .«min_points») z (nearBy G z) (came G (suc z)) (tableOfZoom G (suc z)) (came G z) (groupsBy G z)
+      (g .groups)
       (g .next) j
 
   marked-alike : (z : ℕ) → minZ G ≤ z → z ≤ maxZ G → Alike (tableOfZoom G (suc z)) (came G (suc z))
@@ -94,12 +97,14 @@ module _ (G : Given) (a : AcceptedBuild G) where
     where
       last : minZ G ≡ z → Alike (tableOfZoom G z) (came G z)
       last e =
-          subst (λ (w : ℕ). Alike (tableOfZoom G w) (came G w)) e (alike-self _ _ (table-last G (options-are (G .options) (a .options) .zooms)))
+          subst (λ (w : ℕ). Alike (tableOfZoom G w) (came G w)) e
+          (alike-self _ _ (table-last G (options-are (G .options) (a .options) .zooms)))
 
       inner : (w : ℕ) → w ≤ maxZ G + 1 → minZ G < w → Alike (tableOfZoom G w) (came G w)
       inner zero l q = absurd (omega arith)
       inner (suc w) l q = marked-alike w (omega arith) (omega arith)
 
   -- so what is answered of a table of the build is answered of it as it came
-  pub near-same : (z : ℕ) → minZ G ≤ z → z ≤ maxZ G + 1 → (size : ℕ) (r : Float) → nearIn size r (tableOfZoom G z) ≡ nearIn size r (came G z)
+  pub near-same : (z : ℕ) → minZ G ≤ z → z ≤ maxZ G + 1 → (size : ℕ) (r : Float)
+      → nearIn size r (tableOfZoom G z) ≡ nearIn size r (came G z)
   near-same z h l size r = near-alike size r (tableOfZoom G z) (came G z) (table-same z h l)

@@ -58,7 +58,8 @@ pub record Grouped (p : Plan) (z : ℕ) (t : Table) : Type 0 where
 
 -- ---- a property of entries that the next table has: copies keep it, clusters get it
 
-module _ (n least z : ℕ) (near : ℕ → List ℕ) (T T' : Table) (P : Entry → Type 0) (keeps : (k : ℕ) (e : Entry) → Copied n least z near T T' k e → P e)
+module _ (n least z : ℕ) (near : ℕ → List ℕ) (T T' : Table) (P : Entry → Type 0)
+    (keeps : (k : ℕ) (e : Entry) → Copied n least z near T T' k e → P e)
     (gets : (i : ℕ) (ks : List ℕ) (e : Entry) → Joined n least z near T T' i ks e → P e) where
   pub all-next : (gs : List Group) → All (FitsZoom n least z near T T') gs → All P (map entryOf gs)
   unfolding All
@@ -82,7 +83,8 @@ module _ (p : Plan) (a : Able p) (z : ℕ) (t : Table) (hz : z ≤ 30) (c : Comi
 
   own : (i : ℕ) → i < length t → In i (nearAt p z t (entry t i .x) (entry t i .y))
   own =
-      let r = radius-fine (p .options .radius) (p .options .extent) z (omega arith) (a .radius-from) (a .radius-to) (a .extent-from) (a .extent-to) in
+      let r = radius-fine (p .options .radius) (p .options .extent) z (omega arith) (a .radius-from) (a .radius-to) (a .extent-from)
+      (a .extent-to) in
       own-answered (p .options .«node_size») t (a .size-from) some body (radiusAt (p .options .radius) (p .options .extent) z) (r .0)
 
   ready : (k : ℕ) → k < length t → unseen z (entry t k) ≡ true
@@ -99,7 +101,8 @@ module _ (p : Plan) (a : Able p) (z : ℕ) (t : Table) (hz : z ≤ 30) (c : Comi
       record {
         own = own;
         once = once;
-        groups = one-zoom (p .count) (p .options .«min_points») z (nearAt p z t) t once own hz (a .few) (c .few) ready (λ k h. all-at Lone t k (c .lone) h);
+        groups = one-zoom (p .count) (p .options .«min_points») z (nearAt p z t) t once own hz (a .few) (c .few) ready
+            (λ k h. all-at Lone t k (c .lone) h);
         next = ap (λ (s : Scan). s .next) (cluster-groups (p .count) (p .options .«min_points») z (nearAt p z t) t once own);
       }
 
@@ -107,7 +110,13 @@ module _ (p : Plan) (a : Able p) (z : ℕ) (t : Table) (hz : z ≤ 30) (c : Comi
   pub coming-next : Coming p z (zoomed p z t .next)
   coming-next =
       let s = sound in
-      record { fine = s .next; lamps = s .lamps ∙ c .lamps; few = omega (arith, s .shorter, c .few); lone = passes Lone lone-copy lone-made }
+      record {
+        fine = s .next;
+        lamps = s .lamps ∙ c .lamps;
+        few = omega (arith, s .shorter, c .few);
+        lone =
+            passes Lone lone-copy lone-made;
+      }
     where
       N : ℕ
       N = p .count
@@ -121,9 +130,11 @@ module _ (p : Plan) (a : Able p) (z : ℕ) (t : Table) (hz : z ≤ 30) (c : Comi
       T' : Table
       T' = zoomed p z t .table
 
-      passes : (P : Entry → Type 0) → ((k : ℕ) (e : Entry) → Copied N L z near t T' k e → P e) → ((i : ℕ) (ks : List ℕ) (e : Entry) → Joined N L z near t T' i ks e → P e) →
+      passes : (P : Entry → Type 0) → ((k : ℕ) (e : Entry) → Copied N L z near t T' k e → P e)
+          → ((i : ℕ) (ks : List ℕ) (e : Entry) → Joined N L z near t T' i ks e → P e) →
           All P (zoomed p z t .next)
-      passes P f g = subst (λ (q : Table). All P q) (sym (zoom-grouped .next)) (all-next N L z near t T' P f g (groupsOn p z t) (zoom-grouped .groups .fit))
+      passes P f g = subst (λ (q : Table). All P q) (sym (zoom-grouped .next))
+          (all-next N L z near t T' P f g (groupsOn p z t) (zoom-grouped .groups .fit))
 
       lone-copy : (k : ℕ) (e : Entry) → Copied N L z near t T' k e → Lone e
       lone-copy k e w = ap (λ (q : Entry). q .parent) (w .same) ∙ all-at Lone t k (c .lone) (w .place)

@@ -94,7 +94,8 @@ module _ (st : State) (ids : List ℕ) (co : List Float) (zoom : ℕ) (west leas
           let x = t f in
           not-spoiled (effortOf a (testsOf (effortAsked st ids co zoom west least east greatest))) room
           (sym (taken f (x .0) (x .1) a room) ∙ h)
-      by a room false f h = let z = sym (ap (λ (q : EffortAsked). effortReplyOf q a room) (refused-box f)) ∙ h in omega (arith, ap effortNumber z)
+      by a room false f h = let z = sym (ap (λ (q : EffortAsked). effortReplyOf q a room) (refused-box f))
+          ∙ h in omega (arith, ap effortNumber z)
 
 -- ---- of every build that `load` accepts
 
@@ -108,5 +109,6 @@ module _ (G : Given) (acc : AcceptedBuild G) (l : BuildColumns) (h : Holds (need
 
 pub effort-of-build : EffortOfBuild
 effort-of-build G l d zoom west least east greatest =
-    of-load (λ st c. EffortAnswered (G .options .«coordinate_system») west least east greatest (effortAt st c zoom west least east greatest)) G l
+    of-load (λ st c. EffortAnswered (G .options .«coordinate_system») west least east greatest
+    (effortAt st c zoom west least east greatest)) G l
     (λ a h. build-answered G a l h zoom west least east greatest) d

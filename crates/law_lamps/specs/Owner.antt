@@ -52,7 +52,8 @@ lampsOf G z j = lampsAt G (maxZ G + 1 - z) j
 -- the places answered around the place i of table t of a build, at the radius of the zoom below it
 abbrev pub answersAt : Given → ℕ → ℕ → List ℕ
 answersAt G t =
-    around (nearIn (G .options .«node_size») (radiusAt (G .options .radius) (G .options .extent) (t - 1)) (tableOfZoom G t)) (tableOfZoom G t)
+    around (nearIn (G .options .«node_size») (radiusAt (G .options .radius) (G .options .extent) (t - 1)) (tableOfZoom G t))
+    (tableOfZoom G t)
 
 -- the members of the cluster id: of those answered around its origin, in the table that the id names, those whose parent it is
 abbrev pub membersOf : Given → ℕ → List ℕ

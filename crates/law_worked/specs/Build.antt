@@ -3,7 +3,7 @@
 use mathlib.Core.Path.{_≡_, refl, ap, _∙_}
 use mathlib.Core.Bool.{Bool, true, cond}
 use mathlib.Core.List.{List, _∷_}
-use Prim.Native.Nat.{ℕ, _/_, _≤_, min}
+use Prim.Native.Nat.{ℕ, _/_, _≤_}
 use native.Mathlib.Omega.{arith}
 use borrow.Author.Tests.{le-leb}
 use lib.ListN.{drop, replicate}
@@ -22,6 +22,7 @@ use Rattle.supercluster.specs.declared.LoadReply.the-variants.{Done, Tables}
 use Rattle.supercluster.specs.Build.{convertedAll, BuildColumns, firstOver, written, builtState, checked, Outcome, outcome, byReply, loaded}
 use Rattle.supercluster.specs.laws.Load.{roomy}
 use Rattle.build_tables.specs.Room.{Columns, columns, roomOf}
+use Rattle.build_tables.specs.laws.Roomy.{both}
 use Rattle.law_worked.specs.Tables.{b, at, options, xs, ys, ws, shown, tables-are}
 use Rattle.law_answers.specs.Stored.{columnsOf}
 
@@ -99,9 +100,6 @@ built-is l h =
 -- ---- the state is sound over them
 
 -- each of the columns holds the seven entries
-both : (n c d : ℕ) → n ≤ c → n ≤ d → n ≤ min c d
-both n c d h k = omega arith
-
 halved : (n : ℕ) → 14 ≤ n → 7 ≤ n / 2
 halved n h = omega arith
 

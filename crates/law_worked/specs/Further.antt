@@ -77,8 +77,10 @@ size-0 l = refl
 
 pub single : (map idsOf (tablesOf (with 1 3) xs ys ws) ≡ replicate 3 (0 ∷ 1 ∷ 2 ∷ 3 ∷ []))
     × (map numsOf (tablesOf (with 1 3) xs ys ws) ≡ replicate 3 (replicate 4 1))
-unfolding tablesOf runZooms convertedAll finest indexOfTable indexOf radiusAt cluster scanFrom scanOne visit copyAll copyOne absorb absorbOne
-    moreOf converted normalized offsetOf scaleOf filledSlots sorted indexed selected sel parted passes up down swapCo swapIds add sub mul div
+unfolding tablesOf runZooms convertedAll finest indexOfTable indexOf radiusAt cluster scanFrom scanOne visit copyAll copyOne absorb
+    absorbOne
+    moreOf converted normalized offsetOf scaleOf filledSlots sorted indexed selected sel parted passes up down swapCo swapIds add sub mul
+    div
     ofInt ofBits le lt eq shape split scanned slots places with options xs ys ws b
 single = (refl, refl)
 
@@ -90,10 +92,12 @@ lone = loaded (options 64) (one ∷ []) (half ∷ []) (9 ∷ []) (zeros 3)
 -- at (512,256), and again at (0,256)
 pub tile-of-lone : tileAsked (lone .reply .state) (columnsOf (lone .columns)) 0 0 0
     ≡ told true (record { place = 0; x = pos 512; y = pos 256 } ∷ record { place = 0; x = pos 0; y = pos 256 } ∷ [])
-unfolding loaded checked firstOver zeros written joined joinedIds joinedCo starts lens tablesOf runZooms convertedAll finest indexOfTable indexOf
+unfolding loaded checked firstOver zeros written joined joinedIds joinedCo starts lens tablesOf runZooms convertedAll finest indexOfTable
+    indexOf
     radiusAt cluster scanFrom scanOne visit copyAll copyOne absorb absorbOne moreOf converted normalized offsetOf scaleOf filledSlots sorted
     indexed selected sel parted passes up down swapCo swapIds firstOutside tileAsked stateOk packed optionsOk systemInBounds inBounds
-    visited here wraps eastStrip westStrip tileListed wholeTile rounded away neg add sub mul div ofInt ofBits le lt eq shape split scanned slots places
+    visited here wraps eastStrip westStrip tileListed wholeTile rounded away neg add sub mul div ofInt ofBits le lt eq shape split scanned
+    slots places
     rows options b
 tile-of-lone = refl
 
@@ -104,10 +108,12 @@ lone-no-room = ap (λ (a : TileAsked). outcomeOf a (9 ∷ 9 ∷ []) (pos 9 ∷ [
 
 -- listed twice, and counted once
 pub tally-of-lone : tallied (lone .reply .state) (columnsOf (lone .columns)) 0 0 0 ≡ Sum 1
-unfolding loaded checked firstOver zeros written joined joinedIds joinedCo starts lens tablesOf runZooms convertedAll finest indexOfTable indexOf
+unfolding loaded checked firstOver zeros written joined joinedIds joinedCo starts lens tablesOf runZooms convertedAll finest indexOfTable
+    indexOf
     radiusAt cluster scanFrom scanOne visit copyAll copyOne absorb absorbOne moreOf converted normalized offsetOf scaleOf filledSlots sorted
     indexed selected sel parted passes up down swapCo swapIds firstOutside tallied tallyOf total distinct member homeOf stateOk packed
-    optionsOk systemInBounds inBounds visited here wraps eastStrip westStrip tileListed wholeTile rounded away neg add sub mul div ofInt ofBits le lt eq
+    optionsOk systemInBounds inBounds visited here wraps eastStrip westStrip tileListed wholeTile rounded away neg add sub mul div ofInt
+    ofBits le lt eq
     shape split scanned slots places rows options b
 tally-of-lone = refl
 
@@ -131,10 +137,13 @@ workedPlanned = loaded (onPlan (options 64)) (one ∷ []) (half ∷ []) (9 ∷ [
 
 pub tile-of-planned : tileAsked (workedPlanned .reply .state) (columnsOf (workedPlanned .columns)) 0 0 0
     ≡ told true (record { place = 0; x = pos 512; y = pos 256 } ∷ [])
-unfolding onPlan loaded checked firstOver zeros written joined joinedIds joinedCo starts lens tablesOf runZooms convertedAll finest indexOfTable
-    indexOf radiusAt cluster scanFrom scanOne visit copyAll copyOne absorb absorbOne moreOf converted normalized offsetOf scaleOf filledSlots
+unfolding onPlan loaded checked firstOver zeros written joined joinedIds joinedCo starts lens tablesOf runZooms convertedAll finest
+    indexOfTable
+    indexOf radiusAt cluster scanFrom scanOne visit copyAll copyOne absorb absorbOne moreOf converted normalized offsetOf scaleOf
+    filledSlots
     sorted indexed selected sel parted passes up down swapCo swapIds firstOutside tileAsked stateOk packed optionsOk systemInBounds inBounds
-    visited here wraps eastStrip westStrip tileListed wholeTile rounded away neg add sub mul div ofInt ofBits le lt eq shape split scanned slots places
+    visited here wraps eastStrip westStrip tileListed wholeTile rounded away neg add sub mul div ofInt ofBits le lt eq shape split scanned
+    slots places
     rows options b
 tile-of-planned = refl
 
@@ -150,9 +159,11 @@ pub tile-of-two : tileAsked (twoLamps .reply .state) (columnsOf (twoLamps .colum
     ∷ record { place = 1; x = pos 0; y = pos 256 }
     ∷ record { place = 0; x = pos 512; y = pos 256 }
     ∷ [])
-unfolding loaded checked firstOver zeros written joined joinedIds joinedCo starts lens tablesOf runZooms convertedAll finest indexOfTable indexOf
+unfolding loaded checked firstOver zeros written joined joinedIds joinedCo starts lens tablesOf runZooms convertedAll finest indexOfTable
+    indexOf
     radiusAt cluster scanFrom scanOne visit copyAll copyOne absorb absorbOne moreOf converted normalized offsetOf scaleOf filledSlots sorted
     indexed selected sel parted passes up down swapCo swapIds firstOutside tileAsked stateOk packed optionsOk systemInBounds inBounds
-    visited here wraps eastStrip westStrip tileListed wholeTile rounded away neg add sub mul div ofInt ofBits le lt eq shape split scanned slots places
+    visited here wraps eastStrip westStrip tileListed wholeTile rounded away neg add sub mul div ofInt ofBits le lt eq shape split scanned
+    slots places
     rows options b
 tile-of-two = refl

@@ -27,8 +27,10 @@ abbrev pub workedLamps : Given
 workedLamps = givenBuild (options 64) xs ys ws
 
 -- the owners of the four lamps in table 2, table 1 and table 0
-pub owners-are : map (λ z. map (owner workedLamps z) (0 ∷ 1 ∷ 2 ∷ 3 ∷ [])) (2 ∷ 1 ∷ 0 ∷ []) ≡ (0 ∷ 1 ∷ 2 ∷ 3 ∷ []) ∷ (0 ∷ 0 ∷ 1 ∷ 1 ∷ []) ∷ (0 ∷ 0 ∷ 0 ∷ 0 ∷ []) ∷ []
-unfolding owner ownerAt groupsBy came comes weighedSum convertedAll finest indexOfTable indexOf radiusAt cluster scanFrom scanOne visit copyAll
+pub owners-are : map (λ z. map (owner workedLamps z) (0 ∷ 1 ∷ 2 ∷ 3 ∷ [])) (2 ∷ 1 ∷ 0 ∷ []) ≡ (0 ∷ 1 ∷ 2 ∷ 3 ∷ []) ∷ (0 ∷ 0 ∷ 1 ∷ 1 ∷ []) ∷
+    (0 ∷ 0 ∷ 0 ∷ 0 ∷ []) ∷ []
+unfolding owner ownerAt groupsBy came comes weighedSum convertedAll finest indexOfTable indexOf radiusAt cluster scanFrom scanOne visit
+    copyAll
     copyOne absorb absorbOne moreOf converted normalized offsetOf scaleOf add sub mul div ofInt ofBits le lt eq filledSlots sorted indexed
     selected sel parted passes up down swapCo swapIds shape split scanned slots places options xs ys ws b
 owners-are = refl
@@ -48,7 +50,8 @@ lamps-are-0 = refl
 
 -- cluster 5 was made of places 0 and 1 of table 1
 pub members-are : membersOf workedLamps 5 ≡ 0 ∷ 1 ∷ []
-unfolding tableOfZoom tablesOf runZooms convertedAll finest indexOfTable indexOf radiusAt cluster scanFrom scanOne visit copyAll copyOne absorb
+unfolding tableOfZoom tablesOf runZooms convertedAll finest indexOfTable indexOf radiusAt cluster scanFrom scanOne visit copyAll copyOne
+    absorb
     absorbOne moreOf converted normalized offsetOf scaleOf add sub mul div ofInt ofBits le lt eq filledSlots sorted indexed selected sel
     parted passes up down swapCo swapIds shape split scanned slots places options xs ys ws b
 members-are = refl

@@ -9,7 +9,8 @@ use Rattle.supercluster.specs.Build.{BuildColumns, checked, loaded}
 use Rattle.lister_text.specs.declared.Parsed.the-variants.{Refused}
 use Rattle.lister_text.specs.Bytes.{bytes}
 use Rattle.lister_text.specs.Digits.{decimalOf}
-use Rattle.lister_text.specs.Text.{Place, Input, line, pointsText, text, headIs, givenXs, givenYs, givenEnergies, pointCols, parsedNumber}
+use Rattle.lister_text.specs.Text.{LampText, Input, line, pointsText, text, headIs, givenXs, givenYs, givenEnergies, pointCols}
+use Rattle.lister_text.specs.Text.{parsedNumber}
 use Rattle.lister_text.specs.Values.{optionsOf}
 use Rattle.lister_report.specs.Hex.{hexOf}
 use Rattle.lister_report.specs.Lines.{tableText, tablesText, refusalText}
@@ -17,7 +18,7 @@ use Rattle.lister_report.specs.Report.{listerColumns, answerText, buildText, li
 use Rattle.law_worked.specs.Tables.{b, at, options, xs, ys, ws, shown, tables-are}
 use Rattle.law_worked.specs.Build.{workedBuilt, accepted}
 
-abbrev place : ℕ → ℕ → ℕ → Place
+abbrev place : ℕ → ℕ → ℕ → LampText
 place x y w = record { x = x; y = y; wh = w }
 
 -- SCOPE's input
@@ -86,7 +87,8 @@ unfolding listerColumns
 reply-is = accepted listerColumns refl
 
 -- so the build that the lister makes of it, in any columns, is the worked build
-pub example-built : (l : BuildColumns) → loaded (optionsOf (headIs example)) (givenXs example) (givenYs example) (givenEnergies example) l ≡ workedBuilt l
+pub example-built : (l : BuildColumns) → loaded (optionsOf (headIs example)) (givenXs example) (givenYs example) (givenEnergies example) l
+    ≡ workedBuilt l
 example-built l i = loaded (options-are i) (xs-are i) (ys-are i) (ws-are i) l
 
 shown-text : tablesText 2 shown ≡ sevenLines

@@ -49,7 +49,8 @@ options size =
       radius = b 0x4050000000000000;
       extent = b 0x4080000000000000;
       «node_size» = size;
-      «coordinate_system» = Cartesian (record { «min_x» = zero; «min_y» = zero; «max_x» = one; «max_y» = one; offset = Given zero; scale = Given one });
+      «coordinate_system» = Cartesian
+          (record { «min_x» = zero; «min_y» = zero; «max_x» = one; «max_y» = one; offset = Given zero; scale = Given one });
       «longitude_strips_only» = false;
     }
 
@@ -76,14 +77,16 @@ shown =
     ∷ []
 
 pub tables-are : tablesOf (options 64) xs ys ws ≡ shown
-unfolding tablesOf runZooms convertedAll finest indexOfTable indexOf radiusAt cluster scanFrom scanOne visit copyAll copyOne absorb absorbOne
+unfolding tablesOf runZooms convertedAll finest indexOfTable indexOf radiusAt cluster scanFrom scanOne visit copyAll copyOne absorb
+    absorbOne
     moreOf converted normalized offsetOf scaleOf add sub mul div ofInt ofBits le lt eq filledSlots sorted indexed selected sel parted passes
     up down swapCo swapIds shape split scanned slots places options xs ys ws shown b at
 tables-are = refl
 
 -- and at node size 1
 pub split-are : tablesOf (options 1) xs ys ws ≡ shown
-unfolding tablesOf runZooms convertedAll finest indexOfTable indexOf radiusAt cluster scanFrom scanOne visit copyAll copyOne absorb absorbOne
+unfolding tablesOf runZooms convertedAll finest indexOfTable indexOf radiusAt cluster scanFrom scanOne visit copyAll copyOne absorb
+    absorbOne
     moreOf converted normalized offsetOf scaleOf add sub mul div ofInt ofBits le lt eq filledSlots sorted indexed selected sel parted passes
     up down swapCo swapIds shape split scanned slots places options xs ys ws shown b at
 split-are = refl

@@ -29,7 +29,8 @@ module _ (l : BuildColumns) where
 
   -- entry 0 at (176,256)
   pub tile-000 : tileAsked state (workedHeld l) 0 0 0 ≡ told true (record { place = 0; x = pos 176; y = pos 256 } ∷ [])
-  unfolding tileAsked visited here wraps eastStrip westStrip tileListed wholeTile rounded away neg add sub mul div ofInt ofBits le lt eq shape split scanned
+  unfolding tileAsked visited here wraps eastStrip westStrip tileListed wholeTile rounded away neg add sub mul div ofInt ofBits le lt eq
+      shape split scanned
       slots places rows options state afterBuild b asks
   tile-000 = ap (asks (told true (record { place = 0; x = pos 176; y = pos 256 } ∷ []))) (sound l)
 
@@ -45,6 +46,7 @@ module _ (l : BuildColumns) where
 
   -- its four lamps
   pub tally-000 : tallied state (workedHeld l) 0 0 0 ≡ Sum 4
-  unfolding tallied tallyOf total distinct member homeOf visited here wraps eastStrip westStrip tileListed wholeTile rounded away neg add sub mul div
+  unfolding tallied tallyOf total distinct member homeOf visited here wraps eastStrip westStrip tileListed wholeTile rounded away neg add
+      sub mul div
       ofInt ofBits le lt eq shape split scanned slots places rows options state afterBuild b
   tally-000 = ap (λ (s : Bool). cond (not s) Tally·Spoiled (Sum 4)) (sound l)

@@ -94,7 +94,8 @@ table l =
 
 -- and those are what `load` replies and leaves
 pub worked : (l : BuildColumns) → roomy 12 l ≡ true → (workedBuilt l .reply .reply ≡ Done) × Worked (stateIn l) (columnsIn l)
-worked l h = subst (λ (o : Outcome). (o .reply .reply ≡ Done) × Worked (o .reply .state) (columnsOf (o .columns))) (sym (built-is l h)) (refl, table l)
+worked l h = subst (λ (o : Outcome). (o .reply .reply ≡ Done) × Worked (o .reply .state) (columnsOf (o .columns))) (sym (built-is l h))
+    (refl, table l)
 
 -- so of the lister's example, in the lister's columns of 1,152 zeros
 abbrev pub workedListed : Outcome
@@ -102,4 +103,5 @@ workedListed = loaded (optionsOf (headIs example)) (givenXs example) (givenYs ex
 
 pub worked-in-lister : Worked (workedListed .reply .state) (columnsOf (workedListed .columns))
 unfolding zeros
-worked-in-lister = subst (λ (o : Outcome). Worked (o .reply .state) (columnsOf (o .columns))) (sym (example-built zeros)) (worked zeros refl .1)
+worked-in-lister = subst (λ (o : Outcome). Worked (o .reply .state) (columnsOf (o .columns))) (sym (example-built zeros))
+    (worked zeros refl .1)

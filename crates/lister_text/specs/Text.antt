@@ -52,7 +52,7 @@ unfoldable pub line : List ℕ → ℕ → List ℕ
 line key v = key ++ (decimalOf 7 v ++ (10 ∷ []))
 
 -- a point: where it is, in 65,536ths, and its energy in watt-hours
-pub record Place : Type 0 where
+pub record LampText : Type 0 where
   pub x : ℕ
   pub y : ℕ
   pub wh : ℕ
@@ -64,13 +64,13 @@ pub record Input : Type 0 where
   pub radius : ℕ
   pub extent : ℕ
   pub nodeSize : ℕ
-  pub points : List Place
+  pub points : List LampText
 
 -- the lines of a point, and then t
-abbrev pub pointText : Place → List ℕ → List ℕ
+abbrev pub pointText : LampText → List ℕ → List ℕ
 pointText p t = line xKey (p .x) ++ (line yKey (p .y) ++ (line whKey (p .wh) ++ t))
 
-unfoldable pub pointsText : List Place → List ℕ
+unfoldable pub pointsText : List LampText → List ℕ
 pointsText [] = []
 pointsText (p ∷ ps) = pointText p (pointsText ps)
 
@@ -86,7 +86,7 @@ text i =
     headText (i .minZoom) (i .maxZoom) (i .minPoints) (i .radius) (i .extent) (i .nodeSize) (length (i .points)) (pointsText (i .points))
 
 -- each number of a point has at most seven digits
-abbrev pub Small : List Place → Type 0
+abbrev pub Small : List LampText → Type 0
 Small [] = Unit
 Small (p ∷ ps) = ((p .x ≤ 9999999) × (p .y ≤ 9999999) × (p .wh ≤ 9999999)) × Small ps
 
@@ -131,13 +131,13 @@ headIs i =
     (headEnd (i .minZoom) (i .maxZoom) (i .minPoints) (i .radius) (i .extent) (i .nodeSize) (length (i .points)))
 
 -- what is stored of a point
-abbrev pub xOf : Place → Float
+abbrev pub xOf : LampText → Float
 xOf p = coordOf (p .x)
 
-abbrev pub yOf : Place → Float
+abbrev pub yOf : LampText → Float
 yOf p = coordOf (p .y)
 
-abbrev pub whOf : Place → ℕ
+abbrev pub whOf : LampText → ℕ
 whOf p = p .wh
 
 abbrev pub givenXs : Input → List Float
@@ -172,7 +172,7 @@ pub record Fits (n : ℕ) (c : PointCols) : Type 0 where
   pub energy : n ≤ length (c .energies)
 
 -- the columns with points from the place k on, and elsewhere what they held
-abbrev pub putPoints : PointCols → ℕ → List Place → PointCols
+abbrev pub putPoints : PointCols → ℕ → List LampText → PointCols
 putPoints c k ps = pointCols (sets (c .xs) k (map xOf ps)) (sets (c .ys) k (map yOf ps)) (sets (c .energies) k (map whOf ps))
 
 -- s is the writing of an input; its head is h, and the columns hold its points and past them what they held

@@ -1,15 +1,12 @@
 -- What `load` replies and leaves: the build, and beside its tables the owner column. The build is that of `supercluster`; only 4 looks at
 -- the owner column too. Definitions only.
-use mathlib.Core.Bool.{true, false}
 use mathlib.Core.List.{List}
 use Prim.Native.Nat.{ℕ, min}
-use lib.Dec.{eqb}
 use lib.Ieee.{Float}
 use lib.ListN.{length}
 use Rattle.build_tables.specs.declared.Options.{Options}
 use Rattle.build_all_zooms.specs.Zooms.{laidOver}
-use Rattle.supercluster.specs.declared.LoadReply.{LoadReply}
-use Rattle.supercluster.specs.Build.{BuildColumns, Outcome, roomIn, checkedIn, tablesOf, loadNumber, byReply}
+use Rattle.supercluster.specs.Build.{BuildColumns, Outcome, roomIn, checkedIn, tablesOf, loadNumber, unlessRefused, byReply}
 use Rattle.build_owners.specs.OwnerColumn.{ownerColumn}
 
 -- for how many entries the columns of the build and that of the owners have room
@@ -24,12 +21,9 @@ pub record OwnedOutcome : Type 0 where
 abbrev pub ownedOutcome : Outcome → List ℕ → OwnedOutcome
 ownedOutcome b own = record { build = b; owners = own }
 
--- the owners over what the column held, where nothing is refused; otherwise what it held
-abbrev pub ownersLeft : LoadReply → List ℕ → List ℕ → List ℕ
-ownersLeft r column own = elim (eqb (loadNumber r) 0) [ true ↦ laidOver column own | false ↦ own ]
-
--- what `load` replies and leaves, for every input
+-- what `load` replies and leaves, for every input: the owners over what the column held, where nothing is refused
 unfoldable pub loadedWith : Options → List Float → List Float → List ℕ → BuildColumns → List ℕ → OwnedOutcome
 loadedWith o xs ys ws l own =
     let r = checkedIn o xs ys ws (roomWith l own) in
-    ownedOutcome (byReply o xs ys ws l r) (ownersLeft r (ownerColumn (length xs) (tablesOf o xs ys ws)) own)
+    let column = ownerColumn (length xs) (tablesOf o xs ys ws) in
+    ownedOutcome (byReply o xs ys ws l r) (unlessRefused (loadNumber r) (laidOver column own) own)

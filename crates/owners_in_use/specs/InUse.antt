@@ -8,21 +8,20 @@ use Rattle.build_tables.specs.declared.State.{State}
 use Rattle.build_tables.specs.State.{stateOf}
 use Rattle.supercluster.specs.declared.LoadReply.{LoadReply}
 use Rattle.supercluster.specs.declared.LoadReply.the-variants.{Done}
-use Rattle.supercluster.specs.Build.{BuildColumns, loadNumber, checkedIn, byReply}
-use Rattle.supercluster.specs.laws.Load.{replies}
+use Rattle.supercluster.specs.Build.{BuildColumns, loadNumber, unlessRefused, checkedIn, byReply}
+use Rattle.supercluster.specs.laws.Load.{replies, number-done}
 use Rattle.law_answers.specs.Stored.{columnsOf}
 use Rattle.law_answers.specs.laws.Stored.{stateBy, loadedOf, of-load}
 use Rattle.law_lamps.specs.Owner.{owner}
 use Rattle.owners.specs.Owners.{Owners}
 use Rattle.owners.specs.KeptOwners.{KeptOwners}
 use Rattle.owners.specs.LoadedWith.{roomWith, OwnedOutcome, loadedWith}
-use Rattle.owners.specs.laws.Keeping.{zero-done}
 use Rattle.owners.specs.laws.KeptProved.{loaded-owners}
 use Rattle.owners.specs.laws.Proved.{one-owner}
 use Rattle.lister_text.specs.Values.{optionsOf}
 use Rattle.lister_text.specs.Text.{Input, headIs, givenXs, givenYs, givenEnergies}
 use Rattle.lister_report.specs.Report.{Lending, left}
-use Rattle.exports.specs.Laid.{Laid, unlessRefused, replied, laid, laidOf}
+use Rattle.exports.specs.Laid.{Laid, replied, laid, laidOf}
 use Rattle.law_builds.specs.Given.{Given, givenBuild, points}
 
 module _ (G : Given) (l : BuildColumns) where
@@ -46,13 +45,14 @@ module _ (G : Given) (l : BuildColumns) (own : List ℕ) where
       ap (λ (q : LoadReply). byReply o (G .xs) (G .ys) (G .energies) l q .reply .state) c
 
   pub c-name-owners : (number carried : ℕ) (starts lens starts′ lens′ own′ : List ℕ) (c : BuildColumns)
-      → laid (replied number carried starts′ lens′) c own′ ≡ laidOf (loadedWith (G .options) (G .xs) (G .ys) (G .energies) l own) starts lens
+      → laid (replied number carried starts′ lens′) c own′ ≡ laidOf (loadedWith (G .options) (G .xs) (G .ys) (G .energies) l own) starts
+      lens
       → number ≡ 0
       → Owners (stateOf (G .options) (points G) starts′ lens′) (columnsOf c) (G .energies) (owner G)
       × KeptOwners (stateOf (G .options) (points G) starts′ lens′) own′ (owner G)
   c-name-owners number carried ss ns ss′ ns′ own′ c e z =
       let x = asked in
-      let done : x .build .reply .reply ≡ Done = zero-done _ (omega (arith, sym (ap (λ (q : Laid). q .told .number) e) ∙ z)) in
+      let done : x .build .reply .reply ≡ Done = number-done _ (omega (arith, sym (ap (λ (q : Laid). q .told .number) e) ∙ z)) in
       let s = owned-state done in
       let a : ss′ ≡ stateBy G .starts =
       ap (λ (q : Laid). q .told .starts) e

@@ -22,10 +22,14 @@ use Rattle.replay_questions.specs.declared.Reply.{Reply}
 use Rattle.replay_questions.specs.Same.{askedOf, sameReply, sameTile, listsTo, zoomsTo, tilesTo, sumsTo}
 
 -- a question of a known form
-pub asks : (p q : Listing) (s : State) (c : Columns) (out : List ℕ) (r : Answer) (o : List ℕ) → p ≡ q → r ≡ answerOf (askedOf q s c) (length out) → o ≡ columnOf (askedOf q s c) out
+pub asks : (p q : Listing) (s : State) (c : Columns) (out : List ℕ) (r : Answer) (o : List ℕ) → p ≡ q
+    → r ≡ answerOf (askedOf q s c) (length out) → o ≡ columnOf (askedOf q s c) out
     → (r ≡ answerOf (askedOf p s c) (length out)) × (o ≡ columnOf (askedOf p s c) out)
-asks p q s c out r o e g h =
-    (g ∙ ap (λ (v : Listing). answerOf (askedOf v s c) (length out)) (sym e), h ∙ ap (λ (v : Listing). columnOf (askedOf v s c) out) (sym e))
+asks p q s c out r o e g h = (
+  g ∙ ap (λ (v : Listing). answerOf (askedOf v s c) (length out)) (sym e),
+  h
+      ∙ ap (λ (v : Listing). columnOf (askedOf v s c) out) (sym e),
+)
 
 -- a reply whose number and value are n and k, compared: r
 module _ (reply : Reply) (n k : ℕ) (r : Bool) (h : r ≡ sameReply reply n k) where
@@ -34,7 +38,8 @@ module _ (reply : Reply) (n k : ℕ) (r : Bool) (h : r ≡ sameReply reply n k) 
 
   pub zoom-told : (e d : Expansion) → e ≡ d → n ≡ expansionNumber e → k ≡ expansionCarried e → r ≡ zoomsTo reply d
   unfolding zoomsTo
-  zoom-told e d g a b = told (expansionNumber e) (expansionCarried e) a b ∙ ap (λ (v : Expansion). sameReply reply (expansionNumber v) (expansionCarried v)) g
+  zoom-told e d g a b = told (expansionNumber e) (expansionCarried e) a b
+      ∙ ap (λ (v : Expansion). sameReply reply (expansionNumber v) (expansionCarried v)) g
 
   pub sum-told : (e d : Tally) → e ≡ d → n ≡ tallyNumber e → k ≡ tallyValue e → r ≡ sumsTo reply d
   unfolding sumsTo

@@ -56,7 +56,8 @@ unfolding sumsTo
 sum-self t = reply-self (tallyNumber t) (tallyValue t)
 
 -- a question that lists
-pub lists-one : (r : Reply) (want : List ℕ) (a : Asked) (out : List ℕ) → listsTo r want a out ≡ true → (r ≡ answerReply (answerOf a (length out))) × (want ≡ columnOf a out)
+pub lists-one : (r : Reply) (want : List ℕ) (a : Asked) (out : List ℕ) → listsTo r want a out ≡ true
+    → (r ≡ answerReply (answerOf a (length out))) × (want ≡ columnOf a out)
 unfolding listsTo
 lists-one r want a out e =
     let v = answerOf a (length out) in
@@ -70,7 +71,8 @@ lists-self a out =
     rw (reply-self (answerNumber v) (answerCarried v)) (places-self (columnOf a out))
 
 -- a tile
-pub tile-one : (r : Reply) (want : List ℕ) (wx wy : List ℤ) (o : TileOutcome) → tilesTo r want wx wy o ≡ true → (r ≡ answerReply (o .answer)) × (want ≡ o .places) × (wx ≡ o .xs) × (wy ≡ o .ys)
+pub tile-one : (r : Reply) (want : List ℕ) (wx wy : List ℤ) (o : TileOutcome) → tilesTo r want wx wy o ≡ true
+    → (r ≡ answerReply (o .answer)) × (want ≡ o .places) × (wx ≡ o .xs) × (wy ≡ o .ys)
 unfolding tilesTo sameTile
 tile-one r want wx wy o e =
     let n = answerNumber (o .answer) in
@@ -83,4 +85,5 @@ tile-one r want wx wy o e =
 pub tile-self : (o : TileOutcome) → tilesTo (answerReply (o .answer)) (o .places) (o .xs) (o .ys) o ≡ true
 unfolding tilesTo sameTile
 tile-self o =
-    rw (reply-self (answerNumber (o .answer)) (answerCarried (o .answer))) (rw (places-self (o .places)) (rw (longs-self (o .xs)) (longs-self (o .ys))))
+    rw (reply-self (answerNumber (o .answer)) (answerCarried (o .answer)))
+    (rw (places-self (o .places)) (rw (longs-self (o .xs)) (longs-self (o .ys))))

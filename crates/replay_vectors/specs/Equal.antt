@@ -23,13 +23,15 @@ upto-each : (f : ℕ → Bool) (k i : ℕ) → i < k → upto f k ≡ true → f
 upto-each f zero i l e = let z : ⊥ = omega arith in absurd z
 upto-each f (suc k) i l e =
     let w = and-both (f k) (upto f k) e in
-    ⊎-elim (λ q. subst (λ (j : ℕ). f j ≡ true) (sym q) (w .0)) (λ m. upto-each f k i m (w .1)) (eq-or-lt-of-le {n = i} {m = k} (omega arith))
+    ⊎-elim (λ q. subst (λ (j : ℕ). f j ≡ true) (sym q) (w .0)) (λ m. upto-each f k i m (w .1))
+    (eq-or-lt-of-le {n = i} {m = k} (omega arith))
 
 pub places-equal : (a b : List ℕ) → samePlaces a b ≡ true → a ≡ b
 unfolding samePlaces
 places-equal a b e =
     let w = and-both (eqb (length a) (length b)) (upto (placeAt a b) (length a)) e in
-    ext-getD 0 a b (eqb-true (length a) (length b) (w .0)) (λ i h. eqb-true (getD a i 0) (getD b i 0) (upto-each (placeAt a b) (length a) i h (w .1)))
+    ext-getD 0 a b (eqb-true (length a) (length b) (w .0))
+    (λ i h. eqb-true (getD a i 0) (getD b i 0) (upto-each (placeAt a b) (length a) i h (w .1)))
 
 pub places-self : (a : List ℕ) → samePlaces a a ≡ true
 unfolding samePlaces
@@ -64,7 +66,8 @@ pub longs-equal : (a b : List ℤ) → sameLongs a b ≡ true → a ≡ b
 unfolding sameLongs
 longs-equal a b e =
     let w = and-both (eqb (length a) (length b)) (upto (longAt a b) (length a)) e in
-    ext-getD (pos 0) a b (eqb-true (length a) (length b) (w .0)) (λ i h. long-equal (getD a i (pos 0)) (getD b i (pos 0)) (upto-each (longAt a b) (length a) i h (w .1)))
+    ext-getD (pos 0) a b (eqb-true (length a) (length b) (w .0))
+    (λ i h. long-equal (getD a i (pos 0)) (getD b i (pos 0)) (upto-each (longAt a b) (length a) i h (w .1)))
 
 pub longs-self : (a : List ℤ) → sameLongs a a ≡ true
 unfolding sameLongs

@@ -3,7 +3,7 @@
 -- crate build_all_zooms. Definitions only.
 use mathlib.Core.Bool.{Bool, true, false, cond, _&&_}
 use mathlib.Core.List.{List, [], _∷_, map}
-use Prim.Native.Nat.{ℕ, suc, _+_, _*_, min}
+use Prim.Native.Nat.{ℕ, zero, suc, _+_, _*_, min}
 use lib.Dec.{leb, eqb}
 use lib.ListN.{length, getD, replicate}
 use lib.Ieee.{Float}
@@ -147,6 +147,11 @@ loadCarried Count = 0
 loadCarried (No·Point i) = i
 loadCarried (Energy i) = i
 loadCarried Tables = 0
+
+-- what a reply with this number leaves of a column: 0 writes it, a refusal does not
+abbrev pub unlessRefused : ℕ → List ℕ → List ℕ → List ℕ
+unlessRefused zero written old = written
+unlessRefused (suc n) written old = old
 
 -- a reply beside its state, and what it leaves in the columns
 pub record Outcome : Type 0 where

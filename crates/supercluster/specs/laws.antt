@@ -1,6 +1,6 @@
 -- What is true of the definitions of supercluster, a line a module. Written by tools/modules.
 
--- Over: columns of which a front is written, and the rows of columns whose front is a table.
+-- Over: columns of which a front is written, the rows of columns whose front is a table, and that these keep their room.
 pub mod Over
 -- Fill: the finest table, entry by entry: how long it is, what each entry is, and that points within [0,1] make entries there, of one lamp
 -- each.

@@ -109,8 +109,15 @@ entry-at-requires : tie.Need-entry-at-requires
 entry-at-requires c κs =
     let s = start c in
     let a = s .args in
-    let h = s .pre .0 in
-    (lent-even (a .start) (a .len) (columns s) h, omega (arith, s .pre .1, ap length (lent-part (a .start) (a .len) (now (a .x))) ∙ part-long (a .start) (a .len) (now (a .x)) (h .hx)))
+    let h = s .pre .0 in (
+      lent-even (a .start) (a .len) (columns s) h,
+      omega (
+        arith,
+        s .pre .1,
+        ap length (lent-part (a .start) (a .len) (now (a .x)))
+            ∙ part-long (a .start) (a .len) (now (a .x)) (h .hx),
+      ),
+    )
 
 returns : tie.Need-returns
 returns c =

@@ -19,7 +19,8 @@ sound : (e : tie.Else1) → let a = e .before .before .args in stateOk (a .s) (a
 sound e = sym (e .before .is-sound .ensures) ∙ not-false _ (e .if1 .left)
 
 -- past all of them
-at : (s : State) (cap id t o : ℕ) {n : ℕ} → stateOk s cap ≡ true → s .count ≤ id → t ≡ tableOf (s .count) id → o ≡ originOf (s .count) id → isBuilt s t ≡ true
+at : (s : State) (cap id t o : ℕ) {n : ℕ} → stateOk s cap ≡ true → s .count ≤ id → t ≡ tableOf (s .count) id → o ≡ originOf (s .count) id
+    → isBuilt s t ≡ true
     → (t ≡ s .options .«min_zoom» → ⊥) → n ≡ lenOf s t → o < n → At t o ≡ targetOf s cap id
 unfolding targetOf
 at s cap id t o good from et eo built low len h = simp (good, le-ltb _ _ from, sym et, sym eo, built, ne-eqb _ _ low, sym len, lt-leb _ _ h)
@@ -51,7 +52,12 @@ returns-3 : tie.Need-returns-3
 unfolding targetOf
 returns-3 c =
     let b = c .before in
-    simp (sound (second b .before .before), le-ltb _ _ (second b .if2 .left), sym (b .before .before .table-of .ensures), sym (b .is-built .ensures) ∙ not-true _ (c .if3 .taken))
+    simp (
+      sound (second b .before .before),
+      le-ltb _ _ (second b .if2 .left),
+      sym (b .before .before .table-of .ensures),
+      sym (b .is-built .ensures) ∙ not-true _ (c .if3 .taken),
+    )
 
 cast-if4 : tie.Need-cast-if4
 cast-if4 c = search needs
@@ -61,7 +67,13 @@ unfolding targetOf
 returns-4 c =
     let e = c .before .before .before in
     let b = e .before in
-    simp (sound (second b .before .before), le-ltb _ _ (second b .if2 .left), sym (b .before .before .table-of .ensures), sym (b .is-built .ensures) ∙ not-false _ (e .if3 .left), eq-eqb _ _ (c .if4 .taken))
+    simp (
+      sound (second b .before .before),
+      le-ltb _ _ (second b .if2 .left),
+      sym (b .before .before .table-of .ensures),
+      sym (b .is-built .ensures) ∙ not-false _ (e .if3 .left),
+      eq-eqb _ _ (c .if4 .taken),
+    )
 
 len-of-requires : tie.Need-len-of-requires
 len-of-requires c κs = search needs
@@ -88,7 +100,8 @@ returns-6 c =
     let f = c .before .before in
     let e = f .before .before .before in
     let b = e .before in
-    at _ _ _ _ _ (sound (second b .before .before)) (second b .if2 .left) (b .before .before .table-of .ensures) (b .before .origin-of .ensures)
+    at _ _ _ _ _ (sound (second b .before .before)) (second b .if2 .left) (b .before .before .table-of .ensures)
+    (b .before .origin-of .ensures)
     (sym (b .is-built .ensures) ∙ not-false _ (e .if3 .left)) (f .if4 .left) (c .before .len-of .ensures) (c .if5 .left)
 
 pub find-target-spec : {M : Type 1} → statement M

@@ -31,7 +31,12 @@ unfolding onward
 returns-3 c =
     let e = c .before .before in
     let o = e .before in
-    simp (le-ltb _ _ (o .before .before .if1 .left), sym (o .before .table-of .ensures), lt-leb _ _ (e .if2 .left), sym (c .before .is-built .ensures) ∙ not-true _ (c .if3 .taken))
+    simp (
+      le-ltb _ _ (o .before .before .if1 .left),
+      sym (o .before .table-of .ensures),
+      lt-leb _ _ (e .if2 .left),
+      sym (c .before .is-built .ensures) ∙ not-true _ (c .if3 .taken),
+    )
 
 len-of-requires : tie.Need-len-of-requires
 len-of-requires c κs = search needs

@@ -48,7 +48,8 @@ returns c =
     let g = a .g in
     let r = v .next-slot .result in
     subst (λ (l : List Float). (r .step ≡ nextStep Done (aheadOf (queryOf g) (g .«node_size») (g .len) l (now (a .page)) (a .p)))
-    × (aheadOf (queryOf g) (g .«node_size») (g .len) l (v .next-slot .last .1 .1 .1 .1 .0) (r .pages) ≡ tailOf (aheadOf (queryOf g) (g .«node_size») (g .len) l (now (a .page)) (a .p))))
+    × (aheadOf (queryOf g) (g .«node_size») (g .len) l (v .next-slot .last .1 .1 .1 .1 .0) (r .pages)
+    ≡ tailOf (aheadOf (queryOf g) (g .«node_size») (g .len) l (now (a .page)) (a .p))))
     (lent-part (2 * g .start) (2 * g .len) (now (a .coords))) (v .next-slot .ensures)
 
 pub next-in-spec : {M : Type 1} → statement M

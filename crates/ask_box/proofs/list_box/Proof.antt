@@ -45,7 +45,8 @@ returns c =
     let r = c .before .before in
     let k = r .before .before .before .before in
     let a = k .args in
-    let e = asked-spoiled (a .s) (now (a .ids)) (now (a .coords)) (a .zoom) (fine k) (plan-of k) (sym (ap (stateOk (a .s)) (r .index-room .ensures)) ∙ sym (c .before .is-sound .ensures) ∙ not-true _ (c .if1 .taken)) in
+    let e = asked-spoiled (a .s) (now (a .ids)) (now (a .coords)) (a .zoom) (fine k) (plan-of k)
+    (sym (ap (stateOk (a .s)) (r .index-room .ensures)) ∙ sym (c .before .is-sound .ensures) ∙ not-true _ (c .if1 .taken)) in
     (ap (λ (x : Asked). answerOf x (length (now (a .out)))) e, ap (λ (x : Asked). columnOf x (now (a .out))) e)
 
 box-ok-requires : tie.Need-box-ok-requires
@@ -57,7 +58,8 @@ returns-2 c =
     let l = c .before .before .before in
     let k = start-of l in
     let a = k .args in
-    let e = asked-box (a .s) (now (a .ids)) (now (a .coords)) (a .zoom) (fine k) (plan-of k) (sound l) (sym (c .before .box-ok .ensures) ∙ not-true _ (c .if2 .taken)) in
+    let e = asked-box (a .s) (now (a .ids)) (now (a .coords)) (a .zoom) (fine k) (plan-of k) (sound l)
+    (sym (c .before .box-ok .ensures) ∙ not-true _ (c .if2 .taken)) in
     (ap (λ (x : Asked). answerOf x (length (now (a .out)))) e, ap (λ (x : Asked). columnOf x (now (a .out))) e)
 
 plan-box-requires : tie.Need-plan-box-requires
@@ -79,8 +81,12 @@ returns-3 c =
     let k = start-of l in
     let a = k .args in
     let e = ap (listedAt (a .s) (now (a .ids)) (now (a .coords)) (zoomUsed (a .s .options) (a .zoom))) (b .plan-box .ensures)
-    ∙ asked-listed (a .s) (now (a .ids)) (now (a .coords)) (a .zoom) (fine k) (plan-of k) (sound l) (sym (f .before .box-ok .ensures) ∙ not-false _ (f .if2 .left)) in
-    (v .list-used .ensures .0 ∙ ap (λ (x : Asked). answerOf x (length (now (a .out)))) e, v .list-used .ensures .1 ∙ ap (λ (x : Asked). columnOf x (now (a .out))) e)
+    ∙ asked-listed (a .s) (now (a .ids)) (now (a .coords)) (a .zoom) (fine k) (plan-of k) (sound l)
+    (sym (f .before .box-ok .ensures) ∙ not-false _ (f .if2 .left)) in (
+      v .list-used .ensures .0 ∙ ap (λ (x : Asked). answerOf x (length (now (a .out)))) e,
+      v .list-used .ensures .1
+          ∙ ap (λ (x : Asked). columnOf x (now (a .out))) e,
+    )
 
 pub list-box-spec : {M : Type 1} → statement M
 list-box-spec =

@@ -28,8 +28,11 @@ returns : tie.Need-returns
 returns c =
     let v = c .before .before .before .before .before in
     let a = v .before .before .before .before .before .args in (
-      ap cameOut (sym (c .before .k .given .1) ∙ v .search .ensures .0) ∙ came-out (a .q) (a .node-size) (a .n) (now (a .ids)) (now (a .coords)) (v .before .before .before .before .before .pre) (now (a .out)),
-      v .search .ensures .1 ∙ left-there (a .q) (a .node-size) (a .n) (now (a .ids)) (now (a .coords)) (v .before .before .before .before .before .pre) (now (a .out)),
+      ap cameOut (sym (c .before .k .given .1) ∙ v .search .ensures .0)
+          ∙ came-out (a .q) (a .node-size) (a .n) (now (a .ids)) (now (a .coords)) (v .before .before .before .before .before .pre)
+          (now (a .out)),
+      v .search .ensures .1 ∙ left-there (a .q) (a .node-size) (a .n) (now (a .ids)) (now (a .coords))
+          (v .before .before .before .before .before .pre) (now (a .out)),
     )
 
 same-length-2 : tie.Need-same-length-2
@@ -39,8 +42,11 @@ returns-2 : tie.Need-returns-2
 returns-2 c =
     let v = c .before .before .before .before .before in
     let a = v .before .before .before .before .before .args in (
-      ap cameOut (sym (c .before .k2 .given .1) ∙ v .search .ensures .0) ∙ came-out (a .q) (a .node-size) (a .n) (now (a .ids)) (now (a .coords)) (v .before .before .before .before .before .pre) (now (a .out)),
-      v .search .ensures .1 ∙ left-there (a .q) (a .node-size) (a .n) (now (a .ids)) (now (a .coords)) (v .before .before .before .before .before .pre) (now (a .out)),
+      ap cameOut (sym (c .before .k2 .given .1) ∙ v .search .ensures .0)
+          ∙ came-out (a .q) (a .node-size) (a .n) (now (a .ids)) (now (a .coords)) (v .before .before .before .before .before .pre)
+          (now (a .out)),
+      v .search .ensures .1 ∙ left-there (a .q) (a .node-size) (a .n) (now (a .ids)) (now (a .coords))
+          (v .before .before .before .before .before .pre) (now (a .out)),
     )
 
 same-length-3 : tie.Need-same-length-3
@@ -50,8 +56,11 @@ returns-3 : tie.Need-returns-3
 returns-3 c =
     let v = c .before .before .before .before in
     let a = v .before .before .before .before .before .args in (
-      ap cameOut (sym (c .enum-told .given .1) ∙ v .search .ensures .0) ∙ came-out (a .q) (a .node-size) (a .n) (now (a .ids)) (now (a .coords)) (v .before .before .before .before .before .pre) (now (a .out)),
-      v .search .ensures .1 ∙ left-there (a .q) (a .node-size) (a .n) (now (a .ids)) (now (a .coords)) (v .before .before .before .before .before .pre) (now (a .out)),
+      ap cameOut (sym (c .enum-told .given .1) ∙ v .search .ensures .0)
+          ∙ came-out (a .q) (a .node-size) (a .n) (now (a .ids)) (now (a .coords)) (v .before .before .before .before .before .pre)
+          (now (a .out)),
+      v .search .ensures .1 ∙ left-there (a .q) (a .node-size) (a .n) (now (a .ids)) (now (a .coords))
+          (v .before .before .before .before .before .pre) (now (a .out)),
     )
 
 same-length-4 : tie.Need-same-length-4
@@ -61,8 +70,11 @@ returns-4 : tie.Need-returns-4
 returns-4 c =
     let v = c .before .before .before .before in
     let a = v .before .before .before .before .before .args in (
-      ap cameOut (sym (c .enum-told2 .given .1) ∙ v .search .ensures .0) ∙ came-out (a .q) (a .node-size) (a .n) (now (a .ids)) (now (a .coords)) (v .before .before .before .before .before .pre) (now (a .out)),
-      v .search .ensures .1 ∙ left-there (a .q) (a .node-size) (a .n) (now (a .ids)) (now (a .coords)) (v .before .before .before .before .before .pre) (now (a .out)),
+      ap cameOut (sym (c .enum-told2 .given .1) ∙ v .search .ensures .0)
+          ∙ came-out (a .q) (a .node-size) (a .n) (now (a .ids)) (now (a .coords)) (v .before .before .before .before .before .pre)
+          (now (a .out)),
+      v .search .ensures .1 ∙ left-there (a .q) (a .node-size) (a .n) (now (a .ids)) (now (a .coords))
+          (v .before .before .before .before .before .pre) (now (a .out)),
     )
 
 pub list-one-spec : {M : Type 1} → statement M

@@ -35,7 +35,8 @@ left-in-part u = u .list-one2 .last .1 .1 .1 .1 .1 .0
 abbrev known : (u : tie.After-list-one2) → (k : ℕ) × (first-of u .list-one .result ≡ All k)
 known u = let g = u .before .before .before .before .before .before .k .given in (g .0 .0, g .1)
 
-first-all : (u : tie.After-list-one2) → let a = start-of (first-of u) .args in let l = found (a .p .first) (a .node-size) (a .n) (now (a .ids)) (now (a .coords)) in
+first-all : (u : tie.After-list-one2) → let a = start-of (first-of u) .args in let l =
+    found (a .p .first) (a .node-size) (a .n) (now (a .ids)) (now (a .coords)) in
     All (known u .0) ≡ partOf (whole (a .n) l) (length l)
 first-all u = sym (known u .1) ∙ first-of u .list-one .ensures .0
 
@@ -60,7 +61,8 @@ returns : tie.Need-returns
 returns c =
     let v = c .before .before .before .before in
     let a = start-of v .args in
-    plan-past (a .p) (a .node-size) (a .n) (now (a .ids)) (now (a .coords)) (now (a .out)) (left-in v) (v .list-one .ensures .1) (sym (c .enum-told .given .1) ∙ v .list-one .ensures .0)
+    plan-past (a .p) (a .node-size) (a .n) (now (a .ids)) (now (a .coords)) (now (a .out)) (left-in v) (v .list-one .ensures .1)
+    (sym (c .enum-told .given .1) ∙ v .list-one .ensures .0)
 
 fit-requires : tie.Need-fit-requires
 fit-requires c κs = search needs
@@ -73,7 +75,8 @@ returns-2 c =
     let g = c .before .before .before .before .k .given in
     let v = c .before .before .before .before .before .before .before .before in
     let a = start-of v .args in
-    plan-only (a .p) (a .node-size) (a .n) (now (a .ids)) (now (a .coords)) (now (a .out)) (left-in v) (v .list-one .ensures .1) (g .0 .0) (sym (g .1) ∙ v .list-one .ensures .0) (not-true _ (c .before .if1 .taken)) _ (c .fit .ensures)
+    plan-only (a .p) (a .node-size) (a .n) (now (a .ids)) (now (a .coords)) (now (a .out)) (left-in v) (v .list-one .ensures .1) (g .0 .0)
+    (sym (g .1) ∙ v .list-one .ensures .0) (not-true _ (c .before .if1 .taken)) _ (c .fit .ensures)
 
 less-requires : tie.Need-less-requires
 less-requires c κs = search needs
@@ -107,7 +110,9 @@ returns-3 c =
     let u = c .before .before .before .before in
     let v = first-of u in
     let a = start-of v .args in
-    plan-second-past (a .p) (a .node-size) (a .n) (now (a .ids)) (now (a .coords)) (now (a .out)) (left-in v) (v .list-one .ensures .1) (known u .0) (first-all u) (goes-on u) (u .before .before .less .result) (u .before .before .less .ensures) (left-in-part u) (u .list-one2 .ensures .1) (sym (c .enum-told2 .given .1) ∙ u .list-one2 .ensures .0)
+    plan-second-past (a .p) (a .node-size) (a .n) (now (a .ids)) (now (a .coords)) (now (a .out)) (left-in v) (v .list-one .ensures .1)
+    (known u .0) (first-all u) (goes-on u) (u .before .before .less .result) (u .before .before .less .ensures) (left-in-part u)
+    (u .list-one2 .ensures .1) (sym (c .enum-told2 .given .1) ∙ u .list-one2 .ensures .0)
 
 add-fit : tie.Need-add-fit
 add-fit c =
@@ -115,7 +120,11 @@ add-fit c =
     let v = first-of u in
     let a = start-of v .args in
     let g = c .before .j .given in
-    omega (arith, counts-fit (a .p) (a .node-size) (a .n) (now (a .ids)) (now (a .coords)) (start-of v .pre) (known u .0) (g .0 .0) (first-all u) (sym (g .1) ∙ u .list-one2 .ensures .0))
+    omega (
+      arith,
+      counts-fit (a .p) (a .node-size) (a .n) (now (a .ids)) (now (a .coords)) (start-of v .pre) (known u .0) (g .0 .0)
+          (first-all u) (sym (g .1) ∙ u .list-one2 .ensures .0),
+    )
 
 fit-requires-2 : tie.Need-fit-requires-2
 fit-requires-2 c κs = search needs
@@ -129,7 +138,9 @@ returns-4 c =
     let v = first-of u in
     let a = start-of v .args in
     let g = c .before .before .j .given in
-    plan-both (a .p) (a .node-size) (a .n) (now (a .ids)) (now (a .coords)) (now (a .out)) (left-in v) (v .list-one .ensures .1) (known u .0) (first-all u) (goes-on u) (u .before .before .less .result) (u .before .before .less .ensures) (left-in-part u) (u .list-one2 .ensures .1) (g .0 .0) (sym (g .1) ∙ u .list-one2 .ensures .0) _ _ refl (c .fit2 .ensures)
+    plan-both (a .p) (a .node-size) (a .n) (now (a .ids)) (now (a .coords)) (now (a .out)) (left-in v) (v .list-one .ensures .1)
+    (known u .0) (first-all u) (goes-on u) (u .before .before .less .result) (u .before .before .less .ensures) (left-in-part u)
+    (u .list-one2 .ensures .1) (g .0 .0) (sym (g .1) ∙ u .list-one2 .ensures .0) _ _ refl (c .fit2 .ensures)
 
 pub list-plan-spec : {M : Type 1} → statement M
 list-plan-spec =

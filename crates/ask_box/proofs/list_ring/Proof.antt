@@ -37,7 +37,8 @@ returns c =
     let r = c .before .before in
     let a = r .before .before .before .before .args in
     let q = Within (a .x) (a .y) (a .radius) in
-    let e = asked-spoiled (a .s) (now (a .ids)) (now (a .coords)) (a .zoom) (queryOk q) (q ∷ []) (sym (ap (stateOk (a .s)) (r .index-room .ensures)) ∙ sym (c .before .is-sound .ensures) ∙ not-true _ (c .if1 .taken)) in
+    let e = asked-spoiled (a .s) (now (a .ids)) (now (a .coords)) (a .zoom) (queryOk q) (q ∷ [])
+    (sym (ap (stateOk (a .s)) (r .index-room .ensures)) ∙ sym (c .before .is-sound .ensures) ∙ not-true _ (c .if1 .taken)) in
     (ap (λ (x : Asked). answerOf x (length (now (a .out)))) e, ap (λ (x : Asked). columnOf x (now (a .out))) e)
 
 ring-ok-requires : tie.Need-ring-ok-requires
@@ -49,7 +50,8 @@ returns-2 c =
     let l = c .before .before in
     let a = start-of l .args in
     let q = Within (a .x) (a .y) (a .radius) in
-    let e = asked-box (a .s) (now (a .ids)) (now (a .coords)) (a .zoom) (queryOk q) (q ∷ []) (sound l) (sym (c .before .ring-ok .ensures) ∙ not-true _ (c .if2 .taken)) in
+    let e = asked-box (a .s) (now (a .ids)) (now (a .coords)) (a .zoom) (queryOk q) (q ∷ []) (sound l)
+    (sym (c .before .ring-ok .ensures) ∙ not-true _ (c .if2 .taken)) in
     (ap (λ (x : Asked). answerOf x (length (now (a .out)))) e, ap (λ (x : Asked). columnOf x (now (a .out))) e)
 
 list-used-requires : tie.Need-list-used-requires
@@ -66,8 +68,12 @@ returns-3 c =
     let l = f .before .before in
     let a = start-of l .args in
     let q = Within (a .x) (a .y) (a .radius) in
-    let e = asked-listed (a .s) (now (a .ids)) (now (a .coords)) (a .zoom) (queryOk q) (q ∷ []) (sound l) (sym (f .before .ring-ok .ensures) ∙ not-false _ (f .if2 .left)) in
-    (v .list-used .ensures .0 ∙ ap (λ (x : Asked). answerOf x (length (now (a .out)))) e, v .list-used .ensures .1 ∙ ap (λ (x : Asked). columnOf x (now (a .out))) e)
+    let e = asked-listed (a .s) (now (a .ids)) (now (a .coords)) (a .zoom) (queryOk q) (q ∷ []) (sound l)
+    (sym (f .before .ring-ok .ensures) ∙ not-false _ (f .if2 .left)) in (
+      v .list-used .ensures .0 ∙ ap (λ (x : Asked). answerOf x (length (now (a .out)))) e,
+      v .list-used .ensures .1
+          ∙ ap (λ (x : Asked). columnOf x (now (a .out))) e,
+    )
 
 pub list-ring-spec : {M : Type 1} → statement M
 list-ring-spec =

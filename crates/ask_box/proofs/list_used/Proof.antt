@@ -33,7 +33,8 @@ list-at-requires c κs =
     let n = c .before in
     let k = n .before .before .before .before .before .before .before in
     let a = k .args in
-    at-used (a .s) (now (a .ids)) (now (a .coords)) (a .zoom) (k .pre) _ _ _ (n .before .before .zoom-used .ensures) (n .before .start-of .ensures) (n .len-of .ensures)
+    at-used (a .s) (now (a .ids)) (now (a .coords)) (a .zoom) (k .pre) _ _ _ (n .before .before .zoom-used .ensures)
+    (n .before .start-of .ensures) (n .len-of .ensures)
 
 same-length : tie.Need-same-length
 same-length c = search needs
@@ -43,8 +44,12 @@ returns c =
     let v = c .before .before in
     let n = v .before .before in
     let a = n .before .before .before .before .before .before .before .args in
-    let e = listed-used (a .s) (now (a .ids)) (now (a .coords)) (a .zoom) _ _ _ (queriesOf (a .p)) (n .before .before .zoom-used .ensures) (n .before .start-of .ensures) (n .len-of .ensures) in
-    (v .list-at .ensures .0 ∙ ap (λ (x : Asked). answerOf x (length (now (a .out)))) e, v .list-at .ensures .1 ∙ ap (λ (x : Asked). columnOf x (now (a .out))) e)
+    let e = listed-used (a .s) (now (a .ids)) (now (a .coords)) (a .zoom) _ _ _ (queriesOf (a .p)) (n .before .before .zoom-used .ensures)
+    (n .before .start-of .ensures) (n .len-of .ensures) in (
+      v .list-at .ensures .0 ∙ ap (λ (x : Asked). answerOf x (length (now (a .out)))) e,
+      v .list-at .ensures .1
+          ∙ ap (λ (x : Asked). columnOf x (now (a .out))) e,
+    )
 
 pub list-used-spec : {M : Type 1} → statement M
 list-used-spec =

@@ -18,13 +18,21 @@ is-finite-requires c κs = search needs
 returns-2 : tie.Need-returns-2
 returns-2 c =
     let e = c .before .before in
-    simp (sym (e .before .both-finite .ensures) ∙ not-false _ (e .if1 .left), sym (c .before .is-finite .ensures) ∙ not-true _ (c .if2 .taken))
+    simp (
+      sym (e .before .both-finite .ensures) ∙ not-false _ (e .if1 .left),
+      sym (c .before .is-finite .ensures)
+          ∙ not-true _ (c .if2 .taken),
+    )
 
 returns-3 : tie.Need-returns-3
 unfolding ofBits
 returns-3 c =
     let e = c .before .before in
-    simp (sym (e .before .both-finite .ensures) ∙ not-false _ (e .if1 .left), sym (c .before .is-finite .ensures) ∙ not-false _ (c .if2 .left))
+    simp (
+      sym (e .before .both-finite .ensures) ∙ not-false _ (e .if1 .left),
+      sym (c .before .is-finite .ensures)
+          ∙ not-false _ (c .if2 .left),
+    )
 
 pub ring-ok-spec : {M : Type 1} → statement M
 ring-ok-spec =

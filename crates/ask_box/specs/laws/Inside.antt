@@ -42,11 +42,18 @@ pub record Indexed (s : State) (ids : List ℕ) (co : List Float) (z : ℕ) (xs 
   pub index : Index (s .options .«node_size») xs ys lent (indexCols (idsAt s ids z) (coordsAt s co z))
 
 -- so it is where `kdbush::build` was accepted for them
-pub built-indexed : (s : State) (ids : List ℕ) (co : List Float) (z : ℕ) (xs ys : List Float) (l : IndexCols) → length xs ≡ lenOf s z → indexChecked (s .options .«node_size») xs ys l ≡ Done
+pub built-indexed : (s : State) (ids : List ℕ) (co : List Float) (z : ℕ) (xs ys : List Float) (l : IndexCols) → length xs ≡ lenOf s z
+    → indexChecked (s .options .«node_size») xs ys l ≡ Done
     → built (s .options .«node_size») xs ys l ≡ indexCols (idsAt s ids z) (coordsAt s co z) → Indexed s ids co z xs ys
 built-indexed s ids co z xs ys l h e f =
     let size = s .options .«node_size» in
-    record { long = h; unit = accepted size xs ys l e .inside; lent = l; index = subst (Index size xs ys l) f (build-is-index size xs ys l e) }
+    record {
+      long = h;
+      unit = accepted size xs ys l e .inside;
+      lent = l;
+      index =
+          subst (Index size xs ys l) f (build-is-index size xs ys l e);
+    }
 
 -- the entry p passes a query's test
 abbrev pub Passes : Query → List Float → List Float → ℕ → Type 0
@@ -148,5 +155,8 @@ module _ (st : State) (ids : List ℕ) (co : List Float) (zoom : ℕ) (xs ys : L
   pub ring-exactly : (x y r : Float) → queryOk (Within x y r) ≡ true
       → (l : List ℕ) × (ringAsked st ids co zoom x y r ≡ told true l) × Exactly (Within x y r) (lenOf st z) xs ys l
   unfolding ringAsked
-  ring-exactly x y r fine =
-      (foundIn st ids co z xs ys J (lenOf st z) (Within x y r), rw (good, fine) (one-told st ids co z xs ys J (Within x y r)), found-exactly st ids co z xs ys J (Within x y r))
+  ring-exactly x y r fine = (
+    foundIn st ids co z xs ys J (lenOf st z) (Within x y r),
+    rw (good, fine) (one-told st ids co z xs ys J (Within x y r)),
+    found-exactly st ids co z xs ys J (Within x y r),
+  )

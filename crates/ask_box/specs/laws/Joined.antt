@@ -76,7 +76,8 @@ whole-sound n a e = ap (sound n) (sym (append-nil a)) ∙ whole-goes n a [] e .1
 -- ---- the column
 
 -- the second list goes into what the first leaves of the column
-filled-append : (s : ℕ) (a b out : List ℕ) → s ≡ min (length a) (length out) → filled (a ++ b) out ≡ take s (filled a out) ++ filled b (drop s (filled a out))
+filled-append : (s : ℕ) (a b out : List ℕ) → s ≡ min (length a) (length out)
+    → filled (a ++ b) out ≡ take s (filled a out) ++ filled b (drop s (filled a out))
 filled-append zero [] b out e = ap (filled b) (sym (filled-none out))
 filled-append zero (x ∷ a) b [] e = simp drop-nil
 filled-append zero (x ∷ a) b (y ∷ out) e = absurd (omega arith)
@@ -92,7 +93,8 @@ back-whole s l p =
     rw (drop-of-length-le (drop s l) {i = length l - s} h) (ap (λ (q : List ℕ). take s l ++ q) (append-nil p))
 
 -- as it comes back, when the part from s on is lent to the second search
-pub filled-back : (s : ℕ) (a b out : List ℕ) → s ≡ min (length a) (length out) → back s (filled a out) (filled b (fromPart s (filled a out))) ≡ filled (a ++ b) out
+pub filled-back : (s : ℕ) (a b out : List ℕ) → s ≡ min (length a) (length out)
+    → back s (filled a out) (filled b (fromPart s (filled a out))) ≡ filled (a ++ b) out
 filled-back s a b out e =
     back-whole s (filled a out) (filled b (fromPart s (filled a out)))
     ∙ ap (λ (l : List ℕ). take s (filled a out) ++ filled b l) (from-drop s (filled a out)) ∙ sym (filled-append s a b out e)
@@ -101,12 +103,14 @@ filled-back s a b out e =
 
 module _ (n : ℕ) (a b out : List ℕ) where
   -- the first search meets a place past the table
-  pub first-past : whole n a ≡ false → (Spoiled ≡ answerOf (walked n (a ++ b)) (length out)) × (filled (sound n a) out ≡ columnOf (walked n (a ++ b)) out)
+  pub first-past : whole n a ≡ false → (Spoiled ≡ answerOf (walked n (a ++ b)) (length out))
+      × (filled (sound n a) out ≡ columnOf (walked n (a ++ b)) out)
   first-past e = let w = whole-stops n a b e in (rw (w .0), rw (w .1))
 
   module _ (e : whole n a ≡ true) where
     -- there is no second
-    pub only-first : (fitted (length a) (length out) ≡ answerOf (walked n (a ++ [])) (length out)) × (filled (sound n a) out ≡ columnOf (walked n (a ++ [])) out)
+    pub only-first : (fitted (length a) (length out) ≡ answerOf (walked n (a ++ [])) (length out))
+        × (filled (sound n a) out ≡ columnOf (walked n (a ++ [])) out)
     only-first = simp (append-nil, e, whole-sound n a e) (refl, refl)
 
     -- where the second list begins

@@ -21,10 +21,12 @@ module _ (s : State) (ids : List ℕ) (co : List Float) (zoom : ℕ) (out : List
       → b ≡ answerOf (ringAsked s ids co zoom x y radius) (length out) → a ≡ b
   ring-replies x y radius a b = same-reply
 
-  pub ring-columns : (x y radius : Float) (u v : List ℕ) → u ≡ columnOf (ringAsked s ids co zoom x y radius) out → v ≡ columnOf (ringAsked s ids co zoom x y radius) out → u ≡ v
+  pub ring-columns : (x y radius : Float) (u v : List ℕ) → u ≡ columnOf (ringAsked s ids co zoom x y radius) out
+      → v ≡ columnOf (ringAsked s ids co zoom x y radius) out → u ≡ v
   ring-columns x y radius u v = same-reply
 
-  pub box-replies : (west least east greatest : Float) (a b : Answer) → a ≡ answerOf (boxAsked s ids co zoom west least east greatest) (length out)
+  pub box-replies : (west least east greatest : Float) (a b : Answer)
+      → a ≡ answerOf (boxAsked s ids co zoom west least east greatest) (length out)
       → b ≡ answerOf (boxAsked s ids co zoom west least east greatest) (length out) → a ≡ b
   box-replies west least east greatest a b = same-reply
 

@@ -48,5 +48,6 @@ module _ (s : State) (ids : List ℕ) (co : List Float) (zoom : ℕ) where
 
     -- the numbers that the code has read
     pub at-used : (z start n : ℕ) → z ≡ used → start ≡ startOf s z → n ≡ lenOf s z
-        → ((start + n ≤ length ids) × (2 * (start + n) ≤ length co)) × (indexOk (s .options .«node_size») n (part start n ids) (part (2 * start) (2 * n) co) ≡ true)
+        → ((start + n ≤ length ids) × (2 * (start + n) ≤ length co))
+        × (indexOk (s .options .«node_size») n (part start n ids) (part (2 * start) (2 * n) co) ≡ true)
     at-used z start n f g h = rw (g, h, f) (used-held, used-index)

@@ -29,7 +29,16 @@ use Rattle.ask_box.specs.Lists.{boxAsked}
 abbrev state : State
 state =
     record {
-      options = record { «min_zoom» = 0; «max_zoom» = 0; «min_points» = 2; radius = zero; extent = one; «node_size» = 64; «coordinate_system» = LatLng; «longitude_strips_only» = false };
+      options = record {
+        «min_zoom» = 0;
+        «max_zoom» = 0;
+        «min_points» = 2;
+        radius = zero;
+        extent = one;
+        «node_size» = 64;
+        «coordinate_system» = LatLng;
+        «longitude_strips_only» = false;
+      };
       count = 5;
       starts = set (replicate 32 0) 0 5;
       lens = set (set (replicate 32 0) 0 1) 1 5;
@@ -40,12 +49,14 @@ ids = 0 ∷ 1 ∷ 2 ∷ 3 ∷ 4 ∷ 0 ∷ []
 
 abbrev coords : List Float
 coords =
-    mercatorX (neg halfCircle) ∷ half ∷ mercatorX east ∷ half ∷ mercatorX zero ∷ half ∷ mercatorX (float 170) ∷ half ∷ mercatorX halfCircle ∷ half
+    mercatorX (neg halfCircle) ∷ half ∷ mercatorX east ∷ half ∷ mercatorX zero ∷ half ∷ mercatorX
+    (float 170) ∷ half ∷ mercatorX halfCircle ∷ half
     ∷ half ∷ half ∷ []
 
 -- all five, and then the first two again; the zoom is lowered to 1
 pub worked-box : boxAsked state ids coords 9 west zero east one ≡ told true (0 ∷ 1 ∷ 2 ∷ 3 ∷ 4 ∷ 0 ∷ 1 ∷ [])
-unfolding boxAsked flatMap planOf newWest newEast wrapped converted mercatorX ofInt neg add sub div sum rem round le lt eq stateOk packed optionsOk systemInBounds places slots scanned shape split sound whole
+unfolding boxAsked flatMap planOf newWest newEast wrapped converted mercatorX ofInt neg add sub div sum rem round le lt eq stateOk packed
+    optionsOk systemInBounds places slots scanned shape split sound whole
 worked-box = refl
 
 -- a column of six is told that there are seven, and has the first six
@@ -60,7 +71,8 @@ abbrev spoilt : List ℕ
 spoilt = 0 ∷ 1 ∷ 2 ∷ 5 ∷ 4 ∷ 0 ∷ []
 
 pub worked-spoilt : boxAsked state spoilt coords 9 west zero east one ≡ told false (0 ∷ 1 ∷ 2 ∷ [])
-unfolding boxAsked flatMap planOf newWest newEast wrapped converted mercatorX ofInt neg add sub div sum rem round le lt eq stateOk packed optionsOk systemInBounds places slots scanned shape split sound whole
+unfolding boxAsked flatMap planOf newWest newEast wrapped converted mercatorX ofInt neg add sub div sum rem round le lt eq stateOk packed
+    optionsOk systemInBounds places slots scanned shape split sound whole
 worked-spoilt = refl
 
 pub worked-spoilt-room : answerOf (boxAsked state spoilt coords 9 west zero east one) 2 ≡ Spoiled

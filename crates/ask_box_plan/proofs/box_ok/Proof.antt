@@ -27,7 +27,10 @@ both-finite-requires-2 : tie.Need-both-finite-requires-2
 both-finite-requires-2 c κs = search needs
 
 returns-2 : tie.Need-returns-2
-returns-2 c = simp (sym (c .before .before .before .both-finite .ensures) ∙ not-false _ (c .before .before .if1 .left), sym (c .before .both-finite2 .ensures) ∙ not-true _ (c .if2 .taken))
+returns-2 c = simp (
+  sym (c .before .before .before .both-finite .ensures) ∙ not-false _ (c .before .before .if1 .left),
+  sym (c .before .both-finite2 .ensures) ∙ not-true _ (c .if2 .taken),
+)
 
 enum-known-c : tie.Need-enum-known-c
 enum-known-c c = search needs
@@ -45,7 +48,14 @@ returns-3 : tie.Need-returns-3
 returns-3 c =
     let u = c .before .before in
     let k = u .before .before .before in
-    simp (first-finite k, second-finite k, u .before .enum-told .given .1, sym (u .in-unit .ensures), c .before .if3 .taken, c .in-unit2 .ensures)
+    simp (
+      first-finite k,
+      second-finite k,
+      u .before .enum-told .given .1,
+      sym (u .in-unit .ensures),
+      c .before .if3 .taken,
+      c .in-unit2 .ensures,
+    )
 
 returns-4 : tie.Need-returns-4
 returns-4 c =

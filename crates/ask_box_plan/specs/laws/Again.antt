@@ -51,7 +51,8 @@ rest-le m e =
     let h : m * up e * 1 % (45 * 2 ^ 3 * down e) < 360 * down e = mod-lt (m * up e * 1) (mul-pos (zero-lt-suc 359) (down-pos e)) in
     let one : down e * 1 ≡ down e = mul-one (down e) in
     subst (λ (x : Float). T (le (round binary64 false (m * up e * 1 % (45 * 2 ^ 3 * down e)) (down e * 1)) x)) round-360
-    (round-mono binary64 (m * up e * 1 % (45 * 2 ^ 3 * down e)) (down e * 1) 360 1 (omega (arith, down-pos e)) (zero-lt-suc 0) (omega arith))
+    (round-mono binary64 (m * up e * 1 % (45 * 2 ^ 3 * down e)) (down e * 1) 360 1 (omega (arith, down-pos e)) (zero-lt-suc 0)
+    (omega arith))
 
 down1 : (e : ℤ) → 0 < down e * 1
 down1 e = omega (arith, down-pos e, mul-one (down e))
@@ -62,12 +63,15 @@ rem-is s m e = refl
 
 rem-most : (x : Float) → T (finite x) → T (le (rem binary64 x d360) d360)
 rem-most (fin false m e) p = rw (rem-is false m e) (rest-le m e)
-rem-most (fin true m e) p = rw (rem-is true m e) (le-le-trans _ (fin true 0 (pos 0)) d360 (round-le-zero binary64 (rest m e) (down e * 1) (down1 e)) (unfold le in tt))
+rem-most (fin true m e) p = rw (rem-is true m e)
+    (le-le-trans _ (fin true 0 (pos 0)) d360 (round-le-zero binary64 (rest m e) (down e * 1) (down1 e)) (unfold le in tt))
 
 rem-least : (x : Float) → T (finite x) → T (le (neg d360) (rem binary64 x d360))
-rem-least (fin false m e) p = rw (rem-is false m e) (le-le-trans (neg d360) zero _ (unfold le neg in tt) (zero-le-round binary64 (rest m e) (down e * 1) (down1 e)))
+rem-least (fin false m e) p = rw (rem-is false m e)
+    (le-le-trans (neg d360) zero _ (unfold le neg in tt) (zero-le-round binary64 (rest m e) (down e * 1) (down1 e)))
 rem-least (fin true m e) p =
-    rw (rem-is true m e) (subst (λ (x : Float). T (le (neg d360) x)) (neg-round binary64 false (rest m e) (down e * 1)) (neg-le (round binary64 false (rest m e) (down e * 1)) d360 (rest-le m e)))
+    rw (rem-is true m e) (subst (λ (x : Float). T (le (neg d360) x)) (neg-round binary64 false (rest m e) (down e * 1))
+    (neg-le (round binary64 false (rest m e) (down e * 1)) d360 (rest-le m e)))
 
 rem-nonneg : (x : Float) → T (finite x) → T (le zero x) → T (le zero (rem binary64 x d360))
 rem-nonneg (fin false m e) p h = rw (rem-is false m e) (zero-le-round binary64 (rest m e) (down e * 1) (down1 e))
@@ -106,20 +110,25 @@ bounds a p =
     let r = rem binary64 a d360 in
     let fr : T (finite r) = between-finite (neg d360) r d360 (neg-finite d360 tt) tt (rem-least a p) (rem-most a p) in
     let m = add binary64 r d360 in
-    let low : T (le zero m) = subst (λ (x : Float). T (le x m)) sum-none (add-mono binary64 (neg d360) r d360 d360 (neg-finite d360 tt) fr tt tt (rem-least a p) (unfold le in tt)) in
-    let high : T (le m d720) = subst (λ (x : Float). T (le m x)) sum-all (add-mono binary64 r d360 d360 d360 fr tt tt tt (rem-most a p) (unfold le in tt)) in
+    let low : T (le zero m) = subst (λ (x : Float). T (le x m)) sum-none
+    (add-mono binary64 (neg d360) r d360 d360 (neg-finite d360 tt) fr tt tt (rem-least a p) (unfold le in tt)) in
+    let high : T (le m d720) = subst (λ (x : Float). T (le m x)) sum-all
+    (add-mono binary64 r d360 d360 d360 fr tt tt tt (rem-most a p) (unfold le in tt)) in
     let fm : T (finite m) = between-finite zero m d720 tt tt low high in
     let q = rem binary64 m d360 in
     let fq : T (finite q) = between-finite (neg d360) q d360 (neg-finite d360 tt) tt (rem-least m fm) (rem-most m fm) in (
-      subst (λ (x : Float). T (le x (sub binary64 q d180))) less-none (sub-mono binary64 zero q d180 d180 tt fq tt tt (rem-nonneg m fm low) (unfold le in tt)),
-      subst (λ (x : Float). T (le (sub binary64 q d180) x)) less-all (sub-mono binary64 q d360 d180 d180 fq tt tt tt (rem-most m fm) (unfold le in tt)),
+      subst (λ (x : Float). T (le x (sub binary64 q d180))) less-none
+          (sub-mono binary64 zero q d180 d180 tt fq tt tt (rem-nonneg m fm low) (unfold le in tt)),
+      subst (λ (x : Float). T (le (sub binary64 q d180) x)) less-all
+          (sub-mono binary64 q d360 d180 d180 fq tt tt tt (rem-most m fm) (unfold le in tt)),
     )
 
 wrapped-is : (v : Float) → wrapped v ≡ wrap-of (add binary64 v d180)
 unfolding wrapped ofInt round
 wrapped-is v = refl
 
-pub wrapped-between : (v : Float) → T (finite (add binary64 v halfCircle)) → T (le (neg halfCircle) (wrapped v)) × T (le (wrapped v) halfCircle)
+pub wrapped-between : (v : Float) → T (finite (add binary64 v halfCircle)) → T (le (neg halfCircle) (wrapped v))
+    × T (le (wrapped v) halfCircle)
 wrapped-between v p = rw (wrapped-is v, is180) (bounds (add binary64 v d180) (rw is180 at p))
 
 -- ---- what is not finite becomes no number, which exceeds nothing

@@ -8,11 +8,11 @@ use lib.Ieee.{Float, neg}
 use Rattle.range.specs.declared.CoordinateSystem.{CoordinateSystem}
 use Rattle.range.specs.declared.CoordinateSystem.the-variants.{LatLng, Cartesian}
 use Rattle.kdslots.specs.declared.Query.{Query}
-use Rattle.ask_box_plan.specs.declared.Plan.{Plan}
+use Rattle.ask_box_plan.specs.declared.BoxPlan.{BoxPlan}
 use Rattle.ask_box_plan.specs.Rule.{halfCircle, newWest, newEast, splits, ruledBox, planOf}
 
 -- the first, and then the second if there are two
-abbrev pub queriesOf : Plan → List Query
+abbrev pub queriesOf : BoxPlan → List Query
 queriesOf p = p .first ∷ cond (p .two) (p .second ∷ []) []
 
 pub plan-short : (c : CoordinateSystem) (west least east greatest : Float) → length (planOf c west least east greatest) ≤ 2

@@ -15,7 +15,8 @@ use Rattle.build_tables.specs.Lent.{givenColumns}
 use Rattle.ask_base.specs.laws.Around.{aheadIn, ring-begun}
 use Rattle.ask_child_walk.specs.laws.Next.{index-room, nextIn, child}
 use Rattle.ask_child_walk.proofs.Listing.{ended, Met, met, end-none, met-past, met-kid, met-other}
-use Rattle.ask_child_walk.proofs.Listing.{Going, going-first, going-length, going-room, going-on, going-by, going-done, going-spoiled}
+use Rattle.ask_child_walk.proofs.Listing.{Going, going-first, going-length, going-room, going-on, going-by, going-done}
+use Rattle.ask_child_walk.proofs.Listing.{going-spoiled}
 use Rattle.ask_child_walk.proofs.list_kids.Statement.{statement}
 use Rattle.ask_child_walk.proofs.list_kids.Tie as tie
 

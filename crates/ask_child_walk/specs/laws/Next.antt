@@ -212,7 +212,8 @@ module _ (t : Table) (ids : List ℕ) (n id : ℕ) where
   told [] = (refl, refl)
   told (i ∷ is) = go (ltb (getD ids i 0) n) refl (eqb (entry t (getD ids i 0) .parent) id) refl (told is)
     where
-      go : (a : Bool) → ltb (getD ids i 0) n ≡ a → (b : Bool) → eqb (entry t (getD ids i 0) .parent) id ≡ b → ToldChild (nextOf t ids n id is) is
+      go : (a : Bool) → ltb (getD ids i 0) n ≡ a → (b : Bool) → eqb (entry t (getD ids i 0) .parent) id ≡ b
+          → ToldChild (nextOf t ids n id is) is
           → ToldChild (nextOf t ids n id (i ∷ is)) (i ∷ is)
       go false e b f w =
           let r : past ≡ nextOf t ids n id (i ∷ is) = rw (e, nextOf) in
@@ -223,7 +224,8 @@ module _ (t : Table) (ids : List ℕ) (n id : ℕ) where
           let r : child (getD ids i 0) (entry t (getD ids i 0)) is ≡ nextOf t ids n id (i ∷ is) = rw (e, f, nextOf) in
           let k : K (i ∷ is) ≡ getD ids i 0 ∷ K is = rw (e, sound, f) in
           let c : C (i ∷ is) ≡ C is = rw (e, whole) in
-          subst (λ (x : NextChild). ToldChild x (i ∷ is)) r (record { less = omega arith; below = λ b. b .1; kids = k; clean = c; found = refl })
+          subst (λ (x : NextChild). ToldChild x (i ∷ is)) r
+          (record { less = omega arith; below = λ b. b .1; kids = k; clean = c; found = refl })
       go true e false f w =
           let r : nextOf t ids n id is ≡ nextOf t ids n id (i ∷ is) = rw (e, f, nextOf) in
           let k : K (i ∷ is) ≡ K is = rw (e, sound, f) in

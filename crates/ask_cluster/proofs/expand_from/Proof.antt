@@ -11,7 +11,8 @@ use Rattle.ask_base.specs.declared.Target.the-variants.{At as Target·At}
 use Rattle.build_tables.specs.Room.{columns}
 use Rattle.ask_base.specs.laws.Reached.{near}
 use Rattle.ask_cluster.specs.Expansion.{expand}
-use Rattle.ask_cluster.proofs.Climbing.{Climbing, turn-spoiled, turn-nobody, turn-nobody-in, turn-others, turn-top, turn-lost, turn-on}
+use Rattle.ask_cluster.proofs.Climbing.{Climbing, turn-spoiled, turn-nobody, turn-nobody-in, turn-others, turn-top, turn-lost}
+use Rattle.ask_cluster.proofs.Climbing.{turn-on}
 use Rattle.ask_cluster.proofs.Led.{no-place}
 use Rattle.ask_cluster.proofs.expand_from.Statement.{statement}
 use Rattle.ask_cluster.proofs.expand_from.Tie as tie

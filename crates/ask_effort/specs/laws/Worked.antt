@@ -27,7 +27,16 @@ use Rattle.ask_effort.specs.Effort.{EffortAsked, effortReplyOf, effortCo
 abbrev state : State
 state =
     record {
-      options = record { «min_zoom» = 0; «max_zoom» = 0; «min_points» = 2; radius = zero; extent = one; «node_size» = 1; «coordinate_system» = LatLng; «longitude_strips_only» = false };
+      options = record {
+        «min_zoom» = 0;
+        «max_zoom» = 0;
+        «min_points» = 2;
+        radius = zero;
+        extent = one;
+        «node_size» = 1;
+        «coordinate_system» = LatLng;
+        «longitude_strips_only» = false;
+      };
       count = 5;
       starts = set (replicate 32 0) 0 5;
       lens = set (set (replicate 32 0) 0 1) 1 5;
@@ -49,7 +58,8 @@ asked is = effortAsked state is coords 9 west zero east one
 -- the first half tests the median, the right part, and the left; the second its median, which does not pass, and the left part alone
 pub worked-tests : asked ids
     ≡ told 5 (mark true 2 ∷ mark true 3 ∷ mark true 4 ∷ mark true 0 ∷ mark true 1 ∷ mark false 2 ∷ mark true 0 ∷ mark true 1 ∷ [])
-unfolding effortAsked flatMap planOf newWest newEast wrapped converted mercatorX ofInt neg add sub div sum rem round le lt eq stateOk packed optionsOk systemInBounds slots scanned shape split marks
+unfolding effortAsked flatMap planOf newWest newEast wrapped converted mercatorX ofInt neg add sub div sum rem round le lt eq stateOk packed
+    optionsOk systemInBounds slots scanned shape split marks
 worked-tests = refl
 
 -- six tests reach into the second half, and find nothing there
@@ -85,14 +95,16 @@ spoilt = 0 ∷ 5 ∷ 2 ∷ 3 ∷ 4 ∷ 0 ∷ []
 
 pub worked-spoilt : asked spoilt
     ≡ told 5 (mark true 2 ∷ mark true 3 ∷ mark true 4 ∷ mark true 0 ∷ mark true 5 ∷ mark false 2 ∷ mark true 0 ∷ mark true 5 ∷ [])
-unfolding effortAsked flatMap planOf newWest newEast wrapped converted mercatorX ofInt neg add sub div sum rem round le lt eq stateOk packed optionsOk systemInBounds slots scanned shape split marks
+unfolding effortAsked flatMap planOf newWest newEast wrapped converted mercatorX ofInt neg add sub div sum rem round le lt eq stateOk packed
+    optionsOk systemInBounds slots scanned shape split marks
 worked-spoilt = refl
 
 pub worked-before : effortReplyOf (asked spoilt) 4 9 ≡ Found (record { items = 4; tested = 4; stopped = true })
 unfolding hits whole
 worked-before = rw worked-spoilt
 
-pub worked-come-to : (effortReplyOf (asked spoilt) 5 9 ≡ Spoiled) × (effortColumnOf (asked spoilt) 5 (replicate 6 9) ≡ 2 ∷ 3 ∷ 4 ∷ 0 ∷ 9 ∷ 9 ∷ [])
+pub worked-come-to : (effortReplyOf (asked spoilt) 5 9 ≡ Spoiled)
+    × (effortColumnOf (asked spoilt) 5 (replicate 6 9) ≡ 2 ∷ 3 ∷ 4 ∷ 0 ∷ 9 ∷ 9 ∷ [])
 unfolding hits whole sound
 worked-come-to = rw worked-spoilt (refl, refl)
 

@@ -12,7 +12,8 @@ use Rattle.ask_base.specs.laws.Filled.{filled-none, filled-next}
 use Rattle.ask_effort_tests.specs.declared.Spent.{Spent}
 use Rattle.ask_effort_tests.specs.Trials.{Mark, mark, hits, items}
 use Rattle.ask_effort_tests.specs.Reply.{answer, column}
-use Rattle.ask_effort_tests.specs.laws.Spend.{Went, wentTests, fresh, settledTests, spoilt, madeTests, due, thenSpent, spend, spend-over, spend-sum}
+use Rattle.ask_effort_tests.specs.laws.Spend.{Went, wentTests, fresh, settledTests, spoilt, madeTests, due, thenSpent, spend}
+use Rattle.ask_effort_tests.specs.laws.Spend.{spend-over, spend-sum}
 
 -- a search that has found k and has the allowance b
 abbrev from : ℕ → ℕ → Spent

@@ -34,7 +34,8 @@ spoilt = record { found = 0; left = 0; over = true; spoiled = true }
 -- is within the column.
 abbrev pub madeTests : Bool → Bool → ℕ → Spent → List ℕ → Went
 madeTests false low p s out = wentTests (record { found = s .found; left = s .left - 1; over = false; spoiled = false }) out
-madeTests true true p s out = wentTests (record { found = s .found + 1; left = s .left - 1; over = false; spoiled = false }) (set out (s .found) p)
+madeTests true true p s out = wentTests (record { found = s .found + 1; left = s .left - 1; over = false; spoiled = false })
+    (set out (s .found) p)
 madeTests true false p s out = wentTests spoilt out
 
 -- a test that is due: nothing changes where the search is over; where nothing is left of the allowance it stops
@@ -66,7 +67,8 @@ spend-append n (m ∷ ms) ps s out = go (step n m s out) (λ t o. spend-append n
         → thenSpent w (λ t o. spend n (ms ++ ps) t o) ≡ thenSpent (thenSpent w (λ t o. spend n ms t o)) (λ t o. spend n ps t o)
     go (wentTests t o) h = h t o
 
-pub spend-then : (n : ℕ) (ms ps : List Mark) (s k r : Spent) (out o p : List ℕ) → wentTests k o ≡ spend n ms s out → wentTests r p ≡ spend n ps k o
+pub spend-then : (n : ℕ) (ms ps : List Mark) (s k r : Spent) (out o p : List ℕ) → wentTests k o ≡ spend n ms s out
+    → wentTests r p ≡ spend n ps k o
     → wentTests r p ≡ spend n (ms ++ ps) s out
 spend-then n ms ps s k r out o p e f = f ∙ rw (spend-append n ms ps s out, ← e)
 

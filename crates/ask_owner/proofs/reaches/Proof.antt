@@ -36,7 +36,11 @@ mul-result : tie.Need-mul-result
 mul-result c =
     let t = c .before in
     let a = t .before .before .before .args in
-    omega (arith, fits (t .table-count .result) (c .wide .result) (tableCount (a .s .options)) (a .s .count) 33554432 (t .table-count .ensures) (c .wide .ensures) (few (a .s) (a .room) (sound (t .before))))
+    omega (
+      arith,
+      fits (t .table-count .result) (c .wide .result) (tableCount (a .s .options)) (a .s .count) 33554432
+          (t .table-count .ensures) (c .wide .ensures) (few (a .s) (a .room) (sound (t .before))),
+    )
 
 returns-2 : tie.Need-returns-2
 returns-2 c = simp (sound (c .before .before), c .before .table-count .ensures, c .wide .ensures)

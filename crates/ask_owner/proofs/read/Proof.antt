@@ -27,7 +27,8 @@ known : (i : tie.After-index) → let a = begin i .args in Spotted (a .s) (lengt
 known i =
     let s = begin i in
     let a = s .args in
-    subst (Spotted (a .s) (length (now (a .owners))) (a .lamp)) (sym (used-is i)) (spotted (a .s) (length (now (a .owners))) (a .lamp) (a .zoom) (s .pre .0) (s .pre .1))
+    subst (Spotted (a .s) (length (now (a .owners))) (a .lamp)) (sym (used-is i))
+    (spotted (a .s) (length (now (a .owners))) (a .lamp) (a .zoom) (s .pre .0) (s .pre .1))
 
 zoom-used-requires : tie.Need-zoom-used-requires
 zoom-used-requires c κs = search needs
@@ -51,7 +52,8 @@ within-requires : tie.Need-within-requires
 within-requires c κs = known (c .before .before .before) .small
 
 -- from one step to the next
-reply-is : (s : State) (owners : List ℕ) (lamp z u at p : ℕ) (r : OwnerReply) → z ≡ u → at ≡ ownerSpot s lamp z → p ≡ getD owners at 0 → r ≡ ownerWithin p (lenOf s z)
+reply-is : (s : State) (owners : List ℕ) (lamp z u at p : ℕ) (r : OwnerReply) → z ≡ u → at ≡ ownerSpot s lamp z → p ≡ getD owners at 0
+    → r ≡ ownerWithin p (lenOf s z)
     → r ≡ ownerRead s owners lamp u
 reply-is s owners lamp z u at p r e f g h =
     h ∙ ap (λ (i : ℕ). ownerWithin i (lenOf s z)) (g ∙ ap (λ (i : ℕ). getD owners i 0) f) ∙ ap (ownerRead s owners lamp) e

@@ -42,7 +42,11 @@ add-result c =
     let w = c .before in
     let s = w .before .before .before in
     let a = s .args in
-    omega (arith, plus (from-finest s) (a .s .count) (w .wide .result) (a .lamp) (c .wide2 .result) (w .wide .ensures) (c .wide2 .ensures), s .pre .1)
+    omega (
+      arith,
+      plus (from-finest s) (a .s .count) (w .wide .result) (a .lamp) (c .wide2 .result) (w .wide .ensures) (c .wide2 .ensures),
+      s .pre .1,
+    )
 
 returns : tie.Need-returns
 returns c = plus _ _ _ _ _ (c .before .wide .ensures) (c .wide2 .ensures)

@@ -85,7 +85,8 @@ returns-3 c =
     let e = u .before in
     let s = begin (sound-of (e .before)) in
     let a = s .args in
-    c .sum-of .ensures ∙ tally-summed (state-of s) (lent-columns s) (a .z) (a .tx) (a .ty) (sound (e .before)) (a-tile e) (u .tally-used .result) (u .tally-used .ensures)
+    c .sum-of .ensures ∙ tally-summed (state-of s) (lent-columns s) (a .z) (a .tx) (a .ty) (sound (e .before)) (a-tile e)
+    (u .tally-used .result) (u .tally-used .ensures)
 
 pub tally-lent-spec : {M : Type 1} → statement M
 tally-lent-spec =

@@ -73,11 +73,15 @@ add-up-requires c κs =
     let w : tie.After-part-used = search in
     let s = begin w in
     let p = spot-of w in
-    let t : IsTile (v .wide .result) (s .args .tx) (s .args .ty) = subst (λ (k : ℕ). IsTile k (s .args .tx) (s .args .ty)) (sym (v .wide .ensures)) (s .pre .0 .1) in (
+    let t : IsTile (v .wide .result) (s .args .tx) (s .args .ty) =
+    subst (λ (k : ℕ). IsTile k (s .args .tx) (s .args .ty)) (sym (v .wide .ensures)) (s .pre .0 .1) in (
       (p .bounds, t),
       (
         lent-even (from-of w) (len-of w) (lent-columns s .table) (p .rows-held),
-        (lent-ok (s .args .s) (lent-columns s) (used w) (from-of w) (len-of w) p, lent-ids (s .args .s) (lent-columns s) (used w) (from-of w) (len-of w) p),
+        (
+          lent-ok (s .args .s) (lent-columns s) (used w) (from-of w) (len-of w) p,
+          lent-ids (s .args .s) (lent-columns s) (used w) (from-of w) (len-of w) p,
+        ),
       ),
     )
 
@@ -91,9 +95,13 @@ returns c =
     let f = from-of w in
     let n = len-of w in
     c .add-up .ensures
-    ∙ ap (λ (z : ℕ). runningOf (weightIn z (a .tx) (a .ty)) (lentTable k f (f + n)) (visited (a .s .options) z (a .tx) (a .ty) (lentTable k f (f + n)) (sliced f (f + n) (k .ids)) (sliced (2 * f) (2 * (f + n)) (k .coords)))) (v .wide .ensures)
-    ∙ ap (λ (vs : List Visit). runningOf (weightIn (a .z) (a .tx) (a .ty)) (lentTable k f (f + n)) vs) (visits-used (a .s) k (a .z) f n (from-is w) (len-is w) (a .tx) (a .ty))
-    ∙ ap (λ (t : Table). runningOf (weightIn (a .z) (a .tx) (a .ty)) t (visitsFor (a .s) k (a .z) (a .tx) (a .ty))) (table-used (a .s) k (a .z) f n (from-is w) (len-is w))
+    ∙ ap (λ (z : ℕ). runningOf (weightIn z (a .tx) (a .ty)) (lentTable k f (f + n))
+    (visited (a .s .options) z (a .tx) (a .ty) (lentTable k f (f + n)) (sliced f (f + n) (k .ids))
+    (sliced (2 * f) (2 * (f + n)) (k .coords)))) (v .wide .ensures)
+    ∙ ap (λ (vs : List Visit). runningOf (weightIn (a .z) (a .tx) (a .ty)) (lentTable k f (f + n)) vs)
+    (visits-used (a .s) k (a .z) f n (from-is w) (len-is w) (a .tx) (a .ty))
+    ∙ ap (λ (t : Table). runningOf (weightIn (a .z) (a .tx) (a .ty)) t (visitsFor (a .s) k (a .z) (a .tx) (a .ty)))
+    (table-used (a .s) k (a .z) f n (from-is w) (len-is w))
 
 -- the parts of the columns lie within them, by what the columns hold
 pub tally-used-spec : {M : Type 1} → statement M

@@ -61,7 +61,8 @@ begun c = begin (sound-of (tile-of c))
 room-is : (c : tie.After-less2) → let a = begun c .args in c .less2 .result ≡ shortest (now (a .places)) (now (a .px)) (now (a .py))
 room-is c = let a = begun c .args in c .less2 .ensures ∙ ap (min (length (now (a .places)))) (c .before .less .ensures)
 
-room-in : (c : tie.After-less2) → let a = begun c .args in (c .less2 .result ≤ length (now (a .places))) × (c .less2 .result ≤ length (now (a .px))) × (c .less2 .result ≤ length (now (a .py)))
+room-in : (c : tie.After-less2) → let a = begun c .args in (c .less2 .result ≤ length (now (a .places)))
+    × (c .less2 .result ≤ length (now (a .px))) × (c .less2 .result ≤ length (now (a .py)))
 room-in c =
     let a = begun c .args in
     let m = room-fits (length (now (a .places))) (length (now (a .px))) (length (now (a .py))) in
@@ -80,7 +81,8 @@ returns : tie.Need-returns
 returns c =
     let s = begin (c .before) in
     let a = s .args in
-    ends-spoiled (state-of s) (lent-columns s) (a .z) (a .tx) (a .ty) (now (a .places)) (now (a .px)) (now (a .py)) (sym (sound-is (c .before)) ∙ not-true _ (c .if1 .taken))
+    ends-spoiled (state-of s) (lent-columns s) (a .z) (a .tx) (a .ty) (now (a .places)) (now (a .px)) (now (a .py))
+    (sym (sound-is (c .before)) ∙ not-true _ (c .if1 .taken))
 
 wide-requires : tie.Need-wide-requires
 wide-requires c κs = search needs
@@ -93,7 +95,8 @@ returns-2 c =
     let t = c .before in
     let s = begin (sound-of t) in
     let a = s .args in
-    ends-no-tile (state-of s) (lent-columns s) (a .z) (a .tx) (a .ty) (now (a .places)) (now (a .px)) (now (a .py)) (sound t) (sym (tile-test t) ∙ not-true _ (c .if2 .taken))
+    ends-no-tile (state-of s) (lent-columns s) (a .z) (a .tx) (a .ty) (now (a .places)) (now (a .px)) (now (a .py)) (sound t)
+    (sym (tile-test t) ∙ not-true _ (c .if2 .taken))
 
 less-requires : tie.Need-less-requires
 less-requires c κs = search needs
@@ -111,13 +114,15 @@ slice-relend-prefix-list-used-2 : tie.Need-slice-relend-prefix-list-used-2
 slice-relend-prefix-list-used-2 c = room-in (c .before) .1
 
 slice-aggregate-list-used-2 : tie.Need-slice-aggregate-list-used-2
-slice-aggregate-list-used-2 c = let r = c .before .before in sym (length-take-le (r .less2 .result) (now (begun r .args .px)) (room-in r .1))
+slice-aggregate-list-used-2 c = let r = c .before .before in
+    sym (length-take-le (r .less2 .result) (now (begun r .args .px)) (room-in r .1))
 
 slice-relend-prefix-list-used-3 : tie.Need-slice-relend-prefix-list-used-3
 slice-relend-prefix-list-used-3 c = room-in (c .before .before) .2
 
 slice-aggregate-list-used-3 : tie.Need-slice-aggregate-list-used-3
-slice-aggregate-list-used-3 c = let r = c .before .before .before in sym (length-take-le (r .less2 .result) (now (begun r .args .py)) (room-in r .2))
+slice-aggregate-list-used-3 c = let r = c .before .before .before in
+    sym (length-take-le (r .less2 .result) (now (begun r .args .py)) (room-in r .2))
 
 list-used-requires : tie.Need-list-used-requires
 list-used-requires c κs =
@@ -141,32 +146,39 @@ px-after l = pxLeft (l .list-used .ensures) ++ drop (room-of l .less2 .result) (
 abbrev py-after : tie.After-list-used → List ℤ
 py-after l = pyLeft (l .list-used .ensures) ++ drop (room-of l .less2 .result) (now (begun (room-of l) .args .py))
 
-listed-is : (l : tie.After-list-used) → let a = begun (room-of l) .args in tileOutcome (finish (l .list-used .result) (room-of l .less2 .result)) (places-after l) (px-after l) (py-after l)
-    ≡ tiled (state-of (begun (room-of l))) (lent-columns (begun (room-of l))) (a .z) (a .tx) (a .ty) (now (a .places)) (now (a .px)) (now (a .py))
+listed-is : (l : tie.After-list-used) → let a = begun (room-of l) .args in
+    tileOutcome (finish (l .list-used .result) (room-of l .less2 .result)) (places-after l) (px-after l) (py-after l)
+    ≡ tiled (state-of (begun (room-of l))) (lent-columns (begun (room-of l))) (a .z) (a .tx) (a .ty) (now (a .places)) (now (a .px))
+    (now (a .py))
 listed-is l =
     let r = room-of l in
     let t = tile-of r in
     let s = begun r in
     let a = s .args in
-    ends-listed (state-of s) (lent-columns s) (a .z) (a .tx) (a .ty) (now (a .places)) (now (a .px)) (now (a .py)) (sound t) (sym (tile-test t) ∙ not-false _ (r .before .before .if2 .left))
+    ends-listed (state-of s) (lent-columns s) (a .z) (a .tx) (a .ty) (now (a .places)) (now (a .px)) (now (a .py)) (sound t)
+    (sym (tile-test t) ∙ not-false _ (r .before .before .if2 .left))
     (r .less2 .result) (room-is r) (l .list-used .result) _ _ _ (l .list-used .ensures)
 
 -- a column whose first part keeps its length keeps its own
 rest-kept : {A : Type 0} (r : ℕ) (p l : List A) → length p ≡ length (take r l) → length (p ++ drop r l) ≡ length l
 rest-kept r p l e =
-    length-append p (drop r l) ∙ ap (λ (k : ℕ). k + length (drop r l)) e ∙ sym (length-append (take r l) (drop r l)) ∙ ap length (take-append-drop r l)
+    length-append p (drop r l) ∙ ap (λ (k : ℕ). k + length (drop r l)) e ∙ sym (length-append (take r l) (drop r l))
+    ∙ ap length (take-append-drop r l)
 
 places-kept : (l : tie.After-list-used) → length (places-after l) ≡ length (now (begun (room-of l) .args .places))
 places-kept l =
-    rest-kept (room-of l .less2 .result) (outLeft (l .list-used .ensures)) (now (begun (room-of l) .args .places)) (omega (arith, l .list-used .kept))
+    rest-kept (room-of l .less2 .result) (outLeft (l .list-used .ensures)) (now (begun (room-of l) .args .places))
+    (omega (arith, l .list-used .kept))
 
 px-kept : (l : tie.After-list-used) → length (px-after l) ≡ length (now (begun (room-of l) .args .px))
 px-kept l =
-    rest-kept (room-of l .less2 .result) (pxLeft (l .list-used .ensures)) (now (begun (room-of l) .args .px)) (omega (arith, l .list-used .kept))
+    rest-kept (room-of l .less2 .result) (pxLeft (l .list-used .ensures)) (now (begun (room-of l) .args .px))
+    (omega (arith, l .list-used .kept))
 
 py-kept : (l : tie.After-list-used) → length (py-after l) ≡ length (now (begun (room-of l) .args .py))
 py-kept l =
-    rest-kept (room-of l .less2 .result) (pyLeft (l .list-used .ensures)) (now (begun (room-of l) .args .py)) (omega (arith, l .list-used .kept))
+    rest-kept (room-of l .less2 .result) (pyLeft (l .list-used .ensures)) (now (begun (room-of l) .args .py))
+    (omega (arith, l .list-used .kept))
 
 -- the call, seen from the two ends after it
 abbrev listing : tie.After-enum-told → tie.After-list-used
@@ -196,7 +208,8 @@ same-length-3 c = py-kept (listing c)
 returns-3 : tie.Need-returns-3
 returns-3 c =
     let l = listing c in
-    sym (ap (λ (q : Ran). tileOutcome (finish q (room-of l .less2 .result)) (places-after l) (px-after l) (py-after l)) (c .enum-told .given .1)) ∙ listed-is l
+    sym (ap (λ (q : Ran). tileOutcome (finish q (room-of l .less2 .result)) (places-after l) (px-after l) (py-after l))
+    (c .enum-told .given .1)) ∙ listed-is l
 
 same-length-4 : tie.Need-same-length-4
 same-length-4 c = places-kept (listing-some c)

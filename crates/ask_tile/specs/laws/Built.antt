@@ -34,7 +34,8 @@ use Rattle.ask_tile.specs.laws.Ends.{asked-is}
 
 module _ (s : State) (c : Columns) (z x y : ℕ) (ok : stateOk s (roomOf c) ≡ true) (tile : isTile z x y ≡ true) where
   -- the three ranges are of finite numbers
-  pub ranges-finite : (queryOk (here (s .options) z x y .query) ≡ true) × (queryOk (eastStrip (s .options) z x y .query) ≡ true) × (queryOk (westStrip (s .options) z x y .query) ≡ true)
+  pub ranges-finite : (queryOk (here (s .options) z x y .query) ≡ true) × (queryOk (eastStrip (s .options) z x y .query) ≡ true)
+      × (queryOk (westStrip (s .options) z x y .query) ≡ true)
   ranges-finite =
       let b = given s (roomOf c) ok .bounds in
       let w = tile-is z x y tile in
@@ -42,7 +43,8 @@ module _ (s : State) (c : Columns) (z x y : ℕ) (ok : stateOk s (roomOf c) ≡ 
 
   -- so a walk by one of them is its whole answer
   pub walks-whole : (q : Query) → queryOk q ≡ true → let u = zoomUsed (s .options) z in
-      walk q (s .options .«node_size») (lenOf s u) (coordsAt s (c .coords) u) ≡ answers q (coordsAt s (c .coords) u) (s .options .«node_size») (lenOf s u)
+      walk q (s .options .«node_size») (lenOf s u) (coordsAt s (c .coords) u) ≡ answers q (coordsAt s (c .coords) u)
+      (s .options .«node_size») (lenOf s u)
   walks-whole q f =
       let u = zoomUsed (s .options) z in
       walk-whole q (s .options .«node_size») (lenOf s u) (coordsAt s (c .coords) u) (coords-ok s c z ok) f
@@ -63,5 +65,8 @@ module _ (s : State) (c : Columns) (z x y : ℕ) (ok : stateOk s (roomOf c) ≡ 
         let vs = visited (s .options) z x y t (S .ids) (S .co) in
         let e : tileAsked s c z x y ≡ told (wholeTile t vs) (tileItems t (tileListed t vs)) =
         asked-is s c z x y ok tile ∙ ap (λ (v : List _). told (wholeTile t v) (tileItems t (tileListed t v))) same in
-        let w = tile-whole t placed (s .options) old S I z x y in
-        (tileItems t (tileListed t vs), e ∙ ap (λ (k : Bool). told k (tileItems t (tileListed t vs))) w, tile-lists t placed (s .options) old S I z x y b (tile-is z x y tile) p h i)
+        let w = tile-whole t placed (s .options) old S I z x y in (
+          tileItems t (tileListed t vs),
+          e ∙ ap (λ (k : Bool). told k (tileItems t (tileListed t vs))) w,
+          tile-lists t placed (s .options) old S I z x y b (tile-is z x y tile) p h i,
+        )

@@ -26,7 +26,8 @@ use Rattle.ask_tile_table.specs.laws.Runs.{leftRuns, runTile, ranOf, run-is}
 use Rattle.ask_tile_table.specs.Tally.{weightIn}
 use Rattle.ask_tile_table.specs.laws.Counting.{runningOf}
 use Rattle.ask_tile.specs.Tallied.{tallySum, tallied}
-use Rattle.ask_tile.specs.Asked.{tableFor, visitsFor, TileAsked, tileAsked, someOf, tileAnswerOf, shortest, tileOutcome, outcomeOf, tiled}
+use Rattle.ask_tile.specs.Asked.{tableFor, visitsFor, TileAsked, tileAsked, someOf, tileAnswerOf, shortest, tileOutcome, outcomeOf}
+use Rattle.ask_tile.specs.Asked.{tiled}
 
 -- ---- a column
 
@@ -70,7 +71,8 @@ room-fits a b c = (omega arith, omega arith, omega arith)
 -- ---- the three ends
 
 pub asked-is : (s : State) (c : Columns) (z x y : ℕ) → stateOk s (roomOf c) ≡ true → isTile z x y ≡ true
-    → tileAsked s c z x y ≡ told (wholeTile (tableFor s c z) (visitsFor s c z x y)) (tileItems (tableFor s c z) (tileListed (tableFor s c z) (visitsFor s c z x y)))
+    → tileAsked s c z x y ≡ told (wholeTile (tableFor s c z) (visitsFor s c z x y))
+    (tileItems (tableFor s c z) (tileListed (tableFor s c z) (visitsFor s c z x y)))
 unfolding tileAsked
 asked-is s c z x y e f = rw (e, f)
 
@@ -83,7 +85,8 @@ module _ (s : State) (c : Columns) (z x y : ℕ) (places : List ℕ) (xs ys : Li
   unfolding tileAsked
   ends-no-tile e f = rw (e, f)
 
-  pub ends-listed : stateOk s (roomOf c) ≡ true → isTile z x y ≡ true → (room : ℕ) → room ≡ shortest places xs ys → (r : Ran) (o : List ℕ) (a b : List ℤ)
+  pub ends-listed : stateOk s (roomOf c) ≡ true → isTile z x y ≡ true → (room : ℕ) → room ≡ shortest places xs ys
+      → (r : Ran) (o : List ℕ) (a b : List ℤ)
       → leftRuns r o a b ≡ runTile (tableFor s c z) 0 (visitsFor s c z x y) (take room places) (take room xs) (take room ys)
       → tileOutcome (finish r room) (o ++ drop room places) (a ++ drop room xs) (b ++ drop room ys) ≡ tiled s c z x y places xs ys
   ends-listed e f room q r o a b h =
@@ -93,7 +96,8 @@ module _ (s : State) (c : Columns) (z x y : ℕ) (places : List ℕ) (xs ys : Li
       let w = run-is t vs (take room places) (take room xs) (take room ys) r o a b h in
       let m = room-fits (length places) (length xs) (length ys) in
       let A : finish r room ≡ tileAnswerOf (told (wholeTile t vs) l) room =
-      ap (λ (k : Ran). finish k room) (w .0) ∙ finish-is (wholeTile t vs) l (length (tileListed t vs)) room (sym (length-map (tileListed t vs) (itemAt t))) in
+      ap (λ (k : Ran). finish k room) (w .0)
+      ∙ finish-is (wholeTile t vs) l (length (tileListed t vs)) room (sym (length-map (tileListed t vs) (itemAt t))) in
       let P : o ++ drop room places ≡ filled (take room (map (λ i. i .place) l)) places =
       ap (λ (k : List ℕ). k ++ drop room places) (w .1) ∙ first-items room (map (λ i. i .place) l) places (omega (arith, m)) in
       let X : a ++ drop room xs ≡ filled (take room (map (λ i. i .x) l)) xs =
@@ -113,7 +117,8 @@ module _ (s : State) (c : Columns) (z x y : ℕ) where
   unfolding tallied
   tally-no-tile e f = rw (e, f)
 
-  pub tally-summed : stateOk s (roomOf c) ≡ true → isTile z x y ≡ true → (r : Running) → r ≡ runningOf (weightIn z x y) (tableFor s c z) (visitsFor s c z x y)
+  pub tally-summed : stateOk s (roomOf c) ≡ true → isTile z x y ≡ true → (r : Running)
+      → r ≡ runningOf (weightIn z x y) (tableFor s c z) (visitsFor s c z x y)
       → tallySum (r .whole) (r .sum) ≡ tallied s c z x y
   unfolding tallied
   tally-summed e f r h = rw (e, f) (ap (λ (q : Running). tallySum (q .whole) (q .sum)) h)

@@ -10,7 +10,8 @@ use Rattle.ask_tile_table.specs.declared.Tally.{Tally}
 use Rattle.ask_tile.specs.Asked.{TileOutcome, tiled}
 use Rattle.ask_tile.specs.Tallied.{tallied}
 
-pub tile-outcomes : (s : State) (c : Columns) (z x y : ℕ) (places : List ℕ) (xs ys : List ℤ) (r t : TileOutcome) → r ≡ tiled s c z x y places xs ys → t ≡ tiled s c z x y places xs ys → r ≡ t
+pub tile-outcomes : (s : State) (c : Columns) (z x y : ℕ) (places : List ℕ) (xs ys : List ℤ) (r t : TileOutcome)
+    → r ≡ tiled s c z x y places xs ys → t ≡ tiled s c z x y places xs ys → r ≡ t
 tile-outcomes s c z x y places xs ys r t = same-reply
 
 pub tally-replies : (s : State) (c : Columns) (z x y : ℕ) (r t : Tally) → r ≡ tallied s c z x y → t ≡ tallied s c z x y → r ≡ t

@@ -41,7 +41,8 @@ pub record Spot (s : State) (c : Columns) (u a n : ℕ) : Type 0 where
   pub ids-held : a + n ≤ length (c .ids)
   pub coords-held : 2 * (a + n) ≤ length (c .coords)
 
-pub spot : (s : State) (c : Columns) (z : ℕ) → stateOk s (roomOf c) ≡ true → let u = zoomUsed (s .options) z in Spot s c u (startOf s u) (lenOf s u)
+pub spot : (s : State) (c : Columns) (z : ℕ) → stateOk s (roomOf c) ≡ true → let u = zoomUsed (s .options) z in
+    Spot s c u (startOf s u) (lenOf s u)
 spot s c z e =
     let g = given s (roomOf c) e in
     let w = used-stands s (roomOf c) e z in
@@ -62,7 +63,8 @@ spot s c z e =
     }
 
 -- by a start and a length that were read
-pub spot-at : (s : State) (c : Columns) (z a n : ℕ) → stateOk s (roomOf c) ≡ true → a ≡ startOf s (zoomUsed (s .options) z) → n ≡ lenOf s (zoomUsed (s .options) z)
+pub spot-at : (s : State) (c : Columns) (z a n : ℕ) → stateOk s (roomOf c) ≡ true → a ≡ startOf s (zoomUsed (s .options) z)
+    → n ≡ lenOf s (zoomUsed (s .options) z)
     → Spot s c (zoomUsed (s .options) z) a n
 spot-at s c z a n e p q = rw (p, q) (spot s c z e)
 
@@ -83,31 +85,38 @@ lent-twice a n l =
     ap (λ (k : ℕ). sliced (2 * a) k l) e ∙ lent-part (2 * a) (2 * n) l
 
 module _ (s : State) (c : Columns) (u a n : ℕ) (p : Spot s c u a n) where
-  pub lent-ok : coordsOk (s .options .«node_size») (length (sliced a (a + n) (c .table .x))) (length (sliced (2 * a) (2 * (a + n)) (c .coords))) ≡ true
+  pub lent-ok : coordsOk (s .options .«node_size») (length (sliced a (a + n) (c .table .x)))
+      (length (sliced (2 * a) (2 * (a + n)) (c .coords))) ≡ true
   lent-ok =
       let h = lent-length a n (c .table .x) (p .rows-held .hx) in
-      let k : length (sliced (2 * a) (2 * (a + n)) (c .coords)) ≡ 2 * n = ap length (lent-twice a n (c .coords)) ∙ part-long (2 * a) (2 * n) (c .coords) (omega (arith, p .coords-held)) in
-      searchable (s .options .«node_size») (length (sliced a (a + n) (c .table .x))) (length (sliced (2 * a) (2 * (a + n)) (c .coords))) (p .size-from) (p .size-to)
+      let k : length (sliced (2 * a) (2 * (a + n)) (c .coords)) ≡ 2 * n = ap length (lent-twice a n (c .coords))
+      ∙ part-long (2 * a) (2 * n) (c .coords) (omega (arith, p .coords-held)) in
+      searchable (s .options .«node_size») (length (sliced a (a + n) (c .table .x))) (length (sliced (2 * a) (2 * (a + n)) (c .coords)))
+      (p .size-from) (p .size-to)
       (omega (arith, h, p .some)) (omega (arith, h, p .most)) (omega (arith, h, k))
 
   pub lent-ids : length (sliced a (a + n) (c .table .x)) ≤ length (sliced a (a + n) (c .ids))
   lent-ids = omega (arith, lent-length a n (c .table .x) (p .rows-held .hx), lent-length a n (c .ids) (p .ids-held))
 
 -- the index of the zoom used may be searched
-pub coords-ok : (s : State) (c : Columns) (z : ℕ) → stateOk s (roomOf c) ≡ true → let u = zoomUsed (s .options) z in coordsOk (s .options .«node_size») (lenOf s u) (length (coordsAt s (c .coords) u)) ≡ true
+pub coords-ok : (s : State) (c : Columns) (z : ℕ) → stateOk s (roomOf c) ≡ true → let u = zoomUsed (s .options) z in
+    coordsOk (s .options .«node_size») (lenOf s u) (length (coordsAt s (c .coords) u)) ≡ true
 coords-ok s c z e =
     let u = zoomUsed (s .options) z in
     let p = spot s c z e in
     let k = coords-length s (c .ids) (c .coords) u (stands-index s c u (used-stands s (roomOf c) e z .0)) in
-    searchable (s .options .«node_size») (lenOf s u) (length (coordsAt s (c .coords) u)) (p .size-from) (p .size-to) (p .some) (p .most) (omega (arith, k))
+    searchable (s .options .«node_size») (lenOf s u) (length (coordsAt s (c .coords) u)) (p .size-from) (p .size-to) (p .some) (p .most)
+    (omega (arith, k))
 
 -- the same tables, and so the same visits
 abbrev pub lentTable : Columns → ℕ → ℕ → Table
 lentTable c a e = rows (each (λ A l. sliced a e l) (c .table))
 
-module _ (s : State) (c : Columns) (z a n : ℕ) (ea : a ≡ startOf s (zoomUsed (s .options) z)) (en : n ≡ lenOf s (zoomUsed (s .options) z)) where
+module _ (s : State) (c : Columns) (z a n : ℕ) (ea : a ≡ startOf s (zoomUsed (s .options) z))
+    (en : n ≡ lenOf s (zoomUsed (s .options) z)) where
   pub table-used : lentTable c a (a + n) ≡ tableFor s c z
   table-used = lent-rows a n (c .table) ∙ rw (ea, en)
 
-  pub visits-used : (x y : ℕ) → visited (s .options) z x y (lentTable c a (a + n)) (sliced a (a + n) (c .ids)) (sliced (2 * a) (2 * (a + n)) (c .coords)) ≡ visitsFor s c z x y
+  pub visits-used : (x y : ℕ) → visited (s .options) z x y (lentTable c a (a + n)) (sliced a (a + n) (c .ids))
+      (sliced (2 * a) (2 * (a + n)) (c .coords)) ≡ visitsFor s c z x y
   visits-used x y = rw (table-used, lent-part a n (c .ids), lent-twice a n (c .coords), ea, en)

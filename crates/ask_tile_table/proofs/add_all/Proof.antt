@@ -38,4 +38,5 @@ returns-2 : tie.Need-returns-2
 returns-2 c = c .before .add-with2 .ensures refl
 
 pub add-all-spec : {M : Type 1} → statement M
-add-all-spec = tie.close (tie.spec slice-aggregate-add-with add-with-requires returns slice-aggregate-add-with-2 add-with-requires-2 returns-2)
+add-all-spec = tie.close (tie.spec slice-aggregate-add-with add-with-requires returns slice-aggregate-add-with-2 add-with-requires-2
+    returns-2)

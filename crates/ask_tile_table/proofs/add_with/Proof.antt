@@ -78,14 +78,18 @@ kept-1 c = omega (arith, c .tally-by .kept)
 abbrev home-by : tie.After-tally-by → Home
 home-by c = here-made c .before .home-of .result
 
-by-floor : (c : tie.After-tally-by) (k n : ℕ) (ps m : List ℕ) → counted (begin c .args .few) (weightBy (home-by c)) (table (begin c)) k n ps m ≡ counted (begin c .args .few) (weight (begin c)) (table (begin c)) k n ps m
+by-floor : (c : tie.After-tally-by) (k n : ℕ) (ps m : List ℕ)
+    → counted (begin c .args .few) (weightBy (home-by c)) (table (begin c)) k n ps m ≡ counted (begin c .args .few) (weight (begin c))
+    (table (begin c)) k n ps m
 by-floor c k n ps m =
     let s = begin c in
     let a = s .args in
     ap (λ (h : Home). counted (a .few) (weightBy h) (table s) k n ps m) (here-made c .before .home-of .ensures)
-    ∙ counted-same (a .few) (weightBy (edgesOf (a .z) (a .tx) (a .ty))) (weight s) (λ e p q. weight-home (a .z) (a .tx) (a .ty) (s .pre .0 .1) e p q) (table s) k n ps m
+    ∙ counted-same (a .few) (weightBy (edgesOf (a .z) (a .tx) (a .ty))) (weight s)
+    (λ e p q. weight-home (a .z) (a .tx) (a .ty) (s .pre .0 .1) e p q) (table s) k n ps m
 
-tallied-here : (c : tie.After-tally-by) → After (begin c .args .few) (weight (begin c)) (table (begin c)) none (here-of (begin c)) (now (begin c .args .marks)) (c .tally-by .result) (marks-1 c)
+tallied-here : (c : tie.After-tally-by) → After (begin c .args .few) (weight (begin c)) (table (begin c)) none (here-of (begin c))
+    (now (begin c .args .marks)) (c .tally-by .result) (marks-1 c)
 tallied-here c =
     let l = c in
     let s = begin c in
@@ -93,7 +97,8 @@ tallied-here c =
     let p = s .pre in
     c .tally-by .ensures .0
     ∙ ap (λ (vs : List Visit). counted (a .few) (weightBy (home-by l)) (table s) 0 0 (placesIn vs) (now (a .marks)))
-    (here-whole (a .o) (a .z) (a .tx) (a .ty) (p .0 .0) (p .0 .1) (here-made c .search-here .result) (table s) (length (now (a .x))) (now (a .ids)) (now (a .coords)) (long s) (p .1 .1 .0 .0) (here-made c .search-here .ensures))
+    (here-whole (a .o) (a .z) (a .tx) (a .ty) (p .0 .0) (p .0 .1) (here-made c .search-here .result) (table s) (length (now (a .x)))
+    (now (a .ids)) (now (a .coords)) (long s) (p .1 .1 .0 .0) (here-made c .search-here .ensures))
     ∙ by-floor c 0 0 (placesIn (here-of s)) (now (a .marks))
 
 home-of-requires : tie.Need-home-of-requires
@@ -115,7 +120,8 @@ unfolding visited
 returns c =
     let l = c .before .before .before .before in
     let s = begin l in
-    tally-first (s .args .few) (weight s) (table s) (now (s .args .marks)) (blank-rows s) (here-of s) (east-of s) (west-of s) none (l .tally-by .result) (marks-1 l) refl refl (tallied-here l) (not-true _ (c .if1 .taken))
+    tally-first (s .args .few) (weight s) (table s) (now (s .args .marks)) (blank-rows s) (here-of s) (east-of s) (west-of s) none
+    (l .tally-by .result) (marks-1 l) refl refl (tallied-here l) (not-true _ (c .if1 .taken))
 
 -- ---- away from the ends of the row
 
@@ -130,8 +136,11 @@ returns-2 c =
     let l = c .before .before .before .before .before .before in
     let s = begin l in
     let a = s .args in
-    λ f. counted-is (a .few) (weight s) (table s) (now (a .marks)) (blank-rows s) (here-of s) (l .tally-by .result) (marks-1 l) (tallied-here l) f
-    ∙ ap (runningOf (weight s) (table s)) (sym (own-range (a .o) (a .z) (a .tx) (a .ty) (table s) (now (a .ids)) (now (a .coords)) (sym (c .before .is-at-end .ensures) ∙ not-true _ (c .if2 .taken))))
+    λ f. counted-is (a .few) (weight s) (table s) (now (a .marks)) (blank-rows s) (here-of s) (l .tally-by .result) (marks-1 l)
+    (tallied-here l) f
+    ∙ ap (runningOf (weight s) (table s))
+    (sym (own-range (a .o) (a .z) (a .tx) (a .ty) (table s) (now (a .ids)) (now (a .coords))
+    (sym (c .before .is-at-end .ensures) ∙ not-true _ (c .if2 .taken))))
 
 -- ---- the second search
 
@@ -151,7 +160,8 @@ kept-2 : (c : tie.After-tally-by2) → length (marks-2 c) ≡ length (now (begin
 kept-2 c = omega (arith, c .tally-by2 .kept, kept-1 (one-of (east-made c)))
 
 tallied-east : (c : tie.After-tally-by2) → let l = one-of (east-made c) in
-    After (begin l .args .few) (weight (begin l)) (table (begin l)) (l .tally-by .result) (east-of (begin l)) (marks-1 l) (c .tally-by2 .result) (marks-2 c)
+    After (begin l .args .few) (weight (begin l)) (table (begin l)) (l .tally-by .result) (east-of (begin l)) (marks-1 l)
+    (c .tally-by2 .result) (marks-2 c)
 tallied-east c =
     let e = east-made c in
     let l = one-of e in
@@ -159,8 +169,10 @@ tallied-east c =
     let a = s .args in
     let p = s .pre in
     c .tally-by2 .ensures .0
-    ∙ ap (λ (vs : List Visit). counted (a .few) (weightBy (home-by l)) (table s) (l .tally-by .result .count) (l .tally-by .result .sum) (placesIn vs) (marks-1 l))
-    (east-whole (a .o) (a .z) (a .tx) (a .ty) (p .0 .0) (p .0 .1) (e .search-east .result) (table s) (length (now (a .x))) (now (a .ids)) (now (a .coords)) (long s) (p .1 .1 .0 .0) (e .search-east .ensures))
+    ∙ ap (λ (vs : List Visit). counted (a .few) (weightBy (home-by l)) (table s) (l .tally-by .result .count) (l .tally-by .result .sum)
+    (placesIn vs) (marks-1 l))
+    (east-whole (a .o) (a .z) (a .tx) (a .ty) (p .0 .0) (p .0 .1) (e .search-east .result) (table s) (length (now (a .x))) (now (a .ids))
+    (now (a .coords)) (long s) (p .1 .1 .0 .0) (e .search-east .ensures))
     ∙ by-floor l (l .tally-by .result .count) (l .tally-by .result .sum) (placesIn (east-of s)) (marks-1 l)
 
 search-east-requires : tie.Need-search-east-requires
@@ -169,8 +181,13 @@ search-east-requires c κs = let s = begin (c .before .before .before .before .b
 tally-by-requires-2 : tie.Need-tally-by-requires-2
 tally-by-requires-2 c κs =
     let l = one-of (c .before) in
-    let s = begin l in
-    (s .pre .1 .0, (omega (arith, s .pre .1 .1 .0 .1, s .pre .1 .1 .1 .reach, kept-1 l), omega (arith, few s, l .tally-by .ensures .1, l .tally-by .ensures .2)))
+    let s = begin l in (
+      s .pre .1 .0,
+      (
+        omega (arith, s .pre .1 .1 .0 .1, s .pre .1 .1 .1 .reach, kept-1 l),
+        omega (arith, few s, l .tally-by .ensures .1, l .tally-by .ensures .2),
+      ),
+    )
 
 same-length-3 : tie.Need-same-length-3
 same-length-3 c = kept-2 (c .before .before .before .before)
@@ -182,7 +199,8 @@ returns-3 c =
     let e = east-made m in
     let l = one-of e in
     let s = begin l in
-    tally-second (s .args .few) (weight s) (table s) (now (s .args .marks)) (blank-rows s) (here-of s) (east-of s) (west-of s) none (l .tally-by .result) (marks-1 l) refl refl (tallied-here l) (not-false _ (one-goes e .if1 .left))
+    tally-second (s .args .few) (weight s) (table s) (now (s .args .marks)) (blank-rows s) (here-of s) (east-of s) (west-of s) none
+    (l .tally-by .result) (marks-1 l) refl refl (tallied-here l) (not-false _ (one-goes e .if1 .left))
     (m .tally-by2 .result) (marks-2 m) (tallied-east m) (not-true _ (c .if3 .taken))
 
 -- ---- the third search
@@ -200,8 +218,13 @@ tally-by-requires-3 : tie.Need-tally-by-requires-3
 tally-by-requires-3 c κs =
     let m = two-of (c .before) in
     let l = one-of (east-made m) in
-    let s = begin l in
-    (s .pre .1 .0, (omega (arith, s .pre .1 .1 .0 .1, s .pre .1 .1 .1 .reach, kept-2 m), omega (arith, few s, l .tally-by .ensures .1, m .tally-by2 .ensures .1, m .tally-by2 .ensures .2)))
+    let s = begin l in (
+      s .pre .1 .0,
+      (
+        omega (arith, s .pre .1 .1 .0 .1, s .pre .1 .1 .1 .reach, kept-2 m),
+        omega (arith, few s, l .tally-by .ensures .1, m .tally-by2 .ensures .1, m .tally-by2 .ensures .2),
+      ),
+    )
 
 abbrev west-made : tie.After-tally-by3 → tie.After-search-west
 west-made c = c .before .before
@@ -220,11 +243,14 @@ returns-4 c =
     let s = begin l in
     let a = s .args in
     let p = s .pre in
-    tally-third (s .args .few) (weight s) (table s) (now (s .args .marks)) (blank-rows s) (here-of s) (east-of s) (west-of s) none (l .tally-by .result) (marks-1 l) refl refl (tallied-here l) (not-false _ (one-goes e .if1 .left))
+    tally-third (s .args .few) (weight s) (table s) (now (s .args .marks)) (blank-rows s) (here-of s) (east-of s) (west-of s) none
+    (l .tally-by .result) (marks-1 l) refl refl (tallied-here l) (not-false _ (one-goes e .if1 .left))
     (m .tally-by2 .result) (marks-2 m) (tallied-east m) (not-false _ (two-goes w .if3 .left)) (d .tally-by3 .result) _
     (d .tally-by3 .ensures .0
-    ∙ ap (λ (vs : List Visit). counted (a .few) (weightBy (home-by l)) (table s) (m .tally-by2 .result .count) (m .tally-by2 .result .sum) (placesIn vs) (marks-2 m))
-    (west-whole (a .o) (a .z) (a .tx) (a .ty) (p .0 .0) (p .0 .1) (w .search-west .result) (table s) (length (now (a .x))) (now (a .ids)) (now (a .coords)) (long s) (p .1 .1 .0 .0) (w .search-west .ensures))
+    ∙ ap (λ (vs : List Visit). counted (a .few) (weightBy (home-by l)) (table s) (m .tally-by2 .result .count) (m .tally-by2 .result .sum)
+    (placesIn vs) (marks-2 m))
+    (west-whole (a .o) (a .z) (a .tx) (a .ty) (p .0 .0) (p .0 .1) (w .search-west .result) (table s) (length (now (a .x))) (now (a .ids))
+    (now (a .coords)) (long s) (p .1 .1 .0 .0) (w .search-west .ensures))
     ∙ by-floor l (m .tally-by2 .result .count) (m .tally-by2 .result .sum) (placesIn (west-of s)) (marks-2 m))
 
 pub add-with-spec : {M : Type 1} → statement M

@@ -47,7 +47,8 @@ returns-2 : tie.Need-returns-2
 returns-2 c =
     let e = c .before .before in
     let w = e .before .before in
-    named-x (table w) (begin w .args .p) (ap (λ (v : Entry). in01 (v .x)) (sym (read e)) ∙ sym (c .before .in-unit .ensures) ∙ not-true _ (c .if2 .taken))
+    named-x (table w) (begin w .args .p) (ap (λ (v : Entry). in01 (v .x)) (sym (read e)) ∙ sym (c .before .in-unit .ensures)
+    ∙ not-true _ (c .if2 .taken))
 
 in-unit-requires-2 : tie.Need-in-unit-requires-2
 in-unit-requires-2 c κs = search needs
@@ -56,7 +57,8 @@ returns-3 : tie.Need-returns-3
 returns-3 c =
     let e = c .before .before .before .before in
     let w = e .before .before in
-    named-y (table w) (begin w .args .p) (ap (λ (v : Entry). in01 (v .y)) (sym (read e)) ∙ sym (c .before .in-unit2 .ensures) ∙ not-true _ (c .if3 .taken))
+    named-y (table w) (begin w .args .p) (ap (λ (v : Entry). in01 (v .y)) (sym (read e)) ∙ sym (c .before .in-unit2 .ensures)
+    ∙ not-true _ (c .if3 .taken))
 
 returns-4 : tie.Need-returns-4
 returns-4 c =

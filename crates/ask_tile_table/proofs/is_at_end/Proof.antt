@@ -29,7 +29,12 @@ returns-3 : tie.Need-returns-3
 returns-3 c =
     let d = c .before .before in
     let e = d .before in
-    simp (sym (e .before .runs-strips .ensures) ∙ not-false _ (e .if1 .left), ne-eqb _ 0 (d .if2 .left), c .across .ensures, c .before .wide .ensures)
+    simp (
+      sym (e .before .runs-strips .ensures) ∙ not-false _ (e .if1 .left),
+      ne-eqb _ 0 (d .if2 .left),
+      c .across .ensures,
+      c .before .wide .ensures,
+    )
 
 pub is-at-end-spec : {M : Type 1} → statement M
 is-at-end-spec = tie.close (tie.spec runs-strips-requires returns returns-2 wide-requires add-result across-requires returns-3)

@@ -16,7 +16,12 @@ wide-requires c κs = search needs
 
 returns-2 : tie.Need-returns-2
 returns-2 c =
-    simp (le-leb _ _ (c .before .before .before .if1 .left), sym (c .before .before .across .ensures), sym (c .before .wide .ensures), le-ltb _ _ (c .if2 .taken))
+    simp (
+      le-leb _ _ (c .before .before .before .if1 .left),
+      sym (c .before .before .across .ensures),
+      sym (c .before .wide .ensures),
+      le-ltb _ _ (c .if2 .taken),
+    )
 
 wide-requires-2 : tie.Need-wide-requires-2
 wide-requires-2 c κs = search needs

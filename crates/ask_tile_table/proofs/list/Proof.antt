@@ -16,7 +16,8 @@ use Rattle.build_tables.specs.Lent.{given}
 use Rattle.ask_tile_table.specs.declared.Ran.{Ran}
 use Rattle.ask_tile_table.specs.Tile.{Visit, here, eastStrip, westStrip, visits, visited}
 use Rattle.ask_tile_table.specs.laws.Runs.{leftRuns, outLeft, pxLeft, pyLeft, runTile}
-use Rattle.ask_tile_table.specs.laws.Three.{here-may, east-may, west-may, here-whole, east-whole, west-whole, own-range, listed-few, first-ends}
+use Rattle.ask_tile_table.specs.laws.Three.{here-may, east-may, west-may, here-whole, east-whole, west-whole, own-range, listed-few}
+use Rattle.ask_tile_table.specs.laws.Three.{first-ends}
 use Rattle.ask_tile_table.specs.laws.Three.{second-ends, third-ends}
 use Rattle.ask_tile_table.proofs.list.Statement.{statement}
 use Rattle.ask_tile_table.proofs.list.Tie as tie
@@ -63,14 +64,16 @@ abbrev py-1 : tie.After-list-by → List ℤ
 py-1 c = pyLeft (c .list-by .ensures)
 
 listed-here : (c : tie.After-list-by)
-    → leftRuns (c .list-by .result) (out-1 c) (px-1 c) (py-1 c) ≡ runTile (table (begin c)) 0 (here-of (begin c)) (now (begin c .args .out)) (now (begin c .args .px)) (now (begin c .args .py))
+    → leftRuns (c .list-by .result) (out-1 c) (px-1 c) (py-1 c) ≡ runTile (table (begin c)) 0 (here-of (begin c)) (now (begin c .args .out))
+    (now (begin c .args .px)) (now (begin c .args .py))
 listed-here c =
     let s = begin c in
     let a = s .args in
     let p = s .pre in
     c .list-by .ensures
     ∙ ap (λ (vs : List Visit). runTile (table s) 0 vs (now (a .out)) (now (a .px)) (now (a .py)))
-    (here-whole (a .o) (a .z) (a .tx) (a .ty) (p .0 .0) (p .0 .1) (here-made c .search-here .result) (table s) (length (now (a .x))) (now (a .ids)) (now (a .coords)) (long s) (p .1 .1 .0) (here-made c .search-here .ensures))
+    (here-whole (a .o) (a .z) (a .tx) (a .ty) (p .0 .0) (p .0 .1) (here-made c .search-here .result) (table s) (length (now (a .x)))
+    (now (a .ids)) (now (a .coords)) (long s) (p .1 .1 .0) (here-made c .search-here .ensures))
 
 search-here-requires : tie.Need-search-here-requires
 search-here-requires c κs = let s : tie.Start = search in omega (arith, s .pre .0 .1 .z-to)
@@ -80,8 +83,10 @@ list-by-requires c κs =
     let h = c .before .before .before in
     let s : tie.Start = search in
     let a = s .args in
-    let p = s .pre in
-    (here-may (a .o) (a .z) (a .tx) (a .ty) (p .0 .0) (p .0 .1) (h .search-here .result) (h .search-here .ensures), (p .1 .0, omega (arith, p .1 .1 .1, few s)))
+    let p = s .pre in (
+      here-may (a .o) (a .z) (a .tx) (a .ty) (p .0 .0) (p .0 .1) (h .search-here .result) (h .search-here .ensures),
+      (p .1 .0, omega (arith, p .1 .1 .1, few s)),
+    )
 
 enum-known-a : tie.Need-enum-known-a
 enum-known-a c = search needs
@@ -107,7 +112,8 @@ unfolding visited
 returns c =
     let l = one-ended c in
     let s = begin l in
-    first-ends (table s) (here-of s) (east-of s) (west-of s) (now (s .args .out)) (now (s .args .px)) (now (s .args .py)) (l .list-by .result) (out-1 l) (px-1 l) (py-1 l)
+    first-ends (table s) (here-of s) (east-of s) (west-of s) (now (s .args .out)) (now (s .args .px)) (now (s .args .py))
+    (l .list-by .result) (out-1 l) (px-1 l) (py-1 l)
     (c .enum-told .given .1) (listed-here l)
 
 -- ---- away from the ends of the row
@@ -141,7 +147,8 @@ returns-2 c =
     ap (λ (q : Ran). leftRuns q (out-1 l) (px-1 l) (py-1 l)) (sym (all-here c .a .given .1))
     ∙ listed-here l
     ∙ ap (λ (vs : List Visit). runTile (table s) 0 vs (now (a .out)) (now (a .px)) (now (a .py)))
-    (sym (own-range (a .o) (a .z) (a .tx) (a .ty) (table s) (now (a .ids)) (now (a .coords)) (sym (c .before .is-at-end .ensures) ∙ not-true _ (c .if1 .taken))))
+    (sym (own-range (a .o) (a .z) (a .tx) (a .ty) (table s) (now (a .ids)) (now (a .coords))
+    (sym (c .before .is-at-end .ensures) ∙ not-true _ (c .if1 .taken))))
 
 -- ---- the second search
 
@@ -175,11 +182,14 @@ count-1-few c =
     let a = s .args in
     omega (
       arith,
-      listed-few (table s) 0 (count-1 c) (length (now (a .x))) (here-made l .search-here .result) (now (a .ids)) (now (a .coords)) (l .list-by .result) (now (a .out)) (out-1 l) (now (a .px)) (now (a .py)) (px-1 l) (py-1 l) (one-goes c .a .given .1) (l .list-by .ensures),
+      listed-few (table s) 0 (count-1 c) (length (now (a .x))) (here-made l .search-here .result) (now (a .ids)) (now (a .coords))
+          (l .list-by .result) (now (a .out)) (out-1 l) (now (a .px)) (now (a .py)) (px-1 l) (py-1 l) (one-goes c .a .given .1)
+          (l .list-by .ensures),
     )
 
 listed-east : (c : tie.After-list-by2) → let l = one-of (east-made c) in
-    leftRuns (c .list-by2 .result) (out-2 c) (px-2 c) (py-2 c) ≡ runTile (table (begin l)) (count-1 (east-made c)) (east-of (begin l)) (out-1 l) (px-1 l) (py-1 l)
+    leftRuns (c .list-by2 .result) (out-2 c) (px-2 c) (py-2 c) ≡ runTile (table (begin l)) (count-1 (east-made c)) (east-of (begin l))
+    (out-1 l) (px-1 l) (py-1 l)
 listed-east c =
     let e = east-made c in
     let l = one-of e in
@@ -188,7 +198,8 @@ listed-east c =
     let p = s .pre in
     c .list-by2 .ensures
     ∙ ap (λ (vs : List Visit). runTile (table s) (count-1 e) vs (out-1 l) (px-1 l) (py-1 l))
-    (east-whole (a .o) (a .z) (a .tx) (a .ty) (p .0 .0) (p .0 .1) (e .search-east .result) (table s) (length (now (a .x))) (now (a .ids)) (now (a .coords)) (long s) (p .1 .1 .0) (e .search-east .ensures))
+    (east-whole (a .o) (a .z) (a .tx) (a .ty) (p .0 .0) (p .0 .1) (e .search-east .result) (table s) (length (now (a .x))) (now (a .ids))
+    (now (a .coords)) (long s) (p .1 .1 .0) (e .search-east .ensures))
 
 search-east-requires : tie.Need-search-east-requires
 search-east-requires c κs =
@@ -200,8 +211,10 @@ list-by-requires-2 c κs =
     let e = c .before .before .before in
     let s = begin (one-of e) in
     let a = s .args in
-    let p = s .pre in
-    (east-may (a .o) (a .z) (a .tx) (a .ty) (p .0 .0) (p .0 .1) (e .search-east .result) (e .search-east .ensures), (p .1 .0, omega (arith, p .1 .1 .1, few s, count-1-few e)))
+    let p = s .pre in (
+      east-may (a .o) (a .z) (a .tx) (a .ty) (p .0 .0) (p .0 .1) (e .search-east .result) (e .search-east .ensures),
+      (p .1 .0, omega (arith, p .1 .1 .1, few s, count-1-few e)),
+    )
 
 enum-known-b : tie.Need-enum-known-b
 enum-known-b c = search needs
@@ -228,7 +241,8 @@ returns-3 c =
     let e = east-made m in
     let l = one-of e in
     let s = begin l in
-    second-ends (table s) (here-of s) (east-of s) (west-of s) (now (s .args .out)) (now (s .args .px)) (now (s .args .py)) (l .list-by .result) (count-1 e) (out-1 l) (px-1 l) (py-1 l)
+    second-ends (table s) (here-of s) (east-of s) (west-of s) (now (s .args .out)) (now (s .args .px)) (now (s .args .py))
+    (l .list-by .result) (count-1 e) (out-1 l) (px-1 l) (py-1 l)
     (one-goes e .a .given .1) (listed-here l) (m .list-by2 .result) (out-2 m) (px-2 m) (py-2 m) (c .enum-told2 .given .1) (listed-east m)
 
 -- ---- the third search
@@ -242,14 +256,16 @@ two-of c = two-goes c .before .before .before .before .before .before
 abbrev count-2 : tie.After-search-west → ℕ
 count-2 c = two-goes c .b .given .0 .0
 
-count-2-few : (c : tie.After-search-west) → count-2 c ≤ count-1 (east-made (two-of c)) + length (now (begin (one-of (east-made (two-of c))) .args .x))
+count-2-few : (c : tie.After-search-west)
+    → count-2 c ≤ count-1 (east-made (two-of c)) + length (now (begin (one-of (east-made (two-of c))) .args .x))
 count-2-few c =
     let m = two-of c in
     let e = east-made m in
     let l = one-of e in
     let s = begin l in
     let a = s .args in
-    listed-few (table s) (count-1 e) (count-2 c) (length (now (a .x))) (e .search-east .result) (now (a .ids)) (now (a .coords)) (m .list-by2 .result) (out-1 l) (out-2 m) (px-1 l) (py-1 l) (px-2 m) (py-2 m) (two-goes c .b .given .1) (m .list-by2 .ensures)
+    listed-few (table s) (count-1 e) (count-2 c) (length (now (a .x))) (e .search-east .result) (now (a .ids)) (now (a .coords))
+    (m .list-by2 .result) (out-1 l) (out-2 m) (px-1 l) (py-1 l) (px-2 m) (py-2 m) (two-goes c .b .given .1) (m .list-by2 .ensures)
 
 search-west-requires : tie.Need-search-west-requires
 search-west-requires c κs =
@@ -262,8 +278,10 @@ list-by-requires-3 c κs =
     let e = east-made (two-of w) in
     let s = begin (one-of e) in
     let a = s .args in
-    let p = s .pre in
-    (west-may (a .o) (a .z) (a .tx) (a .ty) (p .0 .0) (p .0 .1) (w .search-west .result) (w .search-west .ensures), (p .1 .0, omega (arith, p .1 .1 .1, few s, count-1-few e, count-2-few w)))
+    let p = s .pre in (
+      west-may (a .o) (a .z) (a .tx) (a .ty) (p .0 .0) (p .0 .1) (w .search-west .result) (w .search-west .ensures),
+      (p .1 .0, omega (arith, p .1 .1 .1, few s, count-1-few e, count-2-few w)),
+    )
 
 abbrev all-ended : tie.After-py3 → tie.After-list-by3
 all-ended c = c .before .before .before .before
@@ -300,11 +318,14 @@ returns-4 c =
     let s = begin l in
     let a = s .args in
     let p = s .pre in
-    third-ends (table s) (here-of s) (east-of s) (west-of s) (now (a .out)) (now (a .px)) (now (a .py)) (l .list-by .result) (count-1 e) (out-1 l) (px-1 l) (py-1 l)
-    (one-goes e .a .given .1) (listed-here l) (m .list-by2 .result) (count-2 w) (out-2 m) (px-2 m) (py-2 m) (two-goes w .b .given .1) (listed-east m) _
+    third-ends (table s) (here-of s) (east-of s) (west-of s) (now (a .out)) (now (a .px)) (now (a .py)) (l .list-by .result) (count-1 e)
+    (out-1 l) (px-1 l) (py-1 l)
+    (one-goes e .a .given .1) (listed-here l) (m .list-by2 .result) (count-2 w) (out-2 m) (px-2 m) (py-2 m) (two-goes w .b .given .1)
+    (listed-east m) _
     (n .list-by3 .ensures
     ∙ ap (λ (vs : List Visit). runTile (table s) (count-2 w) vs (out-2 m) (px-2 m) (py-2 m))
-    (west-whole (a .o) (a .z) (a .tx) (a .ty) (p .0 .0) (p .0 .1) (w .search-west .result) (table s) (length (now (a .x))) (now (a .ids)) (now (a .coords)) (long s) (p .1 .1 .0) (w .search-west .ensures)))
+    (west-whole (a .o) (a .z) (a .tx) (a .ty) (p .0 .0) (p .0 .1) (w .search-west .result) (table s) (length (now (a .x))) (now (a .ids))
+    (now (a .coords)) (long s) (p .1 .1 .0) (w .search-west .ensures)))
 
 pub list-spec : {M : Type 1} → statement M
 list-spec =

@@ -19,7 +19,8 @@ use Rattle.build_tables.specs.Rows.{Cols, cols, rows}
 use Rattle.build_tables.specs.Lent.{given}
 use Rattle.ask_tile_table.specs.Tile.{Visit, visitsOf}
 use Rattle.ask_tile_table.specs.laws.Runs.{leftRuns, runTile}
-use Rattle.ask_tile_table.specs.laws.Turns.{walkedTurns, walked-none, walked-made, run-none, named-fine, turn-end, turn-bad, turn-next}
+use Rattle.ask_tile_table.specs.laws.Turns.{walkedTurns, walked-none, walked-made, run-none, named-fine, turn-end, turn-bad}
+use Rattle.ask_tile_table.specs.laws.Turns.{turn-next}
 use Rattle.ask_tile_table.proofs.Ends.{no-more}
 use Rattle.ask_tile_table.proofs.list_by.Statement.{statement}
 use Rattle.ask_tile_table.proofs.list_by.Tie as tie
@@ -64,8 +65,11 @@ abbrev ahead : Loop → List ℕ
 ahead l = slots (begin l) (l .loop .page) (l .loop .pages)
 
 -- the run that the contract names, once the search is made
-whole : (l : Loop) → runTile (table (begin l)) (l .loop .k) (visitsOf (begin l .args .g) (places (now (begin l .args .ids)) (ahead l))) (l .loop .out) (l .loop .px) (l .loop .py)
-    ≡ runTile (table (begin l)) (begin l .args .at) (walkedTurns (begin l .args .g) (length (now (begin l .args .x))) (now (begin l .args .ids)) (now (begin l .args .coords))) (now (begin l .args .out)) (now (begin l .args .px)) (now (begin l .args .py))
+whole : (l : Loop) → runTile (table (begin l)) (l .loop .k) (visitsOf (begin l .args .g) (places (now (begin l .args .ids)) (ahead l)))
+    (l .loop .out) (l .loop .px) (l .loop .py)
+    ≡ runTile (table (begin l)) (begin l .args .at)
+    (walkedTurns (begin l .args .g) (length (now (begin l .args .x))) (now (begin l .args .ids)) (now (begin l .args .coords)))
+    (now (begin l .args .out)) (now (begin l .args .px)) (now (begin l .args .py))
 whole l =
     let a = begin l .args in
     l .loop .inv .5
@@ -102,7 +106,8 @@ moves f =
     let u = t .before .before .next-slot in
     next-slot (ahead (loop-of t)) (onward t) (u .result .step) (slot f) (f .s .given .1) (u .ensures .0) (u .ensures .1)
 
-below : (f : Found) → (slot f < length (now (begin (head-of f) .args .x))) × AllBelow (length (now (begin (head-of f) .args .x))) (onward (turn-of f))
+below : (f : Found) → (slot f < length (now (begin (head-of f) .args .x)))
+    × AllBelow (length (now (begin (head-of f) .args .x))) (onward (turn-of f))
 below f =
     let l = head-of f in
     below-next (length (now (begin l .args .x))) (ahead l) (slot f) (onward (turn-of f)) (moves f) (l .loop .inv .3)
@@ -142,13 +147,16 @@ loop-holds c =
     let s : Start = search in
     let a = s .args in
     let w = walk (a .g .query) (a .g .«node_size») (length (now (a .x))) (now (a .coords)) in
-    let h : slots s _ (c .begin .result) ≡ w = ap (slots s _) (c .begin .ensures) ∙ ahead-begun (a .g .query) (a .g .«node_size») (length (now (a .x))) (now (a .coords)) _ in (
+    let h : slots s _ (c .begin .result) ≡ w = ap (slots s _) (c .begin .ensures)
+    ∙ ahead-begun (a .g .query) (a .g .«node_size») (length (now (a .x))) (now (a .coords)) _ in (
       refl,
       refl,
       refl,
-      subst (λ (l : List ℕ). AllBelow (length (now (a .x))) l) (sym h) (walk-below (a .g .query) (a .g .«node_size») (length (now (a .x))) (now (a .coords))),
+      subst (λ (l : List ℕ). AllBelow (length (now (a .x))) l) (sym h)
+          (walk-below (a .g .query) (a .g .«node_size») (length (now (a .x))) (now (a .coords))),
       omega (arith, ap length h, walk-length (a .g .query) (a .g .«node_size») (length (now (a .x))) (now (a .coords))),
-      ap (λ (l : List ℕ). runTile (table s) (a .at) (visitsOf (a .g) (places (now (a .ids)) l)) (now (a .out)) (now (a .px)) (now (a .py))) h,
+      ap (λ (l : List ℕ). runTile (table s) (a .at) (visitsOf (a .g) (places (now (a .ids)) l)) (now (a .out)) (now (a .px)) (now (a .py)))
+          h,
       refl,
     )
 
@@ -211,7 +219,8 @@ returns-3 c =
     let l = head-of f in
     let s = begin l in
     let a = s .args in
-    turn-bad (table s) (a .g) (now (a .ids)) (l .loop .k) (ahead l) (l .loop .out) (l .loop .px) (l .loop .py) (slot f) (onward (turn-of f)) (moves f)
+    turn-bad (table s) (a .g) (now (a .ids)) (l .loop .k) (ahead l) (l .loop .out) (l .loop .px) (l .loop .py) (slot f) (onward (turn-of f))
+    (moves f)
     (sym (r .entry-named .ensures) ∙ c .enum-told .given .1)
     ∙ whole l
 
@@ -253,8 +262,10 @@ loop-again c =
       i .put-item .kept .1 .1 .1 .1 .0 ∙ l .loop .inv .2,
       below f .1,
       omega (arith, ap length (moves f), l .loop .inv .4),
-      turn-next (table s) (a .g) (now (a .ids)) (l .loop .k) (ahead l) (l .loop .out) (l .loop .px) (l .loop .py) (slot f) (onward t) (moves f)
-          (g .0 .0) (sym (r .entry-named .ensures) ∙ g .1) (i .before .before .before .before .item-of .result) (i .before .before .before .before .item-of .ensures) _ _ _ (w .0) (w .1) (w .2)
+      turn-next (table s) (a .g) (now (a .ids)) (l .loop .k) (ahead l) (l .loop .out) (l .loop .px) (l .loop .py) (slot f) (onward t)
+          (moves f)
+          (g .0 .0) (sym (r .entry-named .ensures) ∙ g .1) (i .before .before .before .before .item-of .result)
+          (i .before .before .before .before .item-of .ensures) _ _ _ (w .0) (w .1) (w .2)
           ∙ l .loop .inv .5,
       t .before .before .next-slot .kept .1 .1 .1 .1 .0 ∙ l .loop .inv .6,
     )

@@ -17,11 +17,17 @@ enum-told-2 c = search needs
 
 returns-2 : tie.Need-returns-2
 unfolding wraps
-returns-2 c = simp (not-false (c .before .before .before .before .args .o .«longitude_strips_only») (c .before .before .if1 .left), c .enum-told .given .1)
+returns-2 c = simp (
+  not-false (c .before .before .before .before .args .o .«longitude_strips_only») (c .before .before .if1 .left),
+  c .enum-told .given .1,
+)
 
 returns-3 : tie.Need-returns-3
 unfolding wraps
-returns-3 c = simp (not-false (c .before .before .before .before .args .o .«longitude_strips_only») (c .before .before .if1 .left), c .enum-told2 .given .1)
+returns-3 c = simp (
+  not-false (c .before .before .before .before .args .o .«longitude_strips_only») (c .before .before .if1 .left),
+  c .enum-told2 .given .1,
+)
 
 pub runs-strips-spec : {M : Type 1} → statement M
 runs-strips-spec = tie.close (tie.spec returns enum-told enum-told-2 returns-2 returns-3)

@@ -21,7 +21,8 @@ use Rattle.build_tables.specs.Lent.{given}
 use Rattle.ask_tile_table.specs.Tile.{Visit}
 use Rattle.ask_tile_table.specs.laws.Turns.{walkedTurns, walked-none, walked-made}
 use Rattle.ask_tile_table.specs.laws.Home.{weightBy}
-use Rattle.ask_tile_table.specs.laws.Counting.{HeldMarks, heldMarksOf, marksHeld, placesIn, places-of, counted, counted-none, counted-sure, count-end}
+use Rattle.ask_tile_table.specs.laws.Counting.{HeldMarks, heldMarksOf, marksHeld, placesIn, places-of, counted, counted-none}
+use Rattle.ask_tile_table.specs.laws.Counting.{counted-sure, count-end}
 use Rattle.ask_tile_table.specs.laws.Counting.{count-stop, count-next}
 use Rattle.ask_tile_table.proofs.Ends.{no-more}
 use Rattle.ask_tile_table.proofs.tally_by.Statement.{statement}

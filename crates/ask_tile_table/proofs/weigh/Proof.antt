@@ -22,7 +22,8 @@ module _ (h : Home) (e : Entry) where
   unfolding weightBy
   least-of a b c = rw (a, b, c)
 
-  greatest-of : le (h .west) (e .x) ≡ true → lt (e .x) (h .east) ≡ true → le (h .«least_y») (e .y) ≡ true → lt (e .y) (h .«greatest_y») ≡ false
+  greatest-of : le (h .west) (e .x) ≡ true → lt (e .x) (h .east) ≡ true → le (h .«least_y») (e .y) ≡ true
+      → lt (e .y) (h .«greatest_y») ≡ false
       → 0 ≡ weightBy h e
   unfolding weightBy
   greatest-of a b c d = rw (a, b, c, d)

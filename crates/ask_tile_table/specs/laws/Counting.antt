@@ -154,7 +154,8 @@ module _ (few : Bool) (w : Entry → ℕ) (t : Table) where
   counted-doubt k s p m e d = rw (e, counted) (rw d)
 
   pub counted-one : (k s p : ℕ) (m : List ℕ) → listable t p ≡ true → doubt few k (markedPlaces m (markOf few p)) ≡ false
-      → heldMarks true true (k + 1) (added (w (entry t p)) (markOf few p) s m) (markingPlace (markOf few p) m) ≡ counted few w t k s (p ∷ []) m
+      → heldMarks true true (k + 1) (added (w (entry t p)) (markOf few p) s m) (markingPlace (markOf few p) m) ≡ counted few w t k s
+      (p ∷ []) m
   unfolding counted
   counted-one k s p m e d = rw (e, counted) (rw d)
 
@@ -198,7 +199,8 @@ counted-same few w v f t k s (p ∷ ps) m =
         let a = and-both (ltb p (length t)) _ e .1 in
         let b = and-both (in01 (entry t p .x)) (in01 (entry t p .y)) a in
         let q : w (entry t p) ≡ v (entry t p) = f (entry t p) (b .0) (b .1) in
-        rw (e, counted) (rw d (h ∙ ap (λ (n : ℕ). counted few v t (k + 1) (added n (markOf few p) s m) ps (markingPlace (markOf few p) m)) q))
+        rw (e, counted) (rw d (h ∙ ap (λ (n : ℕ). counted few v t (k + 1) (added n (markOf few p) s m) ps (markingPlace (markOf few p) m))
+        q))
     go false e d i h = rw (e, counted)
 
 -- what the tally of a list of visits comes to

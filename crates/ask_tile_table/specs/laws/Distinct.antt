@@ -29,12 +29,14 @@ member-later p q l h = go (eqb p q) refl
 distinct-without : (k : ℕ) (seen ps : List ℕ) → member k seen ≡ true → NotIn k (distinct seen ps)
 unfolding distinct
 distinct-without k seen [] h = tt
-distinct-without k seen (p ∷ ps) h = go (member p seen) refl (distinct-without k seen ps h) (distinct-without k (p ∷ seen) ps (member-later k p seen h))
+distinct-without k seen (p ∷ ps) h =
+    go (member p seen) refl (distinct-without k seen ps h) (distinct-without k (p ∷ seen) ps (member-later k p seen h))
   where
     go : (b : Bool) → member p seen ≡ b → NotIn k (distinct seen ps) → NotIn k (distinct (p ∷ seen) ps) → NotIn k (distinct seen (p ∷ ps))
     go true e f g = rw (e, distinct) f
     go false e f g =
-        let n : k ≡ p → ⊥ = λ q. let z : true ≡ false = sym h ∙ ap (λ (j : ℕ). member j seen) q ∙ e in (let y : _≡_ {A = ℕ} 0 1 = cc in omega arith) in
+        let n : k ≡ p → ⊥ = λ q. let z : true ≡ false = sym h ∙ ap (λ (j : ℕ). member j seen) q
+        ∙ e in (let y : _≡_ {A = ℕ} 0 1 = cc in omega arith) in
         rw (e, distinct) (n, g)
 
 -- no place is in it twice
@@ -43,7 +45,8 @@ unfolding distinct
 distinct-once seen [] = tt
 distinct-once seen (p ∷ ps) = go (member p seen) refl (distinct-once seen ps) (distinct-once (p ∷ seen) ps)
   where
-    go : (b : Bool) → member p seen ≡ b → Distinct (distinct seen ps) → Distinct (distinct (p ∷ seen) ps) → Distinct (distinct seen (p ∷ ps))
+    go : (b : Bool) → member p seen ≡ b → Distinct (distinct seen ps) → Distinct (distinct (p ∷ seen) ps)
+        → Distinct (distinct seen (p ∷ ps))
     go true e f g = rw (e, distinct) f
     go false e f g = rw (e, distinct) (distinct-without p (p ∷ seen) ps (member-here p seen), g)
 
@@ -58,7 +61,8 @@ distinct-member k seen [] = and-false (not (member k seen))
 distinct-member k seen (p ∷ ps) = go (member p seen) refl (eqb k p) refl (distinct-member k seen ps) (distinct-member k (p ∷ seen) ps)
   where
     go : (b : Bool) → member p seen ≡ b → (c : Bool) → eqb k p ≡ c → member k (distinct seen ps) ≡ (not (member k seen) && member k ps)
-        → member k (distinct (p ∷ seen) ps) ≡ (not (member k (p ∷ seen)) && member k ps) → member k (distinct seen (p ∷ ps)) ≡ (not (member k seen) && member k (p ∷ ps))
+        → member k (distinct (p ∷ seen) ps) ≡ (not (member k (p ∷ seen)) && member k ps)
+        → member k (distinct seen (p ∷ ps)) ≡ (not (member k seen) && member k (p ∷ ps))
     go true e true g f h =
         let q : member k seen ≡ true = ap (λ (j : ℕ). member j seen) (eqb-true k p g) ∙ e in
         rw (e, distinct) (f ∙ rw q)

@@ -35,7 +35,8 @@ use Rattle.ask_tile_table.specs.Tile.{margin, side, edge, least, greates
 use Rattle.ask_tile_table.specs.laws.Framed.{IsTile, float-most, below-side}
 
 -- a walk by a query of finite numbers, over an index that may be searched, is the whole answer
-pub walk-whole : (q : Query) (size n : ℕ) (co : List Float) → coordsOk size n (length co) ≡ true → queryOk q ≡ true → walk q size n co ≡ answers q co size n
+pub walk-whole : (q : Query) (size n : ℕ) (co : List Float) → coordsOk size n (length co) ≡ true → queryOk q ≡ true
+    → walk q size n co ≡ answers q co size n
 walk-whole q size n co a b = rw (a, b)
 
 query-fine : (a b c d : Float) → T (finite a) → T (finite b) → T (finite c) → T (finite d) → queryOk (Range a b c d) ≡ true
@@ -70,14 +71,16 @@ quotient s z h l r =
     let f : T (finite s) = between-finite low s high tt tt l r in
     let e : T (ends z) = all-ends z (omega arith) in
     let p = side-positive z h in
-    between-finite (div binary64 low (side z)) (div binary64 s (side z)) (div binary64 high (side z)) (and-l (finite (div binary64 low (side z))) (finite (div binary64 high (side z))) e)
+    between-finite (div binary64 low (side z)) (div binary64 s (side z)) (div binary64 high (side z))
+    (and-l (finite (div binary64 low (side z))) (finite (div binary64 high (side z))) e)
     (and-r (finite (div binary64 low (side z))) (finite (div binary64 high (side z))) e)
     (div-mono binary64 low s (side z) tt f p l) (div-mono binary64 s high (side z) f tt p r)
 
 -- 2 ^ 16 by 1 or more is at most 2 ^ 16
 shrinks : (d : Float) → T (positive d) → T (le one d) → T (le (div binary64 pow16 d) pow16)
 unfolding le fits
-shrinks d p l = subst (λ (w : Float). T (le (div binary64 pow16 d) w)) (div-one binary64 pow16 tt tt) (div-anti binary64 pow16 one d tt tt tt p l)
+shrinks d p l = subst (λ (w : Float). T (le (div binary64 pow16 d) w)) (div-one binary64 pow16 tt tt)
+    (div-anti binary64 pow16 one d tt tt tt p l)
 
 -- ---- sums of constants
 
@@ -131,7 +134,8 @@ module _ (o : Options) (b : InBounds o) where
   pub margin-most : T (le (margin o) pow16)
   margin-most =
       le-le-trans (margin o) (div binary64 pow16 (o .extent)) pow16
-      (div-mono binary64 (o .radius) pow16 (o .extent) radius-finite tt extent-positive (b .radius-to)) (shrinks (o .extent) extent-positive (b .extent-from))
+      (div-mono binary64 (o .radius) pow16 (o .extent) radius-finite tt extent-positive (b .radius-to))
+      (shrinks (o .extent) extent-positive (b .extent-from))
 
   pub margin-finite : T (finite (margin o))
   margin-finite = between-finite zero (margin o) pow16 tt tt margin-least margin-most
@@ -141,11 +145,13 @@ module _ (o : Options) (b : InBounds o) where
   module _ (z : ℕ) (Z : z ≤ 31) where
     edge-finite : T (finite (edge o z))
     unfolding le
-    edge-finite = quotient (margin o) z Z (le-le-trans low zero (margin o) tt margin-least) (le-le-trans (margin o) pow16 high margin-most tt)
+    edge-finite = quotient (margin o) z Z (le-le-trans low zero (margin o) tt margin-least)
+        (le-le-trans (margin o) pow16 high margin-most tt)
 
     edge-most : T (le (edge o z) pow16)
     edge-most =
-        le-le-trans (edge o z) (div binary64 pow16 (side z)) pow16 (div-mono binary64 (margin o) pow16 (side z) margin-finite tt (side-positive z Z) margin-most)
+        le-le-trans (edge o z) (div binary64 pow16 (side z)) pow16
+        (div-mono binary64 (margin o) pow16 (side z) margin-finite tt (side-positive z Z) margin-most)
         (shrinks (side z) (side-positive z Z) (side-least z))
 
     strip-finite : T (finite (sub binary64 one (edge o z)))
@@ -153,7 +159,8 @@ module _ (o : Options) (b : InBounds o) where
         let e = sub binary64 one (edge o z) in
         let n : T (le zero (edge o z)) = div-nonneg binary64 (margin o) (side z) margin-finite (side-positive z Z) margin-least in
         between-finite (fin true 65535 (pos 0)) e one tt tt
-        (subst (λ (w : Float). T (le w e)) strip-low (sub-mono binary64 one one pow16 (edge o z) tt tt tt edge-finite (unfold le in tt) edge-most))
+        (subst (λ (w : Float). T (le w e)) strip-low
+        (sub-mono binary64 one one pow16 (edge o z) tt tt tt edge-finite (unfold le in tt) edge-most))
         (subst (λ (w : Float). T (le e w)) strip-top (sub-mono binary64 one one (edge o z) zero tt tt edge-finite tt (unfold le in tt) n))
 
     module _ (v : ℕ) (less : v < 2 ^ z) where
@@ -202,7 +209,8 @@ module _ (o : Options) (b : InBounds o) where
       add-high : T (le (add binary64 (add binary64 (float v) one) (margin o)) high)
       add-high =
           le-le-trans (add binary64 (add binary64 (float v) one) (margin o)) (add binary64 next pow16) high
-          (add-mono binary64 (add binary64 (float v) one) next (margin o) pow16 next-finite tt margin-finite tt next-high margin-most) add-top
+          (add-mono binary64 (add binary64 (float v) one) next (margin o) pow16 next-finite tt margin-finite tt next-high margin-most)
+          add-top
 
       pub add-finite : T (finite (add binary64 (add binary64 (float v) one) (margin o)))
       add-finite = between-finite low (add binary64 (add binary64 (float v) one) (margin o)) high tt tt add-low add-high
@@ -216,7 +224,8 @@ module _ (o : Options) (b : InBounds o) where
     unfolding here
     here-fine =
         query-fine (least o z x) (least o z y) (greatest o z x) (greatest o z y)
-        (least-finite z (t .z-to) x (t .x-to)) (least-finite z (t .z-to) y (t .y-to)) (greatest-finite z (t .z-to) x (t .x-to)) (greatest-finite z (t .z-to) y (t .y-to))
+        (least-finite z (t .z-to) x (t .x-to)) (least-finite z (t .z-to) y (t .y-to)) (greatest-finite z (t .z-to) x (t .x-to))
+        (greatest-finite z (t .z-to) y (t .y-to))
 
     pub east-fine : queryOk (eastStrip o z x y .query) ≡ true
     unfolding eastStrip

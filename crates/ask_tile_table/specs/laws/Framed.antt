@@ -32,9 +32,11 @@ pub record Framed (g : TileSearch) : Type 0 where
 
 -- what is rounded is within 2 ^ 48 either way
 pub fits : (g : TileSearch) (c v : Float) → Framed g → In01 c → T (le (neg one) v) → T (le v pow31)
-    → T (le (neg pow48) (mul binary64 (g .extent) (sub binary64 (mul binary64 c (g .z2)) v))) × T (le (mul binary64 (g .extent) (sub binary64 (mul binary64 c (g .z2)) v)) pow48)
+    → T (le (neg pow48) (mul binary64 (g .extent) (sub binary64 (mul binary64 c (g .z2)) v)))
+    × T (le (mul binary64 (g .extent) (sub binary64 (mul binary64 c (g .z2)) v)) pow48)
 fits g c v h u l r =
-    subst (λ (w : Float). T (le (neg pow48) (mul binary64 (g .extent) (sub binary64 (mul binary64 c w) v))) × T (le (mul binary64 (g .extent) (sub binary64 (mul binary64 c w) v)) pow48)) (sym (h .scale))
+    subst (λ (w : Float). T (le (neg pow48) (mul binary64 (g .extent) (sub binary64 (mul binary64 c w) v)))
+    × T (le (mul binary64 (g .extent) (sub binary64 (mul binary64 c w) v)) pow48)) (sym (h .scale))
     (tile-bounds (g .extent) c v (h .z) (h .small) (h .least) (h .most) u l r)
 
 -- ---- the numbers of a tile

@@ -24,7 +24,8 @@ use Rattle.build_tables.specs.laws.Bounds.{InBounds}
 use Rattle.build_tables.specs.Entries.{Table, entry, none, xsOf, ysOf}
 use Rattle.ask_tile_table.specs.declared.TileSearch.{TileSearch}
 use Rattle.ask_tile_table.specs.declared.Item.{Item}
-use Rattle.ask_tile_table.specs.Tile.{Visit, visitsOf, visits, visited, here, eastStrip, westStrip, least, greatest, listable, tileListed, wholeTile, itemOf}
+use Rattle.ask_tile_table.specs.Tile.{Visit, visitsOf, visits, visited, here, eastStrip, westStrip, least, greatest, listable}
+use Rattle.ask_tile_table.specs.Tile.{tileListed, wholeTile, itemOf}
 use Rattle.ask_tile_table.specs.Tile.{itemAt, tileItems}
 use Rattle.ask_tile_table.specs.laws.Framed.{IsTile}
 use Rattle.ask_tile_table.specs.laws.Inside.{InTile, inside-passes}
@@ -63,7 +64,8 @@ items-append : (t : Table) (a b : List Visit) → tileItems t (a ++ b) ≡ tileI
 items-append t [] b = refl
 items-append t (v ∷ a) b = ap (λ (l : List Item). itemAt t v ∷ l) (items-append t a b)
 
-lists-at : (t : Table) (g : TileSearch) (pre : List ℕ) (p : ℕ) (post : List ℕ) → Lists (itemOf g p (entry t p)) (tileItems t (visitsOf g (pre ++ p ∷ post)))
+lists-at : (t : Table) (g : TileSearch) (pre : List ℕ) (p : ℕ) (post : List ℕ)
+    → Lists (itemOf g p (entry t p)) (tileItems t (visitsOf g (pre ++ p ∷ post)))
 lists-at t g [] p post = ([], tileItems t (visitsOf g post), refl)
 lists-at t g (q ∷ pre) p post =
     let w = lists-at t g pre p post in
@@ -75,7 +77,11 @@ module _ (t : Table) (placed : (p : ℕ) → p < length t → In01 (entry t p .x
   can : (p : ℕ) → p < length t → listable t p ≡ true
   can p h =
       let w = placed p h in
-      rw (lt-ltb p (length t) h, is-true (in01 (entry t p .x)) (In01→in01 (entry t p .x) (w .0)), is-true (in01 (entry t p .y)) (In01→in01 (entry t p .y) (w .1)))
+      rw (
+        lt-ltb p (length t) h,
+        is-true (in01 (entry t p .x)) (In01→in01 (entry t p .x) (w .0)),
+        is-true (in01 (entry t p .y)) (In01→in01 (entry t p .y) (w .1)),
+      )
 
   whole-below : (g : TileSearch) (ps : List ℕ) → AllBelow (length t) ps → wholeTile t (visitsOf g ps) ≡ true
   unfolding All wholeTile
@@ -86,20 +92,24 @@ module _ (t : Table) (placed : (p : ℕ) → p < length t → In01 (entry t p .x
     long : length (xsOf t) ≡ length t
     long = length-map t (λ e. e .x)
 
-    below : (g : TileSearch) → g .«node_size» ≡ o .«node_size» → AllBelow (length t) (found (g .query) (g .«node_size») (length t) (S .ids) (S .co))
+    below : (g : TileSearch) → g .«node_size» ≡ o .«node_size»
+        → AllBelow (length t) (found (g .query) (g .«node_size») (length t) (S .ids) (S .co))
     below g e =
         subst (λ (k : ℕ). AllBelow (length t) (found (g .query) k (length t) (S .ids) (S .co))) (sym e)
-        (subst (λ (n : ℕ). AllBelow n (found (g .query) (o .«node_size») n (S .ids) (S .co))) long (answered-below (o .«node_size») (xsOf t) (ysOf t) s S I (g .query)))
+        (subst (λ (n : ℕ). AllBelow n (found (g .query) (o .«node_size») n (S .ids) (S .co))) long
+        (answered-below (o .«node_size») (xsOf t) (ysOf t) s S I (g .query)))
 
     whole-of : (g : TileSearch) → g .«node_size» ≡ o .«node_size» → wholeTile t (visits g t (S .ids) (S .co)) ≡ true
-    whole-of g e = whole-below g _ (below-when (length t) (g .made) (found (g .query) (g .«node_size») (length t) (S .ids) (S .co)) (below g e))
+    whole-of g e = whole-below g _ (below-when (length t) (g .made) (found (g .query) (g .«node_size») (length t) (S .ids) (S .co))
+        (below g e))
 
     -- everything that is found can be listed
     pub tile-whole : (z x y : ℕ) → wholeTile t (visited o z x y t (S .ids) (S .co)) ≡ true
     unfolding visited here eastStrip westStrip
     tile-whole z x y =
         whole-append t (visits (here o z x y) t (S .ids) (S .co)) _ (whole-of (here o z x y) refl)
-        (whole-append t (visits (eastStrip o z x y) t (S .ids) (S .co)) (visits (westStrip o z x y) t (S .ids) (S .co)) (whole-of (eastStrip o z x y) refl) (whole-of (westStrip o z x y) refl))
+        (whole-append t (visits (eastStrip o z x y) t (S .ids) (S .co)) (visits (westStrip o z x y) t (S .ids) (S .co))
+        (whole-of (eastStrip o z x y) refl) (whole-of (westStrip o z x y) refl))
 
     -- what passes the tile's own range is found
     here-finds : (z x y p : ℕ) → p < length t → passesQ (here o z x y .query) (entry t p .x) (entry t p .y) ≡ true
@@ -121,6 +131,12 @@ module _ (t : Table) (placed : (p : ℕ) → p < length t → In01 (entry t p .x
         let A = visits (here o z x y) t (S .ids) (S .co) in
         let R = visits (eastStrip o z x y) t (S .ids) (S .co) ++ visits (westStrip o z x y) t (S .ids) (S .co) in
         let a : Lists (itemOf (here o z x y) p (entry t p)) (tileItems t A) =
-        subst (λ (l : List ℕ). Lists (itemOf (here o z x y) p (entry t p)) (tileItems t (visitsOf (here o z x y) l))) (sym (m .2)) (lists-at t (here o z x y) (m .0) p (m .1)) in
-        let e : tileItems t (tileListed t (A ++ R)) ≡ tileItems t A ++ tileItems t R = ap (tileItems t) (listed-whole t (A ++ R) (tile-whole z x y)) ∙ items-append t A R in
-        (a .0, a .1 ++ tileItems t R, e ∙ ap (λ (l : List Item). l ++ tileItems t R) (a .2) ∙ append-assoc (a .0) (itemOf (here o z x y) p (entry t p) ∷ a .1) (tileItems t R))
+        subst (λ (l : List ℕ). Lists (itemOf (here o z x y) p (entry t p)) (tileItems t (visitsOf (here o z x y) l))) (sym (m .2))
+        (lists-at t (here o z x y) (m .0) p (m .1)) in
+        let e : tileItems t (tileListed t (A ++ R)) ≡ tileItems t A ++ tileItems t R =
+        ap (tileItems t) (listed-whole t (A ++ R) (tile-whole z x y)) ∙ items-append t A R in (
+          a .0,
+          a .1 ++ tileItems t R,
+          e ∙ ap (λ (l : List Item). l ++ tileItems t R) (a .2)
+              ∙ append-assoc (a .0) (itemOf (here o z x y) p (entry t p) ∷ a .1) (tileItems t R),
+        )

@@ -27,11 +27,13 @@ eight P p0 p1 p2 p3 p4 p5 p6 p7 (suc (suc (suc (suc (suc (suc (suc (suc j)))))))
 next-even : (q d : ℕ) → q % 2 ≡ 0 → (q + 1) / 2 ^ suc d ≡ q / 2 ^ suc d
 next-even q d e =
     let h : (q + 1) / 2 ≡ q / 2 = omega arith in
-    ap (λ (k : ℕ). (q + 1) / k) (pow-succ' 2 d) ∙ sym (div-div-eq-div-mul (q + 1) 2 (2 ^ d)) ∙ ap (λ (k : ℕ). k / 2 ^ d) h ∙ div-div-eq-div-mul q 2 (2 ^ d) ∙ ap (λ (k : ℕ). q / k) (sym (pow-succ' 2 d))
+    ap (λ (k : ℕ). (q + 1) / k) (pow-succ' 2 d) ∙ sym (div-div-eq-div-mul (q + 1) 2 (2 ^ d)) ∙ ap (λ (k : ℕ). k / 2 ^ d) h
+    ∙ div-div-eq-div-mul q 2 (2 ^ d) ∙ ap (λ (k : ℕ). q / k) (sym (pow-succ' 2 d))
 
 above : (b i d : ℕ) → b / 2 ^ i % 2 ≡ 0 → (b + 2 ^ i) / 2 ^ (i + suc d) ≡ b / 2 ^ (i + suc d)
 above b i d e =
-    ap (λ (k : ℕ). (b + 2 ^ i) / k) (pow-add 2 i (suc d)) ∙ sym (div-div-eq-div-mul (b + 2 ^ i) (2 ^ i) (2 ^ suc d)) ∙ ap (λ (k : ℕ). k / 2 ^ suc d) (add-div-right b (pow-pos i))
+    ap (λ (k : ℕ). (b + 2 ^ i) / k) (pow-add 2 i (suc d)) ∙ sym (div-div-eq-div-mul (b + 2 ^ i) (2 ^ i) (2 ^ suc d))
+    ∙ ap (λ (k : ℕ). k / 2 ^ suc d) (add-div-right b (pow-pos i))
     ∙ next-even (b / 2 ^ i) d e ∙ div-div-eq-div-mul b (2 ^ i) (2 ^ suc d) ∙ ap (λ (k : ℕ). b / k) (sym (pow-add 2 i (suc d)))
 
 beneath : (b j d : ℕ) → (b + 2 ^ (j + suc d)) / 2 ^ j % 2 ≡ b / 2 ^ j % 2
@@ -57,10 +59,12 @@ bit-other b i j n e = go (ltb i j) (ltb j i) refl refl
     go false false f g = absurd (n (omega (arith, ltb-false i j f, ltb-false j i g)))
 
 pub bit-same : (b i : ℕ) → i < 8 → b / 2 ^ i % 2 ≡ 0 → (b + 2 ^ i) / 2 ^ i % 2 ≡ 1
-bit-same b i h = eight (λ i. b / 2 ^ i % 2 ≡ 0 → (b + 2 ^ i) / 2 ^ i % 2 ≡ 1) (λ e. omega arith) (λ e. omega arith) (λ e. omega arith) (λ e. omega arith) (λ e. omega arith) (λ e. omega arith) (λ e. omega arith) (λ e. omega arith) i h
+bit-same b i h = eight (λ i. b / 2 ^ i % 2 ≡ 0 → (b + 2 ^ i) / 2 ^ i % 2 ≡ 1) (λ e. omega arith) (λ e. omega arith) (λ e. omega arith)
+    (λ e. omega arith) (λ e. omega arith) (λ e. omega arith) (λ e. omega arith) (λ e. omega arith) i h
 
 pub bit-fits : (b i : ℕ) → i < 8 → b < 256 → b / 2 ^ i % 2 ≡ 0 → b + 2 ^ i < 256
-bit-fits b i h l = eight (λ i. b / 2 ^ i % 2 ≡ 0 → b + 2 ^ i < 256) (λ e. omega arith) (λ e. omega arith) (λ e. omega arith) (λ e. omega arith) (λ e. omega arith) (λ e. omega arith) (λ e. omega arith) (λ e. omega arith) i h
+bit-fits b i h l = eight (λ i. b / 2 ^ i % 2 ≡ 0 → b + 2 ^ i < 256) (λ e. omega arith) (λ e. omega arith) (λ e. omega arith)
+    (λ e. omega arith) (λ e. omega arith) (λ e. omega arith) (λ e. omega arith) (λ e. omega arith) i h
 
 -- whether the place p is marked
 unfoldable pub markedPlaces : List ℕ → ℕ → Bool
@@ -92,7 +96,8 @@ mark-same m p h e =
     ap (λ (b : ℕ). eqb (b / 2 ^ (p % 8) % 2) 1) (getD-set-same m (p / 8) (getD m (p / 8) 0 + 2 ^ (p % 8)) 0 h)
     ∙ eq-eqb _ _ (bit-same (getD m (p / 8) 0) (p % 8) (omega arith) (unmarked m p e))
 
-pub mark-other : (m : List ℕ) (p q : ℕ) → p / 8 < length m → (q ≡ p → ⊥) → markedPlaces m p ≡ false → markedPlaces (markPlace m p) q ≡ markedPlaces m q
+pub mark-other : (m : List ℕ) (p q : ℕ) → p / 8 < length m → (q ≡ p → ⊥) → markedPlaces m p ≡ false
+    → markedPlaces (markPlace m p) q ≡ markedPlaces m q
 unfolding markedPlaces markPlace
 mark-other m p q h n e = go (eqb (q / 8) (p / 8)) refl
   where
@@ -101,7 +106,8 @@ mark-other m p q h n e = go (eqb (q / 8) (p / 8)) refl
         let g : q / 8 ≡ p / 8 = eqb-true (q / 8) (p / 8) f in
         rw g (ap (λ (b : ℕ). eqb (b / 2 ^ (q % 8) % 2) 1) (getD-set-same m (p / 8) (getD m (p / 8) 0 + 2 ^ (p % 8)) 0 h)
         ∙ ap (λ (b : ℕ). eqb b 1) (bit-other (getD m (p / 8) 0) (p % 8) (q % 8) (λ k. n (omega arith)) (unmarked m p e)))
-    go false f = ap (λ (b : ℕ). eqb (b / 2 ^ (q % 8) % 2) 1) (getD-set-other m (p / 8) (q / 8) (getD m (p / 8) 0 + 2 ^ (p % 8)) 0 (eqb-false (q / 8) (p / 8) f))
+    go false f = ap (λ (b : ℕ). eqb (b / 2 ^ (q % 8) % 2) 1)
+        (getD-set-other m (p / 8) (q / 8) (getD m (p / 8) 0 + 2 ^ (p % 8)) 0 (eqb-false (q / 8) (p / 8) f))
 
 -- ---- as the code has it: b is the bit of p
 

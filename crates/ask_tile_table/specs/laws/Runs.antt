@@ -53,21 +53,25 @@ pub run-append : (t : Table) (k : ℕ) (vs ws : List Visit) (out : List ℕ) (xs
 unfolding runTile
 run-append t k [] ws out xs ys = refl
 run-append t k (v ∷ vs) ws out xs ys =
-    go (listable t (v .place)) refl (run-append t (k + 1) vs ws (set out k (itemAt t v .place)) (set xs k (itemAt t v .x)) (set ys k (itemAt t v .y)))
+    go (listable t (v .place)) refl
+    (run-append t (k + 1) vs ws (set out k (itemAt t v .place)) (set xs k (itemAt t v .x)) (set ys k (itemAt t v .y)))
   where
     go : (b : Bool) → listable t (v .place) ≡ b
         → runTile t (k + 1) (vs ++ ws) (set out k (itemAt t v .place)) (set xs k (itemAt t v .x)) (set ys k (itemAt t v .y))
-        ≡ thenRuns (runTile t (k + 1) vs (set out k (itemAt t v .place)) (set xs k (itemAt t v .x)) (set ys k (itemAt t v .y))) (λ j o a b. runTile t j ws o a b)
+        ≡ thenRuns (runTile t (k + 1) vs (set out k (itemAt t v .place)) (set xs k (itemAt t v .x)) (set ys k (itemAt t v .y)))
+        (λ j o a b. runTile t j ws o a b)
         → runTile t k ((v ∷ vs) ++ ws) out xs ys ≡ thenRuns (runTile t k (v ∷ vs) out xs ys) (λ j o a b. runTile t j ws o a b)
     go true e h = rw (e, runTile) h
     go false e h = rw (e, runTile)
 
 -- the first part ends well, and the rest follows; or it does not, and that is the end
-pub run-more : (t : Table) (k j : ℕ) (vs ws : List Visit) (out o : List ℕ) (xs ys a b : List ℤ) → leftRuns (All j) o a b ≡ runTile t k vs out xs ys
+pub run-more : (t : Table) (k j : ℕ) (vs ws : List Visit) (out o : List ℕ) (xs ys a b : List ℤ)
+    → leftRuns (All j) o a b ≡ runTile t k vs out xs ys
     → runTile t k (vs ++ ws) out xs ys ≡ runTile t j ws o a b
 run-more t k j vs ws out o xs ys a b e = rw (run-append, ← e)
 
-pub run-ends : (t : Table) (k : ℕ) (vs ws : List Visit) (out o : List ℕ) (xs ys a b : List ℤ) → leftRuns Spoiled o a b ≡ runTile t k vs out xs ys
+pub run-ends : (t : Table) (k : ℕ) (vs ws : List Visit) (out o : List ℕ) (xs ys a b : List ℤ)
+    → leftRuns Spoiled o a b ≡ runTile t k vs out xs ys
     → leftRuns Spoiled o a b ≡ runTile t k (vs ++ ws) out xs ys
 run-ends t k vs ws out o xs ys a b e = rw (run-append, ← e)
 
@@ -80,27 +84,34 @@ ranOf false k = Spoiled
 
 -- the items of visits, stored from k on
 abbrev stored : Table → Ran → ℕ → List Visit → List ℕ → List ℤ → List ℤ → Left
-stored t r k vs out xs ys = leftRuns r (sets out k (map (λ i. i .place) (tileItems t vs))) (sets xs k (map (λ i. i .x) (tileItems t vs))) (sets ys k (map (λ i. i .y) (tileItems t vs)))
+stored t r k vs out xs ys = leftRuns r (sets out k (map (λ i. i .place) (tileItems t vs))) (sets xs k (map (λ i. i .x) (tileItems t vs)))
+    (sets ys k (map (λ i. i .y) (tileItems t vs)))
 
 run-sets : (t : Table) (k : ℕ) (vs : List Visit) (out : List ℕ) (xs ys : List ℤ)
     → runTile t k vs out xs ys ≡ stored t (ranOf (wholeTile t vs) (k + length (tileListed t vs))) k (tileListed t vs) out xs ys
 unfolding runTile tileListed wholeTile
 run-sets t k [] out xs ys = rw add-zero
 run-sets t k (v ∷ vs) out xs ys =
-    go (listable t (v .place)) refl (run-sets t (k + 1) vs (set out k (itemAt t v .place)) (set xs k (itemAt t v .x)) (set ys k (itemAt t v .y)))
+    go (listable t (v .place)) refl
+    (run-sets t (k + 1) vs (set out k (itemAt t v .place)) (set xs k (itemAt t v .x)) (set ys k (itemAt t v .y)))
   where
     go : (b : Bool) → listable t (v .place) ≡ b
         → runTile t (k + 1) vs (set out k (itemAt t v .place)) (set xs k (itemAt t v .x)) (set ys k (itemAt t v .y))
-        ≡ stored t (ranOf (wholeTile t vs) (k + 1 + length (tileListed t vs))) (k + 1) (tileListed t vs) (set out k (itemAt t v .place)) (set xs k (itemAt t v .x)) (set ys k (itemAt t v .y))
-        → runTile t k (v ∷ vs) out xs ys ≡ stored t (ranOf (wholeTile t (v ∷ vs)) (k + length (tileListed t (v ∷ vs)))) k (tileListed t (v ∷ vs)) out xs ys
+        ≡ stored t (ranOf (wholeTile t vs) (k + 1 + length (tileListed t vs))) (k + 1) (tileListed t vs) (set out k (itemAt t v .place))
+        (set xs k (itemAt t v .x)) (set ys k (itemAt t v .y))
+        → runTile t k (v ∷ vs) out xs ys ≡ stored t (ranOf (wholeTile t (v ∷ vs)) (k + length (tileListed t (v ∷ vs)))) k
+        (tileListed t (v ∷ vs)) out xs ys
     go true e h =
         let n : k + 1 + length (tileListed t vs) ≡ k + suc (length (tileListed t vs)) = omega arith in
         rw (e, runTile, wholeTile, tileListed) (h
-        ∙ ap (λ (j : ℕ). stored t (ranOf (wholeTile t vs) j) (k + 1) (tileListed t vs) (set out k (itemAt t v .place)) (set xs k (itemAt t v .x)) (set ys k (itemAt t v .y))) n
-        ∙ ap (λ (j : ℕ). stored t (ranOf (wholeTile t vs) (k + suc (length (tileListed t vs)))) j (tileListed t vs) (set out k (itemAt t v .place)) (set xs k (itemAt t v .x)) (set ys k (itemAt t v .y))) (add-one k))
+        ∙ ap (λ (j : ℕ). stored t (ranOf (wholeTile t vs) j) (k + 1) (tileListed t vs) (set out k (itemAt t v .place))
+        (set xs k (itemAt t v .x)) (set ys k (itemAt t v .y))) n
+        ∙ ap (λ (j : ℕ). stored t (ranOf (wholeTile t vs) (k + suc (length (tileListed t vs)))) j (tileListed t vs)
+        (set out k (itemAt t v .place)) (set xs k (itemAt t v .x)) (set ys k (itemAt t v .y))) (add-one k))
     go false e h = rw (e, runTile, wholeTile, tileListed)
 
-pub run-is : (t : Table) (vs : List Visit) (out : List ℕ) (xs ys : List ℤ) (r : Ran) (o : List ℕ) (a b : List ℤ) → leftRuns r o a b ≡ runTile t 0 vs out xs ys
+pub run-is : (t : Table) (vs : List Visit) (out : List ℕ) (xs ys : List ℤ) (r : Ran) (o : List ℕ) (a b : List ℤ)
+    → leftRuns r o a b ≡ runTile t 0 vs out xs ys
     → (r ≡ ranOf (wholeTile t vs) (length (tileListed t vs))) × (o ≡ sets out 0 (map (λ i. i .place) (tileItems t (tileListed t vs))))
     × (a ≡ sets xs 0 (map (λ i. i .x) (tileItems t (tileListed t vs)))) × (b ≡ sets ys 0 (map (λ i. i .y) (tileItems t (tileListed t vs))))
 run-is t vs out xs ys r o a b e =
@@ -127,7 +138,8 @@ count-of : (b : Bool) (k : ℕ) → countOf (ranOf b k) ≤ k
 count-of true k = omega arith
 count-of false k = omega arith
 
-pub run-count : (t : Table) (k j : ℕ) (vs : List Visit) (out o : List ℕ) (xs ys a b : List ℤ) → leftRuns (All j) o a b ≡ runTile t k vs out xs ys → j ≤ k + length vs
+pub run-count : (t : Table) (k j : ℕ) (vs : List Visit) (out o : List ℕ) (xs ys a b : List ℤ)
+    → leftRuns (All j) o a b ≡ runTile t k vs out xs ys → j ≤ k + length vs
 run-count t k j vs out o xs ys a b e =
     let f : leftRuns (All j) o a b ≡ _ = e ∙ run-sets t k vs out xs ys in
     let g : All j ≡ ranOf (wholeTile t vs) (k + length (tileListed t vs)) = cc in

@@ -34,7 +34,8 @@ module _ (o : Options) (z x y : ℕ) (b : InBounds o) (w : IsTile z x y) (g : Ti
   pub west-may : g ≡ westStrip o z x y → Framed g
   west-may e = subst Framed (sym e) (west-framed o z x y b w)
 
-  module _ (t : Table) (n : ℕ) (ids : List ℕ) (co : List Float) (l : length t ≡ n) (ok : coordsOk (o .«node_size») n (length co) ≡ true) where
+  module _ (t : Table) (n : ℕ) (ids : List ℕ) (co : List Float) (l : length t ≡ n)
+      (ok : coordsOk (o .«node_size») n (length co) ≡ true) where
     long : coordsOk (o .«node_size») (length t) (length co) ≡ true
     long = ap (λ (k : ℕ). coordsOk (o .«node_size») k (length co)) l ∙ ok
 
@@ -82,20 +83,27 @@ no-strips o z x y t ids co e = own-range o z x y t ids co (ap (λ (w : Bool). w 
 -- ---- three runs, one after the other; each ends the listing, or the next goes on
 
 -- a run that ended well has listed at most n more
-pub listed-few : (t : Table) (k j n : ℕ) (g : TileSearch) (ids : List ℕ) (co : List Float) (r : Ran) (out o : List ℕ) (xs ys a b : List ℤ) → r ≡ All j
+pub listed-few : (t : Table) (k j n : ℕ) (g : TileSearch) (ids : List ℕ) (co : List Float) (r : Ran) (out o : List ℕ) (xs ys a b : List ℤ)
+    → r ≡ All j
     → leftRuns r o a b ≡ runTile t k (walkedTurns g n ids co) out xs ys → j ≤ k + n
 listed-few t k j n g ids co r out o xs ys a b h e =
-    omega (arith, run-count t k j (walkedTurns g n ids co) out o xs ys a b (ap (λ (q : Ran). leftRuns q o a b) (sym h) ∙ e), walked-length g n ids co)
+    omega (
+      arith,
+      run-count t k j (walkedTurns g n ids co) out o xs ys a b (ap (λ (q : Ran). leftRuns q o a b) (sym h) ∙ e),
+      walked-length g n ids co,
+    )
 
 module _ (t : Table) (A B C : List Visit) (out : List ℕ) (xs ys : List ℤ) where
-  pub first-ends : (r : Ran) (o : List ℕ) (a b : List ℤ) → r ≡ Spoiled → leftRuns r o a b ≡ runTile t 0 A out xs ys → leftRuns Spoiled o a b ≡ runTile t 0 (A ++ (B ++ C)) out xs ys
+  pub first-ends : (r : Ran) (o : List ℕ) (a b : List ℤ) → r ≡ Spoiled → leftRuns r o a b ≡ runTile t 0 A out xs ys
+      → leftRuns Spoiled o a b ≡ runTile t 0 (A ++ (B ++ C)) out xs ys
   first-ends r o a b h e = run-ends t 0 A (B ++ C) out o xs ys a b (rw h at e)
 
   module _ (r : Ran) (k : ℕ) (o : List ℕ) (a b : List ℤ) (h : r ≡ All k) (e : leftRuns r o a b ≡ runTile t 0 A out xs ys) where
     rest : runTile t 0 (A ++ (B ++ C)) out xs ys ≡ runTile t k (B ++ C) o a b
     rest = run-more t 0 k A (B ++ C) out o xs ys a b (rw h at e)
 
-    pub second-ends : (s : Ran) (p : List ℕ) (u v : List ℤ) → s ≡ Spoiled → leftRuns s p u v ≡ runTile t k B o a b → leftRuns Spoiled p u v ≡ runTile t 0 (A ++ (B ++ C)) out xs ys
+    pub second-ends : (s : Ran) (p : List ℕ) (u v : List ℤ) → s ≡ Spoiled → leftRuns s p u v ≡ runTile t k B o a b
+        → leftRuns Spoiled p u v ≡ runTile t 0 (A ++ (B ++ C)) out xs ys
     second-ends s p u v g d = run-ends t k B C o p a b u v (rw g at d) ∙ sym rest
 
     pub third-ends : (s : Ran) (j : ℕ) (p : List ℕ) (u v : List ℤ) → s ≡ All j → leftRuns s p u v ≡ runTile t k B o a b

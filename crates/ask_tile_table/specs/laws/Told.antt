@@ -16,7 +16,8 @@ use Rattle.ask_tile_table.specs.declared.Running.{Running}
 use Rattle.ask_tile_table.specs.Tile.{Visit, listable, tileListed, wholeTile}
 use Rattle.ask_tile_table.specs.laws.Marks.{markedPlaces, markPlace, fresh, mark-same, mark-other}
 use Rattle.ask_tile_table.specs.Tally.{member, distinct, total, tallyOf}
-use Rattle.ask_tile_table.specs.laws.Counting.{HeldMarks, heldMarks, heldMarksOf, placesIn, places-append, markOf, marksFor, doubt, added, markingPlace, counted}
+use Rattle.ask_tile_table.specs.laws.Counting.{HeldMarks, heldMarks, heldMarksOf, placesIn, places-append, markOf, marksFor, doubt}
+use Rattle.ask_tile_table.specs.laws.Counting.{added, markingPlace, counted}
 use Rattle.ask_tile_table.specs.laws.Counting.{counted-more, counted-ends, runningOf}
 
 -- ---- the marks are those of the places counted
@@ -51,7 +52,8 @@ agree-blank false n m b = record {
   only = λ e p h f. absurd (no (sym f ∙ b .clear p h));
 }
 
-module _ (few : Bool) (n : ℕ) (m seen : List ℕ) (p : ℕ) (h : p < n) (e : markedPlaces m (markOf few p) ≡ false) (a : Agree few n m seen) where
+module _ (few : Bool) (n : ℕ) (m seen : List ℕ) (p : ℕ) (h : p < n) (e : markedPlaces m (markOf few p) ≡ false)
+    (a : Agree few n m seen) where
   reached : markOf few p / 8 < length m
   reached = let b = mark-below few n p h in omega (arith, a .long)
 
@@ -64,7 +66,8 @@ module _ (few : Bool) (n : ℕ) (m seen : List ℕ) (p : ℕ) (h : p < n) (e : m
       old false g i f = rw (g, member) at i
 
       go : (b : Bool) → eqb (markOf few q) (markOf few p) ≡ b → markedPlaces (markPlace m (markOf few p)) (markOf few q) ≡ true
-      go true g = ap (markedPlaces (markPlace m (markOf few p))) (eqb-true (markOf few q) (markOf few p) g) ∙ mark-same m (markOf few p) reached e
+      go true g = ap (markedPlaces (markPlace m (markOf few p))) (eqb-true (markOf few q) (markOf few p) g)
+          ∙ mark-same m (markOf few p) reached e
       go false g =
           let f = eqb-false (markOf few q) (markOf few p) g in
           mark-other m (markOf few p) (markOf few q) reached f e ∙ a .keeps q (old (eqb q p) refl i f)
@@ -140,7 +143,8 @@ counts few w t k s (v ∷ vs) m seen a =
         → member (v .place) seen ≡ true
     old d e l = let z = certain few k _ d e in a .only z (v .place) l (rw z at e)
 
-    go : (b : Bool) → markedPlaces m (markOf few (v .place)) ≡ b → doubt few k (markedPlaces m (markOf few (v .place))) ≡ false → v .place < length t
+    go : (b : Bool) → markedPlaces m (markOf few (v .place)) ≡ b → doubt few k (markedPlaces m (markOf few (v .place))) ≡ false
+        → v .place < length t
         → Counts few w t (k + 1) s vs m seen
         → (markedPlaces m (markOf few (v .place)) ≡ false → Counts few w t (k + 1) (s + w (entry t (v .place))) vs
         (markPlace m (markOf few (v .place))) (v .place ∷ seen))
@@ -152,7 +156,8 @@ counts few w t k s (v ∷ vs) m seen a =
         let g = new e (member (v .place) seen) refl in
         rw (g, distinct) (rw (more (length (tileListed t vs)), add-assoc) at (f e))
 
-    sifted : (d : Bool) → doubt few k (markedPlaces m (markOf few (v .place))) ≡ d → v .place < length t → Counts few w t (k + 1) s vs m seen
+    sifted : (d : Bool) → doubt few k (markedPlaces m (markOf few (v .place))) ≡ d → v .place < length t
+        → Counts few w t (k + 1) s vs m seen
         → (markedPlaces m (markOf few (v .place)) ≡ false → Counts few w t (k + 1) (s + w (entry t (v .place))) vs
         (markPlace m (markOf few (v .place))) (v .place ∷ seen))
         → Good few (elim d [

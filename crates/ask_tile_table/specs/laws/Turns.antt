@@ -39,16 +39,24 @@ walkedTurns g n ids co = visitsOf g (when (g .made) (places ids (walk (g .query)
 pub walked-none : (g : TileSearch) (n : ℕ) (ids : List ℕ) (co : List Float) → g .made ≡ false → walkedTurns g n ids co ≡ []
 walked-none g n ids co e = rw e
 
-pub walked-made : (g : TileSearch) (n : ℕ) (ids : List ℕ) (co : List Float) → g .made ≡ true → walkedTurns g n ids co ≡ visitsOf g (places ids (walk (g .query) (g .«node_size») n co))
+pub walked-made : (g : TileSearch) (n : ℕ) (ids : List ℕ) (co : List Float) → g .made ≡ true
+    → walkedTurns g n ids co ≡ visitsOf g (places ids (walk (g .query) (g .«node_size») n co))
 walked-made g n ids co e = rw e
 
 pub walked-length : (g : TileSearch) (n : ℕ) (ids : List ℕ) (co : List Float) → length (walkedTurns g n ids co) ≤ n
 walked-length g n ids co =
     let w = walk (g .query) (g .«node_size») n co in
-    omega (arith, length-map {B = Visit} (when (g .made) (places ids w)) (λ p. record { by = g; place = p }), when-length (g .made) (places ids w), places-length ids w, walk-length (g .query) (g .«node_size») n co)
+    omega (
+      arith,
+      length-map {B = Visit} (when (g .made) (places ids w)) (λ p. record { by = g; place = p }),
+      when-length (g .made) (places ids w),
+      places-length ids w,
+      walk-length (g .query) (g .«node_size») n co,
+    )
 
 -- it is what the search finds
-pub walked-whole : (g : TileSearch) (t : Table) (ids : List ℕ) (co : List Float) → coordsOk (g .«node_size») (length t) (length co) ≡ true → queryOk (g .query) ≡ true
+pub walked-whole : (g : TileSearch) (t : Table) (ids : List ℕ) (co : List Float) → coordsOk (g .«node_size») (length t) (length co) ≡ true
+    → queryOk (g .query) ≡ true
     → walkedTurns g (length t) ids co ≡ visits g t ids co
 walked-whole g t ids co a b =
     ap (λ (l : List ℕ). visitsOf g (when (g .made) (places ids l))) (walk-whole (g .query) (g .«node_size») (length t) co a b)
@@ -119,12 +127,14 @@ named-fine t p e h =
 
 -- ---- the turns
 
-run-bad : (t : Table) (k : ℕ) (v : Visit) (vs : List Visit) (out : List ℕ) (xs ys : List ℤ) → listable t (v .place) ≡ false → leftRuns Spoiled out xs ys ≡ runTile t k (v ∷ vs) out xs ys
+run-bad : (t : Table) (k : ℕ) (v : Visit) (vs : List Visit) (out : List ℕ) (xs ys : List ℤ) → listable t (v .place) ≡ false
+    → leftRuns Spoiled out xs ys ≡ runTile t k (v ∷ vs) out xs ys
 unfolding runTile
 run-bad t k v vs out xs ys e = rw (e, runTile)
 
 run-one : (t : Table) (k : ℕ) (v : Visit) (vs : List Visit) (out : List ℕ) (xs ys : List ℤ) → listable t (v .place) ≡ true
-    → runTile t k (v ∷ vs) out xs ys ≡ runTile t (k + 1) vs (set out k (itemAt t v .place)) (set xs k (itemAt t v .x)) (set ys k (itemAt t v .y))
+    → runTile t k (v ∷ vs) out xs ys ≡ runTile t (k + 1) vs (set out k (itemAt t v .place)) (set xs k (itemAt t v .x))
+    (set ys k (itemAt t v .y))
 unfolding runTile
 run-one t k v vs out xs ys e = rw (e, runTile)
 
@@ -143,9 +153,11 @@ module _ (t : Table) (g : TileSearch) (ids : List ℕ) (k : ℕ) (l : List ℕ) 
 
   pub turn-bad : (c : ℕ) (m : List ℕ) → l ≡ c ∷ m → namedAt t (getD ids c 0) ≡ Bad → leftRuns Spoiled out xs ys ≡ still
   unfolding places
-  turn-bad c m e h = rw e (run-bad t k (record { by = g; place = getD ids c 0 }) (visitsOf g (places ids m)) out xs ys (named-bad t (getD ids c 0) h))
+  turn-bad c m e h = rw e (run-bad t k (record { by = g; place = getD ids c 0 }) (visitsOf g (places ids m)) out xs ys
+      (named-bad t (getD ids c 0) h))
 
-  pub turn-next : (c : ℕ) (m : List ℕ) → l ≡ c ∷ m → (e : Entry) → namedAt t (getD ids c 0) ≡ At e → (i : Item) → i ≡ itemOf g (getD ids c 0) e
+  pub turn-next : (c : ℕ) (m : List ℕ) → l ≡ c ∷ m → (e : Entry) → namedAt t (getD ids c 0) ≡ At e → (i : Item)
+      → i ≡ itemOf g (getD ids c 0) e
       → (o : List ℕ) (a b : List ℤ) → o ≡ set out k (i .place) → a ≡ set xs k (i .x) → b ≡ set ys k (i .y)
       → runTile t (k + 1) (visitsOf g (places ids m)) o a b ≡ still
   unfolding places

@@ -20,18 +20,30 @@ abbrev start-of : tie.After-build → tie.Start
 start-of b = b .before .before .before .before .before .before .before .before .before
 
 -- the points of the part
-indexable : (s : tie.Start) → Indexable (s .args .size) (part (s .args .start) (s .args .len) (now (s .args .x))) (part (s .args .start) (s .args .len) (now (s .args .y)))
+indexable : (s : tie.Start) → Indexable (s .args .size) (part (s .args .start) (s .args .len) (now (s .args .x)))
+    (part (s .args .start) (s .args .len) (now (s .args .y)))
 indexable s =
     let a = s .args in
     let h = s .pre .0 in
     let k = s .pre .1 .0 in
     let lx = part-long (a .start) (a .len) (now (a .x)) (k .1) in
     let ly = part-long (a .start) (a .len) (now (a .y)) (omega (arith, k .0, k .1)) in
-    record { size-from = h .3; size-to = h .4; some = omega (arith, lx, h .0); most = omega (arith, lx, h .1); paired = ly ∙ sym lx; inside = s .pre .1 .1 }
+    record {
+      size-from = h .3;
+      size-to = h .4;
+      some = omega (arith, lx, h .0);
+      most = omega (arith, lx, h .1);
+      paired = ly
+          ∙ sym lx;
+      inside = s .pre .1 .1;
+    }
 
-index-built : (s : tie.Start) → built (s .args .size) (part (s .args .start) (s .args .len) (now (s .args .x))) (part (s .args .start) (s .args .len) (now (s .args .y)))
-    (indexCols (part (s .args .start) (s .args .len) (now (s .args .ids))) (part (s .args .start * 2) (s .args .len * 2) (now (s .args .coords))))
-    ≡ indexOf (s .args .size) (part (s .args .start) (s .args .len) (now (s .args .x))) (part (s .args .start) (s .args .len) (now (s .args .y)))
+index-built : (s : tie.Start) → built (s .args .size) (part (s .args .start) (s .args .len) (now (s .args .x)))
+    (part (s .args .start) (s .args .len) (now (s .args .y)))
+    (indexCols (part (s .args .start) (s .args .len) (now (s .args .ids)))
+    (part (s .args .start * 2) (s .args .len * 2) (now (s .args .coords))))
+    ≡ indexOf (s .args .size) (part (s .args .start) (s .args .len) (now (s .args .x)))
+    (part (s .args .start) (s .args .len) (now (s .args .y)))
 index-built s =
     let a = s .args in
     let k = s .pre .1 .0 in
@@ -39,7 +51,8 @@ index-built s =
     let li = part-long (a .start) (a .len) (now (a .ids)) (k .2) in
     let lc = part-long (a .start * 2) (a .len * 2) (now (a .coords)) (omega (arith, k .3)) in
     built-is (a .size) (part (a .start) (a .len) (now (a .x))) (part (a .start) (a .len) (now (a .y))) (indexable s)
-    (indexCols (part (a .start) (a .len) (now (a .ids))) (part (a .start * 2) (a .len * 2) (now (a .coords)))) (li ∙ sym lx) (omega (arith, lc, lx))
+    (indexCols (part (a .start) (a .len) (now (a .ids))) (part (a .start * 2) (a .len * 2) (now (a .coords)))) (li ∙ sym lx)
+    (omega (arith, lc, lx))
 
 add-end : tie.Need-add-end
 add-end c = search needs
@@ -116,7 +129,8 @@ returns c =
     let w = b .build in
     let e1 : st + a .len - st ≡ a .len = omega arith in
     let e2 : (st + a .len) * 2 - st * 2 ≡ a .len * 2 = omega arith in
-    let left : indexCols (w .last .1 .1 .1 .0) (w .last .1 .1 .1 .1 .0) ≡ indexOf (a .size) (part st (a .len) (now (a .x))) (part st (a .len) (now (a .y))) = rw (e1, e2) at (w .ensures .1) ∙ index-built s in (
+    let left : indexCols (w .last .1 .1 .1 .0) (w .last .1 .1 .1 .1 .0) ≡ indexOf (a .size) (part st (a .len) (now (a .x)))
+    (part st (a .len) (now (a .y))) = rw (e1, e2) at (w .ensures .1) ∙ index-built s in (
       ap (λ (q : ℕ). take st (now (a .ids)) ++ (w .last .1 .1 .1 .0 ++ drop q (drop st (now (a .ids))))) e1
           ∙ ap (λ (q : IndexCols). take st (now (a .ids)) ++ (q .ids ++ drop (a .len) (drop st (now (a .ids))))) left,
       ap (λ (q : ℕ). take (st * 2) (now (a .coords)) ++ (w .last .1 .1 .1 .1 .0 ++ drop q (drop (st * 2) (now (a .coords))))) e2

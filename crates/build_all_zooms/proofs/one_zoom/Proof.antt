@@ -13,7 +13,8 @@ use Rattle.build_all_zooms.specs.Zooms.{Plan, zoomPlan}
 use Rattle.build_one_zoom.specs.laws.Near.{Radius}
 use Rattle.build_all_zooms.specs.laws.Running.{Running, cur-promised}
 use Rattle.build_all_zooms.specs.laws.OwnPlace.{cur-slotted, cur-owned}
-use Rattle.build_all_zooms.specs.laws.Zooming.{Zoomed, z-few, step-room, step-light, step-watts, step-radius, step-placed, made-some, made-few}
+use Rattle.build_all_zooms.specs.laws.Zooming.{Zoomed, z-few, step-room, step-light, step-watts, step-radius, step-placed, made-some}
+use Rattle.build_all_zooms.specs.laws.Zooming.{made-few}
 use Rattle.build_all_zooms.specs.laws.Zooming.{made-body, scanned, inside-made, advanced}
 use Rattle.build_all_zooms.proofs.one_zoom.Statement.{statement}
 use Rattle.build_all_zooms.proofs.one_zoom.Tie as tie
@@ -29,14 +30,17 @@ columns s = let a = s .args in (given (a .x) (a .y) (a .seen) (a .id) (a .parent
 abbrev table : tie.Start → Table
 table s = rows (columns s)
 
-running : (s : tie.Start) → let a = s .args in Running (plan s) (length (a .x .now)) (suc (a .z - a .o .«min_zoom»)) (a .start) (a .len) (table s) (a .ids .now) (a .coords .now)
+running : (s : tie.Start) → let a = s .args in Running (plan s) (length (a .x .now)) (suc (a .z - a .o .«min_zoom»)) (a .start) (a .len)
+    (table s) (a .ids .now) (a .coords .now)
 running s = s .pre .3
 
 few : (s : tie.Start) → s .args .z ≤ 30
-few s = let a = s .args in z-few (plan s) (length (a .x .now)) (a .z) (a .start) (a .len) (table s) (a .ids .now) (a .coords .now) (s .pre .2) (running s)
+few s = let a = s .args in z-few (plan s) (length (a .x .now)) (a .z) (a .start) (a .len) (table s) (a .ids .now) (a .coords .now)
+    (s .pre .2) (running s)
 
 room : (s : tie.Start) → s .args .start + s .args .len + s .args .len ≤ length (s .args .x .now)
-room s = let a = s .args in step-room (plan s) (length (a .x .now)) (a .z) (a .start) (a .len) (table s) (a .ids .now) (a .coords .now) (s .pre .2) (running s)
+room s = let a = s .args in step-room (plan s) (length (a .x .now)) (a .z) (a .start) (a .len) (table s) (a .ids .now) (a .coords .now)
+    (s .pre .2) (running s)
 
 -- the lent parts of the index's columns
 ids-part : (s : tie.Start) → s .args .start + s .args .len - s .args .start ≡ s .args .len
@@ -63,15 +67,28 @@ abbrev start-of : tie.After-zoom-step → tie.Start
 start-of w = ready (radius-of w)
 
 abbrev came : tie.After-zoom-step → Cols
-came c = let w = c .zoom-step in (cols (w .last .0) (w .last .1 .0) (w .last .1 .1 .0) (w .last .1 .1 .1 .0) (w .last .1 .1 .1 .1 .0) (w .last .1 .1 .1 .1 .1 .0) (w .last .1 .1 .1 .1 .1 .1 .0))
+came c = let w = c .zoom-step in
+    (cols (w .last .0) (w .last .1 .0) (w .last .1 .1 .0) (w .last .1 .1 .1 .0) (w .last .1 .1 .1 .1 .0) (w .last .1 .1 .1 .1 .1 .0)
+    (w .last .1 .1 .1 .1 .1 .1 .0))
 
 kept-by : (c : tie.After-zoom-step) → Kept (columns (start-of c)) (came c)
-kept-by c = let w = c .zoom-step in (record { kx = w .kept .0; ky = w .kept .1 .0; ks = w .kept .1 .1 .0; ki = w .kept .1 .1 .1 .0; kp = w .kept .1 .1 .1 .1 .0; kn = w .kept .1 .1 .1 .1 .1 .0; kw = w .kept .1 .1 .1 .1 .1 .1 .0 })
+kept-by c = let w = c .zoom-step in
+    (record {
+      kx = w .kept .0;
+      ky = w .kept .1 .0;
+      ks = w .kept .1 .1 .0;
+      ki = w .kept .1 .1 .1 .0;
+      kp = w .kept .1 .1 .1 .1 .0;
+      kn =
+          w .kept .1 .1 .1 .1 .1 .0;
+      kw = w .kept .1 .1 .1 .1 .1 .1 .0;
+    })
 
 even : (w : tie.After-zoom-step) → Even (came w)
 even w = even-kept (columns (start-of w)) (came w) (kept-by w) (start-of w .pre .0)
 
-zoomed : (w : tie.After-zoom-step) → let a = start-of w .args in Zoomed (plan (start-of w)) (a .z) (a .start) (a .len) (w .zoom-step .result) (table (start-of w)) (rows (came w))
+zoomed : (w : tie.After-zoom-step) → let a = start-of w .args in
+    Zoomed (plan (start-of w)) (a .z) (a .start) (a .len) (w .zoom-step .result) (table (start-of w)) (rows (came w))
 zoomed w =
     let s = start-of w in
     let a = s .args in
@@ -80,10 +97,22 @@ zoomed w =
     (running s) (r .result) (r .ensures) (rows (came w)) (w .zoom-step .result) (rw (ids-part s, co-part s) at (w .zoom-step .ensures))
 
 some : (w : tie.After-zoom-step) → 1 ≤ w .zoom-step .result
-some w = let s = start-of w in let a = s .args in omega (arith, zoomed w .count, made-some (plan s) (length (a .x .now)) (a .z) (a .start) (a .len) (table s) (a .ids .now) (a .coords .now) (s .pre .2) (running s))
+some w = let s = start-of w in let a = s .args in
+    omega (
+      arith,
+      zoomed w .count,
+      made-some (plan s) (length (a .x .now)) (a .z) (a .start) (a .len) (table s) (a .ids .now)
+          (a .coords .now) (s .pre .2) (running s),
+    )
 
 short : (w : tie.After-zoom-step) → w .zoom-step .result ≤ start-of w .args .len
-short w = let s = start-of w in let a = s .args in omega (arith, zoomed w .count, made-few (plan s) (length (a .x .now)) (a .z) (a .start) (a .len) (table s) (a .ids .now) (a .coords .now) (s .pre .2) (running s))
+short w = let s = start-of w in let a = s .args in
+    omega (
+      arith,
+      zoomed w .count,
+      made-few (plan s) (length (a .x .now)) (a .z) (a .start) (a .len) (table s) (a .ids .now)
+          (a .coords .now) (s .pre .2) (running s),
+    )
 
 abbrev indexed-of : tie.After-slice-known20 → tie.After-index-part
 indexed-of c = c .before .before .before .before
@@ -151,10 +180,13 @@ zoom-step-requires c κs =
     let a = s .args in
     let r = running s in
     let rad = stepping c .radius-at in
-    let radius : Radius (rad .result) = rw (rad .ensures) (step-radius (plan s) (length (a .x .now)) (a .z) (a .start) (a .len) (table s) (a .ids .now) (a .coords .now) (s .pre .2) (running s)) in (
+    let radius : Radius (rad .result) =
+    rw (rad .ensures) (step-radius (plan s) (length (a .x .now)) (a .z) (a .start) (a .len) (table s) (a .ids .now) (a .coords .now)
+    (s .pre .2) (running s)) in (
       s .pre .0,
       rw (ids-part s, co-part s)
-          (cur-promised (plan s) (length (a .x .now)) (suc (a .z - a .o .«min_zoom»)) (a .start) (a .len) (table s) (a .ids .now) (a .coords .now) r),
+          (cur-promised (plan s) (length (a .x .now)) (suc (a .z - a .o .«min_zoom»)) (a .start) (a .len) (table s) (a .ids .now)
+          (a .coords .now) r),
       radius,
       step-placed (plan s) (length (a .x .now)) (a .z) (a .start) (a .len) (table s) (a .ids .now) (a .coords .now) (s .pre .2) (running s),
       omega (arith, r .len-few, s .pre .1),
@@ -165,9 +197,11 @@ zoom-step-requires c κs =
       r .able .few,
       few s,
       rw (ids-part s, co-part s)
-          (cur-slotted (plan s) (length (a .x .now)) (suc (a .z - a .o .«min_zoom»)) (a .start) (a .len) (table s) (a .ids .now) (a .coords .now) r),
+          (cur-slotted (plan s) (length (a .x .now)) (suc (a .z - a .o .«min_zoom»)) (a .start) (a .len) (table s) (a .ids .now)
+          (a .coords .now) r),
       rw (ids-part s, co-part s)
-          (cur-owned (plan s) (length (a .x .now)) (suc (a .z - a .o .«min_zoom»)) (a .start) (a .len) (table s) (a .ids .now) (a .coords .now) r (rad .result) (radius .0)),
+          (cur-owned (plan s) (length (a .x .now)) (suc (a .z - a .o .«min_zoom»)) (a .start) (a .len) (table s) (a .ids .now)
+          (a .coords .now) r (rad .result) (radius .0)),
       step-watts (plan s) (length (a .x .now)) (a .z) (a .start) (a .len) (table s) (a .ids .now) (a .coords .now) (s .pre .2) (running s),
     )
 
@@ -180,8 +214,15 @@ index-part-requires c κs =
     let h = short w in (
       (some w, omega (arith, h, r .len-few, r .able .few), omega (arith, room s, r .M-few), r .able .size-from, r .able .size-to),
       (
-        (even w .ey, omega (arith, h, room s, w .zoom-step .kept .0), omega (arith, h, room s, r .ids-long), omega (arith, h, room s, r .co-long)),
-        inside-made (plan s) (a .z) (a .start) (a .len) (w .zoom-step .result) (table s) (came w) (even w) (zoomed w) (made-body (plan s) (length (a .x .now)) (a .z) (a .start) (a .len) (table s) (a .ids .now) (a .coords .now) (s .pre .2) (running s)),
+        (
+          even w .ey,
+          omega (arith, h, room s, w .zoom-step .kept .0),
+          omega (arith, h, room s, r .ids-long),
+          omega (arith, h, room s, r .co-long),
+        ),
+        inside-made (plan s) (a .z) (a .start) (a .len) (w .zoom-step .result) (table s) (came w) (even w) (zoomed w)
+            (made-body (plan s) (length (a .x .now)) (a .z) (a .start) (a .len) (table s) (a .ids .now) (a .coords .now) (s .pre .2)
+            (running s)),
       ),
     )
 

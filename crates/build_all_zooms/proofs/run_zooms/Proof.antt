@@ -19,15 +19,19 @@ use Rattle.build_all_zooms.proofs.run_zooms.Statement.{statement}
 use Rattle.build_all_zooms.proofs.run_zooms.Tie as tie
 
 abbrev Inv-loop : tie.InvT-loop
-Inv-loop x₀ y₀ seen₀ id₀ parent₀ num₀ energy₀ ids₀ coords₀ near₀ n o low st₀ z₀ start₀ len₀ x y seen id parent num energy ids coords near st z start len =
+Inv-loop x₀ y₀ seen₀ id₀ parent₀ num₀ energy₀ ids₀ coords₀ near₀ n o low st₀ z₀ start₀ len₀ x y seen id parent num energy ids coords near st
+    z start len =
     Even (cols x y seen id parent num energy) × (length x ≡ length x₀) × (length near ≡ length near₀) × (o .«min_zoom» ≤ z) ×
     Running (zoomPlan o n) (length x₀) (z - o .«min_zoom») start len (rows (cols x y seen id parent num energy)) ids coords ×
-    Progress (zoomPlan o n) (wholeProgress (zoomPlan o n) (z₀ - o .«min_zoom») (part 0 len₀ (rows (cols x₀ y₀ seen₀ id₀ parent₀ num₀ energy₀))) (st₀ .starts) (st₀ .lens))
-    (rows (cols x₀ y₀ seen₀ id₀ parent₀ num₀ energy₀)) ids₀ coords₀ (z - o .«min_zoom») start len (rows (cols x y seen id parent num energy)) ids coords (st .starts) (st .lens) ×
+    Progress (zoomPlan o n) (wholeProgress (zoomPlan o n) (z₀ - o .«min_zoom»)
+    (part 0 len₀ (rows (cols x₀ y₀ seen₀ id₀ parent₀ num₀ energy₀))) (st₀ .starts) (st₀ .lens))
+    (rows (cols x₀ y₀ seen₀ id₀ parent₀ num₀ energy₀)) ids₀ coords₀ (z - o .«min_zoom») start len
+    (rows (cols x y seen id parent num energy)) ids coords (st .starts) (st .lens) ×
     (st .options ≡ st₀ .options) × (st .count ≡ st₀ .count)
 
 abbrev μ-loop : tie.MeasureT-loop
-μ-loop x₀ y₀ seen₀ id₀ parent₀ num₀ energy₀ ids₀ coords₀ near₀ n o low st₀ z₀ start₀ len₀ x y seen id parent num energy ids coords near st z start len = z
+μ-loop x₀ y₀ seen₀ id₀ parent₀ num₀ energy₀ ids₀ coords₀ near₀ n o low st₀ z₀ start₀ len₀ x y seen id parent num energy ids coords near st z
+    start len = z
 
 -- ---- the places
 
@@ -44,7 +48,9 @@ abbrev test-of : tie.After-one-zoom Inv-loop μ-loop → tie.In-loop Inv-loop μ
 test-of c = lending (c .before)
 
 abbrev zoom-of : tie.After-slice-known20 Inv-loop μ-loop → tie.After-one-zoom Inv-loop μ-loop
-zoom-of c = c .before .before .before .before .before .before .before .before .before .before .before .before .before .before .before .before .before .before .before .before
+zoom-of c =
+    c .before .before .before .before .before .before .before .before .before .before .before .before .before .before
+    .before .before .before .before .before .before
 
 abbrev plan : tie.Start Inv-loop μ-loop → Plan
 plan s = zoomPlan (s .args .s .options) (s .args .n)
@@ -62,13 +68,25 @@ abbrev table : tie.At-loop Inv-loop μ-loop → Table
 table h = rows (here h)
 
 abbrev came : tie.After-one-zoom Inv-loop μ-loop → Cols
-came c = let w = c .one-zoom in (cols (w .last .0) (w .last .1 .0) (w .last .1 .1 .0) (w .last .1 .1 .1 .0) (w .last .1 .1 .1 .1 .0) (w .last .1 .1 .1 .1 .1 .0) (w .last .1 .1 .1 .1 .1 .1 .0))
+came c = let w = c .one-zoom in
+    (cols (w .last .0) (w .last .1 .0) (w .last .1 .1 .0) (w .last .1 .1 .1 .0) (w .last .1 .1 .1 .1 .0) (w .last .1 .1 .1 .1 .1 .0)
+    (w .last .1 .1 .1 .1 .1 .1 .0))
 
 abbrev next : tie.After-one-zoom Inv-loop μ-loop → Table
 next w = rows (came w)
 
 kept-zoom : (c : tie.After-one-zoom Inv-loop μ-loop) → Kept (here (test-of c .before)) (came c)
-kept-zoom c = let w = c .one-zoom in (record { kx = w .kept .0; ky = w .kept .1 .0; ks = w .kept .1 .1 .0; ki = w .kept .1 .1 .1 .0; kp = w .kept .1 .1 .1 .1 .0; kn = w .kept .1 .1 .1 .1 .1 .0; kw = w .kept .1 .1 .1 .1 .1 .1 .0 })
+kept-zoom c = let w = c .one-zoom in
+    (record {
+      kx = w .kept .0;
+      ky = w .kept .1 .0;
+      ks = w .kept .1 .1 .0;
+      ki = w .kept .1 .1 .1 .0;
+      kp = w .kept .1 .1 .1 .1 .0;
+      kn =
+          w .kept .1 .1 .1 .1 .1 .0;
+      kw = w .kept .1 .1 .1 .1 .1 .1 .0;
+    })
 
 kept-by : (h : tie.At-loop Inv-loop μ-loop) → Kept (columns (start-of h)) (here h)
 kept-by h = kept-even (columns (start-of h)) (here h) (start-of h .pre .0) (h .loop .inv .0) (h .loop .inv .1)
@@ -76,25 +94,31 @@ kept-by h = kept-even (columns (start-of h)) (here h) (start-of h .pre .0) (h .l
 -- ---- what is known before a zoom, and after it
 
 ready : (c : tie.In-loop Inv-loop μ-loop) → let l = c .before .loop in let s = start-of (c .before) in
-    Running (plan s) (length (s .args .x .now)) (suc (l .z - 1 - s .args .s .options .«min_zoom»)) (l .start) (l .len) (table (c .before)) (l .ids) (l .coords)
+    Running (plan s) (length (s .args .x .now)) (suc (l .z - 1 - s .args .s .options .«min_zoom»)) (l .start) (l .len) (table (c .before))
+    (l .ids) (l .coords)
 ready c =
     let s = start-of (c .before) in
     let l = c .before .loop in
-    turn-ready (plan s) (length (s .args .x .now)) (l .z) (l .start) (l .len) (table (c .before)) (l .ids) (l .coords) (c .loop-test .taken) (l .inv .4)
+    turn-ready (plan s) (length (s .args .x .now)) (l .z) (l .start) (l .len) (table (c .before)) (l .ids) (l .coords) (c .loop-test .taken)
+    (l .inv .4)
 
 same : (w : tie.After-one-zoom Inv-loop μ-loop) → length (next w) ≡ length (table (test-of w .before))
 same w = rows-length (came w) ∙ kept-zoom w .kx ∙ sym (rows-length (here (test-of w .before)))
 
-moved : (w : tie.After-one-zoom Inv-loop μ-loop) → let c = test-of w in let l = c .before .loop in let s = start-of (c .before) in let q = w .one-zoom .last in
-    Running (plan s) (length (s .args .x .now)) (l .z - 1 - s .args .s .options .«min_zoom») (l .start + l .len) (w .one-zoom .result) (next w) (q .1 .1 .1 .1 .1 .1 .1 .0) (q .1 .1 .1 .1 .1 .1 .1 .1 .0)
+moved : (w : tie.After-one-zoom Inv-loop μ-loop) → let c = test-of w in let l = c .before .loop in let s = start-of (c .before) in let q =
+    w .one-zoom .last in
+    Running (plan s) (length (s .args .x .now)) (l .z - 1 - s .args .s .options .«min_zoom») (l .start + l .len) (w .one-zoom .result)
+    (next w) (q .1 .1 .1 .1 .1 .1 .1 .0) (q .1 .1 .1 .1 .1 .1 .1 .1 .0)
 moved w =
     let c = test-of w in
     let s = start-of (c .before) in
     let l = c .before .loop in
     let z = w .one-zoom in
     let q = z .last in
-    turn-running (plan s) (length (s .args .x .now)) (l .z) (l .start) (l .len) (table (c .before)) (l .ids) (l .coords) (c .loop-test .taken) (l .inv .4)
-    (z .result) (next w) (q .1 .1 .1 .1 .1 .1 .1 .0) (q .1 .1 .1 .1 .1 .1 .1 .1 .0) (z .ensures) (same w) (z .kept .1 .1 .1 .1 .1 .1 .1 .0) (z .kept .1 .1 .1 .1 .1 .1 .1 .1 .0)
+    turn-running (plan s) (length (s .args .x .now)) (l .z) (l .start) (l .len) (table (c .before)) (l .ids) (l .coords)
+    (c .loop-test .taken) (l .inv .4)
+    (z .result) (next w) (q .1 .1 .1 .1 .1 .1 .1 .0) (q .1 .1 .1 .1 .1 .1 .1 .1 .0) (z .ensures) (same w) (z .kept .1 .1 .1 .1 .1 .1 .1 .0)
+    (z .kept .1 .1 .1 .1 .1 .1 .1 .1 .0)
 
 add-z : tie.Need-add-z Inv-loop μ-loop
 add-z c = let s = asked c in omega (arith, s .pre .3 .low-few, s .pre .2)
@@ -108,7 +132,8 @@ loop-holds c =
       refl,
       s .pre .2,
       s .pre .3,
-      turn-start (plan s) (a .s .options .«max_zoom» + 1) (a .n) (first s) (a .ids .now) (a .coords .now) (a .s .starts) (a .s .lens) (s .pre .2) (s .pre .4) (s .pre .5),
+      turn-start (plan s) (a .s .options .«max_zoom» + 1) (a .n) (first s) (a .ids .now) (a .coords .now) (a .s .starts) (a .s .lens)
+          (s .pre .2) (s .pre .4) (s .pre .5),
       refl,
       refl,
     )
@@ -124,7 +149,8 @@ one-zoom-requires c κs =
       l .inv .0,
       omega (arith, l .inv .2, s .pre .1),
       omega (arith, t .loop-test .taken),
-      subst (λ (q : ℕ). Running (plan s) q (suc (l .z - 1 - s .args .s .options .«min_zoom»)) (l .start) (l .len) (table (t .before)) (l .ids) (l .coords)) (sym (l .inv .1)) (ready t),
+      subst (λ (q : ℕ). Running (plan s) q (suc (l .z - 1 - s .args .s .options .«min_zoom»)) (l .start) (l .len) (table (t .before))
+          (l .ids) (l .coords)) (sym (l .inv .1)) (ready t),
     )
 
 add-start : tie.Need-add-start Inv-loop μ-loop
@@ -161,10 +187,14 @@ loop-again c =
       k .1 .1 .1 .1 .1 .1 .1 .1 .1 .0 ∙ l .inv .2,
       omega (arith, t .loop-test .taken),
       moved w,
-      turn-progress (plan s) (length (a .x .now)) (l .z) (l .start) (l .len) (table (t .before)) (l .ids) (l .coords) (t .loop-test .taken) (l .inv .4)
-          (z .result) (next w) (q .1 .1 .1 .1 .1 .1 .1 .0) (q .1 .1 .1 .1 .1 .1 .1 .1 .0) (z .ensures) (same w) (k .1 .1 .1 .1 .1 .1 .1 .0) (k .1 .1 .1 .1 .1 .1 .1 .1 .0)
-          (wholeProgress (plan s) (zoomsOf (a .s .options)) (part 0 (a .n) (first s)) (a .s .starts) (a .s .lens)) (first s) (a .ids .now) (a .coords .now)
-          (l .st .starts) (l .st .lens) (c .with-table .result .starts) (c .with-table .result .lens) (l .inv .5) (ap (λ (v : State). v .starts) e) (ap (λ (v : State). v .lens) e),
+      turn-progress (plan s) (length (a .x .now)) (l .z) (l .start) (l .len) (table (t .before)) (l .ids) (l .coords) (t .loop-test .taken)
+          (l .inv .4)
+          (z .result) (next w) (q .1 .1 .1 .1 .1 .1 .1 .0) (q .1 .1 .1 .1 .1 .1 .1 .1 .0) (z .ensures) (same w) (k .1 .1 .1 .1 .1 .1 .1 .0)
+          (k .1 .1 .1 .1 .1 .1 .1 .1 .0)
+          (wholeProgress (plan s) (zoomsOf (a .s .options)) (part 0 (a .n) (first s)) (a .s .starts) (a .s .lens)) (first s) (a .ids .now)
+          (a .coords .now)
+          (l .st .starts) (l .st .lens) (c .with-table .result .starts) (c .with-table .result .lens) (l .inv .5)
+          (ap (λ (v : State). v .starts) e) (ap (λ (v : State). v .lens) e),
       ap (λ (v : State). v .options) e ∙ l .inv .6,
       ap (λ (v : State). v .count) e ∙ l .inv .7,
     )
@@ -204,7 +234,8 @@ returns c =
     let s = start-of (c .before) in
     let a = s .args in
     let l = c .before .loop in
-    turn-end (plan s) (length (a .x .now)) (l .z) (zoomsOf (a .s .options)) (l .start) (l .len) (a .n) (table (c .before)) (l .ids) (l .coords) (first s) (a .ids .now) (a .coords .now)
+    turn-end (plan s) (length (a .x .now)) (l .z) (zoomsOf (a .s .options)) (l .start) (l .len) (a .n) (table (c .before)) (l .ids)
+    (l .coords) (first s) (a .ids .now) (a .coords .now)
     (a .s) (l .st) (c .loop-test .left) (l .inv .4) (l .inv .5) (l .inv .6) (l .inv .7)
 
 pub run-zooms-spec : {M : Type 1} → statement M

@@ -25,7 +25,8 @@ lent-rows s = rows-from (s .args .start) (columns s)
 
 -- after the scan
 abbrev scan-of : tie.After-slice-known16 → tie.After-cluster
-scan-of c = c .before .before .before .before .before .before .before .before .before .before .before .before .before .before .before .before
+scan-of c =
+    c .before .before .before .before .before .before .before .before .before .before .before .before .before .before .before .before
 
 abbrev asked : tie.After-cluster-arg8 → tie.Start
 asked c = c .before .before .before .before .before .before .before .before .before .before .before .before .before
@@ -35,13 +36,25 @@ abbrev start-of : tie.After-cluster → tie.Start
 start-of c = asked (c .before)
 
 abbrev came : tie.After-cluster → Cols
-came c = let w = c .cluster in (cols (w .last .0) (w .last .1 .0) (w .last .1 .1 .0) (w .last .1 .1 .1 .0) (w .last .1 .1 .1 .1 .0) (w .last .1 .1 .1 .1 .1 .0) (w .last .1 .1 .1 .1 .1 .1 .0))
+came c = let w = c .cluster in (cols (w .last .0) (w .last .1 .0) (w .last .1 .1 .0) (w .last .1 .1 .1 .0) (w .last .1 .1 .1 .1 .0)
+    (w .last .1 .1 .1 .1 .1 .0) (w .last .1 .1 .1 .1 .1 .1 .0))
 
-kept-by : (c : tie.After-cluster) → Kept (columns (start-of c)) (each2 (λ A l q. back (start-of c .args .start) l q) (columns (start-of c)) (came c))
+kept-by : (c : tie.After-cluster)
+    → Kept (columns (start-of c)) (each2 (λ A l q. back (start-of c .args .start) l q) (columns (start-of c)) (came c))
 kept-by c =
     let s = start-of c in
     let w = c .cluster in
-    let k : Kept (lent s) (came c) = (record { kx = w .kept .0; ky = w .kept .1 .0; ks = w .kept .1 .1 .0; ki = w .kept .1 .1 .1 .0; kp = w .kept .1 .1 .1 .1 .0; kn = w .kept .1 .1 .1 .1 .1 .0; kw = w .kept .1 .1 .1 .1 .1 .1 .0 }) in
+    let k : Kept (lent s) (came c) =
+    (record {
+      kx = w .kept .0;
+      ky = w .kept .1 .0;
+      ks = w .kept .1 .1 .0;
+      ki = w .kept .1 .1 .1 .0;
+      kp = w .kept .1 .1 .1 .1 .0;
+      kn =
+          w .kept .1 .1 .1 .1 .1 .0;
+      kw = w .kept .1 .1 .1 .1 .1 .1 .0;
+    }) in
     kept-back (s .args .start) (columns s) (came c) k
 
 cast-least : tie.Need-cast-least

@@ -46,8 +46,10 @@ module _ (size : ℕ) (t : Table) (n1 : 1 ≤ size) (some : 1 ≤ length t) (b :
   slots-slotted =
       let l = length-map t (λ e. e .x) in
       record {
-        x-is = λ s h. slot-x size (xsOf t) (ysOf t) n1 some-x (table-inside t b) s (omega (arith, l, h)) ∙ List·getD-map (λ e. e .x) t _ none;
-        y-is = λ s h. slot-y size (xsOf t) (ysOf t) n1 some-x (table-inside t b) s (omega (arith, l, h)) ∙ List·getD-map (λ e. e .y) t _ none;
+        x-is = λ s h. slot-x size (xsOf t) (ysOf t) n1 some-x (table-inside t b) s (omega (arith, l, h))
+            ∙ List·getD-map (λ e. e .x) t _ none;
+        y-is = λ s h. slot-y size (xsOf t) (ysOf t) n1 some-x (table-inside t b) s (omega (arith, l, h))
+            ∙ List·getD-map (λ e. e .y) t _ none;
       }
 
   pub slots-owned : (r : Float) → T (finite r) → OwnNote (length t) (nearIn size r t) (indexOfTable size t .ids) (indexOfTable size t .co)
@@ -57,7 +59,8 @@ module _ (size : ℕ) (t : Table) (n1 : 1 ≤ size) (some : 1 ≤ length t) (b :
       let i = getD (indexOfTable size t .ids) s 0 in
       let k : i < length t = omega (arith, l, slot-names size (xsOf t) (ysOf t) n1 some-x (table-inside t b) s (omega (arith, l, h))) in
       subst (λ (v : Float). In i (nearIn size r t v (key 1 (indexOfTable size t .co) s))) (sym (slots-slotted .x-is s h))
-      (subst (λ (v : Float). In i (nearIn size r t (entry t i .x) v)) (sym (slots-slotted .y-is s h)) (own-answered size t n1 some b r fr i k))
+      (subst (λ (v : Float). In i (nearIn size r t (entry t i .x) v)) (sym (slots-slotted .y-is s h))
+      (own-answered size t n1 some b r fr i k))
 
 -- of the table between two zooms
 module _ (p : Plan) (M k start len : ℕ) (t : Table) (ids : List ℕ) (co : List Float) (r : Running p M k start len t ids co) where
@@ -65,13 +68,17 @@ module _ (p : Plan) (M k start len : ℕ) (t : Table) (ids : List ℕ) (co : Lis
   cur-slotted =
       let size = p .options .«node_size» in
       let t₁ = part start len t in
-      rw (r .ids-at, r .co-at) (subst (λ (n : ℕ). Slotted n (indexOfTable size t₁ .ids) (indexOfTable size t₁ .co) t₁) (cur-long p M k start len t ids co r)
+      rw (r .ids-at, r .co-at) (subst (λ (n : ℕ). Slotted n (indexOfTable size t₁ .ids) (indexOfTable size t₁ .co) t₁)
+      (cur-long p M k start len t ids co r)
       (slots-slotted size t₁ (r .able .size-from) (cur-some p M k start len t ids co r) (cur-body p M k start len t ids co r)))
 
   pub cur-owned : (rad : Float) → T (finite rad)
-      → OwnNote len (nearOf (p .options .«node_size») len (part start len ids) (part (start * 2) (len * 2) co) rad) (part start len ids) (part (start * 2) (len * 2) co)
+      → OwnNote len (nearOf (p .options .«node_size») len (part start len ids) (part (start * 2) (len * 2) co) rad) (part start len ids)
+      (part (start * 2) (len * 2) co)
   cur-owned rad fr =
       let size = p .options .«node_size» in
       let t₁ = part start len t in
-      rw (r .ids-at, r .co-at) (subst (λ (n : ℕ). OwnNote n (nearOf size n (indexOfTable size t₁ .ids) (indexOfTable size t₁ .co) rad) (indexOfTable size t₁ .ids) (indexOfTable size t₁ .co)) (cur-long p M k start len t ids co r)
+      rw (r .ids-at, r .co-at) (subst
+      (λ (n : ℕ). OwnNote n (nearOf size n (indexOfTable size t₁ .ids) (indexOfTable size t₁ .co) rad) (indexOfTable size t₁ .ids)
+      (indexOfTable size t₁ .co)) (cur-long p M k start len t ids co r)
       (slots-owned size t₁ (r .able .size-from) (cur-some p M k start len t ids co r) (cur-body p M k start len t ids co r) rad fr))

@@ -33,4 +33,13 @@ put-long at len p l e =
     let r = drop len (drop at l) in
     let whole : length (take at l ++ drop at l) ≡ length l = ap length (take-append-drop at l) in
     let rest : length (take len (drop at l) ++ r) ≡ length (drop at l) = ap length (take-append-drop len (drop at l)) in
-    omega (arith, e, length-append (take at l) (p ++ r), length-append p r, length-append (take at l) (drop at l), length-append (take len (drop at l)) r, whole, rest)
+    omega (
+      arith,
+      e,
+      length-append (take at l) (p ++ r),
+      length-append p r,
+      length-append (take at l) (drop at l),
+      length-append (take len (drop at l)) r,
+      whole,
+      rest,
+    )

@@ -27,14 +27,23 @@ pub record Whole : Type 0 where
 
 abbrev pub wholeProgress : Plan → ℕ → Table → List ℕ → List ℕ → Whole
 wholeProgress p k t ss ll =
-    record { rows = joined (runZooms p k t); ids = joinedIds (p .options .«node_size») (runZooms p k t); co = joinedCo (p .options .«node_size») (runZooms p k t); ss = starts (p .options .«min_zoom» + k) 0 (runZooms p k t) ss; ll = lens (p .options .«min_zoom» + k) (runZooms p k t) ll }
+    record {
+      rows = joined (runZooms p k t);
+      ids = joinedIds (p .options .«node_size») (runZooms p k t);
+      co =
+          joinedCo (p .options .«node_size») (runZooms p k t);
+      ss = starts (p .options .«min_zoom» + k) 0 (runZooms p k t) ss;
+      ll =
+          lens (p .options .«min_zoom» + k) (runZooms p k t) ll;
+    }
 
 -- a column of which the first n entries are written
 pub record Written {A : Type 0} (whole old : List A) (at n : ℕ) (rest l : List A) : Type 0 where
   pub joins : take at l ++ rest ≡ whole
   pub after : drop (at + n) l ≡ drop (at + n) old
 
-pub record Progress (p : Plan) (w : Whole) (t₀ : Table) (ids₀ : List ℕ) (co₀ : List Float) (k start len : ℕ) (t : Table) (ids : List ℕ) (co : List Float) (ss ll : List ℕ) : Type 0 where
+pub record Progress (p : Plan) (w : Whole) (t₀ : Table) (ids₀ : List ℕ) (co₀ : List Float) (k start len : ℕ) (t : Table) (ids : List ℕ)
+    (co : List Float) (ss ll : List ℕ) : Type 0 where
   pub of-rows : Written (w .rows) t₀ start len (joined (runZooms p k (part start len t))) t
   pub of-ids : Written (w .ids) ids₀ start len (joinedIds (p .options .«node_size») (runZooms p k (part start len t))) ids
   pub of-co : Written (w .co) co₀ (start * 2) (len * 2) (joinedCo (p .options .«node_size») (runZooms p k (part start len t))) co
@@ -45,24 +54,31 @@ pub record Progress (p : Plan) (w : Whole) (t₀ : Table) (ids₀ : List ℕ) (c
 
 -- ---- a start or a length that is recorded already is recorded again
 
-pub starts-again : (p : Plan) (k : ℕ) (t : Table) (z at : ℕ) (ss : List ℕ) → starts z at (runZooms p k t) (set ss z at) ≡ starts z at (runZooms p k t) ss
+pub starts-again : (p : Plan) (k : ℕ) (t : Table) (z at : ℕ) (ss : List ℕ)
+    → starts z at (runZooms p k t) (set ss z at) ≡ starts z at (runZooms p k t) ss
 unfolding runZooms starts
 starts-again p zero t z at ss = set-set ss z at at
 starts-again p (suc k) t z at ss =
-    ap (λ (l : List ℕ). starts (z - 1) (at + length (zoomed p (p .options .«min_zoom» + k) t .table)) (runZooms p k (zoomed p (p .options .«min_zoom» + k) t .next)) l) (set-set ss z at at)
+    ap (λ (l : List ℕ). starts (z - 1) (at + length (zoomed p (p .options .«min_zoom» + k) t .table))
+    (runZooms p k (zoomed p (p .options .«min_zoom» + k) t .next)) l) (set-set ss z at at)
 
-pub lens-again : (p : Plan) (k : ℕ) (t : Table) (z n : ℕ) (ll : List ℕ) → length t ≡ n → lens z (runZooms p k t) (set ll z n) ≡ lens z (runZooms p k t) ll
+pub lens-again : (p : Plan) (k : ℕ) (t : Table) (z n : ℕ) (ll : List ℕ) → length t ≡ n
+    → lens z (runZooms p k t) (set ll z n) ≡ lens z (runZooms p k t) ll
 unfolding runZooms lens
 lens-again p zero t z n ll e = set-set ll z n (length t)
 lens-again p (suc k) t z n ll e =
-    ap (λ (l : List ℕ). lens (z - 1) (runZooms p k (zoomed p (p .options .«min_zoom» + k) t .next)) l) (set-set ll z n (length (zoomed p (p .options .«min_zoom» + k) t .table)))
+    ap (λ (l : List ℕ). lens (z - 1) (runZooms p k (zoomed p (p .options .«min_zoom» + k) t .next)) l)
+    (set-set ll z n (length (zoomed p (p .options .«min_zoom» + k) t .table)))
 
-starts-tail : (z z′ at n : ℕ) (a : Table) (ts : List Table) (ss : List ℕ) → set ss z at ≡ ss → z - 1 ≡ z′ → length a ≡ n → starts z at (a ∷ ts) ss ≡ starts z′ (at + n) ts ss
+starts-tail : (z z′ at n : ℕ) (a : Table) (ts : List Table) (ss : List ℕ) → set ss z at ≡ ss → z - 1 ≡ z′ → length a ≡ n
+    → starts z at (a ∷ ts) ss ≡ starts z′ (at + n) ts ss
 unfolding starts
 starts-tail z z′ at n a ts ss e f g =
-    ap (λ (l : List ℕ). starts (z - 1) (at + length a) ts l) e ∙ ap (λ (q : ℕ). starts q (at + length a) ts ss) f ∙ ap (λ (q : ℕ). starts z′ (at + q) ts ss) g
+    ap (λ (l : List ℕ). starts (z - 1) (at + length a) ts l) e ∙ ap (λ (q : ℕ). starts q (at + length a) ts ss) f
+    ∙ ap (λ (q : ℕ). starts z′ (at + q) ts ss) g
 
-lens-tail : (z z′ n : ℕ) (a : Table) (ts : List Table) (ll : List ℕ) → set ll z n ≡ ll → z - 1 ≡ z′ → length a ≡ n → lens z (a ∷ ts) ll ≡ lens z′ ts ll
+lens-tail : (z z′ n : ℕ) (a : Table) (ts : List Table) (ll : List ℕ) → set ll z n ≡ ll → z - 1 ≡ z′ → length a ≡ n
+    → lens z (a ∷ ts) ll ≡ lens z′ ts ll
 unfolding lens
 lens-tail z z′ n a ts ll e f g =
     ap (λ (q : ℕ). lens (z - 1) ts (set ll z q)) g ∙ ap (λ (l : List ℕ). lens (z - 1) ts l) e ∙ ap (λ (q : ℕ). lens q ts ll) f
@@ -71,7 +87,8 @@ lens-tail z z′ n a ts ll e f g =
 
 module _ {A : Type 0} (whole old : List A) (at n d : ℕ) (l l′ head rest : List A) where
   -- the current part is head already, and stays; a part of d entries follows it
-  pub more-written : Written whole old at n (head ++ rest) l → take (at + n) l′ ≡ take at l ++ head → drop (at + n + d) l′ ≡ drop (at + n + d) l
+  pub more-written : Written whole old at n (head ++ rest) l → take (at + n) l′ ≡ take at l ++ head
+      → drop (at + n + d) l′ ≡ drop (at + n + d) l
       → Written whole old (at + n) d rest l′
   more-written w e f =
       record {
@@ -100,11 +117,13 @@ module _ (p : Plan) (M k start len : ℕ) (t : Table) (ids : List ℕ) (co : Lis
   two = omega arith
 
   pub progress-step : Progress p w t₀ ids₀ co₀ (suc k) start len t ids co ss ll
-      → Progress p w t₀ ids₀ co₀ k (start + len) d t′ ids′ co′ (set ss (p .options .«min_zoom» + k) (start + len)) (set ll (p .options .«min_zoom» + k) d)
+      → Progress p w t₀ ids₀ co₀ k (start + len) d t′ ids′ co′ (set ss (p .options .«min_zoom» + k) (start + len))
+      (set ll (p .options .«min_zoom» + k) d)
   unfolding runZooms joined joinedIds joinedCo starts lens
   progress-step g =
       let zf = zoom-sound p M k start len t ids co r in
-      let zl : length (made .table) ≡ len = cluster-long (p .count) (p .options .«min_points») (p .options .«min_zoom» + k) _ cur ∙ cur-long p M (suc k) start len t ids co r in
+      let zl : length (made .table) ≡ len = cluster-long (p .count) (p .options .«min_points») (p .options .«min_zoom» + k) _ cur
+      ∙ cur-long p M (suc k) start len t ids co r in
       let zz : p .options .«min_zoom» + suc k - 1 ≡ p .options .«min_zoom» + k = omega (arith, add-suc (p .options .«min_zoom») k) in
       let ids-fits = ids-fit p M k start len t ids co r d t′ ids′ co′ v et ei ec in
       let co-fits = co-fit p M k start len t ids co r d t′ ids′ co′ v et ei ec in
@@ -119,40 +138,52 @@ module _ (p : Plan) (M k start len : ℕ) (t : Table) (ids : List ℕ) (co : Lis
       ap (take ((start + len) * 2)) (v .co-put)
       ∙ take-put ((start + len) * 2) (d * 2) (indexOfTable (p .options .«node_size») (made .next) .co) co co-fits co-lens
       ∙ ap (λ (q : ℕ). take q co) two
-      ∙ take-add (start * 2) (len * 2) co ∙ ap (λ (q : List Float). take (start * 2) co ++ q) (r .co-at ∙ ap (λ (q : IndexCols). q .co) (sym slots-same)) in
+      ∙ take-add (start * 2) (len * 2) co
+      ∙ ap (λ (q : List Float). take (start * 2) co ++ q) (r .co-at ∙ ap (λ (q : IndexCols). q .co) (sym slots-same)) in
       let f2 : drop (start + len + d) ids′ ≡ drop (start + len + d) ids =
-      ap (drop (start + len + d)) (v .ids-put) ∙ drop-put (start + len) d (indexOfTable (p .options .«node_size») (made .next) .ids) ids ids-fits ids-lens in
+      ap (drop (start + len + d)) (v .ids-put)
+      ∙ drop-put (start + len) d (indexOfTable (p .options .«node_size») (made .next) .ids) ids ids-fits ids-lens in
       let f3 : drop ((start + len) * 2 + d * 2) co′ ≡ drop ((start + len) * 2 + d * 2) co =
-      ap (drop ((start + len) * 2 + d * 2)) (v .co-put) ∙ drop-put ((start + len) * 2) (d * 2) (indexOfTable (p .options .«node_size») (made .next) .co) co co-fits co-lens in
+      ap (drop ((start + len) * 2 + d * 2)) (v .co-put)
+      ∙ drop-put ((start + len) * 2) (d * 2) (indexOfTable (p .options .«node_size») (made .next) .co) co co-fits co-lens in
       record {
-        of-rows = rw run-next (more-written (w .rows) t₀ start len d t t′ (made .table) (joined (runZooms p k (made .next))) (g .of-rows) e1 (v .after));
-        of-ids = rw run-next (more-written (w .ids) ids₀ start len d ids ids′ (indexOfTable (p .options .«node_size») (made .table) .ids) (joinedIds (p .options .«node_size») (runZooms p k (made .next))) (g .of-ids) e2 f2);
-        of-co = rw (run-next, two) (more-written (w .co) co₀ (start * 2) (len * 2) (d * 2) co co′ (indexOfTable (p .options .«node_size») (made .table) .co) (joinedCo (p .options .«node_size») (runZooms p k (made .next))) (g .of-co) (rw two at e3) (rw two at f3));
+        of-rows = rw run-next (more-written (w .rows) t₀ start len d t t′ (made .table) (joined (runZooms p k (made .next))) (g .of-rows) e1
+            (v .after));
+        of-ids = rw run-next (more-written (w .ids) ids₀ start len d ids ids′ (indexOfTable (p .options .«node_size») (made .table) .ids)
+            (joinedIds (p .options .«node_size») (runZooms p k (made .next))) (g .of-ids) e2 f2);
+        of-co = rw (run-next, two) (more-written (w .co) co₀ (start * 2) (len * 2) (d * 2) co co′
+            (indexOfTable (p .options .«node_size») (made .table) .co) (joinedCo (p .options .«node_size») (runZooms p k (made .next)))
+            (g .of-co) (rw two at e3) (rw two at f3));
         of-ss =
             rw run-next (starts-again p k (made .next) (p .options .«min_zoom» + k) (start + len) ss
-            ∙ sym (starts-tail (p .options .«min_zoom» + suc k) (p .options .«min_zoom» + k) start len (made .table) (runZooms p k (made .next)) ss (g .ss-at) zz zl) ∙ g .of-ss);
+            ∙ sym (starts-tail (p .options .«min_zoom» + suc k) (p .options .«min_zoom» + k) start len (made .table)
+            (runZooms p k (made .next)) ss (g .ss-at) zz zl) ∙ g .of-ss);
         of-ll =
             rw run-next (lens-again p k (made .next) (p .options .«min_zoom» + k) d ll (sym (v .count))
-            ∙ sym (lens-tail (p .options .«min_zoom» + suc k) (p .options .«min_zoom» + k) len (made .table) (runZooms p k (made .next)) ll (g .ll-at) zz zl) ∙ g .of-ll);
+            ∙ sym (lens-tail (p .options .«min_zoom» + suc k) (p .options .«min_zoom» + k) len (made .table) (runZooms p k (made .next)) ll
+            (g .ll-at) zz zl) ∙ g .of-ll);
         ss-at = set-set ss (p .options .«min_zoom» + k) (start + len) (start + len);
         ll-at = set-set ll (p .options .«min_zoom» + k) d d;
       }
 
 -- ---- the end: no zoom is left
 
-written-length : {A : Type 0} (whole old : List A) (at n : ℕ) (l : List A) → Written whole old at n (part at n l) l → at + n ≤ length l → length whole ≡ at + n
+written-length : {A : Type 0} (whole old : List A) (at n : ℕ) (l : List A) → Written whole old at n (part at n l) l → at + n ≤ length l
+    → length whole ≡ at + n
 written-length whole old at n l w h =
     let e : take (at + n) l ≡ whole = take-add at n l ∙ w .joins in
     ap length (sym e) ∙ length-take-le (at + n) l h
 
-written-end : {A : Type 0} (whole old : List A) (at n : ℕ) (l : List A) → Written whole old at n (part at n l) l → at + n ≤ length l → l ≡ laidOver whole old
+written-end : {A : Type 0} (whole old : List A) (at n : ℕ) (l : List A) → Written whole old at n (part at n l) l → at + n ≤ length l
+    → l ≡ laidOver whole old
 written-end whole old at n l w h =
     let e : take (at + n) l ≡ whole = take-add at n l ∙ w .joins in
     let q : length whole ≡ at + n = ap length (sym e) ∙ length-take-le (at + n) l h in
     sym (take-append-drop (at + n) l) ∙ rw (e, w .after, q)
 
 module _ (p : Plan) (M start len : ℕ) (t : Table) (ids : List ℕ) (co : List Float) (r : Running p M 0 start len t ids co)
-    (w : Whole) (t₀ : Table) (ids₀ : List ℕ) (co₀ : List Float) (ss ll : List ℕ) (g : Progress p w t₀ ids₀ co₀ 0 start len t ids co ss ll) where
+    (w : Whole) (t₀ : Table) (ids₀ : List ℕ) (co₀ : List Float) (ss ll : List ℕ)
+    (g : Progress p w t₀ ids₀ co₀ 0 start len t ids co ss ll) where
   pub rows-end : t ≡ laidOver (w .rows) t₀
   unfolding runZooms joined
   rows-end = written-end (w .rows) t₀ start len t (rw append-nil at (g .of-rows)) (omega (arith, r .room, r .long))
@@ -163,7 +194,8 @@ module _ (p : Plan) (M start len : ℕ) (t : Table) (ids : List ℕ) (co : List 
 
   pub co-end : co ≡ laidOver (w .co) co₀
   unfolding runZooms joinedCo
-  co-end = written-end (w .co) co₀ (start * 2) (len * 2) co (rw (append-nil, ← (r .co-at)) at (g .of-co)) (omega (arith, r .room, r .co-long))
+  co-end = written-end (w .co) co₀ (start * 2) (len * 2) co (rw (append-nil, ← (r .co-at)) at (g .of-co))
+      (omega (arith, r .room, r .co-long))
 
   pub rows-length-end : length (w .rows) ≡ start + len
   unfolding runZooms joined
@@ -171,11 +203,13 @@ module _ (p : Plan) (M start len : ℕ) (t : Table) (ids : List ℕ) (co : List 
 
   pub ids-length-end : length (w .ids) ≡ start + len
   unfolding runZooms joinedIds
-  ids-length-end = written-length (w .ids) ids₀ start len ids (rw (append-nil, ← (r .ids-at)) at (g .of-ids)) (omega (arith, r .room, r .ids-long))
+  ids-length-end = written-length (w .ids) ids₀ start len ids (rw (append-nil, ← (r .ids-at)) at (g .of-ids))
+      (omega (arith, r .room, r .ids-long))
 
   pub co-length-end : length (w .co) ≡ start * 2 + len * 2
   unfolding runZooms joinedCo
-  co-length-end = written-length (w .co) co₀ (start * 2) (len * 2) co (rw (append-nil, ← (r .co-at)) at (g .of-co)) (omega (arith, r .room, r .co-long))
+  co-length-end = written-length (w .co) co₀ (start * 2) (len * 2) co (rw (append-nil, ← (r .co-at)) at (g .of-co))
+      (omega (arith, r .room, r .co-long))
 
   pub ss-end : ss ≡ w .ss
   unfolding runZooms starts
@@ -199,7 +233,8 @@ pub record Finished (p : Plan) (k : ℕ) (s s′ : State) (t : Table) (r r′ : 
 
 -- ---- and the start: all zooms are left
 
-module _ (p : Plan) (k len : ℕ) (t : Table) (ids : List ℕ) (co : List Float) (ss ll : List ℕ) (ss-at : set ss (p .options .«min_zoom» + k) 0 ≡ ss) (ll-at : set ll (p .options .«min_zoom» + k) len ≡ ll) where
+module _ (p : Plan) (k len : ℕ) (t : Table) (ids : List ℕ) (co : List Float) (ss ll : List ℕ)
+    (ss-at : set ss (p .options .«min_zoom» + k) 0 ≡ ss) (ll-at : set ll (p .options .«min_zoom» + k) len ≡ ll) where
   pub progress-start : Progress p (wholeProgress p k (part 0 len t) ss ll) t ids co k 0 len t ids co ss ll
   progress-start =
       record {

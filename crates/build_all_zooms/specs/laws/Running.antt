@@ -35,15 +35,25 @@ total-some (e ∷ t) h = omega arith
 pub table-inside : (t : Table) → All Body t → Inside (xsOf t) (ysOf t)
 table-inside t a p h =
     let l : p < length t = omega (arith, length-map t (λ e. e .x), h) in
-    let b = all-at Body t p a l in
-    (subst (λ (v : Float). In01 v) (sym (List·getD-map (λ e. e .x) t p none)) (b .0), subst (λ (v : Float). In01 v) (sym (List·getD-map (λ e. e .y) t p none)) (b .1))
+    let b = all-at Body t p a l in (
+      subst (λ (v : Float). In01 v) (sym (List·getD-map (λ e. e .x) t p none)) (b .0),
+      subst (λ (v : Float). In01 v) (sym (List·getD-map (λ e. e .y) t p none)) (b .1),
+    )
 
 module _ (size : ℕ) (t : Table) (n1 : 1 ≤ size) (n2 : size ≤ 65535) (some : 1 ≤ length t) (most : length t ≤ 1048576) (a : All Body t) where
   slots-indexable : Indexable size (xsOf t) (ysOf t)
   slots-indexable =
       let l = length-map t (λ e. e .x) in
       let m = length-map t (λ e. e .y) in
-      record { size-from = n1; size-to = n2; some = omega (arith, l); most = omega (arith, l); paired = m ∙ sym l; inside = table-inside t a }
+      record {
+        size-from = n1;
+        size-to = n2;
+        some = omega (arith, l);
+        most = omega (arith, l);
+        paired = m
+            ∙ sym l;
+        inside = table-inside t a;
+      }
 
   pub slots-ids : length (indexOfTable size t .ids) ≡ length t
   unfolding indexOfTable
@@ -112,13 +122,17 @@ module _ (p : Plan) (M k start len : ℕ) (t : Table) (ids : List ℕ) (co : Lis
   cur-most : length (part start len t) ≤ 1048576
   cur-most = omega (arith, cur-long, r .len-few, r .able .few)
 
-  slots-kept : Promised (p .options .«node_size») (length (part start len t)) (indexOfTable (p .options .«node_size») (part start len t) .ids) (indexOfTable (p .options .«node_size») (part start len t) .co)
-  slots-kept = slots-promised (p .options .«node_size») (part start len t) (r .able .size-from) (r .able .size-to) cur-some cur-most cur-body
+  slots-kept : Promised (p .options .«node_size») (length (part start len t))
+      (indexOfTable (p .options .«node_size») (part start len t) .ids) (indexOfTable (p .options .«node_size») (part start len t) .co)
+  slots-kept = slots-promised (p .options .«node_size») (part start len t) (r .able .size-from)
+      (r .able .size-to) cur-some cur-most cur-body
 
   pub cur-promised : Promised (p .options .«node_size») len (part start len ids) (part (start * 2) (len * 2) co)
   cur-promised =
       let size = p .options .«node_size» in
-      rw (r .ids-at, r .co-at) (subst (λ (n : ℕ). Promised size n (indexOfTable size (part start len t) .ids) (indexOfTable size (part start len t) .co)) cur-long slots-kept)
+      rw (r .ids-at, r .co-at) (subst
+      (λ (n : ℕ). Promised size n (indexOfTable size (part start len t) .ids) (indexOfTable size (part start len t) .co)) cur-long
+      slots-kept)
 
   pub cur-once : (rad qx qy : Float) → Distinct (nearIn (p .options .«node_size») rad (part start len t) qx qy)
   cur-once rad qx qy = slots-kept .once (Within qx qy rad)
@@ -127,7 +141,9 @@ module _ (p : Plan) (M k start len : ℕ) (t : Table) (ids : List ℕ) (co : Lis
   pub zoom-sound : Sound (p .options .«min_zoom» + k) (part start len t) (zoomed p (p .options .«min_zoom» + k) (part start len t))
   zoom-sound =
       let few : lampTotal (part start len t) ≤ 1048576 = omega (arith, r .lamps, r .able .few) in
-      cluster-sound (p .count) (p .options .«min_points») (p .options .«min_zoom» + k) (nearIn (p .options .«node_size») (radiusAt (p .options .radius) (p .options .extent) (p .options .«min_zoom» + k)) (part start len t))
+      cluster-sound (p .count) (p .options .«min_points») (p .options .«min_zoom» + k)
+      (nearIn (p .options .«node_size») (radiusAt (p .options .radius) (p .options .extent) (p .options .«min_zoom» + k))
+      (part start len t))
       (cur-once p M (suc k) start len t ids co r (radiusAt (p .options .radius) (p .options .extent) (p .options .«min_zoom» + k)))
       (part start len t) (rw (add-suc (p .options .«min_zoom») k) at (r .fine))
       (le-trans few (lit≤ tt)) (omega (arith, r .low-few))
@@ -142,9 +158,11 @@ module _ (p : Plan) (M k start len : ℕ) (t : Table) (ids : List ℕ) (co : Lis
   next-most = omega (arith, next-few, r .len-few, r .able .few)
 
   pub next-body : All Body (zoomed p (p .options .«min_zoom» + k) (part start len t) .next)
-  next-body = all-map (Next (p .options .«min_zoom» + k)) Body (λ e q. q .0) (zoomed p (p .options .«min_zoom» + k) (part start len t) .next) (zoom-sound .next)
+  next-body = all-map (Next (p .options .«min_zoom» + k)) Body (λ e q. q .0)
+      (zoomed p (p .options .«min_zoom» + k) (part start len t) .next) (zoom-sound .next)
 
-  module _ (d : ℕ) (t′ : Table) (ids′ : List ℕ) (co′ : List Float) (v : Advanced p (p .options .«min_zoom» + k) start len d t t′ ids ids′ co co′)
+  module _ (d : ℕ) (t′ : Table) (ids′ : List ℕ) (co′ : List Float)
+      (v : Advanced p (p .options .«min_zoom» + k) start len d t t′ ids ids′ co co′)
       (et : length t′ ≡ length t) (ei : length ids′ ≡ length ids) (ec : length co′ ≡ length co) where
     next : Table
     next = zoomed p (p .options .«min_zoom» + k) (part start len t) .next
@@ -162,10 +180,13 @@ module _ (p : Plan) (M k start len : ℕ) (t : Table) (ids : List ℕ) (co : Lis
     co-fit = omega (arith, more-room, r .co-long)
 
     pub ids-len : length (indexOfTable (p .options .«node_size») (zoomed p (p .options .«min_zoom» + k) (part start len t) .next) .ids) ≡ d
-    ids-len = slots-ids (p .options .«node_size») (zoomed p (p .options .«min_zoom» + k) (part start len t) .next) (r .able .size-from) (r .able .size-to) next-some next-most next-body ∙ sym (v .count)
+    ids-len = slots-ids (p .options .«node_size») (zoomed p (p .options .«min_zoom» + k) (part start len t) .next) (r .able .size-from)
+        (r .able .size-to) next-some next-most next-body ∙ sym (v .count)
 
-    pub co-len : length (indexOfTable (p .options .«node_size») (zoomed p (p .options .«min_zoom» + k) (part start len t) .next) .co) ≡ d * 2
-    co-len = slots-co (p .options .«node_size») (zoomed p (p .options .«min_zoom» + k) (part start len t) .next) (r .able .size-from) (r .able .size-to) next-some next-most next-body ∙ ap (λ (q : ℕ). q * 2) (sym (v .count))
+    pub co-len : length (indexOfTable (p .options .«node_size») (zoomed p (p .options .«min_zoom» + k) (part start len t) .next) .co)
+        ≡ d * 2
+    co-len = slots-co (p .options .«node_size») (zoomed p (p .options .«min_zoom» + k) (part start len t) .next) (r .able .size-from)
+        (r .able .size-to) next-some next-most next-body ∙ ap (λ (q : ℕ). q * 2) (sym (v .count))
 
     pub running-step : Running p M k (start + len) d t′ ids′ co′
     running-step =
@@ -183,10 +204,13 @@ module _ (p : Plan) (M k start len : ℕ) (t : Table) (ids : List ℕ) (co : Lis
           co-long = ec ∙ r .co-long;
           ids-at =
               ap (part (start + len) d) (v .ids-put)
-              ∙ part-put (start + len) d (indexOfTable (p .options .«node_size») (zoomed p (p .options .«min_zoom» + k) (part start len t) .next) .ids) ids ids-fit ids-len
+              ∙ part-put (start + len) d (indexOfTable (p .options .«node_size»)
+              (zoomed p (p .options .«min_zoom» + k) (part start len t) .next) .ids) ids ids-fit ids-len
               ∙ ap (λ (q : Table). indexOfTable (p .options .«node_size») q .ids) (sym (v .made));
           co-at =
               ap (part ((start + len) * 2) (d * 2)) (v .co-put)
-              ∙ part-put ((start + len) * 2) (d * 2) (indexOfTable (p .options .«node_size») (zoomed p (p .options .«min_zoom» + k) (part start len t) .next) .co) co co-fit co-len
+              ∙ part-put ((start + len) * 2) (d * 2)
+              (indexOfTable (p .options .«node_size») (zoomed p (p .options .«min_zoom» + k) (part start len t) .next) .co) co co-fit
+              co-len
               ∙ ap (λ (q : Table). indexOfTable (p .options .«node_size») q .co) (sym (v .made));
         }

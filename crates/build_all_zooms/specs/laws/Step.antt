@@ -20,15 +20,19 @@ pub record Stepped (start len : ℕ) (s : Scan) (old new : Table) (d : ℕ) : Ty
 
 -- the columns c are lent from s on, and come back there as d
 pub stepped : (s : ℕ) (c d : Cols) → Even c → s ≤ length (c .x) → (len k : ℕ) (sc : Scan)
-    → Scanned len 0 sc (rows (each (λ A l. fromPart s l) c)) (rows d) k → Stepped s len sc (rows c) (rows (each2 (λ A l q. back s l q) c d)) k
+    → Scanned len 0 sc (rows (each (λ A l. fromPart s l) c)) (rows d) k
+    → Stepped s len sc (rows c) (rows (each2 (λ A l q. back s l q) c d)) k
 stepped s c d v h len k sc l =
     let b = each2 (λ A l q. back s l q) c d in
     let e : drop s (rows b) ≡ rows d
-    = sym (rows-drop s b) ∙ ap rows (each2-second (λ A l q. back s l q) (λ A l. drop s l) c d v (λ A l q n. drop-back s l q (let m : s ≤ length l = omega arith in m))) in
+    = sym (rows-drop s b) ∙ ap rows
+    (each2-second (λ A l q. back s l q) (λ A l. drop s l) c d v
+    (λ A l q n. drop-back s l q (let m : s ≤ length l = omega arith in m))) in
     record {
       before =
           sym (rows-take s b)
-          ∙ ap rows (each2-first (λ A l q. back s l q) (λ A l. take s l) c d v (λ A l. take s l) (λ A l q n. take-back s l q (let m : s ≤ length l = omega arith in m)))
+          ∙ ap rows (each2-first (λ A l q. back s l q) (λ A l. take s l) c d v (λ A l. take s l)
+          (λ A l q n. take-back s l q (let m : s ≤ length l = omega arith in m)))
           ∙ rows-take s c;
       after = rw (sym (rows-from s c), e) l;
     }

@@ -38,7 +38,8 @@ pub record Zoomed (p : Plan) (z start len d : ℕ) (t t′ : Table) : Type 0 whe
   pub after : drop (start + len + d) t′ ≡ drop (start + len + d) t
   pub count : d ≡ length (zoomed p z (part start len t) .next)
 
-module _ (p : Plan) (M z start len : ℕ) (t : Table) (ids : List ℕ) (co : List Float) (lz : p .options .«min_zoom» ≤ z) (r : Running p M (suc (z - p .options .«min_zoom»)) start len t ids co) where
+module _ (p : Plan) (M z start len : ℕ) (t : Table) (ids : List ℕ) (co : List Float) (lz : p .options .«min_zoom» ≤ z)
+    (r : Running p M (suc (z - p .options .«min_zoom»)) start len t ids co) where
   zk : p .options .«min_zoom» + (z - p .options .«min_zoom») ≡ z
   zk = omega arith
 
@@ -55,11 +56,13 @@ module _ (p : Plan) (M z start len : ℕ) (t : Table) (ids : List ℕ) (co : Lis
   step-watts = omega (arith, unseenOf-sum energyOf z (part start len t), r .watts)
 
   pub step-radius : Radius (radiusAt (p .options .radius) (p .options .extent) z)
-  step-radius = let a = r .able in radius-fine (p .options .radius) (p .options .extent) z (omega (arith, z-few)) (a .radius-from) (a .radius-to) (a .extent-from) (a .extent-to)
+  step-radius = let a = r .able in radius-fine (p .options .radius) (p .options .extent) z (omega (arith, z-few)) (a .radius-from)
+      (a .radius-to) (a .extent-from) (a .extent-to)
 
   pub step-placed : All Placed (part start len t)
   step-placed =
-      all-map Body Placed (λ e b. (In01-finite (e .x) (b .0), In01-finite (e .y) (b .1))) (part start len t) (cur-body p M (suc (z - p .options .«min_zoom»)) start len t ids co r)
+      all-map Body Placed (λ e b. (In01-finite (e .x) (b .0), In01-finite (e .y) (b .1))) (part start len t)
+      (cur-body p M (suc (z - p .options .«min_zoom»)) start len t ids co r)
 
   pub made-some : 1 ≤ length (zoomed p z (part start len t) .next)
   made-some = rw zk at (next-some p M (z - p .options .«min_zoom») start len t ids co r)
@@ -71,14 +74,21 @@ module _ (p : Plan) (M z start len : ℕ) (t : Table) (ids : List ℕ) (co : Lis
   made-body = rw zk at (next-body p M (z - p .options .«min_zoom») start len t ids co r)
 
   module _ (rad : Float) (er : rad ≡ radiusAt (p .options .radius) (p .options .extent) z) (t′ : Table) (d : ℕ)
-      (s : Stepped start len (cluster (p .count) (p .options .«min_points») z (nearOf (p .options .«node_size») len (part start len ids) (part (start * 2) (len * 2) co) rad) (part start len t)) t t′ d) where
-    scan-is : cluster (p .count) (p .options .«min_points») z (nearOf (p .options .«node_size») len (part start len ids) (part (start * 2) (len * 2) co) rad) (part start len t) ≡ zoomed p z (part start len t)
+      (s : Stepped start len (cluster (p .count) (p .options .«min_points») z
+      (nearOf (p .options .«node_size») len (part start len ids) (part (start * 2) (len * 2) co) rad) (part start len t)) t t′ d) where
+    scan-is : cluster (p .count) (p .options .«min_points») z
+        (nearOf (p .options .«node_size») len (part start len ids) (part (start * 2) (len * 2) co) rad) (part start len t)
+        ≡ zoomed p z (part start len t)
     scan-is =
         let size = p .options .«node_size» in
         let cur = part start len t in
-        ap (λ (i : List ℕ). cluster (p .count) (p .options .«min_points») z (nearOf size len i (part (start * 2) (len * 2) co) rad) cur) (r .ids-at)
-        ∙ ap (λ (c : List Float). cluster (p .count) (p .options .«min_points») z (nearOf size len (indexOfTable size cur .ids) c rad) cur) (r .co-at)
-        ∙ ap (λ (k : ℕ). cluster (p .count) (p .options .«min_points») z (nearOf size k (indexOfTable size cur .ids) (indexOfTable size cur .co) rad) cur) (sym (cur-long p M (suc (z - p .options .«min_zoom»)) start len t ids co r))
+        ap (λ (i : List ℕ). cluster (p .count) (p .options .«min_points») z (nearOf size len i (part (start * 2) (len * 2) co) rad) cur)
+        (r .ids-at)
+        ∙ ap (λ (c : List Float). cluster (p .count) (p .options .«min_points») z (nearOf size len (indexOfTable size cur .ids) c rad) cur)
+        (r .co-at)
+        ∙ ap (λ (k : ℕ). cluster (p .count) (p .options .«min_points») z
+        (nearOf size k (indexOfTable size cur .ids) (indexOfTable size cur .co) rad) cur)
+        (sym (cur-long p M (suc (z - p .options .«min_zoom»)) start len t ids co r))
         ∙ ap (λ (f : Float). cluster (p .count) (p .options .«min_points») z (nearIn size f cur) cur) er
 
     pub scanned : Zoomed p z start len d t t′
@@ -92,12 +102,14 @@ module _ (p : Plan) (M z start len : ℕ) (t : Table) (ids : List ℕ) (co : Lis
           marked = ap (λ (c : Scan). c .table) e;
           made = m;
           after = rw (drop-drop (len + d) start t′, drop-drop (len + d) start t, q) at (s .after .rest);
-          count = sym (length-take-le d (drop (start + len) t′) (rw (length-drop (start + len) t′) (omega (arith, s .after .fits, length-drop start t′)))) ∙ ap length m;
+          count = sym (length-take-le d (drop (start + len) t′)
+              (rw (length-drop (start + len) t′) (omega (arith, s .after .fits, length-drop start t′)))) ∙ ap length m;
         }
 
 -- the index of what was made
 module _ (p : Plan) (z start len d : ℕ) (t : Table) (c : TableCols) (v : Even c) (s : Zoomed p z start len d t (rows c)) where
-  pub index-made : indexOf (p .options .«node_size») (part (start + len) d (c .x)) (part (start + len) d (c .y)) ≡ indexOfTable (p .options .«node_size») (zoomed p z (part start len t) .next)
+  pub index-made : indexOf (p .options .«node_size») (part (start + len) d (c .x)) (part (start + len) d (c .y))
+      ≡ indexOfTable (p .options .«node_size») (zoomed p z (part start len t) .next)
   unfolding indexOfTable
   index-made =
       rw (xs-part (start + len) d c, ys-part (start + len) d c (v .ey), s .made)
@@ -107,8 +119,10 @@ module _ (p : Plan) (z start len d : ℕ) (t : Table) (c : TableCols) (v : Even 
       rw (xs-part (start + len) d c, ys-part (start + len) d c (v .ey), s .made) (table-inside (zoomed p z (part start len t) .next) a)
 
   pub advanced : (ids ids′ : List ℕ) (co co′ : List Float)
-      → ids′ ≡ putAt (start + len) d (indexOf (p .options .«node_size») (part (start + len) d (c .x)) (part (start + len) d (c .y)) .ids) ids
-      → co′ ≡ putAt ((start + len) * 2) (d * 2) (indexOf (p .options .«node_size») (part (start + len) d (c .x)) (part (start + len) d (c .y)) .co) co
+      → ids′ ≡ putAt (start + len) d (indexOf (p .options .«node_size») (part (start + len) d (c .x)) (part (start + len) d (c .y)) .ids)
+      ids
+      → co′ ≡ putAt ((start + len) * 2) (d * 2)
+      (indexOf (p .options .«node_size») (part (start + len) d (c .x)) (part (start + len) d (c .y)) .co) co
       → Advanced p z start len d t (rows c) ids ids′ co co′
   advanced ids ids′ co co′ a b =
       record {
@@ -121,6 +135,7 @@ module _ (p : Plan) (z start len d : ℕ) (t : Table) (c : TableCols) (v : Even 
         co-put = b ∙ ap (λ (q : IndexCols). putAt ((start + len) * 2) (d * 2) (q .co) co) index-made;
       }
 
-pub part-index : (size a n : ℕ) (c : TableCols) → length (c .y) ≡ length (c .x) → indexOf size (part a n (c .x)) (part a n (c .y)) ≡ indexOfTable size (part a n (rows c))
+pub part-index : (size a n : ℕ) (c : TableCols) → length (c .y) ≡ length (c .x)
+    → indexOf size (part a n (c .x)) (part a n (c .y)) ≡ indexOfTable size (part a n (rows c))
 unfolding indexOfTable
 part-index size a n c h = rw (xs-part a n c, ys-part a n c h)

@@ -147,7 +147,8 @@ loop-again c =
       even-kept old (after c) k (l .inv .0),
       k .kx ∙ l .inv .1,
       w .kept .1 .1 .1 .1 .1 .1 .1 .1 .1 .0 ∙ l .inv .2,
-      scanning-step (a .n) (a .least) (a .z) (near-of s) (a .len) (table s) (rows old) (rows (after c)) (l .d) (w .result) (l .i) (l .inv .3)
+      scanning-step (a .n) (a .least) (a .z) (near-of s) (a .len) (table s) (rows old) (rows (after c)) (l .d) (w .result) (l .i)
+          (l .inv .3)
           (test-of c .loop-test .taken) (w .ensures .1) (rows-length (after c) ∙ k .kx ∙ sym (rows-length old)),
       kept-step c (λ q. All Placed q) (kept-all Placed (a .z) (λ e q h. h) (λ e q h. h)) (l .inv .4),
       noted-same (a .n) (a .len) (near-of s) (l .near) _ _ (s .pre .8) (w .ensures .0)

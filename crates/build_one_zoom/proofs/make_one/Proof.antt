@@ -182,7 +182,8 @@ returns c =
     let made = madeAt (a .n) (a .z) (a .i) (a .total) (a .near .now) (scanOf (a .len) (a .done) t) in
     subst (λ (q : Table). Scanned (a .len) (a .done) made t q (a .done + 1))
     (sym (put .ensures ∙ ap (λ (q : Table). set q (a .len + a .done) (centre f (id .result) (a .total))) h))
-    (made-with t (a .len) (a .done) (a .i) (a .z) (a .n) (a .total) (a .near .now) (s .pre .2) room (s .pre .1) (id .result) (id .ensures) f e)
+    (made-with t (a .len) (a .done) (a .i) (a .z) (a .n) (a .total) (a .near .now) (s .pre .2) room (s .pre .1) (id .result)
+    (id .ensures) f e)
 
 pub make-one-spec : {M : Type 1} → statement M
 make-one-spec =

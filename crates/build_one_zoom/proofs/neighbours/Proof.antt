@@ -69,7 +69,8 @@ returns-2 c =
     let s = start-of (c .before .before) in
     let a = s .args in
     let p = s .pre in
-    list-one (a .len) (now (a .near)) (places s) (a .i) (omega (arith, p .0 .3)) (omega (arith, p .0 .2, p .0 .3)) (p .1 .1 .alone (c .if2 .taken))
+    list-one (a .len) (now (a .near)) (places s) (a .i) (omega (arith, p .0 .3)) (omega (arith, p .0 .2, p .0 .3))
+    (p .1 .1 .alone (c .if2 .taken))
 
 sub-other : tie.Need-sub-other
 sub-other c = search needs

@@ -21,7 +21,8 @@ use Rattle.build_one_zoom.proofs.wide.Reads as wide-reads
 
 abbrev Inv-loop : tie.InvT-loop
 Inv-loop ids coords near₀ node-size r len notes left₀ s₀ near left s =
-    (s ≤ len) × (length near ≡ length near₀) × ((t : Table) → Slotted len ids coords t → Noted notes len (nearOf node-size len ids coords r) near t)
+    (s ≤ len) × (length near ≡ length near₀)
+    × ((t : Table) → Slotted len ids coords t → Noted notes len (nearOf node-size len ids coords r) near t)
 
 abbrev μ-loop : tie.MeasureT-loop
 μ-loop ids coords near₀ node-size r len notes left₀ s₀ near left s = len - s
@@ -45,7 +46,12 @@ own-in c =
     let s = start-of (i .before) in
     let a = s .args in
     let e : c .wide .result ≡ getD (now (a .ids)) (i .before .loop .s) 0 = c .wide .ensures in
-    omega (arith, e, owned-in (a .node-size) (a .len) (now (a .ids)) (now (a .coords)) (a .r) (s .pre .0 .0) (s .pre .1) (i .before .loop .s) (i .loop-test .taken))
+    omega (
+      arith,
+      e,
+      owned-in (a .node-size) (a .len) (now (a .ids)) (now (a .coords)) (a .r) (s .pre .0 .0) (s .pre .1)
+          (i .before .loop .s) (i .loop-test .taken),
+    )
 
 forget-requires : tie.Need-forget-requires Inv-loop μ-loop
 forget-requires c κs = let p = c .before .before .before .before .pre .0 in (omega (arith, p .1), p .2, omega (arith, p .3))
@@ -73,7 +79,8 @@ mul-wide : tie.Need-mul-wide Inv-loop μ-loop
 mul-wide c = let i = c .before .before .before .before in let p = start-of (i .before) .pre .0 in omega (arith, i .loop-test .taken, p .3)
 
 shared-slice-read-wide : tie.Need-shared-slice-read-wide Inv-loop μ-loop
-shared-slice-read-wide c = let i = c .before .before .before .before .before in let p = start-of (i .before) .pre .0 in omega (arith, i .loop-test .taken, p .0 .wide)
+shared-slice-read-wide c = let i = c .before .before .before .before .before in let p = start-of (i .before) .pre .0 in
+    omega (arith, i .loop-test .taken, p .0 .wide)
 
 wide-requires : tie.Need-wide-requires Inv-loop μ-loop
 wide-requires c κs = search needs
@@ -102,7 +109,9 @@ loop-again c =
     let w = c .before .before .before .before .before .note-at in (
       omega (arith, h),
       length-set (l .near) (a .notes + c .wide .result) (w .result .note) ∙ l .inv .1,
-      λ t S. noted-slot (a .notes) (a .len) (near-of s) (l .near) (now (a .ids)) (now (a .coords)) (l .s) (c .wide .result) (w .result .note) h (omega (arith, own-in c, s .pre .0 .1, kept (in-of c .before))) (c .wide .ensures) (w .ensures) t S (l .inv .2 t S),
+      λ t S. noted-slot (a .notes) (a .len) (near-of s) (l .near) (now (a .ids)) (now (a .coords)) (l .s) (c .wide .result)
+          (w .result .note) h (omega (arith, own-in c, s .pre .0 .1, kept (in-of c .before))) (c .wide .ensures) (w .ensures) t S
+          (l .inv .2 t S),
     )
 
 same-length-2 : tie.Need-same-length-2 Inv-loop μ-loop

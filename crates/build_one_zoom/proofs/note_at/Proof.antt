@@ -39,7 +39,9 @@ start-of c = c .before .before .before .before .before
 count-is : (c : tie.After-count) → length (places (start-of c)) ≡ c .count .result
 count-is c =
     let a = start-of c .args in
-    places-length (now (a .ids)) (answers (Within (getD (now (a .coords)) (2 * a .s) nan) (getD (now (a .coords)) (2 * a .s + 1) nan) (a .r)) (now (a .coords)) (a .node-size) (a .len))
+    places-length (now (a .ids)) (answers
+    (Within (getD (now (a .coords)) (2 * a .s) nan) (getD (now (a .coords)) (2 * a .s + 1) nan) (a .r)) (now (a .coords)) (a .node-size)
+    (a .len))
     ∙ sym (c .count .ensures)
 
 own-in : (s : tie.Start) → In (getD (now (s .args .ids)) (s .args .s) 0) (places s)

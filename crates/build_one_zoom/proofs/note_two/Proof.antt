@@ -48,8 +48,10 @@ returns c =
     let s = w .before .before .before .before in
     let a = s .args in
     let g = c .before .enum-told .given in
-    let f = few-found (a .node-size) (a .len) (now (a .ids)) (now (a .coords)) (s .pre .0) (Within (a .qx) (a .qy) (a .r)) (0 ∷ 0 ∷ []) _ (sym (w .within .ensures .0) ∙ g .1) in
-    c .note-of .ensures _ _ (s .pre .1) (ap (λ (l : List ℕ). getD l 0 0) (sym (w .within .ensures .1 ∙ f .1))) (ap (λ (l : List ℕ). getD l 1 0) (sym (w .within .ensures .1 ∙ f .1)))
+    let f = few-found (a .node-size) (a .len) (now (a .ids)) (now (a .coords)) (s .pre .0) (Within (a .qx) (a .qy) (a .r)) (0 ∷ 0 ∷ []) _
+    (sym (w .within .ensures .0) ∙ g .1) in
+    c .note-of .ensures _ _ (s .pre .1) (ap (λ (l : List ℕ). getD l 0 0) (sym (w .within .ensures .1 ∙ f .1)))
+    (ap (λ (l : List ℕ). getD l 1 0) (sym (w .within .ensures .1 ∙ f .1)))
 
 returns-2 : tie.Need-returns-2
 returns-2 c = tells-nothing _ _

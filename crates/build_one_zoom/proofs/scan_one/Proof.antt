@@ -123,7 +123,8 @@ kept-by : (c : tie.After-visit-one) → Kept (columns (start-of (reading (else-o
 kept-by c =
     let s = start-of (reading (else-of (listing c))) in
     let new = lastCols (c .visit-one .last) in
-    kept-then (columns s) (now-marked s) new (keptCols (now-marked s) new (c .visit-one .kept)) (kept-mark (columns s) (s .args .i) (s .args .z))
+    kept-then (columns s) (now-marked s) new (keptCols (now-marked s) new (c .visit-one .kept))
+    (kept-mark (columns s) (s .args .i) (s .args .z))
 
 entry-at-requires : tie.Need-entry-at-requires
 entry-at-requires c κs =

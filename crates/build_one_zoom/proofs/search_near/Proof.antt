@@ -30,7 +30,8 @@ reply-is w =
     let a = s .args in
     let p = s .pre in
     w .within .ensures .0
-    ∙ promised-searched (a .node-size) (a .len) (now (a .ids)) (now (a .coords)) (p .0 .0) (Within (a .qx) (a .qy) (a .r)) (query-fine (a .qx) (a .qy) (a .r) (p .1 .0) (p .1 .1) (p .0 .1)) (now (a .near)) (p .0 .2)
+    ∙ promised-searched (a .node-size) (a .len) (now (a .ids)) (now (a .coords)) (p .0 .0) (Within (a .qx) (a .qy) (a .r))
+    (query-fine (a .qx) (a .qy) (a .r) (p .1 .0) (p .1 .1) (p .0 .1)) (now (a .near)) (p .0 .2)
 
 -- no refusal is the reply
 refused : (k : ℕ) (r : SearchReply) → r ≡ Found k → searchNumber r ≡ 0
@@ -62,8 +63,11 @@ returns c =
     let p = s .pre in
     let q = Within (a .qx) (a .qy) (a .r) in
     let g = c .before .k .given in
-    let e = w .within .ensures .1 ∙ promised-column (a .node-size) (a .len) (now (a .ids)) (now (a .coords)) (p .0 .0) q (query-fine (a .qx) (a .qy) (a .r) (p .1 .0) (p .1 .1) (p .0 .1)) (now (a .near)) (p .0 .2) in
-    (answered (places w) (now (a .near)) _ (g .0 .0) (ap searchCarried (sym (g .1) ∙ reply-is w)) e, same-past (a .len) (places w) (now (a .near)) _ (p .0 .0 .short q) e)
+    let e = w .within .ensures .1 ∙ promised-column (a .node-size) (a .len) (now (a .ids)) (now (a .coords)) (p .0 .0) q
+    (query-fine (a .qx) (a .qy) (a .r) (p .1 .0) (p .1 .1) (p .0 .1)) (now (a .near)) (p .0 .2) in (
+      answered (places w) (now (a .near)) _ (g .0 .0) (ap searchCarried (sym (g .1) ∙ reply-is w)) e,
+      same-past (a .len) (places w) (now (a .near)) _ (p .0 .0 .short q) e,
+    )
 
 same-length-2 : tie.Need-same-length-2
 same-length-2 c = search needs

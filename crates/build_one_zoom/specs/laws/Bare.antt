@@ -10,9 +10,11 @@ use lib.Ieee.{Float}
 use Rattle.build_tables.specs.declared.Entry.{Entry}
 use Rattle.build_tables.specs.Entries.{Table, entry, none, unseen, marked, under}
 use Rattle.build_tables.specs.Ids.{clusterId}
-use Rattle.build_one_zoom.specs.Zoom.{moreOf, more, numOf, Absorbed, absorbOne, absorb, started, centre, Scan, made, madeAt, copyOne, copyAll}
+use Rattle.build_one_zoom.specs.Zoom.{moreOf, more, numOf, Absorbed, absorbOne, absorb, started, centre, Scan, made, madeAt, copyOne}
+use Rattle.build_one_zoom.specs.Zoom.{copyAll}
 use Rattle.build_one_zoom.specs.Zoom.{leftAt, enough, visit, markAt, scanOne, scanFrom, cluster}
-use Rattle.build_one_zoom.specs.laws.Steps.{joinedStep, absorbOne-yes, absorbOne-no, copiedOne, copyOne-yes, copyOne-no, totalOf, visit-made}
+use Rattle.build_one_zoom.specs.laws.Steps.{joinedStep, absorbOne-yes, absorbOne-no, copiedOne, copyOne-yes, copyOne-no, totalOf}
+use Rattle.build_one_zoom.specs.laws.Steps.{visit-made}
 use Rattle.build_one_zoom.specs.laws.Steps.{visit-left, scan-seen, scan-visit}
 
 -- without its energy
@@ -44,7 +46,8 @@ more-bare z t (k ∷ ks) = rw (bare-at t k, more-bare z t ks)
 abbrev bareA : Absorbed → Absorbed
 bareA s = record { table = bares (s .table); sx = s .sx; sy = s .sy; se = 0 }
 
-absorbOne-bare : (z p : ℕ) (s : Absorbed) (k : ℕ) (b : Bool) → unseen z (entry (s .table) k) ≡ b → absorbOne z p (bareA s) k ≡ bareA (absorbOne z p s k)
+absorbOne-bare : (z p : ℕ) (s : Absorbed) (k : ℕ) (b : Bool) → unseen z (entry (s .table) k) ≡ b
+    → absorbOne z p (bareA s) k ≡ bareA (absorbOne z p s k)
 absorbOne-bare z p s k true e =
     let t = s .table in
     absorbOne-yes z p (bareA s) k (rw (bare-at t k) e)
@@ -66,7 +69,8 @@ made-bare n z i total near s =
     let p = clusterId n z i in
     let st = started (s .table) (entry (s .table) i) in
     let f = absorb z p st near in
-    let g : absorb z p (started (bares (s .table)) (entry (bares (s .table)) i)) near ≡ bareA f = rw (bare-at (s .table) i) (absorb-bare z p st near) in
+    let g : absorb z p (started (bares (s .table)) (entry (bares (s .table)) i)) near ≡ bareA f =
+    rw (bare-at (s .table) i) (absorb-bare z p st near) in
     ap (λ (q : Absorbed). made i q (bares (s .next)) p total) g
     ∙ ap₂ (λ (a b : Table). record { table = a; next = b })
     (rw (bare-at (f .table) i) (bare-set (f .table) i (under p (entry (f .table) i))))
@@ -76,7 +80,8 @@ copyOne-bare : (z : ℕ) (s : Scan) (k : ℕ) (b : Bool) → unseen z (entry (s 
 copyOne-bare z s k true e =
     let t = s .table in
     copyOne-yes z (bareS s) k (rw (bare-at t k) e)
-    ∙ rw (bare-at t k) (ap₂ (λ (a b : Table). record { table = a; next = b }) (bare-set t k (marked z (entry t k))) (bare-append (s .next) (marked z (entry t k))))
+    ∙ rw (bare-at t k) (ap₂ (λ (a b : Table). record { table = a; next = b }) (bare-set t k (marked z (entry t k)))
+    (bare-append (s .next) (marked z (entry t k))))
     ∙ sym (ap bareS (copyOne-yes z s k e))
 copyOne-bare z s k false e = copyOne-no z (bareS s) k (rw (bare-at (s .table) k) e) ∙ sym (ap bareS (copyOne-no z s k e))
 
@@ -88,13 +93,15 @@ copyAll-bare z s (k ∷ ks) = ap (λ (q : Scan). copyAll z q ks) (copyOne-bare z
 left-bare : (z i : ℕ) (near : List ℕ) (s : Scan) → leftAt z i near (bareS s) ≡ bareS (leftAt z i near s)
 left-bare z i near s =
     let e = entry (s .table) i in
-    ap (λ (q : Table). copyAll z (record { table = bares (s .table); next = q }) near) (ap (λ (v : Entry). bares (s .next) ++ (v ∷ [])) (bare-at (s .table) i) ∙ bare-append (s .next) e)
+    ap (λ (q : Table). copyAll z (record { table = bares (s .table); next = q }) near)
+    (ap (λ (v : Entry). bares (s .next) ++ (v ∷ [])) (bare-at (s .table) i) ∙ bare-append (s .next) e)
     ∙ copyAll-bare z (record { table = s .table; next = s .next ++ (e ∷ []) }) near
 
 total-bare : (z : ℕ) (near : List ℕ) (i : ℕ) (t : Table) → totalOf z near i (bares t) ≡ totalOf z near i t
 total-bare z near i t = rw (bare-at t i, more-bare z t near)
 
-visit-bare : (n least z : ℕ) (near : List ℕ) (i : ℕ) (s : Scan) (b : Bool) → enough (entry (s .table) i .num) (totalOf z near i (s .table)) least ≡ b
+visit-bare : (n least z : ℕ) (near : List ℕ) (i : ℕ) (s : Scan) (b : Bool)
+    → enough (entry (s .table) i .num) (totalOf z near i (s .table)) least ≡ b
     → visit n least z near i (bareS s) ≡ bareS (visit n least z near i s)
 visit-bare n least z near i s true e =
     let t = s .table in
@@ -104,13 +111,16 @@ visit-bare n least z near i s true e =
     ∙ sym (ap bareS (visit-made n least z near i s e))
 visit-bare n least z near i s false e =
     let t = s .table in
-    visit-left n least z near i (bareS s) (rw (bare-at t i) (rw (more-bare z t near) e)) ∙ left-bare z i near s ∙ sym (ap bareS (visit-left n least z near i s e))
+    visit-left n least z near i (bareS s) (rw (bare-at t i) (rw (more-bare z t near) e)) ∙ left-bare z i near s
+    ∙ sym (ap bareS (visit-left n least z near i s e))
 
 mark-bare : (z i : ℕ) (s : Scan) → markAt z i (bareS s) ≡ bareS (markAt z i s)
-mark-bare z i s = ap (λ (q : Table). record { table = q; next = bares (s .next) }) (rw (bare-at (s .table) i) (bare-set (s .table) i (marked z (entry (s .table) i))))
+mark-bare z i s = ap (λ (q : Table). record { table = q; next = bares (s .next) })
+    (rw (bare-at (s .table) i) (bare-set (s .table) i (marked z (entry (s .table) i))))
 
 module _ (n least z : ℕ) (near : Float → Float → List ℕ) where
-  one-bare : (s : Scan) (i : ℕ) (b : Bool) → unseen z (entry (s .table) i) ≡ b → scanOne n least z near (bareS s) i ≡ bareS (scanOne n least z near s i)
+  one-bare : (s : Scan) (i : ℕ) (b : Bool) → unseen z (entry (s .table) i) ≡ b
+      → scanOne n least z near (bareS s) i ≡ bareS (scanOne n least z near s i)
   one-bare s i true e =
       let v = entry (s .table) i in
       let u : z < v .seen = ltb-true z (v .seen) e in
@@ -127,8 +137,10 @@ module _ (n least z : ℕ) (near : Float → Float → List ℕ) where
   from-bare : (s : Scan) (i k : ℕ) → scanFrom n least z near (bareS s) i k ≡ bareS (scanFrom n least z near s i k)
   unfolding scanFrom
   from-bare s i zero = refl
-  from-bare s i (suc k) = ap (λ (q : Scan). scanFrom n least z near q (suc i) k) (one-bare s i _ refl) ∙ from-bare (scanOne n least z near s i) (suc i) k
+  from-bare s i (suc k) = ap (λ (q : Scan). scanFrom n least z near q (suc i) k) (one-bare s i _ refl)
+      ∙ from-bare (scanOne n least z near s i) (suc i) k
 
   pub cluster-bare : (t : Table) → cluster n least z near (bares t) ≡ bareS (cluster n least z near t)
   unfolding cluster
-  cluster-bare t = ap (scanFrom n least z near (record { table = bares t; next = [] }) 0) (length-map t bare) ∙ from-bare (record { table = t; next = [] }) 0 (length t)
+  cluster-bare t = ap (scanFrom n least z near (record { table = bares t; next = [] }) 0) (length-map t bare)
+      ∙ from-bare (record { table = t; next = [] }) 0 (length t)

@@ -25,7 +25,8 @@ pub copyOne-fewer : (z : ℕ) (s : Scan) (k : ℕ) (b : Bool) → unseen z (entr
 copyOne-fewer z s k true e =
     let u : z < entry (s .table) k .seen = ltb-true z (entry (s .table) k .seen) e in
     let m = marked z (entry (s .table) k) in
-    rw (copyOne-yes z s k e) (omega (arith, length-append (s .next) (m ∷ []), unseenCount-mark z (s .table) k m (unseen-in z (s .table) k u) u (le-refl z)))
+    rw (copyOne-yes z s k e) (omega
+    (arith, length-append (s .next) (m ∷ []), unseenCount-mark z (s .table) k m (unseen-in z (s .table) k u) u (le-refl z)))
 copyOne-fewer z s k false e = rw (copyOne-no z s k e) (le-refl _)
 
 copyAll-fewer : (z : ℕ) (s : Scan) (l : List ℕ) → needed z (copyAll z s l) ≤ needed z s
@@ -34,13 +35,16 @@ copyAll-fewer z s [] = le-refl _
 copyAll-fewer z s (k ∷ ks) = le-trans (copyAll-fewer z (copyOne z s k) ks) (copyOne-fewer z s k _ refl)
 
 -- a visit makes one entry more: the one that is visited, which was marked before
-visit-fewer : (n least z : ℕ) (near : List ℕ) (i : ℕ) (s : Scan) (b : Bool) → enough (entry (s .table) i .num) (totalOf z near i (s .table)) least ≡ b
+visit-fewer : (n least z : ℕ) (near : List ℕ) (i : ℕ) (s : Scan) (b : Bool)
+    → enough (entry (s .table) i .num) (totalOf z near i (s .table)) least ≡ b
     → needed z (visit n least z near i s) ≤ suc (needed z s)
 visit-fewer n least z near i s true e =
     let p = clusterId n z i in
     let st = started (s .table) (entry (s .table) i) in
-    let l = keep-absorb z (λ t. unseenCount z t ≤ unseenCount z (s .table)) (kept-unseenCount z (unseenCount z (s .table))) p st near (le-refl _) in
-    rw (visit-made n least z near i s e) (rw (length-append (s .next) _) (omega (arith, l, unseenCount-under z (absorb z p st near .table) i p)))
+    let l = keep-absorb z (λ t. unseenCount z t ≤ unseenCount z (s .table)) (kept-unseenCount z (unseenCount z (s .table))) p st near
+    (le-refl _) in
+    rw (visit-made n least z near i s e)
+    (rw (length-append (s .next) _) (omega (arith, l, unseenCount-under z (absorb z p st near .table) i p)))
 visit-fewer n least z near i s false e =
     let c = copyAll-fewer z (record { table = s .table; next = s .next ++ (entry (s .table) i ∷ []) }) near in
     rw (visit-left n least z near i s e) (omega (arith, c, length-append (s .next) (entry (s .table) i ∷ [])))

@@ -16,9 +16,11 @@ use Rattle.build_tables.specs.declared.Entry.{Entry}
 use Rattle.build_tables.specs.Entries.{Table, entry, none, unseen, marked, under}
 use Rattle.build_tables.specs.Ids.{clusterId}
 use Rattle.build_one_zoom.specs.Scanned.{unseenCount, unseenOf}
-use Rattle.build_one_zoom.specs.Zoom.{Absorbed, absorbOne, absorb, started, Scan, copyOne, copyAll, enough, visit, markAt, scanOne, scanFrom}
+use Rattle.build_one_zoom.specs.Zoom.{Absorbed, absorbOne, absorb, started, Scan, copyOne, copyAll, enough, visit, markAt, scanOne}
+use Rattle.build_one_zoom.specs.Zoom.{scanFrom}
 use Rattle.build_one_zoom.specs.Zoom.{cluster}
-use Rattle.build_one_zoom.specs.laws.Steps.{absorbOne-yes, absorbOne-no, copyOne-yes, copyOne-no, totalOf, visit-made, visit-left, scan-seen}
+use Rattle.build_one_zoom.specs.laws.Steps.{absorbOne-yes, absorbOne-no, copyOne-yes, copyOne-no, totalOf, visit-made, visit-left}
+use Rattle.build_one_zoom.specs.laws.Steps.{scan-seen}
 use Rattle.build_one_zoom.specs.laws.Steps.{scan-visit}
 use Rattle.build_one_zoom.specs.laws.Unseen.{unseenCount-le, unseenOf-le, unseenCount-under, unseenOf-under}
 
@@ -35,7 +37,8 @@ pub record Keeps (z : ℕ) (R : Table → Type 0) : Type 0 where
   pub hang : (t : Table) (k p : ℕ) → R t → R (set t k (under p (entry t k)))
 
 module _ (z : ℕ) (R : Table → Type 0) (K : Keeps z R) where
-  pub keep-absorbOne : (p : ℕ) (s : Absorbed) (k : ℕ) (b : Bool) → unseen z (entry (s .table) k) ≡ b → R (s .table) → R (absorbOne z p s k .table)
+  pub keep-absorbOne : (p : ℕ) (s : Absorbed) (k : ℕ) (b : Bool) → unseen z (entry (s .table) k) ≡ b → R (s .table)
+      → R (absorbOne z p s k .table)
   keep-absorbOne p s k true e r = rw (absorbOne-yes z p s k e) (K .join (s .table) k p r)
   keep-absorbOne p s k false e r = rw (absorbOne-no z p s k e) r
 
@@ -58,11 +61,15 @@ module _ (z : ℕ) (R : Table → Type 0) (K : Keeps z R) where
         → R (s .table) → R (visit n least z near i s .table)
     keep-visit near i s true e r =
         let p = clusterId n z i in
-        rw (visit-made n least z near i s e) (K .hang (absorb z p (started (s .table) (entry (s .table) i)) near .table) i p (keep-absorb p (started (s .table) (entry (s .table) i)) near r))
+        rw (visit-made n least z near i s e)
+        (K .hang (absorb z p (started (s .table) (entry (s .table) i)) near .table) i p
+        (keep-absorb p (started (s .table) (entry (s .table) i)) near r))
     keep-visit near i s false e r =
-        rw (visit-left n least z near i s e) (keep-copyAll (record { table = s .table; next = s .next ++ (entry (s .table) i ∷ []) }) near r)
+        rw (visit-left n least z near i s e)
+        (keep-copyAll (record { table = s .table; next = s .next ++ (entry (s .table) i ∷ []) }) near r)
 
-    pub keep-one : (near : Float → Float → List ℕ) (s : Scan) (i : ℕ) (b : Bool) → unseen z (entry (s .table) i) ≡ b → R (s .table) → R (scanOne n least z near s i .table)
+    pub keep-one : (near : Float → Float → List ℕ) (s : Scan) (i : ℕ) (b : Bool) → unseen z (entry (s .table) i) ≡ b → R (s .table)
+        → R (scanOne n least z near s i .table)
     keep-one near s i true e r =
         rw (scan-visit n least z near s i (ltb-true z (entry (s .table) i .seen) e))
         (keep-visit (near (entry (s .table) i .x) (entry (s .table) i .y)) i (markAt z i s) _ refl (K .mark (s .table) i r))
@@ -76,7 +83,8 @@ module _ (z : ℕ) (R : Table → Type 0) (K : Keeps z R) where
 -- ---- what is kept
 
 -- a field other than seen and parent
-pub kept-field : {B : Type 0} (f : Entry → B) (z : ℕ) (t₀ : Table) → ((e : Entry) (q : ℕ) → f (marked q e) ≡ f e) → ((e : Entry) (q : ℕ) → f (under q e) ≡ f e)
+pub kept-field : {B : Type 0} (f : Entry → B) (z : ℕ) (t₀ : Table) → ((e : Entry) (q : ℕ) → f (marked q e) ≡ f e)
+    → ((e : Entry) (q : ℕ) → f (under q e) ≡ f e)
     → Keeps z (λ t. map f t ≡ map f t₀)
 kept-field f z t₀ a b =
     record {
@@ -86,7 +94,8 @@ kept-field f z t₀ a b =
     }
 
 -- a property of each entry that looks at neither seen nor parent
-pub kept-all : (P : Entry → Type 0) (z : ℕ) → ((e : Entry) (q : ℕ) → P e → P (marked q e)) → ((e : Entry) (q : ℕ) → P e → P (under q e)) → Keeps z (λ t. All P t)
+pub kept-all : (P : Entry → Type 0) (z : ℕ) → ((e : Entry) (q : ℕ) → P e → P (marked q e)) → ((e : Entry) (q : ℕ) → P e → P (under q e))
+    → Keeps z (λ t. All P t)
 kept-all P z f g =
     record {
       join = λ t k p a. all-set P t k none (under p (marked z (entry t k))) (λ w. g (marked z (entry t k)) p (f (entry t k) z w)) a;
@@ -155,11 +164,13 @@ module _ (n least z : ℕ) (near : Float → Float → List ℕ) where
   one-sees : (s : Scan) (i : ℕ) (b : Bool) → unseen z (entry (s .table) i) ≡ b → entry (scanOne n least z near s i .table) i .seen ≤ z
   one-sees s i true e =
       rw (scan-visit n least z near s i (ltb-true z (entry (s .table) i .seen) e))
-      (keep-visit z (λ t. entry t i .seen ≤ z) (kept-seen z i) n least (near (entry (s .table) i .x) (entry (s .table) i .y)) i (markAt z i s) _ refl (seen-mark z (s .table) i))
+      (keep-visit z (λ t. entry t i .seen ≤ z) (kept-seen z i) n least (near (entry (s .table) i .x) (entry (s .table) i .y)) i
+      (markAt z i s) _ refl (seen-mark z (s .table) i))
   one-sees s i false e = let h = ltb-false z (entry (s .table) i .seen) e in rw (scan-seen n least z near s i h) h
 
   -- after k entries from i on
-  pub scan-sees : (s : Scan) (i k j : ℕ) → (j < i → entry (s .table) j .seen ≤ z) → j < i + k → entry (scanFrom n least z near s i k .table) j .seen ≤ z
+  pub scan-sees : (s : Scan) (i k j : ℕ) → (j < i → entry (s .table) j .seen ≤ z) → j < i + k
+      → entry (scanFrom n least z near s i k .table) j .seen ≤ z
   unfolding scanFrom
   scan-sees s i zero j f h = f (omega arith)
   scan-sees s i (suc k) j f h = scan-sees (scanOne n least z near s i) (suc i) k j step (omega arith)
@@ -173,4 +184,5 @@ module _ (n least z : ℕ) (near : Float → Float → List ℕ) where
 -- a zoom keeps the length of its table
 pub cluster-long : (n least z : ℕ) (near : Float → Float → List ℕ) (t : Table) → length (cluster n least z near t .table) ≡ length t
 unfolding cluster
-cluster-long n least z near t = keep-scan z (λ q. length q ≡ length t) (kept-length z (length t)) n least near (record { table = t; next = [] }) 0 (length t) refl
+cluster-long n least z near t = keep-scan z (λ q. length q ≡ length t) (kept-length z (length t)) n least near
+    (record { table = t; next = [] }) 0 (length t) refl

@@ -16,9 +16,11 @@ use Rattle.build_tables.specs.declared.Entry.{Entry}
 use Rattle.build_tables.specs.Entries.{Table, entry, none, unseen, marked, under}
 use Rattle.build_tables.specs.Ids.{clusterId}
 use Rattle.build_one_zoom.specs.Scanned.{unseenOf}
-use Rattle.build_one_zoom.specs.Zoom.{numOf, energyOf, adds, moreOf, Absorbed, absorbOne, absorb, started, centre, Scan, copyOne, copyAll}
+use Rattle.build_one_zoom.specs.Zoom.{numOf, energyOf, adds, moreOf, Absorbed, absorbOne, absorb, started, centre, Scan, copyOne}
+use Rattle.build_one_zoom.specs.Zoom.{copyAll}
 use Rattle.build_one_zoom.specs.Zoom.{enough, visit, markAt, scanOne, scanFrom, cluster}
-use Rattle.build_one_zoom.specs.laws.Steps.{joinedStep, absorbOne-yes, absorbOne-no, copyOne-yes, copyOne-no, more-nil, more-yes, more-no, totalOf}
+use Rattle.build_one_zoom.specs.laws.Steps.{joinedStep, absorbOne-yes, absorbOne-no, copyOne-yes, copyOne-no, more-nil, more-yes}
+use Rattle.build_one_zoom.specs.laws.Steps.{more-no, totalOf}
 use Rattle.build_one_zoom.specs.laws.Steps.{visit-made, visit-left, scan-seen, scan-visit}
 use Rattle.build_one_zoom.specs.laws.Unseen.{unseen-in, unseenOf-mark, unseenOf-under, more-same}
 
@@ -82,7 +84,8 @@ num-carried = record { marks = λ e q. refl; hangs = λ e q. refl; sums = λ z p
 
 -- the running sum of energies
 energy-by : (z p : ℕ) (s : Absorbed) (k : ℕ) (ks : List ℕ)
-    → ((s′ : Absorbed) → absorb z p s′ ks .se ≡ s′ .se + moreOf energyOf z (s′ .table) ks) → NotIn k ks → (b : Bool) → unseen z (entry (s .table) k) ≡ b
+    → ((s′ : Absorbed) → absorb z p s′ ks .se ≡ s′ .se + moreOf energyOf z (s′ .table) ks) → NotIn k ks → (b : Bool)
+    → unseen z (entry (s .table) k) ≡ b
     → absorb z p (absorbOne z p s k) ks .se ≡ s .se + moreOf energyOf z (s .table) (k ∷ ks)
 energy-by z p s k ks ih o true e =
     let t = s .table in
@@ -96,7 +99,12 @@ absorb-energy z p s [] o = omega (arith, more-nil energyOf z (s .table))
 absorb-energy z p s (k ∷ ks) o = energy-by z p s k ks (λ s′. absorb-energy z p s′ ks (o .1)) (o .0) _ refl
 
 pub energy-carried : Carried energyOf
-energy-carried = record { marks = λ e q. refl; hangs = λ e q. refl; sums = λ z p i near t o. absorb-energy z p (started t (entry t i)) near o }
+energy-carried = record {
+  marks = λ e q. refl;
+  hangs = λ e q. refl;
+  sums =
+      λ z p i near t o. absorb-energy z p (started t (entry t i)) near o;
+}
 
 -- ---- a scan
 

@@ -41,14 +41,16 @@ module _ (n least z : ℕ) (near : Float → Float → List ℕ) (len : ℕ) (t�
       }
 
   pub scanning-step : (t t′ : Table) (d d′ i : ℕ) → Scanning n least z near len t₀ t d i → i < len
-      → Scanned len d (scanOne n least z near (scanOf len d t) i) t t′ d′ → length t′ ≡ length t → Scanning n least z near len t₀ t′ d′ (i + 1)
+      → Scanned len d (scanOne n least z near (scanOf len d t) i) t t′ d′ → length t′ ≡ length t
+      → Scanning n least z near len t₀ t′ d′ (i + 1)
   unfolding scanFrom
   scanning-step t t′ d d′ i v hi l e =
       let s = scanOf len d t in
       let k : len - i ≡ suc (len - (i + 1)) = omega arith in
       let step : scanFrom n least z near s i (len - i) ≡ scanFrom n least z near (scanOne n least z near s i) (i + 1) (len - (i + 1))
       = rw (k, add-one i) in
-      let c : needed z (scanOf len d′ t′) ≤ needed z s = subst (λ (q : Scan). needed z q ≤ needed z s) (sym (l .scan)) (scan-fewer n least z near s i) in
+      let c : needed z (scanOf len d′ t′) ≤ needed z s = subst (λ (q : Scan). needed z q ≤ needed z s) (sym (l .scan))
+      (scan-fewer n least z near s i) in
       let q : len + d + (d′ - d) ≡ len + d′ = omega (arith, l .grown) in
       let nx = part-long len d t (omega (arith, v .room)) in
       let ny = part-long len d′ t′ (l .fits) in
@@ -62,7 +64,8 @@ module _ (n least z : ℕ) (near : Float → Float → List ℕ) (len : ℕ) (t�
             le-trans (subst (λ (q : Scan). unseenOf f z (q .table) ≤ m) (sym (l .scan)) k) (v .light f g);
       }
 
-  pub scanning-end : (t : Table) (d i : ℕ) → Scanning n least z near len t₀ t d i → len ≤ i → Scanned len 0 (cluster n least z near (take len t₀)) t₀ t d
+  pub scanning-end : (t : Table) (d i : ℕ) → Scanning n least z near len t₀ t d i → len ≤ i
+      → Scanned len 0 (cluster n least z near (take len t₀)) t₀ t d
   unfolding scanFrom
   scanning-end t d i v h =
       let q : len - i ≡ 0 = omega arith in

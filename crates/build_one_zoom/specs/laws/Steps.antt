@@ -11,7 +11,8 @@ use lib.Ieee.{Float, binary64, add, mul}
 use Rattle.floats.specs.Numbers.{float}
 use Rattle.build_tables.specs.declared.Entry.{Entry}
 use Rattle.build_tables.specs.Entries.{Table, entry, unseen, marked, under}
-use Rattle.build_one_zoom.specs.Zoom.{moreOf, more, Absorbed, absorbOne, Scan, copyOne, madeAt, leftAt, enough, visit, markAt, scanOne}
+use Rattle.build_one_zoom.specs.Zoom.{moreOf, more, Absorbed, absorbOne, Scan, copyOne, madeAt, leftAt, enough, visit, markAt}
+use Rattle.build_one_zoom.specs.Zoom.{scanOne}
 
 -- ---- one neighbour
 
@@ -35,7 +36,11 @@ absorbOne-no z p s k e = rw e
 
 -- it is marked and copied
 abbrev pub copiedOne : ℕ → Scan → ℕ → Scan
-copiedOne z s k = record { table = set (s .table) k (marked z (entry (s .table) k)); next = s .next ++ (marked z (entry (s .table) k) ∷ []) }
+copiedOne z s k = record {
+  table = set (s .table) k (marked z (entry (s .table) k));
+  next =
+      s .next ++ (marked z (entry (s .table) k) ∷ []);
+}
 
 pub copyOne-yes : (z : ℕ) (s : Scan) (k : ℕ) → unseen z (entry (s .table) k) ≡ true → copyOne z s k ≡ copiedOne z s k
 unfolding copyOne
@@ -78,11 +83,13 @@ module _ (n least z : ℕ) (near : List ℕ) (i : ℕ) (s : Scan) where
   -- the same, for a number that is the total
   pub made-by : (k : ℕ) → k ≡ totalOf z near i (s .table) → enough (entry (s .table) i .num) k least ≡ true
       → visit n least z near i s ≡ madeAt n z i k near s
-  made-by k q = subst (λ (m : ℕ). enough (entry (s .table) i .num) m least ≡ true → visit n least z near i s ≡ madeAt n z i m near s) (sym q) visit-made
+  made-by k q = subst (λ (m : ℕ). enough (entry (s .table) i .num) m least ≡ true → visit n least z near i s ≡ madeAt n z i m near s)
+      (sym q) visit-made
 
   pub left-by : (k : ℕ) → k ≡ totalOf z near i (s .table) → enough (entry (s .table) i .num) k least ≡ false
       → visit n least z near i s ≡ leftAt z i near s
-  left-by k q = subst (λ (m : ℕ). enough (entry (s .table) i .num) m least ≡ false → visit n least z near i s ≡ leftAt z i near s) (sym q) visit-left
+  left-by k q = subst (λ (m : ℕ). enough (entry (s .table) i .num) m least ≡ false → visit n least z near i s ≡ leftAt z i near s)
+      (sym q) visit-left
 
 module _ (n least z : ℕ) (near : Float → Float → List ℕ) (s : Scan) (i : ℕ) where
   pub scan-seen : entry (s .table) i .seen ≤ z → scanOne n least z near s i ≡ s

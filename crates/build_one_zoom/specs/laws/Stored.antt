@@ -29,10 +29,13 @@ absorbOne-grow-by : (z p : ℕ) (s : Absorbed) (r : Table) (k : ℕ) → k < len
     → absorbOne z p (grow s r) k ≡ grow (absorbOne z p s k) r
 absorbOne-grow-by z p s r k h true e =
     let g = List·getD-append (s .table) r none k h in
-    rw (absorbOne-yes z p s k e) (absorbOne-yes z p (grow s r) k (rw g e) ∙ simp (g, set-append-left (s .table) r k (under p (marked z (entry (s .table) k))) h))
-absorbOne-grow-by z p s r k h false e = rw (absorbOne-no z p s k e) (absorbOne-no z p (grow s r) k (rw (List·getD-append (s .table) r none k h) e))
+    rw (absorbOne-yes z p s k e) (absorbOne-yes z p (grow s r) k (rw g e)
+    ∙ simp (g, set-append-left (s .table) r k (under p (marked z (entry (s .table) k))) h))
+absorbOne-grow-by z p s r k h false e =
+    rw (absorbOne-no z p s k e) (absorbOne-no z p (grow s r) k (rw (List·getD-append (s .table) r none k h) e))
 
-absorbOne-grow : (z p : ℕ) (s : Absorbed) (r : Table) (k : ℕ) → k < length (s .table) → absorbOne z p (grow s r) k ≡ grow (absorbOne z p s k) r
+absorbOne-grow : (z p : ℕ) (s : Absorbed) (r : Table) (k : ℕ) → k < length (s .table)
+    → absorbOne z p (grow s r) k ≡ grow (absorbOne z p s k) r
 absorbOne-grow z p s r k h = absorbOne-grow-by z p s r k h _ refl
 
 absorbOne-length : (z p : ℕ) (s : Absorbed) (k : ℕ) → length (absorbOne z p s k .table) ≡ length (s .table)
@@ -41,7 +44,8 @@ absorbOne-length z p s k = keep-absorbOne z (λ q. length q ≡ length (s .table
 absorb-length : (z p : ℕ) (s : Absorbed) (l : List ℕ) → length (absorb z p s l .table) ≡ length (s .table)
 absorb-length z p s l = keep-absorb z (λ q. length q ≡ length (s .table)) (kept-length z (length (s .table))) p s l refl
 
-absorb-grow : (z p : ℕ) (s : Absorbed) (r : Table) (l : List ℕ) → AllBelow (length (s .table)) l → absorb z p (grow s r) l ≡ grow (absorb z p s l) r
+absorb-grow : (z p : ℕ) (s : Absorbed) (r : Table) (l : List ℕ) → AllBelow (length (s .table)) l
+    → absorb z p (grow s r) l ≡ grow (absorb z p s l) r
 unfolding absorb All
 absorb-grow z p s r [] b = refl
 absorb-grow z p s r (k ∷ ks) b =
@@ -77,7 +81,8 @@ module _ (t : Table) (len d i z : ℕ) (near : List ℕ) (hi : i < len) (room : 
       }
 
   -- the room that the copies ask
-  pub left-room : len + d + 1 + unseenCount z (take len t) ≤ length t → len + (d + 1) + unseenCount z (take len (set t (len + d) (entry t i))) ≤ length t
+  pub left-room : len + d + 1 + unseenCount z (take len t) ≤ length t
+      → len + (d + 1) + unseenCount z (take len (set t (len + d) (entry t i))) ≤ length t
   left-room h = rw (take-set-le len t (len + d) (entry t i) (omega arith)) (omega arith)
 
 -- ---- a cluster is made
@@ -93,7 +98,8 @@ module _ (f : Absorbed) (r : Table) (len d i p : ℕ) (e : Entry) (lf : length (
       let h : i < length (f .table) = omega arith in
       rw (List·getD-append (f .table) r none i h) (set-append-left (f .table) r i (under p (entry (f .table) i)) h)
 
-  made-scan : scanOf len (d + 1) (set hung (len + d) e) ≡ record { table = set (f .table) i (under p (entry (f .table) i)); next = take d r ++ (e ∷ []) }
+  made-scan : scanOf len (d + 1) (set hung (len + d) e)
+      ≡ record { table = set (f .table) i (under p (entry (f .table) i)); next = take d r ++ (e ∷ []) }
   made-scan =
       let q = set (f .table) i (under p (entry (f .table) i)) in
       let lq : length q ≡ len = length-set (f .table) i (under p (entry (f .table) i)) ∙ lf in
@@ -105,12 +111,14 @@ module _ (f : Absorbed) (r : Table) (len d i p : ℕ) (e : Entry) (lf : length (
       let q = set (f .table) i (under p (entry (f .table) i)) in
       let lq : length q ≡ len = length-set (f .table) i (under p (entry (f .table) i)) ∙ lf in
       let k : len + d < length (q ++ r) = rw (length-append q r) (omega arith) in
-      rw hung-is (next-rest (q ++ r) len d k e (d + 1) (omega arith) ∙ sym (drop-drop (d + 1) len (q ++ r)) ∙ ap (drop (d + 1)) (drop-at q r len lq))
+      rw hung-is (next-rest (q ++ r) len d k e (d + 1) (omega arith) ∙ sym (drop-drop (d + 1) len (q ++ r))
+      ∙ ap (drop (d + 1)) (drop-at q r len lq))
 
 module _ (t : Table) (len d i z n total : ℕ) (near : List ℕ) (hi : i < len) (room : len + d < length t) (b : AllBelow len near) where
   -- the sums begin with the origin's products
   abbrev pub zoomBegun : Table → Absorbed
-  zoomBegun q = absorbed q (mul binary64 (entry t i .x) (float (entry t i .num))) (mul binary64 (entry t i .y) (float (entry t i .num))) (entry t i .energy)
+  zoomBegun q = absorbed q (mul binary64 (entry t i .x) (float (entry t i .num))) (mul binary64 (entry t i .y) (float (entry t i .num)))
+      (entry t i .energy)
 
   lt : length (take len t) ≡ len
   lt = length-take-le len t (omega arith)
@@ -140,7 +148,9 @@ module _ (t : Table) (len d i z n total : ℕ) (near : List ℕ) (hi : i < len) 
 
   -- what is left after the origin's parent and the new entry are stored, for an id p that is the cluster's
   pub made-with : (p : ℕ) → p ≡ clusterId n z i → (s : Absorbed) → s ≡ absorb z p (zoomBegun t) near
-      → Scanned len d (madeAt n z i total near (scanOf len d t)) t (set (set (s .table) i (under p (entry (s .table) i))) (len + d) (centre s p total)) (d + 1)
+      → Scanned len d (madeAt n z i total near (scanOf len d t)) t
+      (set (set (s .table) i (under p (entry (s .table) i))) (len + d) (centre s p total)) (d + 1)
   made-with p q =
       subst (λ (k : ℕ). (s : Absorbed) → s ≡ absorb z k (zoomBegun t) near
-      → Scanned len d (madeAt n z i total near (scanOf len d t)) t (set (set (s .table) i (under k (entry (s .table) i))) (len + d) (centre s k total)) (d + 1)) (sym q) made-leaves
+      → Scanned len d (madeAt n z i total near (scanOf len d t)) t
+      (set (set (s .table) i (under k (entry (s .table) i))) (len + d) (centre s k total)) (d + 1)) (sym q) made-leaves

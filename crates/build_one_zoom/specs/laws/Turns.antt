@@ -50,7 +50,8 @@ unfolding absorb
 absorb-end z p s l j h = ap (absorb z p s) (drop-of-length-le l h)
 
 -- the sum of energies and what remains to be added stay below a bound
-fits-by : (z p B : ℕ) (s : Absorbed) (k : ℕ) (l : List ℕ) → s .se + (adds energyOf z (entry (s .table) k) + moreOf energyOf z (s .table) l) < B
+fits-by : (z p B : ℕ) (s : Absorbed) (k : ℕ) (l : List ℕ) → s .se + (adds energyOf z (entry (s .table) k) + moreOf energyOf z (s .table) l)
+    < B
     → (b : Bool) → unseen z (entry (s .table) k) ≡ b → absorbOne z p s k .se + moreOf energyOf z (absorbOne z p s k .table) l < B
 fits-by z p B s k l h true e =
     let m = more-fewer energyOf z (s .table) k (under p (marked z (entry (s .table) k))) l (le-refl z) in

@@ -133,7 +133,8 @@ more-le f z t (k ∷ ks) b o =
     (λ t′ e. more-le f z t′ ks (rw e (b .1)) (o .1)) _ refl
 
 -- an entry that is seen is stored: no sum over neighbours grows
-fewer-by : (f : Entry → ℕ) (z : ℕ) (t : Table) (k : ℕ) (e : Entry) (j : ℕ) → e .seen ≤ z → (d : Bool) → eqb k j ≡ d → adds f z (entry (set t k e) j) ≤ adds f z (entry t j)
+fewer-by : (f : Entry → ℕ) (z : ℕ) (t : Table) (k : ℕ) (e : Entry) (j : ℕ) → e .seen ≤ z → (d : Bool) → eqb k j ≡ d
+    → adds f z (entry (set t k e) j) ≤ adds f z (entry t j)
 fewer-by f z t k e j h true q = one (eqb-true k j q) (decLt k (length t))
   where
     one : k ≡ j → Dec (k < length t) → adds f z (entry (set t k e) j) ≤ adds f z (entry t j)
@@ -143,7 +144,8 @@ fewer-by f z t k e j h true q = one (eqb-true k j q) (decLt k (length t))
     one r (no w) = rw (set-out t k e (omega arith)) (le-refl _)
 fewer-by f z t k e j h false q = rw (getD-set-other t k j e none (λ r. eqb-false k j q (sym r))) (le-refl _)
 
-pub more-fewer : (f : Entry → ℕ) (z : ℕ) (t : Table) (k : ℕ) (e : Entry) (l : List ℕ) → e .seen ≤ z → moreOf f z (set t k e) l ≤ moreOf f z t l
+pub more-fewer : (f : Entry → ℕ) (z : ℕ) (t : Table) (k : ℕ) (e : Entry) (l : List ℕ) → e .seen ≤ z
+    → moreOf f z (set t k e) l ≤ moreOf f z t l
 unfolding moreOf
 more-fewer f z t k e [] h = le-refl 0
 more-fewer f z t k e (j ∷ js) h = let a = fewer-by f z t k e j h _ refl in let b = more-fewer f z t k e js h in omega (arith, a, b)

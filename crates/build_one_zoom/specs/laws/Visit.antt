@@ -75,12 +75,14 @@ module _ (t : Table) (len d z i : ℕ) (hi : i < len) (hl : len ≤ length t) (u
 
 module _ (n least z : ℕ) (near : Float → Float → List ℕ) (t : Table) (len d i : ℕ) (hi : i < len) where
   pub scanned : z < entry t i .seen → (t′ : Table) (r : ℕ)
-      → Scanned len d (visit n least z (near (entry t i .x) (entry t i .y)) i (scanOf len d (marking t len d z i hi))) (marking t len d z i hi) t′ r
+      → Scanned len d (visit n least z (near (entry t i .x) (entry t i .y)) i (scanOf len d (marking t len d z i hi)))
+      (marking t len d z i hi) t′ r
       → Scanned len d (scanOne n least z near (scanOf len d t) i) t t′ r
   scanned u t′ r v =
       let w : z < entry (take len t) i .seen = rw (getD-take len t i none hi) u in
       record {
-        scan = v .scan ∙ rw (mark-scan t len d z i hi) (sym (scan-visit n least z near (scanOf len d t) i w ∙ rw (getD-take len t i none hi)));
+        scan = v .scan ∙ rw (mark-scan t len d z i hi)
+            (sym (scan-visit n least z near (scanOf len d t) i w ∙ rw (getD-take len t i none hi)));
         rest = v .rest ∙ mark-rest t len d z i hi r;
         grown = v .grown;
         fits = v .fits;

@@ -67,7 +67,8 @@ seat-is c =
 
 seat-in : (c : tie.After-seat Inv-loop μ-loop) → let i : tie.In-loop Inv-loop μ-loop = search in
     c .seat .result < length (now (start-of i .args .to))
-seat-in c = let i : tie.In-loop Inv-loop μ-loop = search in omega (arith, seat-is c, start-of i .pre .1 .room (i .before .loop .l) (lamp-in i))
+seat-in c = let i : tie.In-loop Inv-loop μ-loop = search in
+    omega (arith, seat-is c, start-of i .pre .1 .room (i .before .loop .l) (lamp-in i))
 
 wide-requires : tie.Need-wide-requires Inv-loop μ-loop
 wide-requires c κs = search needs
@@ -91,7 +92,8 @@ mul-wide : tie.Need-mul-wide Inv-loop μ-loop
 mul-wide c = let i : tie.In-loop Inv-loop μ-loop = search in let s = start-of i in omega (arith, lamp-in i, s .pre .1 .long, s .good)
 
 slice-read-wide : tie.Need-slice-read-wide Inv-loop μ-loop
-slice-read-wide c = let i : tie.In-loop Inv-loop μ-loop = search in let s = start-of i in omega (arith, lamp-in i, s .pre .1 .long, i .before .loop .inv .3 .long)
+slice-read-wide c = let i : tie.In-loop Inv-loop μ-loop = search in let s = start-of i in
+    omega (arith, lamp-in i, s .pre .1 .long, i .before .loop .inv .3 .long)
 
 wide-requires-2 : tie.Need-wide-requires-2 Inv-loop μ-loop
 wide-requires-2 c κs = search needs
@@ -115,7 +117,8 @@ seat-requires c κs =
     let i : tie.In-loop Inv-loop μ-loop = search in
     let e : tie.After-entry-at Inv-loop μ-loop = search in
     let s = start-of i in
-    subst (λ (v : Entry). (v .parent ≡ unset) ⊎ (s .args .n ≤ v .parent)) (sym (entry-is e)) (s .pre .1 .parent-set (i .before .loop .l) (lamp-in i))
+    subst (λ (v : Entry). (v .parent ≡ unset) ⊎ (s .args .n ≤ v .parent)) (sym (entry-is e))
+    (s .pre .1 .parent-set (i .before .loop .l) (lamp-in i))
 
 mul-owners : tie.Need-mul-owners Inv-loop μ-loop
 mul-owners c =
@@ -127,13 +130,16 @@ shared-slice-read-owners : tie.Need-shared-slice-read-owners Inv-loop μ-loop
 shared-slice-read-owners c = let t : tie.After-seat Inv-loop μ-loop = search in seat-in t
 
 add-owners : tie.Need-add-owners Inv-loop μ-loop
-add-owners c = let i : tie.In-loop Inv-loop μ-loop = search in let s = start-of i in omega (arith, lamp-in i, s .pre .1 .long, s .good, i .before .loop .inv .1)
+add-owners c = let i : tie.In-loop Inv-loop μ-loop = search in let s = start-of i in
+    omega (arith, lamp-in i, s .pre .1 .long, s .good, i .before .loop .inv .1)
 
 mul-owners-2 : tie.Need-mul-owners-2 Inv-loop μ-loop
-mul-owners-2 c = let i : tie.In-loop Inv-loop μ-loop = search in let s = start-of i in omega (arith, lamp-in i, s .pre .1 .long, s .good, i .before .loop .inv .1)
+mul-owners-2 c = let i : tie.In-loop Inv-loop μ-loop = search in let s = start-of i in
+    omega (arith, lamp-in i, s .pre .1 .long, s .good, i .before .loop .inv .1)
 
 slice-write-owners : tie.Need-slice-write-owners Inv-loop μ-loop
-slice-write-owners c = let i : tie.In-loop Inv-loop μ-loop = search in let s = start-of i in omega (arith, lamp-in i, s .pre .1 .long, i .before .loop .inv .1, i .before .loop .inv .3 .long)
+slice-write-owners c = let i : tie.In-loop Inv-loop μ-loop = search in let s = start-of i in
+    omega (arith, lamp-in i, s .pre .1 .long, i .before .loop .inv .1, i .before .loop .inv .3 .long)
 
 add-l : tie.Need-add-l Inv-loop μ-loop
 add-l c = let i : tie.In-loop Inv-loop μ-loop = search in let s = start-of i in omega (arith, lamp-in i, s .pre .1 .few)
@@ -153,11 +159,13 @@ loop-again c =
     let v = getD (now (a .to)) (t .seat .result) 0 in
     let e : v ≡ f (l .l) = ap (λ (k : ℕ). getD (now (a .to)) k 0) (seat-is t) in
     let m : Wrote (a .at + a .n) (suc (l .l)) f (now (a .owners)) (set (l .owners) (a .at + a .n + l .l) v) =
-    wrote-more (a .at + a .n) (l .l) v f (now (a .owners)) (l .owners) (l .inv .3) (omega (arith, lamp-in i, s .pre .1 .long, l .inv .3 .long)) e in (
+    wrote-more (a .at + a .n) (l .l) v f (now (a .owners)) (l .owners) (l .inv .3)
+    (omega (arith, lamp-in i, s .pre .1 .long, l .inv .3 .long)) e in (
       l .inv .0,
       l .inv .1,
       omega (arith, lamp-in i),
-      subst (λ (k : ℕ). Wrote (a .at + a .n) k f (now (a .owners)) (set (l .owners) (a .at + w .wide .result + l .l) v)) (sym (add-one (l .l)))
+      subst (λ (k : ℕ). Wrote (a .at + a .n) k f (now (a .owners)) (set (l .owners) (a .at + w .wide .result + l .l) v))
+          (sym (add-one (l .l)))
           (subst (λ (k : ℕ). Wrote (a .at + a .n) (suc (l .l)) f (now (a .owners)) (set (l .owners) (k + l .l) v)) (sym (l .inv .1)) m),
     )
 
@@ -170,7 +178,8 @@ returns c =
     let a = s .args in
     let l = c .before .loop in
     let e : l .l ≡ a .n = omega (arith, l .inv .2, l .inv .0, c .loop-test .left) in
-    subst (λ (k : ℕ). Wrote (a .at + a .n) k (nextOwner (a .n) (rows (cols-of s)) (a .start) (now (a .to)) (now (a .owners)) (a .at)) (now (a .owners)) (l .owners)) e (l .inv .3)
+    subst (λ (k : ℕ). Wrote (a .at + a .n) k (nextOwner (a .n) (rows (cols-of s)) (a .start) (now (a .to)) (now (a .owners)) (a .at))
+    (now (a .owners)) (l .owners)) e (l .inv .3)
 
 pub climb-spec : {M : Type 1} → statement M
 climb-spec =

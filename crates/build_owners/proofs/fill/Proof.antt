@@ -1,21 +1,22 @@
--- `build_owners::fill` meets its contract: the fronts of the columns just hold the tables, and what `fill_in` leaves in the front of `near`,
+-- `build_owners::fill` meets its contract: the fronts of the columns just hold the tables, and what `fill_in` leaves in the front of
+-- `near`,
 -- with what follows it, is the definition's. Assumes nothing.
-use mathlib.Core.Path.{_≡_, refl, sym, ap, ap₂, _∙_, subst}
-use Prim.Native.Nat.{ℕ, _+_, _*_, _≤_}
+use mathlib.Core.Path.{_≡_, sym, ap, ap₂, _∙_, subst}
+use Prim.Native.Nat.{ℕ, _*_, _≤_}
 use native.Mathlib.Omega.{arith}
-use lib.ListN.{length, take}
+use lib.ListN.{length, take, replicate}
 use lib.Seq.{length-take-le}
 use denote.Ref.{now}
 use borrow.Author.Needs.{needs}
 use Rattle.build_tables.specs.Lent.{given}
 use Rattle.build_tables.specs.Options.{tableCount}
 use Rattle.build_tables.specs.Rows.{Cols, rows}
-use Rattle.build_tables.specs.laws.Roomy.{Roomy}
+use Rattle.build_tables.specs.laws.Roomy.{Roomy, frontCols, front-even}
 use Rattle.build_all_zooms.specs.Zooms.{laidOver}
 use Rattle.supercluster.specs.laws.Held.{heldBy}
+use Rattle.supercluster.specs.laws.Over.{zeros-front}
 use Rattle.build_owners.specs.OwnerColumn.{ownerColumn}
 use Rattle.build_owners.specs.laws.Climbs.{Climbable}
-use Rattle.build_owners.specs.laws.Fronts.{frontOf, front-even, zeros-front}
 use Rattle.build_owners.proofs.fill.Statement.{statement}
 use Rattle.build_owners.proofs.fill.Tie as tie
 
@@ -51,38 +52,54 @@ mul-m : tie.Need-mul-m
 mul-m c = let s = start-of c in omega (arith, size-is c, s .pre .3, s .good)
 
 slice-aggregate-fill-in : tie.Need-slice-aggregate-fill-in
-slice-aggregate-fill-in c = let w : tie.After-table-count = search in sym (length-take-le (size w) (now (start-of w .args .x)) (held w .hx))
+slice-aggregate-fill-in c =
+    let w : tie.After-table-count = search in
+    sym (length-take-le (size w) (now (start-of w .args .x)) (held w .hx))
 
 slice-aggregate-fill-in-2 : tie.Need-slice-aggregate-fill-in-2
-slice-aggregate-fill-in-2 c = let w : tie.After-table-count = search in sym (length-take-le (size w) (now (start-of w .args .y)) (held w .hy))
+slice-aggregate-fill-in-2 c =
+    let w : tie.After-table-count = search in
+    sym (length-take-le (size w) (now (start-of w .args .y)) (held w .hy))
 
 slice-aggregate-fill-in-3 : tie.Need-slice-aggregate-fill-in-3
-slice-aggregate-fill-in-3 c = let w : tie.After-table-count = search in sym (length-take-le (size w) (now (start-of w .args .seen)) (held w .hs))
+slice-aggregate-fill-in-3 c =
+    let w : tie.After-table-count = search in
+    sym (length-take-le (size w) (now (start-of w .args .seen)) (held w .hs))
 
 slice-aggregate-fill-in-4 : tie.Need-slice-aggregate-fill-in-4
-slice-aggregate-fill-in-4 c = let w : tie.After-table-count = search in sym (length-take-le (size w) (now (start-of w .args .id)) (held w .hi))
+slice-aggregate-fill-in-4 c =
+    let w : tie.After-table-count = search in
+    sym (length-take-le (size w) (now (start-of w .args .id)) (held w .hi))
 
 slice-aggregate-fill-in-5 : tie.Need-slice-aggregate-fill-in-5
-slice-aggregate-fill-in-5 c = let w : tie.After-table-count = search in sym (length-take-le (size w) (now (start-of w .args .parent)) (held w .hp))
+slice-aggregate-fill-in-5 c =
+    let w : tie.After-table-count = search in
+    sym (length-take-le (size w) (now (start-of w .args .parent)) (held w .hp))
 
 slice-aggregate-fill-in-6 : tie.Need-slice-aggregate-fill-in-6
-slice-aggregate-fill-in-6 c = let w : tie.After-table-count = search in sym (length-take-le (size w) (now (start-of w .args .num)) (held w .hn))
+slice-aggregate-fill-in-6 c =
+    let w : tie.After-table-count = search in
+    sym (length-take-le (size w) (now (start-of w .args .num)) (held w .hn))
 
 slice-aggregate-fill-in-7 : tie.Need-slice-aggregate-fill-in-7
-slice-aggregate-fill-in-7 c = let w : tie.After-table-count = search in sym (length-take-le (size w) (now (start-of w .args .energy)) (held w .hw))
+slice-aggregate-fill-in-7 c =
+    let w : tie.After-table-count = search in
+    sym (length-take-le (size w) (now (start-of w .args .energy)) (held w .hw))
 
 slice-relend-prefix-fill-in : tie.Need-slice-relend-prefix-fill-in
 slice-relend-prefix-fill-in c = search needs
 
 slice-aggregate-fill-in-8 : tie.Need-slice-aggregate-fill-in-8
-slice-aggregate-fill-in-8 c = let w : tie.After-table-count = search in sym (length-take-le (w .before .wide .result) (now (start-of w .args .near)) (near-held w))
+slice-aggregate-fill-in-8 c =
+    let w : tie.After-table-count = search in
+    sym (length-take-le (w .before .wide .result) (now (start-of w .args .near)) (near-held w))
 
 fill-in-requires : tie.Need-fill-in-requires
 fill-in-requires c κs =
     let w : tie.After-table-count = search in
     let s = start-of w in (
       front-even (size w) (cols-of s) (held w),
-      subst (λ (k : ℕ). Climbable (s .args .s) (rows (frontOf k (cols-of s)))) (sym (size-is w)) (s .pre .1),
+      subst (λ (k : ℕ). Climbable (s .args .s) (rows (frontCols k (cols-of s)))) (sym (size-is w)) (s .pre .1),
       length-take-le (w .before .wide .result) (now (s .args .near)) (near-held w) ∙ w .before .wide .ensures,
       s .pre .3,
     )
@@ -100,10 +117,13 @@ returns c =
     let s = start-of w in
     let k = w .before .wide .result in
     let n = s .args .s .count in
-    let e : length (take k (now (s .args .near))) ≡ n = length-take-le k (now (s .args .near)) (near-held w) ∙ w .before .wide .ensures in (
-      zeros-front n k (f .fill-in .last .1 .1 .1 .1 .1 .1 .1 .1 .0) (now (s .args .near)) (w .before .wide .ensures) e (f .fill-in .ensures .0),
+    let near = now (s .args .near) in
+    let e : length (take k near) ≡ k = length-take-le k near (near-held w) in (
+      zeros-front k (f .fill-in .last .1 .1 .1 .1 .1 .1 .1 .1 .0) near (f .fill-in .ensures .0 ∙ ap (λ (j : ℕ). replicate j 0) e)
+          ∙ ap (λ (j : ℕ). laidOver (replicate j 0) near) (w .before .wide .ensures),
       f .fill-in .ensures .1
-          ∙ ap (λ (m : ℕ). laidOver (ownerColumn n (heldBy (s .args .s) (rows (frontOf m (cols-of s))))) (now (s .args .owners))) (size-is w),
+          ∙ ap (λ (m : ℕ). laidOver (ownerColumn n (heldBy (s .args .s) (rows (frontCols m (cols-of s))))) (now (s .args .owners)))
+          (size-is w),
     )
 
 pub fill-spec : {M : Type 1} → statement M

@@ -33,7 +33,8 @@ own-wrote : (o : tie.After-own-themselves Inv-loop μ-loop) → let s : tie.Star
 own-wrote o =
     let s : tie.Start Inv-loop μ-loop = search in
     let w : tie.After-wide Inv-loop μ-loop = search in
-    subst (λ (k : ℕ). Wrote 0 k (λ (l : ℕ). l) (now (s .args .owners)) (o .own-themselves .last .0)) (w .wide .ensures) (o .own-themselves .ensures)
+    subst (λ (k : ℕ). Wrote 0 k (λ (l : ℕ). l) (now (s .args .owners)) (o .own-themselves .last .0)) (w .wide .ensures)
+    (o .own-themselves .ensures)
 
 -- the places before the loop
 abbrev owned-of : tie.In-loop Inv-loop μ-loop → tie.After-own-themselves Inv-loop μ-loop
@@ -64,8 +65,10 @@ own-themselves-requires : tie.Need-own-themselves-requires Inv-loop μ-loop
 own-themselves-requires c κs =
     let s : tie.Start Inv-loop μ-loop = search in
     let w : tie.After-wide Inv-loop μ-loop = search in
-    let k = s .pre .1 .few in
-    (omega (arith, w .wide .ensures, reach (s .args .s .options) (s .args .s .count), s .pre .3), omega (arith, w .wide .ensures, s .pre .1 .few))
+    let k = s .pre .1 .few in (
+      omega (arith, w .wide .ensures, reach (s .args .s .options) (s .args .s .count), s .pre .3),
+      omega (arith, w .wide .ensures, s .pre .1 .few),
+    )
 
 cast-low : tie.Need-cast-low Inv-loop μ-loop
 cast-low c =
@@ -133,7 +136,8 @@ loop-again c =
       l .inv .1,
       t .one-table .kept .1 .1 .1 .1 .1 .1 .1 .1 .1 .0 ∙ l .inv .2,
       subst (λ (k : ℕ). Going (s .args .s) (rows-of s) (l .z - 1) (l .at + k) (owned-of i .own-themselves .last .0) c) (sym (l .inv .0))
-          (going-next (s .args .s) (rows-of s) (s .pre .1) (l .z) (l .at) (owned-of i .own-themselves .last .0) (l .owners) (l .inv .3) (more-of i) c (t .one-table .ensures)),
+          (going-next (s .args .s) (rows-of s) (s .pre .1) (l .z) (l .at) (owned-of i .own-themselves .last .0) (l .owners) (l .inv .3)
+          (more-of i) c (t .one-table .ensures)),
     )
 
 clear-requires : tie.Need-clear-requires Inv-loop μ-loop
@@ -157,7 +161,8 @@ returns c =
     let s = begin-of a in
     let l = a .before .loop in (
       q .clear .ensures ∙ ap (λ (k : ℕ). replicate k 0) (l .inv .2),
-      going-last (s .args .s) (rows-of s) (s .pre .1) (l .z) (l .at) (owned-by a .own-themselves .last .0) (l .owners) (l .inv .3) (λ (k : ℕ). k)
+      going-last (s .args .s) (rows-of s) (s .pre .1) (l .z) (l .at) (owned-by a .own-themselves .last .0) (l .owners) (l .inv .3)
+          (λ (k : ℕ). k)
           (now (s .args .owners)) (omega (arith, a .loop-test .left, l .inv .1)) (own-wrote (owned-by a)) (s .pre .3),
     )
 

@@ -1,4 +1,5 @@
--- `build_owners::lead` meets its contract: at the head of the loop the entry with the id c began with the same lamp, come to in so many steps as
+-- `build_owners::lead` meets its contract: at the head of the loop the entry with the id c began with the same lamp, come to in so many
+-- steps as
 -- are left. Assumes nothing.
 use mathlib.Core.Path.{_≡_, refl, sym, ap, ap₂, _∙_, subst}
 use mathlib.Core.List.{List}
@@ -56,7 +57,8 @@ at-origin c =
     let i : tie.In-loop Inv-loop μ-loop = search in
     let s = start-of i in
     let t : tie.After-table-of Inv-loop μ-loop = search in
-    ap₂ (λ (a b : ℕ). a + b) (c .before .wide .ensures ∙ ap (λ (k : ℕ). getD (now (s .args .starts)) k 0) (t .table-of .ensures)) (c .origin-of .ensures)
+    ap₂ (λ (a b : ℕ). a + b) (c .before .wide .ensures ∙ ap (λ (k : ℕ). getD (now (s .args .starts)) k 0) (t .table-of .ensures))
+    (c .origin-of .ensures)
 
 loop-holds : tie.Need-loop-holds Inv-loop μ-loop
 loop-holds c = let s : tie.Start Inv-loop μ-loop = search in (s .pre .1, refl, omega arith)
@@ -81,14 +83,27 @@ add-at c =
     let i : tie.In-loop Inv-loop μ-loop = search in
     let s = start-of i in
     let a = s .args in
-    omega (arith, at-origin c, stepped i .inside, rows-length (given (a .x) (a .y) (a .seen) (a .id) (a .parent) (a .num) (a .energy)), s .good .0 .0)
+    omega (
+      arith,
+      at-origin c,
+      stepped i .inside,
+      rows-length (given (a .x) (a .y) (a .seen) (a .id) (a .parent) (a .num) (a .energy)),
+      s .good .0 .0,
+    )
 
 entry-at-requires : tie.Need-entry-at-requires Inv-loop μ-loop
 entry-at-requires c κs =
     let i : tie.In-loop Inv-loop μ-loop = search in
     let s = start-of i in
-    let a = s .args in
-    (s .pre .0, omega (arith, at-origin c, stepped i .inside, rows-length (given (a .x) (a .y) (a .seen) (a .id) (a .parent) (a .num) (a .energy))))
+    let a = s .args in (
+      s .pre .0,
+      omega (
+        arith,
+        at-origin c,
+        stepped i .inside,
+        rows-length (given (a .x) (a .y) (a .seen) (a .id) (a .parent) (a .num) (a .energy)),
+      ),
+    )
 
 sub-left : tie.Need-sub-left Inv-loop μ-loop
 sub-left c = let i : tie.In-loop Inv-loop μ-loop = search in stepped i .some

@@ -60,8 +60,11 @@ send-requires c κs =
     let s : tie.Start = search in
     let a : tie.After-start-of = search in
     let b : tie.After-len-of = search in
-    let w : tie.After-wide = search in
-    (s .pre .0, sends-here (s .args .s) (rows-of s) (s .args .z) (s .pre .1) (s .pre .2) (s .pre .3) (now (s .args .owners)) (s .args .at) (s .pre .5) (s .pre .6) _ _ _ _ (a .start-of .ensures) (b .len-of .ensures) (w .wide .ensures) (s .pre .4))
+    let w : tie.After-wide = search in (
+      s .pre .0,
+      sends-here (s .args .s) (rows-of s) (s .args .z) (s .pre .1) (s .pre .2) (s .pre .3) (now (s .args .owners)) (s .args .at)
+          (s .pre .5) (s .pre .6) _ _ _ _ (a .start-of .ensures) (b .len-of .ensures) (w .wide .ensures) (s .pre .4),
+    )
 
 add-start-of : tie.Need-add-start-of
 add-start-of c = search needs
@@ -73,8 +76,12 @@ climb-requires : tie.Need-climb-requires
 climb-requires c κs =
     let s : tie.Start = search in
     let t : tie.After-send = search in
-    let u : tie.After-start-of2 = search in
-    (s .pre .0, sits-here (s .args .s) (rows-of s) (s .args .z) (s .pre .1) (s .pre .2) (s .pre .3) (now (s .args .owners)) (s .args .at) (s .pre .5) (s .pre .6) _ _ (u .start-of2 .ensures ∙ ap (startOf (s .args .s)) (add-one (s .args .z))) (t .send .kept .1 .1 .1 .1 .1 .1 .1 .1 .1 .1 .1 .1 .0 ∙ s .pre .4))
+    let u : tie.After-start-of2 = search in (
+      s .pre .0,
+      sits-here (s .args .s) (rows-of s) (s .args .z) (s .pre .1) (s .pre .2) (s .pre .3) (now (s .args .owners)) (s .args .at)
+          (s .pre .5) (s .pre .6) _ _ (u .start-of2 .ensures ∙ ap (startOf (s .args .s)) (add-one (s .args .z)))
+          (t .send .kept .1 .1 .1 .1 .1 .1 .1 .1 .1 .1 .1 .1 .0 ∙ s .pre .4),
+    )
 
 same-length : tie.Need-same-length
 same-length c = search needs
@@ -90,7 +97,8 @@ returns c =
     let w = wide-of t in
     let s = start-of w in
     climbed-here (s .args .s) (rows-of s) (s .args .z) (s .pre .1) (s .pre .2) (s .pre .3) (now (s .args .owners)) (s .args .at) (s .pre .5)
-    (s .pre .6) _ _ _ _ (t .send .last .1 .1 .1 .1 .1 .1 .1 .1 .1 .1 .1 .1 .0) _ (started w .start-of .ensures) (measured w .len-of .ensures) (w .wide .ensures)
+    (s .pre .6) _ _ _ _ (t .send .last .1 .1 .1 .1 .1 .1 .1 .1 .1 .1 .1 .1 .0) _ (started w .start-of .ensures)
+    (measured w .len-of .ensures) (w .wide .ensures)
     (u .start-of2 .ensures ∙ ap (startOf (s .args .s)) (add-one (s .args .z))) (t .send .ensures) (v .climb .ensures)
 
 pub one-table-spec : {M : Type 1} → statement M

@@ -23,16 +23,20 @@ loop-holds : tie.Need-loop-holds Inv-loop μ-loop
 loop-holds c = (omega arith, wrote-none 0 (λ (k : ℕ). k) _)
 
 cast-owners : tie.Need-cast-owners Inv-loop μ-loop
-cast-owners c = let i : tie.In-loop Inv-loop μ-loop = search in let s : tie.Start Inv-loop μ-loop = search in omega (arith, i .loop-test .taken, s .pre .1)
+cast-owners c = let i : tie.In-loop Inv-loop μ-loop = search in let s : tie.Start Inv-loop μ-loop = search in
+    omega (arith, i .loop-test .taken, s .pre .1)
 
 mul-owners : tie.Need-mul-owners Inv-loop μ-loop
-mul-owners c = let i : tie.In-loop Inv-loop μ-loop = search in let s : tie.Start Inv-loop μ-loop = search in omega (arith, i .loop-test .taken, s .pre .1)
+mul-owners c = let i : tie.In-loop Inv-loop μ-loop = search in let s : tie.Start Inv-loop μ-loop = search in
+    omega (arith, i .loop-test .taken, s .pre .1)
 
 slice-write-owners : tie.Need-slice-write-owners Inv-loop μ-loop
-slice-write-owners c = let i : tie.In-loop Inv-loop μ-loop = search in let s : tie.Start Inv-loop μ-loop = search in omega (arith, i .loop-test .taken, s .pre .0, i .before .loop .inv .1 .long)
+slice-write-owners c = let i : tie.In-loop Inv-loop μ-loop = search in let s : tie.Start Inv-loop μ-loop = search in
+    omega (arith, i .loop-test .taken, s .pre .0, i .before .loop .inv .1 .long)
 
 add-l : tie.Need-add-l Inv-loop μ-loop
-add-l c = let i : tie.In-loop Inv-loop μ-loop = search in let s : tie.Start Inv-loop μ-loop = search in omega (arith, i .loop-test .taken, s .pre .1)
+add-l c = let i : tie.In-loop Inv-loop μ-loop = search in let s : tie.Start Inv-loop μ-loop = search in
+    omega (arith, i .loop-test .taken, s .pre .1)
 
 loop-less : tie.Need-loop-less Inv-loop μ-loop
 loop-less c = let i : tie.In-loop Inv-loop μ-loop = search in omega (arith, i .loop-test .taken)
@@ -41,8 +45,10 @@ loop-again : tie.Need-loop-again Inv-loop μ-loop
 loop-again c =
     let i : tie.In-loop Inv-loop μ-loop = search in
     let l = i .before .loop in
-    let s : tie.Start Inv-loop μ-loop = search in
-    (omega (arith, i .loop-test .taken), wrote-next (l .l) (l .l) (λ (k : ℕ). k) _ _ (l .inv .1) (omega (arith, i .loop-test .taken, s .pre .0, l .inv .1 .long)) refl)
+    let s : tie.Start Inv-loop μ-loop = search in (
+      omega (arith, i .loop-test .taken),
+      wrote-next (l .l) (l .l) (λ (k : ℕ). k) _ _ (l .inv .1) (omega (arith, i .loop-test .taken, s .pre .0, l .inv .1 .long)) refl,
+    )
 
 same-length : tie.Need-same-length Inv-loop μ-loop
 same-length c = c .before .loop .inv .1 .long

@@ -1,4 +1,5 @@
--- `build_owners::send` meets its contract: at the head of the loop the first d entries are where their lamps' owners stand. Assumes nothing.
+-- `build_owners::send` meets its contract: at the head of the loop the first d entries are where their lamps' owners stand. Assumes
+-- nothing.
 use mathlib.Core.Path.{_≡_, refl, sym, ap, ap₂, _∙_, subst}
 use mathlib.Core.List.{List}
 use Prim.Native.Nat.{ℕ, suc, _+_, _-_, _*_, _<_, _≤_}
@@ -66,7 +67,8 @@ loop-holds : tie.Need-loop-holds Inv-loop μ-loop
 loop-holds c = (omega arith, refl, λ d h. absurd (omega (arith, h)))
 
 add-entry-at : tie.Need-add-entry-at Inv-loop μ-loop
-add-entry-at c = let i : tie.In-loop Inv-loop μ-loop = search in let s = start-of i in omega (arith, i .loop-test .taken, s .pre .1 .few, s .pre .1 .small)
+add-entry-at c = let i : tie.In-loop Inv-loop μ-loop = search in let s = start-of i in
+    omega (arith, i .loop-test .taken, s .pre .1 .few, s .pre .1 .small)
 
 entry-at-requires : tie.Need-entry-at-requires Inv-loop μ-loop
 entry-at-requires c κs =
@@ -79,8 +81,11 @@ lead-requires c κs =
     let i : tie.In-loop Inv-loop μ-loop = search in
     let e : tie.After-entry-at Inv-loop μ-loop = search in
     let s = start-of i in
-    let a = s .args in
-    (s .pre .0, subst (λ (v : Entry). Chain (a .n) (now (a .starts)) (rows (cols-of s)) 32 (v .id)) (sym (e .entry-at .ensures)) (s .pre .1 .chained (i .before .loop .d) (i .loop-test .taken)))
+    let a = s .args in (
+      s .pre .0,
+      subst (λ (v : Entry). Chain (a .n) (now (a .starts)) (rows (cols-of s)) 32 (v .id)) (sym (e .entry-at .ensures))
+          (s .pre .1 .chained (i .before .loop .d) (i .loop-test .taken)),
+    )
 
 wide-requires : tie.Need-wide-requires Inv-loop μ-loop
 wide-requires c κs = search needs
@@ -130,7 +135,8 @@ loop-again c =
     let q = s .pre .1 in
     let e : spot s (l .d) ≡ w .wide2 .result = sym (spot-is w) in
     let m : Sent (spot s) (suc (l .d)) (set (l .to) (spot s (l .d)) (l .d)) =
-    sent-more (spot s) (l .d) (l .to) (l .inv .2) (omega (arith, e, spot-in w)) (λ k b f. let z = q .once k (l .d) (omega (arith, b, h)) h f in omega (arith, z, b)) in (
+    sent-more (spot s) (l .d) (l .to) (l .inv .2) (omega (arith, e, spot-in w))
+    (λ k b f. let z = q .once k (l .d) (omega (arith, b, h)) h f in omega (arith, z, b)) in (
       omega (arith, h),
       length-set (l .to) (w .wide2 .result) (l .d) ∙ l .inv .1,
       subst (λ (k : ℕ). Sent (spot s) k (set (l .to) (w .wide2 .result) (l .d))) (sym (add-one (l .d)))

@@ -13,7 +13,7 @@ use Rattle.build_tables.specs.Options.{tableCount}
 use Rattle.build_all_zooms.specs.Zooms.{laidOver}
 use Rattle.supercluster.specs.laws.Held.{held, heldBy}
 use Rattle.build_owners.specs.OwnerColumn.{ownerIn, ownerColumn}
-use Rattle.build_owners.specs.laws.Climbs.{ownerAt, finer, Climbable}
+use Rattle.build_owners.specs.laws.Climbs.{ownerOn, finer, Climbable}
 use Rattle.build_owners.specs.laws.Fills.{Wrote, Filled, filled-first, filled-since, filled-more, filled-all}
 
 -- of t tables, the one behind table i has its n places
@@ -48,7 +48,8 @@ pub record Going (s : State) (R : Table) (z at : ℕ) (a b : List ℕ) : Type 0 
   pub filled : Filled (s .count) (heldBy s R) (s .options .«max_zoom» + 1 - z) a b
 
 module _ (s : State) (R : Table) (C : Climbable s R) where
-  pub going-first : (z at : ℕ) (a b : List ℕ) → z ≡ s .options .«max_zoom» + 1 → at ≡ 0 → Wrote 0 (s .count) (λ l. l) a b → Going s R z at b b
+  pub going-first : (z at : ℕ) (a b : List ℕ) → z ≡ s .options .«max_zoom» + 1 → at ≡ 0 → Wrote 0 (s .count) (λ l. l) a b
+      → Going s R z at b b
   going-first z at a b e q w =
       let i : 0 ≡ s .options .«max_zoom» + 1 - z = omega arith in
       let n = zero-mul (s .count) in
@@ -77,14 +78,15 @@ module _ (s : State) (R : Table) (C : Climbable s R) where
       going-own l q =
           let i = s .options .«max_zoom» + 1 - z in
           let e : suc (z - 1) ≡ z = omega arith in
-          ap (λ (k : ℕ). getD b (k + l) 0) (g .at-is) ∙ g .filled .each i l (le-refl i) q ∙ ap (λ (v : ℕ). ownerAt s R v l) (sym e)
+          ap (λ (k : ℕ). getD b (k + l) 0) (g .at-is) ∙ g .filled .each i l (le-refl i) q ∙ ap (λ (v : ℕ). ownerOn s R v l) (sym e)
 
-      pub going-next : (c : List ℕ) → Wrote (at + s .count) (s .count) (ownerAt s R (z - 1)) b c → Going s R (z - 1) (at + s .count) a c
+      pub going-next : (c : List ℕ) → Wrote (at + s .count) (s .count) (ownerOn s R (z - 1)) b c → Going s R (z - 1) (at + s .count) a c
       going-next c w =
           let i = s .options .«max_zoom» + 1 - z in
           let u = g .high in
           let e : suc (s .options .«max_zoom» + 1 - z) ≡ s .options .«max_zoom» + 1 - (z - 1) = omega arith in
-          let m : suc (s .options .«max_zoom» + 1 - z) * s .count ≡ (s .options .«max_zoom» + 1 - z) * s .count + s .count = suc-mul i (s .count) in
+          let m : suc (s .options .«max_zoom» + 1 - z) * s .count ≡ (s .options .«max_zoom» + 1 - z) * s .count + s .count =
+          suc-mul i (s .count) in
           let p : at + s .count ≡ suc (s .options .«max_zoom» + 1 - z) * s .count = let q = g .at-is in omega arith in
           record {
             low = omega arith;

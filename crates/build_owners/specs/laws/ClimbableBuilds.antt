@@ -35,7 +35,7 @@ use Rattle.law_lamps.specs.laws.Owners.{owner-in}
 use Rattle.law_lamps.specs.laws.Climb.{up-lone, up-under, owner-up}
 use Rattle.law_answers.specs.laws.Stored.{stateBy, long-is, table-is}
 use Rattle.build_owners.specs.OwnerColumn.{ownerIn}
-use Rattle.build_owners.specs.laws.Climbs.{originId, leadOf, Chain, seatOf, ownerAt, entryAt, leadAt, finer, Climbs, Climbable}
+use Rattle.build_owners.specs.laws.Climbs.{originId, leadOf, Chain, seatOf, ownerOn, entryAt, leadAt, finer, Climbs, Climbable}
 use Rattle.build_owners.specs.laws.Steps.{seat-self, seat-origin}
 use Rattle.build_owners.specs.laws.Leads.{Standing, lead-cluster, leads, lead-below, lead-owner}
 pub use Rattle.build_owners.specs.laws.OwnersAre.{owner-is as owner-kept}
@@ -92,7 +92,7 @@ module _ (G : Given) (a : AcceptedBuild G) (l : BuildColumns) (r : Holds (need (
       }
 
   -- the owners among the rows are the build's
-  pub owner-held : (z : ℕ) → minZ G ≤ z → z ≤ maxZ G + 1 → (k : ℕ) → k < points G → ownerAt (stateBy G) (rowsBy G l) z k ≡ owner G z k
+  pub owner-held : (z : ℕ) → minZ G ≤ z → z ≤ maxZ G + 1 → (k : ℕ) → k < points G → ownerOn (stateBy G) (rowsBy G l) z k ≡ owner G z k
   owner-held z h w k q =
       ap (λ (ts : List Table). ownerIn ts (maxZ G + 1 - z) k) (built-held (G .options) (G .xs) (G .ys) (G .energies) a l)
       ∙ owner-kept G a z h w k q
@@ -131,7 +131,7 @@ module _ (G : Given) (a : AcceptedBuild G) (l : BuildColumns) (r : Holds (need (
     few = right-at G a (suc z) (omega arith) (omega arith) .few
 
     -- owners, and the entries at them
-    owner-here : (m : ℕ) → m < points G → ownerAt S R z m ≡ owner G z m
+    owner-here : (m : ℕ) → m < points G → ownerOn S R z m ≡ owner G z m
     owner-here m w = owner-held z h (omega arith) m w
 
     finer-is : (m : ℕ) → m < points G → finer S R z m ≡ owner G (suc z) m
@@ -216,7 +216,7 @@ module _ (G : Given) (a : AcceptedBuild G) (l : BuildColumns) (r : Holds (need (
             inr (omega arith)
 
         seated-by : (j : ℕ) → j < points G
-            → seatOf (points G) (entryAt S R (suc z) (finer S R z j)) (finer S R z j) ≡ finer S R z (leadAt S R z (ownerAt S R z j))
+            → seatOf (points G) (entryAt S R (suc z) (finer S R z j)) (finer S R z j) ≡ finer S R z (leadAt S R z (ownerOn S R z j))
         seated-by j w =
             let q = here j w in
             let x = leadAt S R z (owner G z j) in

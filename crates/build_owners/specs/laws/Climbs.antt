@@ -35,8 +35,8 @@ abbrev pub seatOf : ℕ → Entry → ℕ → ℕ
 seatOf n e k = cond (eqb (e .parent) unset) k (originOf n (e .parent))
 
 -- lamp l's owner in the table of zoom z, among the rows R
-abbrev pub ownerAt : State → Table → ℕ → ℕ → ℕ
-ownerAt s R z l = ownerIn (heldBy s R) (s .options .«max_zoom» + 1 - z) l
+abbrev pub ownerOn : State → Table → ℕ → ℕ → ℕ
+ownerOn s R z l = ownerIn (heldBy s R) (s .options .«max_zoom» + 1 - z) l
 
 -- the entry at j of that table, and the lamp that it began with
 abbrev pub entryAt : State → Table → ℕ → ℕ → Entry
@@ -47,7 +47,7 @@ leadAt s R z j = leadOf (s .count) (s .starts) R 32 (entryAt s R z j .id)
 
 -- the owner of lamp l in table z + 1
 abbrev pub finer : State → Table → ℕ → ℕ → ℕ
-finer s R z l = ownerAt s R (suc z) l
+finer s R z l = ownerOn s R (suc z) l
 
 -- from table z + 1 to table z
 pub record Climbs (s : State) (R : Table) (z : ℕ) : Type 0 where
@@ -59,14 +59,14 @@ pub record Climbs (s : State) (R : Table) (z : ℕ) : Type 0 where
   -- the lamp that each entry began with is one that it owns
   pub chained : (d : ℕ) → d < lenOf s z → Chain (s .count) (s .starts) R 32 (entryAt s R z d .id)
   pub led : (d : ℕ) → d < lenOf s z → leadAt s R z d < s .count
-  pub owned : (d : ℕ) → d < lenOf s z → ownerAt s R z (leadAt s R z d) ≡ d
+  pub owned : (d : ℕ) → d < lenOf s z → ownerOn s R z (leadAt s R z d) ≡ d
   -- owners are places of their tables
-  pub there : (l : ℕ) → l < s .count → ownerAt s R z l < lenOf s z
+  pub there : (l : ℕ) → l < s .count → ownerOn s R z l < lenOf s z
   pub finer-there : (l : ℕ) → l < s .count → finer s R z l < lenOf s (suc z)
   -- a parent is unset or a cluster's id, and the place that an owner goes with is that of the lamp which the next owner began with
   pub parent-set : (l : ℕ) → l < s .count → let e = entryAt s R (suc z) (finer s R z l) in (e .parent ≡ unset) ⊎ (s .count ≤ e .parent)
   pub seated : (l : ℕ) → l < s .count
-      → seatOf (s .count) (entryAt s R (suc z) (finer s R z l)) (finer s R z l) ≡ finer s R z (leadAt s R z (ownerAt s R z l))
+      → seatOf (s .count) (entryAt s R (suc z) (finer s R z l)) (finer s R z l) ≡ finer s R z (leadAt s R z (ownerOn s R z l))
 
 -- a state and rows whose owner column can be filled so
 pub record Climbable (s : State) (R : Table) : Type 0 where

@@ -7,7 +7,8 @@ use Prim.Native.Nat.{ℕ, zero, suc, _+_, _-_, _*_, _<_, _≤_}
 use native.Mathlib.Nat.{zero-mul, suc-mul, mul-le-mul, le-refl}
 use native.Mathlib.Numerals.{add-one}
 use native.Mathlib.Omega.{arith}
-use lib.ListN.{length, getD, set, take, drop, replicate, length-set, length-drop, length-append, length-map, take-append-drop, List·getD-append, getD-replicate, length-replicate}
+use lib.ListN.{length, getD, set, take, drop, replicate, length-set, length-drop, length-append, length-map, take-append-drop}
+use lib.ListN.{List·getD-append, getD-replicate, length-replicate}
 use lib.Seq.{getD-set-same, getD-set-other, getD-take, getD-drop, getD-append-add, drop-drop, ext-getD, length-take-le}
 use Rattle.build_tables.specs.declared.Entry.{Entry}
 use Rattle.build_tables.specs.Entries.{Table, entry, unset}
@@ -29,12 +30,14 @@ pub record Wrote (at n : ℕ) (f : ℕ → ℕ) (a b : List ℕ) : Type 0 where
 pub wrote-none : (at : ℕ) (f : ℕ → ℕ) (a : List ℕ) → Wrote at 0 f a a
 wrote-none at f a = record { long = refl; each = λ l h. absurd (omega arith); kept = λ j h. refl }
 
-pub wrote-more : (at i v : ℕ) (f : ℕ → ℕ) (a b : List ℕ) → Wrote at i f a b → at + i < length b → v ≡ f i → Wrote at (suc i) f a (set b (at + i) v)
+pub wrote-more : (at i v : ℕ) (f : ℕ → ℕ) (a b : List ℕ) → Wrote at i f a b → at + i < length b → v ≡ f i
+    → Wrote at (suc i) f a (set b (at + i) v)
 wrote-more at i v f a b w h e =
     record {
       long = length-set b (at + i) v ∙ w .long;
       each = λ l k. ⊎-elim (λ q. getD-set-other b (at + i) (at + l) v 0 (λ d. omega arith) ∙ w .each l q) (λ q. here l k q) (below l i);
-      kept = λ j k. getD-set-other b (at + i) j v 0 (λ d. ⊎-elim (λ q. omega arith) (λ q. omega arith) k) ∙ w .kept j (⊎-elim (λ q. inl q) (λ q. inr (omega arith)) k);
+      kept = λ j k. getD-set-other b (at + i) j v 0 (λ d. ⊎-elim (λ q. omega arith) (λ q. omega arith) k)
+          ∙ w .kept j (⊎-elim (λ q. inl q) (λ q. inr (omega arith)) k);
     }
   where
     here : (l : ℕ) → l < suc i → i ≤ l → getD (set b (at + i) v) (at + l) 0 ≡ f l
@@ -81,7 +84,8 @@ pub record Sends (n : ℕ) (ss : List ℕ) (R : Table) (start len : ℕ) (own : 
 abbrev pub Sent : (ℕ → ℕ) → ℕ → List ℕ → Type 0
 Sent at i to = (d : ℕ) → d < i → getD to (at d) 0 ≡ d
 
-pub sent-more : (at : ℕ → ℕ) (i : ℕ) (to : List ℕ) → Sent at i to → at i < length to → ((d : ℕ) → d < i → at d ≡ at i → ⊥) → Sent at (suc i) (set to (at i) i)
+pub sent-more : (at : ℕ → ℕ) (i : ℕ) (to : List ℕ) → Sent at i to → at i < length to → ((d : ℕ) → d < i → at d ≡ at i → ⊥)
+    → Sent at (suc i) (set to (at i) i)
 sent-more at i to s h o d k = ⊎-elim (λ q. getD-set-other to (at i) (at d) i 0 (λ e. o d q e) ∙ s d q) (λ q. here q) (below d i)
   where
     here : i ≤ d → getD (set to (at i) i) (at d) 0 ≡ d
@@ -126,7 +130,8 @@ pub filled-since : (n : ℕ) (ts : List Table) (i : ℕ) (f : ℕ → ℕ) (a b 
 filled-since n ts i f a b c w g =
     record { long = g .long ∙ w .long; each = g .each; kept = λ j h. g .kept j h ∙ w .kept j (inr (omega arith)) }
 
-pub filled-more : (n : ℕ) (ts : List Table) (i at : ℕ) (a b c : List ℕ) → at ≡ i * n → Filled n ts i a b → Wrote (at + n) n (λ l. ownerIn ts (suc i) l) b c
+pub filled-more : (n : ℕ) (ts : List Table) (i at : ℕ) (a b c : List ℕ) → at ≡ i * n → Filled n ts i a b
+    → Wrote (at + n) n (λ l. ownerIn ts (suc i) l) b c
     → Filled n ts (suc i) a c
 filled-more n ts i at a b c q f w =
     let s = suc-mul i n in
@@ -170,7 +175,8 @@ module _ (n : ℕ) (ts : List Table) (i : ℕ) (a b : List ℕ) (f : Filled n ts
       let l = f .long in
       let e : length (take n (drop (k * n) b)) ≡ n = length-take-le n (drop (k * n) b) (omega arith) in
       ext-getD 0 (take n (drop (k * n) b)) (ownersIn n ts k) (e ∙ sym (owners-long n ts k))
-      (λ l m. let v : l < n = omega arith in getD-take n (drop (k * n) b) l 0 v ∙ getD-drop (k * n) b l 0 ∙ f .each k l h v ∙ sym (owners-at n ts k l 0 v))
+      (λ l m. let v : l < n = omega arith in getD-take n (drop (k * n) b) l 0 v ∙ getD-drop (k * n) b l 0 ∙ f .each k l h v
+      ∙ sym (owners-at n ts k l 0 v))
 
   -- what stands from table lo on
   rest-from : (lo c : ℕ) → lo + c ≡ suc i → drop (lo * n) b ≡ gather (ownersIn n ts) (range lo c) ++ drop (i * n + n) b
@@ -181,7 +187,8 @@ module _ (n : ℕ) (ts : List Table) (i : ℕ) (a b : List ℕ) (f : Filled n ts
   rest-from lo (suc c) e =
       let s : suc lo * n ≡ lo * n + n = suc-mul lo n in
       sym (take-append-drop n (drop (lo * n) b))
-      ∙ ap₂ (λ (p q : List ℕ). p ++ q) (one-part lo (omega arith)) (drop-drop n (lo * n) b ∙ ap (λ (k : ℕ). drop k b) (sym s) ∙ rest-from (suc lo) c (omega arith))
+      ∙ ap₂ (λ (p q : List ℕ). p ++ q) (one-part lo (omega arith)) (drop-drop n (lo * n) b ∙ ap (λ (k : ℕ). drop k b) (sym s)
+      ∙ rest-from (suc lo) c (omega arith))
       ∙ sym (append-assoc (ownersIn n ts lo) (gather (ownersIn n ts) (range (suc lo) c)) (drop (i * n + n) b))
 
   pub filled-all : suc i ≡ length ts → b ≡ laidOver (ownerColumn n ts) a

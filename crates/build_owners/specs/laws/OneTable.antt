@@ -13,12 +13,12 @@ use Rattle.build_tables.specs.Entries.{Table, entry, unset}
 use Rattle.build_tables.specs.State.{startOf, lenOf}
 use Rattle.supercluster.specs.laws.Held.{heldBy}
 use Rattle.build_owners.specs.OwnerColumn.{placeOf, ownerIn}
-use Rattle.build_owners.specs.laws.Climbs.{leadOf, Chain, seatOf, ownerAt, leadAt, finer, Climbs, Climbable}
+use Rattle.build_owners.specs.laws.Climbs.{leadOf, Chain, seatOf, ownerOn, leadAt, finer, Climbs, Climbable}
 use Rattle.build_owners.specs.laws.Fills.{Wrote, wrote-as, leadFrom, Sends, Sent, nextOwner, Sits}
 
 -- lamps that share an owner share the next
 pub owner-same : (s : State) (R : Table) (z : ℕ) → z ≤ s .options .«max_zoom» → (l m : ℕ) → finer s R z l ≡ finer s R z m
-    → ownerAt s R z l ≡ ownerAt s R z m
+    → ownerOn s R z l ≡ ownerOn s R z m
 unfolding ownerIn
 owner-same s R z h l m e =
     let i = s .options .«max_zoom» + 1 - suc z in
@@ -58,7 +58,8 @@ module _ (s : State) (R : Table) (z : ℕ) (C : Climbable s R) (lo : s .options 
         small = C .starts-small z lo (omega arith);
         chained = W .chained;
         led = λ d h. (let a = W .led d h in let b = part-long k e in omega arith);
-        room = λ d h. (let a = spot-at k e d h in let b = W .finer-there (leadAt s R z d) (W .led d h) in let c = W .finer-few in omega arith);
+        room = λ d h. (let a = spot-at k e d h in let b = W .finer-there (leadAt s R z d) (W .led d h) in let c = W .finer-few in
+            omega arith);
         once = λ d f h g v.
             sym (W .owned d h)
             ∙ owner-same s R z hi (leadAt s R z d) (leadAt s R z f) (sym (spot-at k e d h) ∙ v ∙ spot-at k e f g)
@@ -84,13 +85,13 @@ module _ (s : State) (R : Table) (z : ℕ) (C : Climbable s R) (lo : s .options 
             (sym (own l h)) (W .parent-set l h);
         room = λ l h.
             (let a = seat-at l h in
-            let b = W .finer-there (leadAt s R z (ownerAt s R z l)) (W .led (ownerAt s R z l) (W .there l h)) in
+            let b = W .finer-there (leadAt s R z (ownerOn s R z l)) (W .led (ownerOn s R z l) (W .there l h)) in
             let c = W .finer-few in
             omega arith);
       }
     where
       seat-at : (l : ℕ) → l < s .count → seatOf (s .count) (entry R (startOf s (suc z) + getD owners (at + l) 0)) (getD owners (at + l) 0)
-          ≡ finer s R z (leadAt s R z (ownerAt s R z l))
+          ≡ finer s R z (leadAt s R z (ownerOn s R z l))
       seat-at l h = ap (λ (k : ℕ). seatOf (s .count) (entry R (startOf s (suc z) + k)) k) (own l h) ∙ W .seated l h
 
   pub sits-here : (start m : ℕ) → start ≡ startOf s (suc z) → m ≡ s .count → Sits (s .count) R start m owners at
@@ -99,9 +100,9 @@ module _ (s : State) (R : Table) (z : ℕ) (C : Climbable s R) (lo : s .options 
   -- where it goes
   next-at : (k : ℕ) (to : List ℕ) → k ≡ s .count
       → Sent (λ d. getD (take (at + k - at) (drop at owners)) (leadFrom (s .count) (s .starts) R (startOf s z) d) 0) (lenOf s z) to
-      → (l : ℕ) → l < s .count → nextOwner (s .count) R (startOf s (suc z)) to owners at l ≡ ownerAt s R z l
+      → (l : ℕ) → l < s .count → nextOwner (s .count) R (startOf s (suc z)) to owners at l ≡ ownerOn s R z l
   next-at k to e t l h =
-      let d = ownerAt s R z l in
+      let d = ownerOn s R z l in
       ap (λ (j : ℕ). getD to (seatOf (s .count) (entry R (startOf s (suc z) + j)) j) 0) (own l h)
       ∙ ap (λ (j : ℕ). getD to j 0) (W .seated l h ∙ sym (spot-at k e d (W .there l h)))
       ∙ t d (W .there l h)
@@ -109,12 +110,14 @@ module _ (s : State) (R : Table) (z : ℕ) (C : Climbable s R) (lo : s .options 
   pub climbed-here : (start len k up : ℕ) (to b : List ℕ) → start ≡ startOf s z → len ≡ lenOf s z → k ≡ s .count → up ≡ startOf s (suc z)
       → Sent (λ d. getD (take (at + k - at) (drop at owners)) (leadFrom (s .count) (s .starts) R start d) 0) len to
       → Wrote (at + s .count) (s .count) (nextOwner (s .count) R up to owners at) owners b
-      → Wrote (at + s .count) (s .count) (ownerAt s R z) owners b
+      → Wrote (at + s .count) (s .count) (ownerOn s R z) owners b
   climbed-here start len k up to b ea el e eu t w =
-      wrote-as (at + s .count) (s .count) _ (ownerAt s R z) owners b w
+      wrote-as (at + s .count) (s .count) _ (ownerOn s R z) owners b w
       (λ l h. ap (λ (x : ℕ). nextOwner (s .count) R x to owners at l) eu ∙ next-at k to e t′ l h)
     where
       t′ : Sent (λ d. getD (take (at + k - at) (drop at owners)) (leadFrom (s .count) (s .starts) R (startOf s z) d) 0) (lenOf s z) to
       t′ =
-          subst (λ (x : ℕ). Sent (λ d. getD (take (at + k - at) (drop at owners)) (leadFrom (s .count) (s .starts) R x d) 0) (lenOf s z) to) ea
-          (subst (λ (x : ℕ). Sent (λ d. getD (take (at + k - at) (drop at owners)) (leadFrom (s .count) (s .starts) R start d) 0) x to) el t)
+          subst (λ (x : ℕ). Sent (λ d. getD (take (at + k - at) (drop at owners)) (leadFrom (s .count) (s .starts) R x d) 0) (lenOf s z) to)
+          ea
+          (subst (λ (x : ℕ). Sent (λ d. getD (take (at + k - at) (drop at owners)) (leadFrom (s .count) (s .starts) R start d) 0) x to) el
+          t)

@@ -1,4 +1,5 @@
--- From a cluster to the entry at its origin, and so on down to the lamp that it began with: one step of the way. And with which place of its
+-- From a cluster to the entry at its origin, and so on down to the lamp that it began with: one step of the way. And with which place of
+-- its
 -- table a place goes. Assumes nothing.
 use mathlib.Core.Path.{_≡_, sym, ap, _∙_, subst}
 use mathlib.Core.Logic.{inl, inr}

@@ -18,14 +18,16 @@ part-long a n l h = length-take-le n (drop a l) (rw (length-drop a l) (omega ari
 
 pub rows-drop : (s : ℕ) (c : Cols) → rows (each (λ A l. drop s l) c) ≡ drop s (rows c)
 rows-drop s c =
-    let n : length (drop s (rows c)) ≡ length (drop s (c .x)) = length-drop s (rows c) ∙ ap (λ (k : ℕ). k - s) (rows-length c) ∙ sym (length-drop s (c .x)) in
+    let n : length (drop s (rows c)) ≡ length (drop s (c .x)) = length-drop s (rows c) ∙ ap (λ (k : ℕ). k - s) (rows-length c)
+    ∙ sym (length-drop s (c .x)) in
     rows-are (each (λ A l. drop s l) c) (drop s (rows c)) n
     (λ i h. let q : s + i < length (c .x) = omega (arith, length-drop s (c .x)) in
     each-row (λ A l. drop s l) c i (s + i) (λ A l d. getD-drop s l i d) ∙ sym (getD-drop s (rows c) i none ∙ rows-entry c (s + i) q))
 
 pub rows-take : (s : ℕ) (c : Cols) → rows (each (λ A l. take s l) c) ≡ take s (rows c)
 rows-take s c =
-    let n : length (take s (rows c)) ≡ length (take s (c .x)) = length-take s (rows c) ∙ ap (min s) (rows-length c) ∙ sym (length-take s (c .x)) in
+    let n : length (take s (rows c)) ≡ length (take s (c .x)) = length-take s (rows c) ∙ ap (min s) (rows-length c)
+    ∙ sym (length-take s (c .x)) in
     rows-are (each (λ A l. take s l) c) (take s (rows c)) n
     (λ i h. let m = length-take s (c .x) in
     let q : i < s = omega (arith, m) in
@@ -100,8 +102,10 @@ map-drop f (suc n) (e ∷ t) = map-drop f n t
 
 pub xs-part : (a n : ℕ) (c : Cols) → part a n (c .x) ≡ xsOf (part a n (rows c))
 xs-part a n c =
-    sym (map-take (λ e. e .x) n (drop a (rows c)) ∙ ap (take n) (map-drop (λ e. e .x) a (rows c)) ∙ ap (λ (q : List Float). take n (drop a q)) (xs-rows c))
+    sym (map-take (λ e. e .x) n (drop a (rows c)) ∙ ap (take n) (map-drop (λ e. e .x) a (rows c))
+    ∙ ap (λ (q : List Float). take n (drop a q)) (xs-rows c))
 
 pub ys-part : (a n : ℕ) (c : Cols) → length (c .y) ≡ length (c .x) → part a n (c .y) ≡ ysOf (part a n (rows c))
 ys-part a n c h =
-    sym (map-take (λ e. e .y) n (drop a (rows c)) ∙ ap (take n) (map-drop (λ e. e .y) a (rows c)) ∙ ap (λ (q : List Float). take n (drop a q)) (ys-rows c h))
+    sym (map-take (λ e. e .y) n (drop a (rows c)) ∙ ap (take n) (map-drop (λ e. e .y) a (rows c))
+    ∙ ap (λ (q : List Float). take n (drop a q)) (ys-rows c h))

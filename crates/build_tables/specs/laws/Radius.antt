@@ -10,7 +10,8 @@ use Rattle.floats.specs.laws.Monotone.{div-mono}
 use Rattle.floats.specs.laws.Radius.{scale-positive, radius-bounds}
 use Rattle.build_tables.specs.Radius.{radiusAt}
 
-pub radius-fine : (radius extent : Float) (z : ℕ) → z ≤ 31 → T (le zero radius) → T (le radius pow16) → T (le one extent) → T (le extent pow16)
+pub radius-fine : (radius extent : Float) (z : ℕ) → z ≤ 31 → T (le zero radius) → T (le radius pow16) → T (le one extent)
+    → T (le extent pow16)
     → T (finite (radiusAt radius extent z)) × T (le zero (radiusAt radius extent z))
 unfolding radiusAt fits le
 radius-fine radius extent z Z a b lo hi =
@@ -19,5 +20,8 @@ radius-fine radius extent z Z a b lo hi =
     let f : T (finite radius) = between-finite zero radius pow16 tt tt a b in
     let top = radius-bounds pow16 extent z Z tt tt tt lo hi in
     let low : T (le zero (div binary64 radius d)) = div-nonneg binary64 radius d f (s .0) a in
-    let up : T (le (div binary64 radius d) (div binary64 pow16 d)) = div-mono binary64 radius pow16 d f tt (s .0) b in
-    (between-finite zero (div binary64 radius d) pow16 tt tt low (le-le-trans (div binary64 radius d) (div binary64 pow16 d) pow16 up (top .1)), low)
+    let up : T (le (div binary64 radius d) (div binary64 pow16 d)) = div-mono binary64 radius pow16 d f tt (s .0) b in (
+      between-finite zero (div binary64 radius d) pow16 tt tt low
+          (le-le-trans (div binary64 radius d) (div binary64 pow16 d) pow16 up (top .1)),
+      low,
+    )

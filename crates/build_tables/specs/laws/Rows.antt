@@ -68,7 +68,16 @@ pub record Kept (old new : Cols) : Type 0 where
 
 pub kept-then : (a b c : Cols) → Kept b c → Kept a b → Kept a c
 kept-then a b c k l =
-    record { kx = k .kx ∙ l .kx; ky = k .ky ∙ l .ky; ks = k .ks ∙ l .ks; ki = k .ki ∙ l .ki; kp = k .kp ∙ l .kp; kn = k .kn ∙ l .kn; kw = k .kw ∙ l .kw }
+    record {
+      kx = k .kx ∙ l .kx;
+      ky = k .ky ∙ l .ky;
+      ks = k .ks ∙ l .ks;
+      ki = k .ki ∙ l .ki;
+      kp = k .kp ∙ l .kp;
+      kn = k .kn
+          ∙ l .kn;
+      kw = k .kw ∙ l .kw;
+    }
 
 pub kept-mark : (c : Cols) (i a : ℕ) → Kept c (withSeen c (set (c .seen) i a))
 kept-mark c i a = record { kx = refl; ky = refl; ks = length-set (c .seen) i a; ki = refl; kp = refl; kn = refl; kw = refl }
@@ -132,7 +141,8 @@ put-at c i e v h =
 
 pub rows-set : (c : Cols) (i : ℕ) (e : Entry) → Even c → i < length (c .x) → rows (putAll c i e) ≡ set (rows c) i e
 rows-set c i e v h =
-    let n : length (set (rows c) i e) ≡ length (set (c .x) i (e .x)) = length-set (rows c) i e ∙ rows-length c ∙ sym (length-set (c .x) i (e .x)) in
+    let n : length (set (rows c) i e) ≡ length (set (c .x) i (e .x)) = length-set (rows c) i e ∙ rows-length c
+    ∙ sym (length-set (c .x) i (e .x)) in
     rows-are (putAll c i e) (set (rows c) i e) n (λ j k. by j (rw (length-set (c .x) i (e .x)) at k) _ refl)
   where
     by : (j : ℕ) → j < length (c .x) → (b : Bool) → eqb j i ≡ b → row (putAll c i e) j ≡ entry (set (rows c) i e) j
@@ -142,7 +152,15 @@ rows-set c i e v h =
         rw r (put-at c i e v h ∙ sym (getD-set-same (rows c) i e none m))
     by j k false q =
         let o = eqb-false j i q in
-        simp (getD-set-other (c .x) i j (e .x) nan o, getD-set-other (c .y) i j (e .y) nan o, getD-set-other (c .seen) i j (e .seen) 0 o, getD-set-other (c .id) i j (e .id) 0 o, getD-set-other (c .parent) i j (e .parent) 0 o, getD-set-other (c .num) i j (e .num) 0 o, getD-set-other (c .energy) i j (e .energy) 0 o)
+        simp (
+          getD-set-other (c .x) i j (e .x) nan o,
+          getD-set-other (c .y) i j (e .y) nan o,
+          getD-set-other (c .seen) i j (e .seen) 0 o,
+          getD-set-other (c .id) i j (e .id) 0 o,
+          getD-set-other (c .parent) i j (e .parent) 0 o,
+          getD-set-other (c .num) i j (e .num) 0 o,
+          getD-set-other (c .energy) i j (e .energy) 0 o,
+        )
         (sym (getD-set-other (rows c) i j e none o ∙ rows-entry c j k))
 
 -- a store that leaves the other columns as they are
@@ -163,15 +181,25 @@ module _ (c : Cols) (i : ℕ) (v : Even c) (h : i < length (c .x)) where
 -- ---- the same done to each column
 
 -- f takes what stands at k to i
-pub each-row : (f : (A : Type 0) → List A → List A) (c : Cols) (i k : ℕ) → ((A : Type 0) (l : List A) (d : A) → getD (f A l) i d ≡ getD l k d) → row (each f c) i ≡ row c k
-each-row f c i k g = simp (g Float (c .x) nan, g Float (c .y) nan, g ℕ (c .seen) 0, g ℕ (c .id) 0, g ℕ (c .parent) 0, g ℕ (c .num) 0, g ℕ (c .energy) 0)
+pub each-row : (f : (A : Type 0) → List A → List A) (c : Cols) (i k : ℕ)
+    → ((A : Type 0) (l : List A) (d : A) → getD (f A l) i d ≡ getD l k d) → row (each f c) i ≡ row c k
+each-row f c i k g = simp (
+  g Float (c .x) nan,
+  g Float (c .y) nan,
+  g ℕ (c .seen) 0,
+  g ℕ (c .id) 0,
+  g ℕ (c .parent) 0,
+  g ℕ (c .num) 0,
+  g ℕ (c .energy) 0,
+)
 
 pub each-same : (f g : (A : Type 0) → List A → List A) (c : Cols) → ((A : Type 0) (l : List A) → f A l ≡ g A l) → each f c ≡ each g c
 each-same f g c e = simp (e Float (c .x), e Float (c .y), e ℕ (c .seen), e ℕ (c .id), e ℕ (c .parent), e ℕ (c .num), e ℕ (c .energy))
 
 -- what is done to each of two columns, and then again: h to the first, or the second itself
 module _ (f : (A : Type 0) → List A → List A → List A) (g : (A : Type 0) → List A → List A) (c d : Cols) (v : Even c) where
-  pub each2-first : (h : (A : Type 0) → List A → List A) → ((A : Type 0) (l q : List A) → length l ≡ length (c .x) → g A (f A l q) ≡ h A l) → each g (each2 f c d) ≡ each h c
+  pub each2-first : (h : (A : Type 0) → List A → List A) → ((A : Type 0) (l q : List A) → length l ≡ length (c .x) → g A (f A l q) ≡ h A l)
+      → each g (each2 f c d) ≡ each h c
   each2-first h e =
       simp (
         e Float (c .x) (d .x) refl,
@@ -196,10 +224,20 @@ module _ (f : (A : Type 0) → List A → List A → List A) (g : (A : Type 0) �
       )
 
 -- columns as long as each other come out so
-pub even-each : (f : (A : Type 0) → List A → List A) (g : ℕ → ℕ) (c : Cols) → ((A : Type 0) (l : List A) → length (f A l) ≡ g (length l)) → Even c → Even (each f c)
+pub even-each : (f : (A : Type 0) → List A → List A) (g : ℕ → ℕ) (c : Cols) → ((A : Type 0) (l : List A) → length (f A l) ≡ g (length l))
+    → Even c → Even (each f c)
 even-each f g c e v =
-    let by : (A : Type 0) (l : List A) → length l ≡ length (c .x) → length (f A l) ≡ length (f Float (c .x)) = λ A l q. e A l ∙ ap g q ∙ sym (e Float (c .x)) in
-    record { ey = by Float (c .y) (v .ey); es = by ℕ (c .seen) (v .es); ei = by ℕ (c .id) (v .ei); ep = by ℕ (c .parent) (v .ep); en = by ℕ (c .num) (v .en); ew = by ℕ (c .energy) (v .ew) }
+    let by : (A : Type 0) (l : List A) → length l ≡ length (c .x) → length (f A l) ≡ length (f Float (c .x)) = λ A l q. e A l ∙ ap g q
+    ∙ sym (e Float (c .x)) in
+    record {
+      ey = by Float (c .y) (v .ey);
+      es = by ℕ (c .seen) (v .es);
+      ei = by ℕ (c .id) (v .ei);
+      ep = by ℕ (c .parent) (v .ep);
+      en =
+          by ℕ (c .num) (v .en);
+      ew = by ℕ (c .energy) (v .ew);
+    }
 
 -- ---- the columns of the rows
 
@@ -209,8 +247,10 @@ getD-any (k ∷ l) zero a b h = refl
 getD-any (k ∷ l) (suc i) a b h = getD-any l i a b (omega arith)
 
 -- a field of the rows is the column that stands for it
-pub column : {B : Type 0} (f : Entry → B) (c : Cols) (l : List B) (d : B) → length l ≡ length (c .x) → ((i : ℕ) → f (row c i) ≡ getD l i d) → map f (rows c) ≡ l
+pub column : {B : Type 0} (f : Entry → B) (c : Cols) (l : List B) (d : B) → length l ≡ length (c .x) → ((i : ℕ) → f (row c i) ≡ getD l i d)
+    → map f (rows c) ≡ l
 column f c l d e g =
     let n : length (map f (rows c)) ≡ length l = length-map (rows c) f ∙ rows-length c ∙ sym e in
     ext-getD (f none) (map f (rows c)) l n
-    (λ i h. let q : i < length l = omega (arith, n) in List·getD-map f (rows c) i none ∙ ap f (rows-entry c i (omega (arith, e, q))) ∙ g i ∙ getD-any l i d (f none) q)
+    (λ i h. let q : i < length l = omega (arith, n) in List·getD-map f (rows c) i none ∙ ap f (rows-entry c i (omega (arith, e, q))) ∙ g i
+    ∙ getD-any l i d (f none) q)

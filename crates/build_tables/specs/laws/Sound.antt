@@ -98,7 +98,8 @@ packed-stands s cap (suc k) at j e h =
         subst (λ (i : ℕ). Stands s cap (s .options .«min_zoom» + i)) r g
 
 -- each table that is built stands
-pub stands : (s : State) (cap : ℕ) → stateOk s cap ≡ true → (z : ℕ) → s .options .«min_zoom» ≤ z → z ≤ s .options .«max_zoom» + 1 → Stands s cap z
+pub stands : (s : State) (cap : ℕ) → stateOk s cap ≡ true → (z : ℕ) → s .options .«min_zoom» ≤ z → z ≤ s .options .«max_zoom» + 1
+    → Stands s cap z
 stands s cap e z p q =
     let j = z - s .options .«min_zoom» in
     let w = packed-stands s cap (tableCount (s .options)) 0 j (parts s cap e .tables) (omega arith) in
@@ -106,25 +107,30 @@ stands s cap e z p q =
     subst (λ (i : ℕ). Stands s cap i) r w
 
 -- the zoom used is one of a table that is built
-pub used-between : (o : Options) (z : ℕ) → o .«min_zoom» ≤ o .«max_zoom» → (o .«min_zoom» ≤ zoomUsed o z) × (zoomUsed o z ≤ o .«max_zoom» + 1)
+pub used-between : (o : Options) (z : ℕ) → o .«min_zoom» ≤ o .«max_zoom» → (o .«min_zoom» ≤ zoomUsed o z)
+    × (zoomUsed o z ≤ o .«max_zoom» + 1)
 used-between o z h = go (ltb z (o .«min_zoom»)) refl
   where
     low : (v : ℕ) → o .«min_zoom» ≤ v
-        → (o .«min_zoom» ≤ cond (ltb (o .«max_zoom» + 1) v) (o .«max_zoom» + 1) v) × (cond (ltb (o .«max_zoom» + 1) v) (o .«max_zoom» + 1) v ≤ o .«max_zoom» + 1)
+        → (o .«min_zoom» ≤ cond (ltb (o .«max_zoom» + 1) v) (o .«max_zoom» + 1) v)
+        × (cond (ltb (o .«max_zoom» + 1) v) (o .«max_zoom» + 1) v ≤ o .«max_zoom» + 1)
     low v l = at (ltb (o .«max_zoom» + 1) v) refl
       where
-        at : (b : Bool) → ltb (o .«max_zoom» + 1) v ≡ b → (o .«min_zoom» ≤ cond b (o .«max_zoom» + 1) v) × (cond b (o .«max_zoom» + 1) v ≤ o .«max_zoom» + 1)
+        at : (b : Bool) → ltb (o .«max_zoom» + 1) v ≡ b → (o .«min_zoom» ≤ cond b (o .«max_zoom» + 1) v)
+            × (cond b (o .«max_zoom» + 1) v ≤ o .«max_zoom» + 1)
         at true e = (omega arith, omega arith)
         at false e = (l, omega (arith, ltb-false (o .«max_zoom» + 1) v e))
 
     go : (b : Bool) → ltb z (o .«min_zoom») ≡ b
         → let v = cond b (o .«min_zoom») z in
-        (o .«min_zoom» ≤ cond (ltb (o .«max_zoom» + 1) v) (o .«max_zoom» + 1) v) × (cond (ltb (o .«max_zoom» + 1) v) (o .«max_zoom» + 1) v ≤ o .«max_zoom» + 1)
+        (o .«min_zoom» ≤ cond (ltb (o .«max_zoom» + 1) v) (o .«max_zoom» + 1) v)
+        × (cond (ltb (o .«max_zoom» + 1) v) (o .«max_zoom» + 1) v ≤ o .«max_zoom» + 1)
     go true e = low (o .«min_zoom») (omega arith)
     go false e = low z (omega (arith, ltb-false z (o .«min_zoom») e))
 
 -- the table of the zoom used stands, and its number is one of the 32
-pub used-stands : (s : State) (cap : ℕ) → stateOk s cap ≡ true → (z : ℕ) → Stands s cap (zoomUsed (s .options) z) × (zoomUsed (s .options) z < 32)
+pub used-stands : (s : State) (cap : ℕ) → stateOk s cap ≡ true → (z : ℕ) → Stands s cap (zoomUsed (s .options) z)
+    × (zoomUsed (s .options) z < 32)
 used-stands s cap e z =
     let g = given s cap e in
     let u = used-between (s .options) z (g .zooms) in
@@ -133,11 +139,13 @@ used-stands s cap e z =
 -- ---- for a loop that counts the tables down
 
 pub packed-next : (s : State) (cap k at : ℕ) → 0 < k
-    → packed s cap k at ≡ (tableOk s (s .options .«min_zoom» + (k - 1)) at && packed s cap (k - 1) (at + lenOf s (s .options .«min_zoom» + (k - 1))))
+    → packed s cap k at ≡ (tableOk s (s .options .«min_zoom» + (k - 1)) at && packed s cap (k - 1)
+    (at + lenOf s (s .options .«min_zoom» + (k - 1))))
 unfolding packed
 packed-next s cap k at h = go k (k - 1) (omega arith)
   where
-    go : (a b : ℕ) → a ≡ suc b → packed s cap a at ≡ (tableOk s (s .options .«min_zoom» + b) at && packed s cap b (at + lenOf s (s .options .«min_zoom» + b)))
+    go : (a b : ℕ) → a ≡ suc b → packed s cap a at
+        ≡ (tableOk s (s .options .«min_zoom» + b) at && packed s cap b (at + lenOf s (s .options .«min_zoom» + b)))
     go a b e = rw e
 
 pub packed-last : (s : State) (cap k at : ℕ) → k ≤ 0 → packed s cap k at ≡ leb at cap

@@ -51,7 +51,8 @@ returns c =
     let a = start-of y .args in
     effort-told-is (a .allowance) (now (a .out)) _ _ (c .number .ensures) (c .before .carried .ensures) (w .effort-box .ensures .0)
     (w .effort-box .ensures .1)
-    (ap (λ (s : State). effortAsked s (now (a .ids)) (now (a .coords)) (a .zoom) (a .west) (a .least-y) (a .east) (a .greatest-y)) (state-given y))
+    (ap (λ (s : State). effortAsked s (now (a .ids)) (now (a .coords)) (a .zoom) (a .west) (a .least-y) (a .east) (a .greatest-y))
+    (state-given y))
 
 pub supercluster-box-effort-spec : {M : Type 1} → statement M
 supercluster-box-effort-spec =

@@ -17,8 +17,12 @@ start-of y = search
 
 -- the state that is passed on
 state-given : (y : tie.After-state)
-    → y .state .result ≡ (let a = start-of y .args in stateOf (givenOptions (a .min-zoom) (a .max-zoom) (a .min-points) (a .radius) (a .extent) (a .node-size) (a .cartesian) (a .min-x) (a .min-y) (a .max-x) (a .max-y) (a .offset-given) (a .offset) (a .scale-given) (a .scale) (a .longitude-strips-only)) (a .count) (now (a .starts)) (now (a .lens)))
-state-given y = let a = start-of y .args in state-is (y .state .result) (y .before .options .result) _ (a .count) (now (a .starts)) (now (a .lens)) (y .state .ensures) (y .before .options .ensures)
+    → y .state .result ≡ (let a = start-of y .args in
+    stateOf (givenOptions (a .min-zoom) (a .max-zoom) (a .min-points) (a .radius) (a .extent) (a .node-size) (a .cartesian) (a .min-x)
+    (a .min-y) (a .max-x) (a .max-y) (a .offset-given) (a .offset) (a .scale-given) (a .scale) (a .longitude-strips-only)) (a .count)
+    (now (a .starts)) (now (a .lens)))
+state-given y = let a = start-of y .args in state-is (y .state .result) (y .before .options .result) _ (a .count) (now (a .starts))
+    (now (a .lens)) (y .state .ensures) (y .before .options .ensures)
 
 options-requires : tie.Need-options-requires
 options-requires c κs = search needs
@@ -40,7 +44,8 @@ returns c =
     let w = c .before .before in
     let y = w .before in
     let a = start-of y .args in
-    said-is (c .number .ensures) (c .before .carried .ensures) ∙ ap ownerSaid (w .owner .ensures ∙ ap (λ (s : State). ownerAsked s (now (a .owners)) (a .lamp) (a .zoom)) (state-given y))
+    said-is (c .number .ensures) (c .before .carried .ensures)
+    ∙ ap ownerSaid (w .owner .ensures ∙ ap (λ (s : State). ownerAsked s (now (a .owners)) (a .lamp) (a .zoom)) (state-given y))
 
 pub supercluster-owner-spec : {M : Type 1} → statement M
 supercluster-owner-spec =

@@ -33,7 +33,10 @@ returns c =
     let y = w .before in
     let a = start-of y .args in
     let columns = givenColumns (a .x) (a .y) (a .seen) (a .id) (a .parent) (a .num) (a .energy) (a .ids) (a .coords) in
-    said-is (c .number .ensures) (c .before .value .ensures) ∙ ap tallySaid (w .tally-lent .ensures ∙ ap (λ (o : Options). tallied (stateOf o (a .count) (now (a .starts)) (now (a .lens))) columns (a .z) (a .tile-x) (a .tile-y)) (y .options .ensures))
+    said-is (c .number .ensures) (c .before .value .ensures)
+    ∙ ap tallySaid (w .tally-lent .ensures
+    ∙ ap (λ (o : Options). tallied (stateOf o (a .count) (now (a .starts)) (now (a .lens))) columns (a .z) (a .tile-x) (a .tile-y))
+    (y .options .ensures))
 
 pub supercluster-tally-spec : {M : Type 1} → statement M
 supercluster-tally-spec =

@@ -41,7 +41,9 @@ returns c =
     let y = w .before .before .before .before in
     let a = start-of y .args in
     let columns = givenColumns (a .x) (a .y) (a .seen) (a .id) (a .parent) (a .num) (a .energy) (a .ids) (a .coords) in
-    tile-told-is (c .number .ensures) (c .before .carried .ensures) (w .tile-lent .ensures ∙ ap (λ (o : Options). tiled (stateOf o (a .count) (now (a .starts)) (now (a .lens))) columns (a .z) (a .tile-x) (a .tile-y) (now (a .places)) (now (a .px)) (now (a .py))) (y .options .ensures))
+    tile-told-is (c .number .ensures) (c .before .carried .ensures)
+    (w .tile-lent .ensures ∙ ap (λ (o : Options). tiled (stateOf o (a .count) (now (a .starts)) (now (a .lens))) columns (a .z)
+    (a .tile-x) (a .tile-y) (now (a .places)) (now (a .px)) (now (a .py))) (y .options .ensures))
 
 pub supercluster-tile-spec : {M : Type 1} → statement M
 supercluster-tile-spec =

@@ -40,7 +40,8 @@ same-told : {A : Type 0} (n k : ℕ) (a : A) (r s c d : ℕ) (u v : A) → (r �
 same-told n k a r s c d u v e f = (same-reply (e .0) (f .0), same-reply (e .1) (f .1), same-reply (e .2) (f .2))
 
 -- and of a step its number and its slot
-same-step : (x : Step) (r s i j : ℕ) → (r ≡ stepNumber x) × (i ≡ stepCarried x) → (s ≡ stepNumber x) × (j ≡ stepCarried x) → (r ≡ s) × (i ≡ j)
+same-step : (x : Step) (r s i j : ℕ) → (r ≡ stepNumber x) × (i ≡ stepCarried x) → (s ≡ stepNumber x) × (j ≡ stepCarried x) → (r ≡ s)
+    × (i ≡ j)
 same-step x r s i j e f = (same-reply (e .0) (f .0), same-reply (e .1) (f .1))
 
 -- ---- the index
@@ -82,7 +83,8 @@ module _ (s : State) (ids : List ℕ) (co : List Float) (zoom : ℕ) (out : List
       → t ≡ toldOf (boxAsked s ids co zoom west least east greatest) out → r ≡ t
   box-replies west least east greatest r t = same-reply
 
-  pub effort-replies : (west least east greatest : Float) (a : ℕ) (r t : EffortTold) → r ≡ effortToldOf (effortAsked s ids co zoom west least east greatest) a out
+  pub effort-replies : (west least east greatest : Float) (a : ℕ) (r t : EffortTold)
+      → r ≡ effortToldOf (effortAsked s ids co zoom west least east greatest) a out
       → t ≡ effortToldOf (effortAsked s ids co zoom west least east greatest) a out → r ≡ t
   effort-replies west least east greatest a r t = same-reply
 

@@ -19,11 +19,16 @@ use Rattle.std.proofs.num.truncating_f64_to_u64.Reads as truncating-f64-to-u64-
 
 truncating-f64-to-u64-requires : tie.Need-truncating-f64-to-u64-requires
 unfolding lt
-truncating-f64-to-u64-requires c κs = (lt-le-trans (fin true 1 (pos 0)) zero (c .args .x) tt (c .pre .0), le-lt-trans (c .args .x) pow48 (fin false 1 (pos 64)) (c .pre .1) tt)
+truncating-f64-to-u64-requires c κs = (
+  lt-le-trans (fin true 1 (pos 0)) zero (c .args .x) tt (c .pre .0),
+  le-lt-trans (c .args .x) pow48 (fin false 1 (pos 64)) (c .pre .1) tt,
+)
 
 int-to-float-rest : tie.Need-int-to-float-rest
 unfolding inFloat
-int-to-float-rest c = le→leb (c .before .truncating-f64-to-u64 .result) (2 ^ 53) (le-trans (le-of-eq (c .before .truncating-f64-to-u64 .ensures)) (le-trans (part-small (c .before .before .args .x) (c .before .before .pre .0) (c .before .before .pre .1)) (lit≤ tt)))
+int-to-float-rest c = le→leb (c .before .truncating-f64-to-u64 .result) (2 ^ 53)
+    (le-trans (le-of-eq (c .before .truncating-f64-to-u64 .ensures))
+    (le-trans (part-small (c .before .before .args .x) (c .before .before .pre .0) (c .before .before .pre .1)) (lit≤ tt)))
 
 add-result : tie.Need-add-result
 add-result c =

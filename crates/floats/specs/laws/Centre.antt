@@ -31,7 +31,8 @@ weigh-one x n h p q = (
 )
 
 -- one more
-pub weigh-more : (w : Float) (S : ℕ) (x : Float) (n : ℕ) → Weighted w S → In01 x → 1 ≤ n → S + n ≤ 2 ^ 53 → Weighted (add binary64 w (mul binary64 x (float n))) (S + n)
+pub weigh-more : (w : Float) (S : ℕ) (x : Float) (n : ℕ) → Weighted w S → In01 x → 1 ≤ n → S + n ≤ 2 ^ 53
+    → Weighted (add binary64 w (mul binary64 x (float n))) (S + n)
 weigh-more w S x n k h p q =
     let s : S ≤ 2 ^ 53 = left (2 ^ 53) q in
     let t : n ≤ 2 ^ 53 = right (2 ^ 53) q in
@@ -39,7 +40,8 @@ weigh-more w S x n k h p q =
     let j : Weighted v n = weigh-one x n h p t in (
       add-nonneg binary64 w v (weighted-finite w S s k) (weighted-finite v n t j) (k .0) (j .0),
       subst (λ (z : Float). T (le (add binary64 w v) z)) (ofInt-add binary64 S n q)
-          (add-mono binary64 w (float S) v (float n) (weighted-finite w S s k) (ofInt-finite binary64 S s) (weighted-finite v n t j) (ofInt-finite binary64 n t) (k .1) (j .1)),
+          (add-mono binary64 w (float S) v (float n) (weighted-finite w S s k) (ofInt-finite binary64 S s) (weighted-finite v n t j)
+          (ofInt-finite binary64 n t) (k .1) (j .1)),
     )
   where
     left : (k : ℕ) → S + n ≤ k → S ≤ k
@@ -53,7 +55,8 @@ pub weigh-mean : (w : Float) (S : ℕ) → Weighted w S → 1 ≤ S → S ≤ 2 
 weigh-mean w S k p q = (
   div-nonneg binary64 w (float S) (weighted-finite w S q k) (ofInt-positive binary64 S p q) (k .0),
   subst (λ (z : Float). T (le (div binary64 w (float S)) z)) (ofInt-div-self binary64 S p q ∙ ofInt-one)
-      (div-mono binary64 w (float S) (float S) (weighted-finite w S q k) (ofInt-finite binary64 S q) (ofInt-positive binary64 S p q) (k .1)),
+      (div-mono binary64 w (float S) (float S) (weighted-finite w S q k) (ofInt-finite binary64 S q) (ofInt-positive binary64 S p q)
+      (k .1)),
 )
 
 -- ---- the same over a list of values with their counts
@@ -79,10 +82,12 @@ total-le S (p ∷ ps) = le-trans (more S (p .1)) (total-le (S + p .1) ps)
     more : (a b : ℕ) → a ≤ a + b
     more a b = omega arith
 
-pub sum-weighted : (w : Float) (S : ℕ) (ps : List (Float × ℕ)) → Weighted w S → All01 ps → centreTotal S ps ≤ 2 ^ 53 → Weighted (weightedSum w ps) (centreTotal S ps)
+pub sum-weighted : (w : Float) (S : ℕ) (ps : List (Float × ℕ)) → Weighted w S → All01 ps → centreTotal S ps ≤ 2 ^ 53
+    → Weighted (weightedSum w ps) (centreTotal S ps)
 sum-weighted w S [] k a h = k
 sum-weighted w S (p ∷ ps) k a h =
-    sum-weighted (add binary64 w (mul binary64 (p .0) (float (p .1)))) (S + p .1) ps (weigh-more w S (p .0) (p .1) k (a .0) (a .1) (le-trans (total-le (S + p .1) ps) h)) (a .2) h
+    sum-weighted (add binary64 w (mul binary64 (p .0) (float (p .1)))) (S + p .1) ps
+    (weigh-more w S (p .0) (p .1) k (a .0) (a .1) (le-trans (total-le (S + p .1) ps) h)) (a .2) h
 
 -- every centre is within [0,1]: the origin x of count n, then what it absorbs
 pub centre : (x : Float) (n : ℕ) (ps : List (Float × ℕ)) → In01 x → 1 ≤ n → All01 ps → centreTotal n ps ≤ 2 ^ 53

@@ -41,9 +41,11 @@ one-is = refl
 
 pub square-le-one : (x : Float) → T (finite x) → T (le (neg one) x) → T (le x one) → T (le (mul binary64 x x) one)
 square-le-one x p h k =
-    subst (λ (z : Float). T (le z one)) (sym (square-round binary64 x p)) (subst (λ (z : Float). T (le (round binary64 false (num x * num x) (den x * den x)) z)) one-is
+    subst (λ (z : Float). T (le z one)) (sym (square-round binary64 x p))
+    (subst (λ (z : Float). T (le (round binary64 false (num x * num x) (den x * den x)) z)) one-is
     (round-mono binary64 (num x * num x) (den x * den x) 1 1 (mul-pos (den-pos x) (den-pos x)) (zero-lt-suc 0)
-    (le-trans (le-of-eq (mul-one (num x * num x))) (le-trans (mul-le-mul (size-le x p h k) (size-le x p h k)) (le-of-eq (sym (one-mul (den x * den x))))))))
+    (le-trans (le-of-eq (mul-one (num x * num x)))
+    (le-trans (mul-le-mul (size-le x p h k) (size-le x p h k)) (le-of-eq (sym (one-mul (den x * den x))))))))
 
 -- ---- the distance of two places of the unit square is from 0 to 2
 closed-low : sub binary64 zero one ≡ neg one
@@ -60,8 +62,10 @@ closed-two = refl
 
 apart : (a b : Float) → In01 a → In01 b → T (le (neg one) (sub binary64 a b)) × T (le (sub binary64 a b) one)
 apart a b h k = (
-  subst (λ (z : Float). T (le z (sub binary64 a b))) closed-low (sub-mono binary64 zero a one b tt (In01-finite a h) tt (In01-finite b k) (h .0) (k .1)),
-  subst (λ (z : Float). T (le (sub binary64 a b) z)) closed-high (sub-mono binary64 a one b zero (In01-finite a h) tt (In01-finite b k) tt (h .1) (k .0)),
+  subst (λ (z : Float). T (le z (sub binary64 a b))) closed-low
+      (sub-mono binary64 zero a one b tt (In01-finite a h) tt (In01-finite b k) (h .0) (k .1)),
+  subst (λ (z : Float). T (le (sub binary64 a b) z)) closed-high
+      (sub-mono binary64 a one b zero (In01-finite a h) tt (In01-finite b k) tt (h .1) (k .0)),
 )
 
 side : (a b : Float) → In01 a → In01 b → In01 (mul binary64 (sub binary64 a b) (sub binary64 a b))
@@ -70,14 +74,16 @@ side a b h k =
     let f : T (finite (sub binary64 a b)) = between-finite (neg one) (sub binary64 a b) one (neg-finite one tt) tt (d .0) (d .1) in
     (square-nonneg binary64 (sub binary64 a b) f, square-le-one (sub binary64 a b) f (d .0) (d .1))
 
-pub dist-bounds : (ax ay bx by : Float) → In01 ax → In01 ay → In01 bx → In01 by → T (le zero (sqDist ax ay bx by)) × T (le (sqDist ax ay bx by) two)
+pub dist-bounds : (ax ay bx by : Float) → In01 ax → In01 ay → In01 bx → In01 by → T (le zero (sqDist ax ay bx by))
+    × T (le (sqDist ax ay bx by) two)
 dist-bounds ax ay bx by h i j k =
     let u = mul binary64 (sub binary64 ax bx) (sub binary64 ax bx) in
     let v = mul binary64 (sub binary64 ay by) (sub binary64 ay by) in
     let p : In01 u = side ax bx h j in
     let q : In01 v = side ay by i k in (
       add-nonneg binary64 u v (In01-finite u p) (In01-finite v q) (p .0) (q .0),
-      subst (λ (z : Float). T (le (add binary64 u v) z)) closed-two (add-mono binary64 u one v one (In01-finite u p) tt (In01-finite v q) tt (p .1) (q .1)),
+      subst (λ (z : Float). T (le (add binary64 u v) z)) closed-two
+          (add-mono binary64 u one v one (In01-finite u p) tt (In01-finite v q) tt (p .1) (q .1)),
     )
 
 -- ---- a place is at distance 0 from itself
@@ -102,4 +108,5 @@ passes-self x y r p q f = subst (λ (z : Float). T (le z (mul binary64 r r))) (s
 pub dist-above : (ax ay bx by : Float) → T (finite ax) → T (finite ay) → T (finite bx) → T (finite by) → T (le zero (sqDist ax ay bx by))
 dist-above ax ay bx by p q r s =
     sum-above binary64 (mul binary64 (sub binary64 ax bx) (sub binary64 ax bx)) (mul binary64 (sub binary64 ay by) (sub binary64 ay by))
-    (square-above binary64 (sub binary64 ax bx) (sub-not-nan binary64 ax bx p r)) (square-above binary64 (sub binary64 ay by) (sub-not-nan binary64 ay by q s))
+    (square-above binary64 (sub binary64 ax bx) (sub-not-nan binary64 ax bx p r))
+    (square-above binary64 (sub binary64 ay by) (sub-not-nan binary64 ay by q s))

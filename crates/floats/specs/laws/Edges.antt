@@ -29,7 +29,8 @@ more-below P N d Q M g z =
 -- x <= x + r
 pub le-add : (f : Format) (x r : Float) → T (fits f x) → T (finite x) → T (finite r) → T (le zero r) → T (le x (add f x r))
 le-add f x r t p q h =
-    rounds-mono f x (add f x r) (plus x) (mins x) (den x) (plus x * den r + plus r * den x) (mins x * den r + mins r * den x) (den x * den r) (den-pos x) (mul-pos (den-pos x) (den-pos r))
+    rounds-mono f x (add f x r) (plus x) (mins x) (den x) (plus x * den r + plus r * den x) (mins x * den r + mins r * den x)
+    (den x * den r) (den-pos x) (mul-pos (den-pos x) (den-pos r))
     (own-rounds f x t p) (add-rounds f x r p q) (more-below (plus x) (mins x) (den x) (plus r) (mins r) (den r) (nonneg-mins r q h))
 
 -- ---- the edge below
@@ -52,6 +53,7 @@ less-below P N d Q M g z =
 pub sub-le : (f : Format) (x r : Float) → T (fits f x) → T (finite x) → T (finite r) → T (le zero r) → T (le (sub f x r) x)
 unfolding sub
 sub-le f x r t p q h =
-    rounds-mono f (add f x (neg r)) x (plus x * den (neg r) + plus (neg r) * den x) (mins x * den (neg r) + mins (neg r) * den x) (den x * den (neg r)) (plus x) (mins x) (den x)
+    rounds-mono f (add f x (neg r)) x (plus x * den (neg r) + plus (neg r) * den x) (mins x * den (neg r) + mins (neg r) * den x)
+    (den x * den (neg r)) (plus x) (mins x) (den x)
     (mul-pos (den-pos x) (den-pos (neg r))) (den-pos x) (add-rounds f x (neg r) p (neg-finite r q)) (own-rounds f x t p)
     (less-below (plus x) (mins x) (den x) (plus (neg r)) (mins (neg r)) (den (neg r)) (plus-neg r q h))

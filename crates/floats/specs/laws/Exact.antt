@@ -48,11 +48,14 @@ even-odd m t o h = omega arith
 
 odd-pow : (m n a b : ℕ) → m % 2 ≡ 1 → n % 2 ≡ 1 → m * 2 ^ a ≡ n * 2 ^ b → (m ≡ n) × (a ≡ b)
 odd-pow m n zero zero o p h = (sym (mul-one m) ∙ h ∙ mul-one n, refl)
-odd-pow m n zero (suc b) o p h = absurd (even-odd m (n * 2 ^ b) o (sym (mul-one m) ∙ h ∙ ap (λ (x : ℕ). n * x) (pow-suc 2 b) ∙ sym (mul-assoc n (2 ^ b) 2)))
-odd-pow m n (suc a) zero o p h = absurd (even-odd n (m * 2 ^ a) p (sym (mul-one n) ∙ sym h ∙ ap (λ (x : ℕ). m * x) (pow-suc 2 a) ∙ sym (mul-assoc m (2 ^ a) 2)))
+odd-pow m n zero (suc b) o p h =
+    absurd (even-odd m (n * 2 ^ b) o (sym (mul-one m) ∙ h ∙ ap (λ (x : ℕ). n * x) (pow-suc 2 b) ∙ sym (mul-assoc n (2 ^ b) 2)))
+odd-pow m n (suc a) zero o p h =
+    absurd (even-odd n (m * 2 ^ a) p (sym (mul-one n) ∙ sym h ∙ ap (λ (x : ℕ). m * x) (pow-suc 2 a) ∙ sym (mul-assoc m (2 ^ a) 2)))
 odd-pow m n (suc a) (suc b) o p h =
     let r = odd-pow m n a b o p (eq-of-mul-eq-mul-right 2 (zero-lt-suc 1) (m * 2 ^ a) (n * 2 ^ b)
-    (mul-assoc m (2 ^ a) 2 ∙ ap (λ (x : ℕ). m * x) (sym (pow-suc 2 a)) ∙ h ∙ ap (λ (x : ℕ). n * x) (pow-suc 2 b) ∙ sym (mul-assoc n (2 ^ b) 2))) in
+    (mul-assoc m (2 ^ a) 2 ∙ ap (λ (x : ℕ). m * x) (sym (pow-suc 2 a)) ∙ h ∙ ap (λ (x : ℕ). n * x) (pow-suc 2 b)
+    ∙ sym (mul-assoc n (2 ^ b) 2))) in
     (r .0, ap suc (r .1))
 
 one-form : (m : ℕ) (e : ℤ) (n : ℕ) (g : ℤ) → m % 2 ≡ 1 → n % 2 ≡ 1 → m * up e * down g ≡ n * up g * down e → (m ≡ n) × (e ≡ g)
@@ -60,11 +63,14 @@ one-form m (pos a) n (pos b) o p h =
     let r = odd-pow m n a b o p (sym (mul-one (m * 2 ^ a)) ∙ h ∙ mul-one (n * 2 ^ b)) in
     (r .0, ap pos (r .1))
 one-form m (pos a) n (negsuc b) o p h =
-    absurd (even-odd n (m * 2 ^ a * 2 ^ b) p (sym (mul-one n) ∙ sym (mul-one (n * 1)) ∙ sym h ∙ ap (λ (x : ℕ). m * 2 ^ a * x) (pow-suc 2 b) ∙ sym (mul-assoc (m * 2 ^ a) (2 ^ b) 2)))
+    absurd (even-odd n (m * 2 ^ a * 2 ^ b) p (sym (mul-one n) ∙ sym (mul-one (n * 1)) ∙ sym h ∙ ap (λ (x : ℕ). m * 2 ^ a * x) (pow-suc 2 b)
+    ∙ sym (mul-assoc (m * 2 ^ a) (2 ^ b) 2)))
 one-form m (negsuc a) n (pos b) o p h =
-    absurd (even-odd m (n * 2 ^ b * 2 ^ a) o (sym (mul-one m) ∙ sym (mul-one (m * 1)) ∙ h ∙ ap (λ (x : ℕ). n * 2 ^ b * x) (pow-suc 2 a) ∙ sym (mul-assoc (n * 2 ^ b) (2 ^ a) 2)))
+    absurd (even-odd m (n * 2 ^ b * 2 ^ a) o (sym (mul-one m) ∙ sym (mul-one (m * 1)) ∙ h ∙ ap (λ (x : ℕ). n * 2 ^ b * x) (pow-suc 2 a)
+    ∙ sym (mul-assoc (n * 2 ^ b) (2 ^ a) 2)))
 one-form m (negsuc a) n (negsuc b) o p h =
-    let r = odd-pow m n (suc b) (suc a) o p (ap (λ (x : ℕ). x * 2 ^ suc b) (sym (mul-one m)) ∙ h ∙ ap (λ (x : ℕ). x * 2 ^ suc a) (mul-one n)) in
+    let r = odd-pow m n (suc b) (suc a) o p (ap (λ (x : ℕ). x * 2 ^ suc b) (sym (mul-one m)) ∙ h
+    ∙ ap (λ (x : ℕ). x * 2 ^ suc a) (mul-one n)) in
     (r .0, ap negsuc (sym (ap pred (r .1))))
 
 two-up : (p : ℕ) → 0 < p → p * 2 ≡ 1 → ⊥
@@ -86,20 +92,26 @@ no-size : (u v : ℕ) → 0 * u * v ≡ 0
 no-size u v = ap (λ (x : ℕ). x * v) (zero-mul u) ∙ zero-mul v
 
 same-size : (X Y u v a c : ℕ) → 0 < c → X * c ≡ a * u → Y * c ≡ a * v → X * v ≡ Y * u
-same-size X Y u v a c C h k = eq-of-mul-eq-mul-right c C (X * v) (Y * u) (mul-right-comm X v c ∙ ap (λ (z : ℕ). z * v) h ∙ mul-right-comm a u v ∙ ap (λ (z : ℕ). z * u) (sym k) ∙ mul-right-comm Y c u)
+same-size X Y u v a c C h k = eq-of-mul-eq-mul-right c C (X * v) (Y * u) (mul-right-comm X v c ∙ ap (λ (z : ℕ). z * v) h
+    ∙ mul-right-comm a u v ∙ ap (λ (z : ℕ). z * u) (sym k) ∙ mul-right-comm Y c u)
 
-pub value-unique : (f : Format) (x y : Float) (s : Bool) (a c : ℕ) → 0 < c → T (fits f x) → T (fits f y) → HasValue x s a c → HasValue y s a c → x ≡ y
+pub value-unique : (f : Format) (x y : Float) (s : Bool) (a c : ℕ) → 0 < c → T (fits f x) → T (fits f y) → HasValue x s a c
+    → HasValue y s a c → x ≡ y
 value-unique f nan y s a c C p q v w = absurd v
 value-unique f (inf t) y s a c C p q v w = absurd v
 value-unique f (fin t m e) nan s a c C p q v w = absurd w
 value-unique f (fin t m e) (inf u) s a c C p q v w = absurd w
-value-unique f (fin t zero e) (fin u zero g) s a c C p q v w = λ i. fin ((v .0 ∙ sym (w .0)) i) zero ((zero-exp f t e p ∙ sym (zero-exp f u g q)) i)
+value-unique f (fin t zero e) (fin u zero g) s a c C p q v w =
+    λ i. fin ((v .0 ∙ sym (w .0)) i) zero ((zero-exp f t e p ∙ sym (zero-exp f u g q)) i)
 value-unique f (fin t zero e) (fin u (suc n) g) s a c C p q v w =
-    absurd (nonzero n (up g) (down e) (up-pos g) (down-pos e) (sym (same-size (zero * up e) (suc n * up g) (down e) (down g) a c C (v .1) (w .1)) ∙ no-size (up e) (down g)))
+    absurd (nonzero n (up g) (down e) (up-pos g) (down-pos e)
+    (sym (same-size (zero * up e) (suc n * up g) (down e) (down g) a c C (v .1) (w .1)) ∙ no-size (up e) (down g)))
 value-unique f (fin t (suc m) e) (fin u zero g) s a c C p q v w =
-    absurd (nonzero m (up e) (down g) (up-pos e) (down-pos g) (same-size (suc m * up e) (zero * up g) (down e) (down g) a c C (v .1) (w .1) ∙ no-size (up g) (down e)))
+    absurd (nonzero m (up e) (down g) (up-pos e) (down-pos g) (same-size (suc m * up e) (zero * up g) (down e) (down g) a c C (v .1) (w .1)
+    ∙ no-size (up g) (down e)))
 value-unique f (fin t (suc m) e) (fin u (suc n) g) s a c C p q v w =
-    let r = one-form (suc m) e (suc n) g (held f t m e p .isOdd) (held f u n g q .isOdd) (same-size (suc m * up e) (suc n * up g) (down e) (down g) a c C (v .1) (w .1)) in
+    let r = one-form (suc m) e (suc n) g (held f t m e p .isOdd) (held f u n g q .isOdd)
+    (same-size (suc m * up e) (suc n * up g) (down e) (down g) a c C (v .1) (w .1)) in
     λ i. fin ((v .0 ∙ sym (w .0)) i) (r .0 i) (r .1 i)
 
 -- ---- a value in units of the format's smallest
@@ -114,29 +126,36 @@ shift l (negsuc k) h = (l - suc k, one-mul (2 ^ l) ∙ ap (λ (x : ℕ). 2 ^ x) 
     back g = omega arith
 
 -- r of the units that a value of the format has is exact, for an r of no more digits
-pub unit-exact : (f : Format) (s : Bool) (r : ℕ) (e : ℤ) → r < 2 ^ prec f → down e ≤ 2 ^ low f → r * up e < 2 ^ suc (emax f) * down e → HasValue (round f s (r * up e) (down e)) s (r * up e) (down e)
+pub unit-exact : (f : Format) (s : Bool) (r : ℕ) (e : ℤ) → r < 2 ^ prec f → down e ≤ 2 ^ low f → r * up e < 2 ^ suc (emax f) * down e
+    → HasValue (round f s (r * up e) (down e)) s (r * up e) (down e)
 unit-exact f s r e a b c =
     let j : ℕ = shift (low f) e b .0 in
-    let w : r * up e * 2 ^ low f ≡ r * 2 ^ j * down e = mul-assoc r (up e) (2 ^ low f) ∙ ap (λ (x : ℕ). r * x) (shift (low f) e b .1) ∙ sym (mul-assoc r (2 ^ j) (down e)) in
+    let w : r * up e * 2 ^ low f ≡ r * 2 ^ j * down e = mul-assoc r (up e) (2 ^ low f) ∙ ap (λ (x : ℕ). r * x) (shift (low f) e b .1)
+    ∙ sym (mul-assoc r (2 ^ j) (down e)) in
     let x : r * 2 ^ j * down e < 2 ^ (low f + suc (emax f)) * down e =
     subst (λ (z : ℕ). z < 2 ^ (low f + suc (emax f)) * down e) w
-    (subst (λ (z : ℕ). r * up e * 2 ^ low f < z) (mul-right-comm (2 ^ suc (emax f)) (down e) (2 ^ low f) ∙ ap (λ (z : ℕ). z * down e) (mul-comm (2 ^ suc (emax f)) (2 ^ low f) ∙ sym (pow-add 2 (low f) (suc (emax f)))))
+    (subst (λ (z : ℕ). r * up e * 2 ^ low f < z) (mul-right-comm (2 ^ suc (emax f)) (down e) (2 ^ low f)
+    ∙ ap (λ (z : ℕ). z * down e) (mul-comm (2 ^ suc (emax f)) (2 ^ low f) ∙ sym (pow-add 2 (low f) (suc (emax f)))))
     (mul-lt-mul-of-pos-right c (pow-pos (low f)))) in
     round-exact f s (r * up e) (down e) r j (down-pos e) a (lt-of-mul-lt-mul-right (down e) x) w
 
-own-exact : (f : Format) (s : Bool) (m : ℕ) (e : ℤ) → T (fits f (fin s m e)) → HasValue (round f s (m * up e) (down e)) s (m * up e) (down e)
-own-exact f s zero e t = subst (λ (z : ℤ). HasValue (round f s (zero * up z) (down z)) s (zero * up z) (down z)) (sym (zero-exp f s e t)) (unit-exact f s 0 (pos 0) (pow-pos (prec f)) (pow-pos (low f)) (mul-pos (pow-pos (suc (emax f))) (zero-lt-suc 0)))
+own-exact : (f : Format) (s : Bool) (m : ℕ) (e : ℤ) → T (fits f (fin s m e))
+    → HasValue (round f s (m * up e) (down e)) s (m * up e) (down e)
+own-exact f s zero e t = subst (λ (z : ℤ). HasValue (round f s (zero * up z) (down z)) s (zero * up z) (down z)) (sym (zero-exp f s e t))
+    (unit-exact f s 0 (pos 0) (pow-pos (prec f)) (pow-pos (low f)) (mul-pos (pow-pos (suc (emax f))) (zero-lt-suc 0)))
 own-exact f s (suc m) e t = let h = held f s m e t in unit-exact f s (suc m) e (h .short) (h .fine) (h .small)
 
 -- ---- `round` finds the value
 pub round-own : (f : Format) (s : Bool) (m : ℕ) (e : ℤ) → T (fits f (fin s m e)) → round f s (m * up e) (down e) ≡ fin s m e
-round-own f s m e t = value-unique f (round f s (m * up e) (down e)) (fin s m e) s (m * up e) (down e) (down-pos e) (round-fits f s (m * up e) (down e)) t (own-exact f s m e t) (refl, refl)
+round-own f s m e t = value-unique f (round f s (m * up e) (down e)) (fin s m e) s (m * up e) (down e) (down-pos e)
+    (round-fits f s (m * up e) (down e)) t (own-exact f s m e t) (refl, refl)
 
 pub round-back : (f : Format) (x : Float) (s : Bool) (a c : ℕ) → 0 < c → T (fits f x) → HasValue x s a c → round f s a c ≡ x
 round-back f nan s a c C t h = absurd h
 round-back f (inf u) s a c C t h = absurd h
 round-back f (fin u m e) s a c C t h =
-    round-same f s a c (m * up e) (down e) C (down-pos e) (sym (h .1)) ∙ ap (λ (z : Bool). round f z (m * up e) (down e)) (sym (h .0)) ∙ round-own f u m e t
+    round-same f s a c (m * up e) (down e) C (down-pos e) (sym (h .1)) ∙ ap (λ (z : Bool). round f z (m * up e) (down e)) (sym (h .0))
+    ∙ round-own f u m e t
 
 like : (s : Bool) → unlike false s ≡ s
 like true = refl
@@ -147,7 +166,8 @@ unfolding mul
 one-times f nan t = refl
 one-times f (inf s) t = ap inf (like s)
 one-times f (fin s m e) t =
-    ap₂ (λ (a b : ℕ). round f (unlike false s) a b) (one-mul (m * up e)) (one-mul (down e)) ∙ ap (λ (z : Bool). round f z (m * up e) (down e)) (like s) ∙ round-own f s m e t
+    ap₂ (λ (a b : ℕ). round f (unlike false s) a b) (one-mul (m * up e)) (one-mul (down e))
+    ∙ ap (λ (z : Bool). round f z (m * up e) (down e)) (like s) ∙ round-own f s m e t
 
 -- ---- a value of the format is its own rounding, with its sign
 pub own-rounds : (f : Format) (x : Float) → T (fits f x) → T (finite x) → Rounds f x (plus x) (mins x) (den x)
@@ -164,7 +184,8 @@ own-rounds f (fin true m e) t p = inr (zero-le, sym (round-own f true m e t) ∙
 
 -- ---- two values of a format that compare equal are the same, or both are zeros
 first-zero : (a c : ℕ) → 0 < c → a * c ≡ 0 → a ≡ 0
-first-zero a c C h = elim (native.Mathlib.Nat.eq-zero-or-pos a) [ inl z ↦ z | inr p ↦ absurd (lt-irrefl 0 (subst (λ (x : ℕ). 0 < x) h (mul-pos p C))) ]
+first-zero a c C h = elim (native.Mathlib.Nat.eq-zero-or-pos a)
+    [ inl z ↦ z | inr p ↦ absurd (lt-irrefl 0 (subst (λ (x : ℕ). 0 < x) h (mul-pos p C))) ]
 
 pub eq-same : (f : Format) (x y : Float) → T (fits f x) → T (fits f y) → T (eq x y) → (x ≡ y) ⊎ ((num x ≡ 0) × (num y ≡ 0))
 eq-same f nan y p q h = absurd (unfold eq in h)
@@ -176,22 +197,34 @@ eq-same f (inf false) (inf false) p q h = inl refl
 eq-same f (inf s) (fin t n d) p q h = absurd (unfold eq in h)
 eq-same f (fin s m e) nan p q h = absurd (unfold eq in h)
 eq-same f (fin s m e) (inf t) p q h = absurd (unfold eq in h)
-eq-same f (fin false m e) (fin false n d) p q h = inl (value-unique f (fin false m e) (fin false n d) false (n * up d) (down d) (down-pos d) p q (refl, drop (eq→cross (fin false m e) (fin false n d) tt tt h)) (refl, refl))
+eq-same f (fin false m e) (fin false n d) p q h =
+    inl (value-unique f (fin false m e) (fin false n d) false (n * up d) (down d) (down-pos d) p q
+    (refl, drop (eq→cross (fin false m e) (fin false n d) tt tt h)) (refl, refl))
   where
     drop : m * up e * down d + 0 * down e ≡ n * up d * down e + 0 * down d → m * up e * down d ≡ n * up d * down e
     drop k = omega arith
-eq-same f (fin true m e) (fin true n d) p q h = inl (value-unique f (fin true m e) (fin true n d) true (n * up d) (down d) (down-pos d) p q (refl, drop (eq→cross (fin true m e) (fin true n d) tt tt h)) (refl, refl))
+eq-same f (fin true m e) (fin true n d) p q h =
+    inl (value-unique f (fin true m e) (fin true n d) true (n * up d) (down d) (down-pos d) p q
+    (refl, drop (eq→cross (fin true m e) (fin true n d) tt tt h)) (refl, refl))
   where
     drop : 0 * down d + n * up d * down e ≡ 0 * down e + m * up e * down d → m * up e * down d ≡ n * up d * down e
     drop k = omega arith
-eq-same f (fin false m e) (fin true n d) p q h = inr (first-zero (m * up e) (down d) (down-pos d) (l (eq→cross (fin false m e) (fin true n d) tt tt h)), first-zero (n * up d) (down e) (down-pos e) (r (eq→cross (fin false m e) (fin true n d) tt tt h)))
+eq-same f (fin false m e) (fin true n d) p q h =
+    inr (
+      first-zero (m * up e) (down d) (down-pos d) (l (eq→cross (fin false m e) (fin true n d) tt tt h)),
+      first-zero (n * up d) (down e) (down-pos e) (r (eq→cross (fin false m e) (fin true n d) tt tt h)),
+    )
   where
     l : m * up e * down d + n * up d * down e ≡ 0 * down e + 0 * down d → m * up e * down d ≡ 0
     l k = omega arith
 
     r : m * up e * down d + n * up d * down e ≡ 0 * down e + 0 * down d → n * up d * down e ≡ 0
     r k = omega arith
-eq-same f (fin true m e) (fin false n d) p q h = inr (first-zero (m * up e) (down d) (down-pos d) (l (eq→cross (fin true m e) (fin false n d) tt tt h)), first-zero (n * up d) (down e) (down-pos e) (r (eq→cross (fin true m e) (fin false n d) tt tt h)))
+eq-same f (fin true m e) (fin false n d) p q h =
+    inr (
+      first-zero (m * up e) (down d) (down-pos d) (l (eq→cross (fin true m e) (fin false n d) tt tt h)),
+      first-zero (n * up d) (down e) (down-pos e) (r (eq→cross (fin true m e) (fin false n d) tt tt h)),
+    )
   where
     l : 0 * down d + 0 * down e ≡ n * up d * down e + m * up e * down d → m * up e * down d ≡ 0
     l k = omega arith
@@ -208,7 +241,8 @@ unfolding div
 div-one f nan t p = absurd p
 div-one f (inf s) t p = absurd p
 div-one f (fin s m e) t p =
-    ap (λ (b : Bool). round f b (m * up e * 1) (1 * down e)) (like-false s) ∙ ap₂ (λ (a c : ℕ). round f s a c) (mul-one (m * up e)) (one-mul (down e)) ∙ round-own f s m e t
+    ap (λ (b : Bool). round f b (m * up e * 1) (1 * down e)) (like-false s)
+    ∙ ap₂ (λ (a c : ℕ). round f s a c) (mul-one (m * up e)) (one-mul (down e)) ∙ round-own f s m e t
 
 -- ---- the difference of a finite value and itself is zero, and no other value has one
 none : (f : Format) (a c : ℕ) → 0 < c → round f false (a - a) c ≡ fzero

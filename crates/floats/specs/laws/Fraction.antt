@@ -56,7 +56,8 @@ CrossLt x y = plus x * den y + mins y * den x < plus y * den x + mins x * den y
 
 -- ---- the tests on two numbers with their signs, as orders; u and v are what a 0 is multiplied by
 le-num : (a b : ℕ) → T (ltb a b || (eqb a b && true)) → a ≤ b
-le-num a b t = elim (or-split (ltb a b) (eqb a b && true) t) [ inl k ↦ le-of-lt (ltb→lt a b k) | inr k ↦ le-of-eq (eqb→eq a b (and-l (eqb a b) true k)) ]
+le-num a b t = elim (or-split (ltb a b) (eqb a b && true) t)
+    [ inl k ↦ le-of-lt (ltb→lt a b k) | inr k ↦ le-of-eq (eqb→eq a b (and-l (eqb a b) true k)) ]
 
 num-le : (a b : ℕ) → a ≤ b → T (ltb a b || (eqb a b && true))
 num-le a b h = elim (decide (ltb a b)) [
@@ -67,7 +68,8 @@ num-le a b h = elim (decide (ltb a b)) [
 mixed : (a b : ℕ) → T (ltb 0 (a + b) || (eqb a b && (false || eqb a 0)))
 mixed a b = elim (decide (ltb 0 (a + b))) [
   | inl k ↦ or-l (ltb 0 (a + b)) (eqb a b && eqb a 0) k
-  | inr k ↦ or-r (ltb 0 (a + b)) (eqb a b && eqb a 0) (and-i (eqb a b) (eqb a 0) (eq→eqb (one (nltb→le 0 (a + b) k))) (eq→eqb (two (nltb→le 0 (a + b) k))))
+  | inr k ↦ or-r (ltb 0 (a + b)) (eqb a b && eqb a 0)
+      (and-i (eqb a b) (eqb a 0) (eq→eqb (one (nltb→le 0 (a + b) k))) (eq→eqb (two (nltb→le 0 (a + b) k))))
 ]
   where
     one : a + b ≤ 0 → a ≡ b
@@ -134,7 +136,8 @@ le→cross nan y p q h = absurd p
 le→cross (inf s) y p q h = absurd p
 le→cross (fin s m e) nan p q h = absurd q
 le→cross (fin s m e) (inf t) p q h = absurd q
-le→cross (fin false m e) (fin false n d) p q h = c-ff (m * up e * down d) (n * up d * down e) (down e) (down d) (le-num (m * up e * down d) (n * up d * down e) h)
+le→cross (fin false m e) (fin false n d) p q h = c-ff (m * up e * down d) (n * up d * down e) (down e) (down d)
+    (le-num (m * up e * down d) (n * up d * down e) h)
 le→cross (fin false m e) (fin true n d) p q h =
     let a = m * up e * down d in
     let b = n * up d * down e in
@@ -146,7 +149,8 @@ le→cross (fin true m e) (fin true n d) p q h =
     c-tt a b (down e) (down d) (flip a b h)
   where
     flip : (a b : ℕ) → T (ltb b a || (eqb a b && true)) → b ≤ a
-    flip a b t = elim (or-split (ltb b a) (eqb a b && true) t) [ inl k ↦ le-of-lt (ltb→lt b a k) | inr k ↦ le-of-eq (sym (eqb→eq a b (and-l (eqb a b) true k))) ]
+    flip a b t = elim (or-split (ltb b a) (eqb a b && true) t)
+        [ inl k ↦ le-of-lt (ltb→lt b a k) | inr k ↦ le-of-eq (sym (eqb→eq a b (and-l (eqb a b) true k))) ]
 
 pub cross→le : (x y : Float) → T (finite x) → T (finite y) → Cross x y → T (le x y)
 unfolding le
@@ -154,8 +158,10 @@ cross→le nan y p q h = absurd p
 cross→le (inf s) y p q h = absurd p
 cross→le (fin s m e) nan p q h = absurd q
 cross→le (fin s m e) (inf t) p q h = absurd q
-cross→le (fin false m e) (fin false n d) p q h = num-le (m * up e * down d) (n * up d * down e) (d-ff (m * up e * down d) (n * up d * down e) (down e) (down d) h)
-cross→le (fin false m e) (fin true n d) p q h = none (m * up e * down d) (n * up d * down e) (d-ft (m * up e * down d) (n * up d * down e) (down e) (down d) h)
+cross→le (fin false m e) (fin false n d) p q h =
+    num-le (m * up e * down d) (n * up d * down e) (d-ff (m * up e * down d) (n * up d * down e) (down e) (down d) h)
+cross→le (fin false m e) (fin true n d) p q h =
+    none (m * up e * down d) (n * up d * down e) (d-ft (m * up e * down d) (n * up d * down e) (down e) (down d) h)
 cross→le (fin true m e) (fin false n d) p q h = mixed (m * up e * down d) (n * up d * down e)
 cross→le (fin true m e) (fin true n d) p q h =
     let a = m * up e * down d in
@@ -174,10 +180,13 @@ lt→cross nan y p q h = absurd p
 lt→cross (inf s) y p q h = absurd p
 lt→cross (fin s m e) nan p q h = absurd q
 lt→cross (fin s m e) (inf t) p q h = absurd q
-lt→cross (fin false m e) (fin false n d) p q h = s-ff (m * up e * down d) (n * up d * down e) (down e) (down d) (ltb→lt (m * up e * down d) (n * up d * down e) h)
+lt→cross (fin false m e) (fin false n d) p q h = s-ff (m * up e * down d) (n * up d * down e) (down e) (down d)
+    (ltb→lt (m * up e * down d) (n * up d * down e) h)
 lt→cross (fin false m e) (fin true n d) p q h = absurd h
-lt→cross (fin true m e) (fin false n d) p q h = s-tf (m * up e * down d) (n * up d * down e) (down e) (down d) (ltb→lt 0 (m * up e * down d + n * up d * down e) h)
-lt→cross (fin true m e) (fin true n d) p q h = s-tt (m * up e * down d) (n * up d * down e) (down e) (down d) (ltb→lt (n * up d * down e) (m * up e * down d) h)
+lt→cross (fin true m e) (fin false n d) p q h = s-tf (m * up e * down d) (n * up d * down e) (down e) (down d)
+    (ltb→lt 0 (m * up e * down d + n * up d * down e) h)
+lt→cross (fin true m e) (fin true n d) p q h = s-tt (m * up e * down d) (n * up d * down e) (down e) (down d)
+    (ltb→lt (n * up d * down e) (m * up e * down d) h)
 
 pub cross→lt : (x y : Float) → T (finite x) → T (finite y) → CrossLt x y → T (lt x y)
 unfolding lt
@@ -185,22 +194,30 @@ cross→lt nan y p q h = absurd p
 cross→lt (inf s) y p q h = absurd p
 cross→lt (fin s m e) nan p q h = absurd q
 cross→lt (fin s m e) (inf t) p q h = absurd q
-cross→lt (fin false m e) (fin false n d) p q h = lt→ltb (m * up e * down d) (n * up d * down e) (e-ff (m * up e * down d) (n * up d * down e) (down e) (down d) h)
+cross→lt (fin false m e) (fin false n d) p q h =
+    lt→ltb (m * up e * down d) (n * up d * down e) (e-ff (m * up e * down d) (n * up d * down e) (down e) (down d) h)
 cross→lt (fin false m e) (fin true n d) p q h = absurd (e-ft (m * up e * down d) (n * up d * down e) (down e) (down d) h)
-cross→lt (fin true m e) (fin false n d) p q h = lt→ltb 0 (m * up e * down d + n * up d * down e) (e-tf (m * up e * down d) (n * up d * down e) (down e) (down d) h)
-cross→lt (fin true m e) (fin true n d) p q h = lt→ltb (n * up d * down e) (m * up e * down d) (e-tt (m * up e * down d) (n * up d * down e) (down e) (down d) h)
+cross→lt (fin true m e) (fin false n d) p q h =
+    lt→ltb 0 (m * up e * down d + n * up d * down e) (e-tf (m * up e * down d) (n * up d * down e) (down e) (down d) h)
+cross→lt (fin true m e) (fin true n d) p q h =
+    lt→ltb (n * up d * down e) (m * up e * down d) (e-tt (m * up e * down d) (n * up d * down e) (down e) (down d) h)
 
 -- ---- three fractions with signs
 pub cross-trans : (P N d P' N' d' P'' N'' d'' : ℕ) → 0 < d' → P * d' + N' * d ≤ P' * d + N * d' → P' * d'' + N'' * d' ≤ P'' * d' + N' * d''
     → P * d'' + N'' * d ≤ P'' * d + N * d''
 cross-trans P N d P' N' d' P'' N'' d'' D h k =
     le-of-mul-le-mul-right
-    (sums (P * d' * d'') (N' * d * d'') (P' * d * d'') (N * d' * d'') (N'' * d' * d) (P'' * d' * d) ((P * d'' + N'' * d) * d') ((P'' * d + N * d'') * d')
-    (le-trans (le-of-eq (sym (add-mul (P * d') (N' * d) d''))) (le-trans (mul-le-mul-right d'' h) (le-of-eq (add-mul (P' * d) (N * d') d''))))
+    (sums (P * d' * d'') (N' * d * d'') (P' * d * d'') (N * d' * d'') (N'' * d' * d) (P'' * d' * d) ((P * d'' + N'' * d) * d')
+    ((P'' * d + N * d'') * d')
+    (le-trans (le-of-eq (sym (add-mul (P * d') (N' * d) d'')))
+    (le-trans (mul-le-mul-right d'' h) (le-of-eq (add-mul (P' * d) (N * d') d''))))
     (le-trans (le-of-eq (ap (λ (z : ℕ). z + N'' * d' * d) (mul-right-comm P' d d'') ∙ sym (add-mul (P' * d'') (N'' * d') d)))
-    (le-trans (mul-le-mul-right d k) (le-of-eq (add-mul (P'' * d') (N' * d'') d ∙ ap (λ (z : ℕ). P'' * d' * d + z) (mul-right-comm N' d'' d)))))
-    (add-mul (P * d'') (N'' * d) d' ∙ ap (λ (z : ℕ). z + N'' * d * d') (mul-right-comm P d'' d') ∙ ap (λ (z : ℕ). P * d' * d'' + z) (mul-right-comm N'' d d'))
-    (add-mul (P'' * d) (N * d'') d' ∙ ap (λ (z : ℕ). z + N * d'' * d') (mul-right-comm P'' d d') ∙ ap (λ (z : ℕ). P'' * d' * d + z) (mul-right-comm N d'' d')))
+    (le-trans (mul-le-mul-right d k)
+    (le-of-eq (add-mul (P'' * d') (N' * d'') d ∙ ap (λ (z : ℕ). P'' * d' * d + z) (mul-right-comm N' d'' d)))))
+    (add-mul (P * d'') (N'' * d) d' ∙ ap (λ (z : ℕ). z + N'' * d * d') (mul-right-comm P d'' d')
+    ∙ ap (λ (z : ℕ). P * d' * d'' + z) (mul-right-comm N'' d d'))
+    (add-mul (P'' * d) (N * d'') d' ∙ ap (λ (z : ℕ). z + N * d'' * d') (mul-right-comm P'' d d')
+    ∙ ap (λ (z : ℕ). P'' * d' * d + z) (mul-right-comm N d'' d')))
     D
   where
     sums : (a b c n e f g h : ℕ) → a + b ≤ c + n → c + e ≤ f + b → g ≡ a + e → h ≡ f + n → g ≤ h
@@ -213,10 +230,12 @@ q-tt : (a b u v : ℕ) → T (eqb a b && true) → 0 * v + b ≡ 0 * u + a
 q-tt a b u v t = let e : a ≡ b = eqb→eq a b (and-l (eqb a b) true t) in omega arith
 
 q-ft : (a b u v : ℕ) → T (eqb a b && eqb a 0) → a + b ≡ 0 * u + 0 * v
-q-ft a b u v t = let e : a ≡ b = eqb→eq a b (and-l (eqb a b) (eqb a 0) t) in let z : a ≡ 0 = eqb→eq a 0 (and-r (eqb a b) (eqb a 0) t) in omega arith
+q-ft a b u v t = let e : a ≡ b = eqb→eq a b (and-l (eqb a b) (eqb a 0) t) in let z : a ≡ 0 = eqb→eq a 0 (and-r (eqb a b) (eqb a 0) t) in
+    omega arith
 
 q-tf : (a b u v : ℕ) → T (eqb a b && eqb a 0) → 0 * v + 0 * u ≡ b + a
-q-tf a b u v t = let e : a ≡ b = eqb→eq a b (and-l (eqb a b) (eqb a 0) t) in let z : a ≡ 0 = eqb→eq a 0 (and-r (eqb a b) (eqb a 0) t) in omega arith
+q-tf a b u v t = let e : a ≡ b = eqb→eq a b (and-l (eqb a b) (eqb a 0) t) in let z : a ≡ 0 = eqb→eq a 0 (and-r (eqb a b) (eqb a 0) t) in
+    omega arith
 
 pub eq→cross : (x y : Float) → T (finite x) → T (finite y) → T (eq x y) → plus x * den y + mins y * den x ≡ plus y * den x + mins x * den y
 unfolding eq

@@ -27,7 +27,8 @@ rounds-not-nan f s a c = subst (λ (z : Float). T (not (isNan z))) (sym (round-i
     odd-not-nan d s q k l = finite-not-nan (odd d s q k l) (value-finite (odd d s q k l) s (q * 2 ^ k) (2 ^ l) (odd-sign d s q k l))
 
     units-not-nan : (f : Format) (s : Bool) (q k : ℕ) → T (not (isNan (units f s q k)))
-    units-not-nan f s q k = unfold units in pick (ltb (q * 2 ^ k) (2 ^ (low f + suc (emax f)))) (odd (suc (prec f)) s q k (low f)) (inf s) (odd-not-nan (suc (prec f)) s q k (low f)) (unfold isNan in tt)
+    units-not-nan f s q k = unfold units in pick (ltb (q * 2 ^ k) (2 ^ (low f + suc (emax f)))) (odd (suc (prec f)) s q k (low f)) (inf s)
+        (odd-not-nan (suc (prec f)) s q k (low f)) (unfold isNan in tt)
       where
         pick : (b : Bool) (x y : Float) → T (not (isNan x)) → T (not (isNan y)) → T (not (isNan (cond b x y)))
         pick true x y h k = h
@@ -53,22 +54,27 @@ add-inf f (inf false) true a = absurd a
 add-inf f (inf false) false a = refl
 add-inf f (fin s m e) t a = refl
 
-pub add-mono-any : (f : Format) (x x' z : Float) → T (le x x') → T (not (isNan (add f x z))) → T (not (isNan (add f x' z))) → T (le (add f x z) (add f x' z))
+pub add-mono-any : (f : Format) (x x' z : Float) → T (le x x') → T (not (isNan (add f x z))) → T (not (isNan (add f x' z)))
+    → T (le (add f x z) (add f x' z))
 add-mono-any f nan x' nan h a b = absurd (unfold le in h)
 add-mono-any f (inf s) x' nan h a b = absurd (unfold add isNan in a)
 add-mono-any f (fin s m e) x' nan h a b = absurd (unfold add isNan in a)
 add-mono-any f x x' (inf t) h a b =
-    subst (λ (w : Float). T (le w (add f x' (inf t)))) (sym (add-inf f x t a)) (subst (λ (w : Float). T (le (inf t) w)) (sym (add-inf f x' t b)) (le-reflexive (inf t) (unfold isNan in tt)))
+    subst (λ (w : Float). T (le w (add f x' (inf t)))) (sym (add-inf f x t a))
+    (subst (λ (w : Float). T (le (inf t) w)) (sym (add-inf f x' t b)) (le-reflexive (inf t) (unfold isNan in tt)))
 add-mono-any f nan x' (fin u l g) h a b = absurd (unfold le in h)
 add-mono-any f (inf true) x' (fin u l g) h a b = unfold add in minus-inf-le (add f x' (fin u l g)) b
-add-mono-any f (inf false) x' (fin u l g) h a b = subst (λ (w : Float). T (le (add f (inf false) (fin u l g)) (add f w (fin u l g)))) (sym (plus-inf-le x' h)) (le-reflexive (add f (inf false) (fin u l g)) a)
+add-mono-any f (inf false) x' (fin u l g) h a b = subst (λ (w : Float). T (le (add f (inf false) (fin u l g)) (add f w (fin u l g))))
+    (sym (plus-inf-le x' h)) (le-reflexive (add f (inf false) (fin u l g)) a)
 add-mono-any f (fin s m e) nan (fin u l g) h a b = absurd (unfold le in h)
 add-mono-any f (fin s m e) (inf true) (fin u l g) h a b = absurd (unfold le in h)
 add-mono-any f (fin s m e) (inf false) (fin u l g) h a b = unfold add in le-plus-inf (add f (fin s m e) (fin u l g)) a
-add-mono-any f (fin s m e) (fin t n d) (fin u l g) h a b = add-mono f (fin s m e) (fin t n d) (fin u l g) (fin u l g) tt tt tt tt h (le-reflexive (fin u l g) (unfold isNan in tt))
+add-mono-any f (fin s m e) (fin t n d) (fin u l g) h a b = add-mono f (fin s m e) (fin t n d) (fin u l g) (fin u l g) tt tt tt tt h
+    (le-reflexive (fin u l g) (unfold isNan in tt))
 
 -- the same of a difference
-pub sub-mono-any : (f : Format) (x x' z : Float) → T (le x x') → T (not (isNan (sub f x z))) → T (not (isNan (sub f x' z))) → T (le (sub f x z) (sub f x' z))
+pub sub-mono-any : (f : Format) (x x' z : Float) → T (le x x') → T (not (isNan (sub f x z))) → T (not (isNan (sub f x' z)))
+    → T (le (sub f x z) (sub f x' z))
 unfolding sub
 sub-mono-any f x x' z h a b = add-mono-any f x x' (neg z) h a b
 
@@ -81,7 +87,8 @@ square-round f (fin true m e) p = refl
 square-round f (fin false m e) p = refl
 
 pub square-nonneg : (f : Format) (x : Float) → T (finite x) → T (le zero (mul f x x))
-square-nonneg f x p = subst (λ (z : Float). T (le zero z)) (sym (square-round f x p)) (zero-le-round f (num x * num x) (den x * den x) (mul-pos (den-pos x) (den-pos x)))
+square-nonneg f x p = subst (λ (z : Float). T (le zero z)) (sym (square-round f x p))
+    (zero-le-round f (num x * num x) (den x * den x) (mul-pos (den-pos x) (den-pos x)))
 
 pub square-above : (f : Format) (x : Float) → T (not (isNan x)) → T (le zero (mul f x x))
 square-above f nan p = absurd (unfold isNan in p)

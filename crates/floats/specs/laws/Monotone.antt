@@ -23,16 +23,21 @@ sum-below : (P N d P' N' d' Q M g Q' M' g' : ℕ) → P * d' + N' * d ≤ P' * d
 sum-below P N d P' N' d' Q M g Q' M' g' h k =
     let a : (P * d' + N' * d) * (g * g') ≤ (P' * d + N * d') * (g * g') = mul-le-mul-right (g * g') h in
     let b : (Q * g' + M' * g) * (d * d') ≤ (Q' * g + M * g') * (d * d') = mul-le-mul-right (d * d') k in
-    let l : (P * g + Q * d) * (d' * g') + (N' * g' + M' * d') * (d * g) ≡ (P * d' + N' * d) * (g * g') + (Q * g' + M' * g) * (d * d') = simp ring in
-    let r : (P' * g' + Q' * d') * (d * g) + (N * g + M * d) * (d' * g') ≡ (P' * d + N * d') * (g * g') + (Q' * g + M * g') * (d * d') = simp ring in
+    let l : (P * g + Q * d) * (d' * g') + (N' * g' + M' * d') * (d * g) ≡ (P * d' + N' * d) * (g * g') + (Q * g' + M' * g) * (d * d') =
+    simp ring in
+    let r : (P' * g' + Q' * d') * (d * g) + (N * g + M * d) * (d' * g') ≡ (P' * d + N * d') * (g * g') + (Q' * g + M * g') * (d * d') =
+    simp ring in
     omega arith
 
-pub add-mono : (f : Format) (x x' y y' : Float) → T (finite x) → T (finite x') → T (finite y) → T (finite y') → T (le x x') → T (le y y') → T (le (add f x y) (add f x' y'))
+pub add-mono : (f : Format) (x x' y y' : Float) → T (finite x) → T (finite x') → T (finite y) → T (finite y') → T (le x x') → T (le y y')
+    → T (le (add f x y) (add f x' y'))
 add-mono f x x' y y' p p' q q' h k =
     rounds-mono f (add f x y) (add f x' y') (plus x * den y + plus y * den x) (mins x * den y + mins y * den x) (den x * den y)
-    (plus x' * den y' + plus y' * den x') (mins x' * den y' + mins y' * den x') (den x' * den y') (mul-pos (den-pos x) (den-pos y)) (mul-pos (den-pos x') (den-pos y'))
+    (plus x' * den y' + plus y' * den x') (mins x' * den y' + mins y' * den x') (den x' * den y') (mul-pos (den-pos x) (den-pos y))
+    (mul-pos (den-pos x') (den-pos y'))
     (add-rounds f x y p q) (add-rounds f x' y' p' q')
-    (sum-below (plus x) (mins x) (den x) (plus x') (mins x') (den x') (plus y) (mins y) (den y) (plus y') (mins y') (den y') (le→cross x x' p p' h) (le→cross y y' q q' k))
+    (sum-below (plus x) (mins x) (den x) (plus x') (mins x') (den x') (plus y) (mins y) (den y) (plus y') (mins y') (den y')
+    (le→cross x x' p p' h) (le→cross y y' q q' k))
 
 pub neg-finite : (x : Float) → T (finite x) → T (finite (neg x))
 unfolding neg
@@ -41,7 +46,8 @@ neg-finite (inf s) p = absurd p
 neg-finite (fin s m e) p = tt
 
 -- the difference grows with the left, and shrinks with the right
-pub sub-mono : (f : Format) (x x' y y' : Float) → T (finite x) → T (finite x') → T (finite y) → T (finite y') → T (le x x') → T (le y' y) → T (le (sub f x y) (sub f x' y'))
+pub sub-mono : (f : Format) (x x' y y' : Float) → T (finite x) → T (finite x') → T (finite y) → T (finite y') → T (le x x') → T (le y' y)
+    → T (le (sub f x y) (sub f x' y'))
 unfolding sub
 sub-mono f x x' y y' p p' q q' h k = add-mono f x x' (neg y) (neg y') p p' (neg-finite y q) (neg-finite y' q') h (neg-le y' y k)
 
@@ -50,26 +56,34 @@ mul-below : (P N d P' N' d' Q M g : ℕ) → P * d' + N' * d ≤ P' * d + N * d'
     → (P * Q + N * M) * (d' * g) + (P' * M + N' * Q) * (d * g) ≤ (P' * Q + N' * M) * (d * g) + (P * M + N * Q) * (d' * g)
 mul-below P N d P' N' d' Q M g h z =
     let a : (P * d' + N' * d) * (Q * g) ≤ (P' * d + N * d') * (Q * g) = mul-le-mul-right (Q * g) h in
-    let l : (P * Q + N * 0) * (d' * g) + (P' * 0 + N' * Q) * (d * g) ≡ (P * d' + N' * d) * (Q * g) = simp (mul-zero, zero-add, add-zero, ring) in
-    let r : (P' * Q + N' * 0) * (d * g) + (P * 0 + N * Q) * (d' * g) ≡ (P' * d + N * d') * (Q * g) = simp (mul-zero, zero-add, add-zero, ring) in
-    subst (λ (m : ℕ). (P * Q + N * m) * (d' * g) + (P' * m + N' * Q) * (d * g) ≤ (P' * Q + N' * m) * (d * g) + (P * m + N * Q) * (d' * g)) (sym z)
+    let l : (P * Q + N * 0) * (d' * g) + (P' * 0 + N' * Q) * (d * g) ≡ (P * d' + N' * d) * (Q * g) =
+    simp (mul-zero, zero-add, add-zero, ring) in
+    let r : (P' * Q + N' * 0) * (d * g) + (P * 0 + N * Q) * (d' * g) ≡ (P' * d + N * d') * (Q * g) =
+    simp (mul-zero, zero-add, add-zero, ring) in
+    subst (λ (m : ℕ). (P * Q + N * m) * (d' * g) + (P' * m + N' * Q) * (d * g) ≤ (P' * Q + N' * m) * (d * g) + (P * m + N * Q) * (d' * g))
+    (sym z)
     (omega arith)
 
-pub mul-mono : (f : Format) (x x' y : Float) → T (finite x) → T (finite x') → T (finite y) → T (le zero y) → T (le x x') → T (le (mul f x y) (mul f x' y))
+pub mul-mono : (f : Format) (x x' y : Float) → T (finite x) → T (finite x') → T (finite y) → T (le zero y) → T (le x x')
+    → T (le (mul f x y) (mul f x' y))
 mul-mono f x x' y p p' q n h =
     rounds-mono f (mul f x y) (mul f x' y) (plus x * plus y + mins x * mins y) (plus x * mins y + mins x * plus y) (den x * den y)
-    (plus x' * plus y + mins x' * mins y) (plus x' * mins y + mins x' * plus y) (den x' * den y) (mul-pos (den-pos x) (den-pos y)) (mul-pos (den-pos x') (den-pos y))
+    (plus x' * plus y + mins x' * mins y) (plus x' * mins y + mins x' * plus y) (den x' * den y) (mul-pos (den-pos x) (den-pos y))
+    (mul-pos (den-pos x') (den-pos y))
     (mul-rounds f x y p q) (mul-rounds f x' y p' q)
     (mul-below (plus x) (mins x) (den x) (plus x') (mins x') (den x') (plus y) (mins y) (den y) (le→cross x x' p p' h) (nonneg-mins y q n))
 
 -- both factors are not negative
-pub mul-mono-both : (f : Format) (x x' y y' : Float) → T (finite x) → T (finite x') → T (finite y) → T (finite y') → T (le zero x') → T (le zero y) → T (le x x') → T (le y y') → T (le (mul f x y) (mul f x' y'))
+pub mul-mono-both : (f : Format) (x x' y y' : Float) → T (finite x) → T (finite x') → T (finite y) → T (finite y') → T (le zero x')
+    → T (le zero y) → T (le x x') → T (le y y') → T (le (mul f x y) (mul f x' y'))
 mul-mono-both f x x' y y' p p' q q' a b h k =
     le-le-trans (mul f x y) (mul f x' y) (mul f x' y') (mul-mono f x x' y p p' q b h)
-    (subst (λ (z : Float). T (le z (mul f x' y'))) (mul-commutes f y x') (subst (λ (z : Float). T (le (mul f y x') z)) (mul-commutes f y' x') (mul-mono f y y' x' q q' p' a k)))
+    (subst (λ (z : Float). T (le z (mul f x' y'))) (mul-commutes f y x')
+    (subst (λ (z : Float). T (le (mul f y x') z)) (mul-commutes f y' x') (mul-mono f y y' x' q q' p' a k)))
 
 -- ---- the quotient by a positive value
-div-below : (P N d P' N' d' Q g : ℕ) → P * d' + N' * d ≤ P' * d + N * d' → P * g * (Q * d') + N' * g * (Q * d) ≤ P' * g * (Q * d) + N * g * (Q * d')
+div-below : (P N d P' N' d' Q g : ℕ) → P * d' + N' * d ≤ P' * d + N * d'
+    → P * g * (Q * d') + N' * g * (Q * d) ≤ P' * g * (Q * d) + N * g * (Q * d')
 div-below P N d P' N' d' Q g h =
     let a : (P * d' + N' * d) * (g * Q) ≤ (P' * d + N * d') * (g * Q) = mul-le-mul-right (g * Q) h in
     let l : P * g * (Q * d') + N' * g * (Q * d) ≡ (P * d' + N' * d) * (g * Q) = simp ring in
@@ -78,7 +92,8 @@ div-below P N d P' N' d' Q g h =
 
 pub div-mono : (f : Format) (x x' y : Float) → T (finite x) → T (finite x') → T (positive y) → T (le x x') → T (le (div f x y) (div f x' y))
 div-mono f x x' y p p' q h =
-    rounds-mono f (div f x y) (div f x' y) (plus x * den y) (mins x * den y) (num y * den x) (plus x' * den y) (mins x' * den y) (num y * den x')
+    rounds-mono f (div f x y) (div f x' y) (plus x * den y) (mins x * den y) (num y * den x) (plus x' * den y) (mins x' * den y)
+    (num y * den x')
     (mul-pos (num-pos y q) (den-pos x)) (mul-pos (num-pos y q) (den-pos x')) (div-rounds f x y p q) (div-rounds f x' y p' q)
     (div-below (plus x) (mins x) (den x) (plus x') (mins x') (den x') (num y) (den y) (le→cross x x' p p' h))
 
@@ -94,8 +109,10 @@ anti-below P N d Q g Q' g' z h =
 pos-cross : (y y' : Float) → T (positive y) → T (positive y') → T (le y y') → num y * den y' ≤ num y' * den y
 pos-cross y y' p q h = lib.Ieee.Positive.le→cross y y' p q h
 
-pub div-anti : (f : Format) (x y y' : Float) → T (finite x) → T (le zero x) → T (positive y) → T (positive y') → T (le y y') → T (le (div f x y') (div f x y))
+pub div-anti : (f : Format) (x y y' : Float) → T (finite x) → T (le zero x) → T (positive y) → T (positive y') → T (le y y')
+    → T (le (div f x y') (div f x y))
 div-anti f x y y' p a q q' h =
-    rounds-mono f (div f x y') (div f x y) (plus x * den y') (mins x * den y') (num y' * den x) (plus x * den y) (mins x * den y) (num y * den x)
+    rounds-mono f (div f x y') (div f x y) (plus x * den y') (mins x * den y') (num y' * den x) (plus x * den y) (mins x * den y)
+    (num y * den x)
     (mul-pos (num-pos y' q') (den-pos x)) (mul-pos (num-pos y q) (den-pos x)) (div-rounds f x y' p q') (div-rounds f x y p q)
     (anti-below (plus x) (mins x) (den x) (num y) (den y) (num y') (den y') (nonneg-mins x p a) (pos-cross y y' q q' h))

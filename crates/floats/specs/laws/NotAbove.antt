@@ -23,7 +23,10 @@ self-not-above x = is-false (lt x x) (lt-irreflexive x)
 
 -- equals are not above each other
 pub equal-not-above : (x y : Float) → eq x y ≡ true → (lt x y ≡ false) × (lt y x ≡ false)
-equal-not-above x y h = (is-false (lt x y) (λ l. lt-not-le x y l (eq→ge x y (yes-of h))), is-false (lt y x) (λ l. lt-not-le y x l (eq→le x y (yes-of h))))
+equal-not-above x y h = (
+  is-false (lt x y) (λ l. lt-not-le x y l (eq→ge x y (yes-of h))),
+  is-false (lt y x) (λ l. lt-not-le y x l (eq→le x y (yes-of h))),
+)
 
 -- what is no NaN equals itself
 pub number-equals-itself : (x : Float) → T (not (isNan x)) → eq x x ≡ true
@@ -34,7 +37,8 @@ pub not-above-trans : (x y z : Float) → T (not (isNan y)) → lt y x ≡ false
 not-above-trans x y z p h k =
     is-false (lt z x) (λ l.
     let zx = lt→le z x l in
-    lt-not-le z x l (le-le-trans x y z (not-lt→le y x p (le-right-number z x zx) (no-of h)) (not-lt→le z y (le-left-number z x zx) p (no-of k))))
+    lt-not-le z x l (le-le-trans x y z (not-lt→le y x p (le-right-number z x zx) (no-of h))
+    (not-lt→le z y (le-left-number z x zx) p (no-of k))))
 
 -- off NaN it is <=
 pub not-above→le : (x y : Float) → T (not (isNan x)) → T (not (isNan y)) → lt y x ≡ false → T (le x y)

@@ -83,7 +83,8 @@ le-le-trans (fin s m e) (fin t n d) (inf true) h k = absurd (unfold le in k)
 le-le-trans (fin s m e) (fin t n d) (inf false) h k = unfold le in tt
 le-le-trans (fin s m e) (fin t n d) (fin u l g) h k =
     cross→le (fin s m e) (fin u l g) tt tt
-    (cross-trans (plus (fin s m e)) (mins (fin s m e)) (down e) (plus (fin t n d)) (mins (fin t n d)) (down d) (plus (fin u l g)) (mins (fin u l g)) (down g) (down-pos d)
+    (cross-trans (plus (fin s m e)) (mins (fin s m e)) (down e) (plus (fin t n d)) (mins (fin t n d)) (down d) (plus (fin u l g))
+    (mins (fin u l g)) (down g) (down-pos d)
     (le→cross (fin s m e) (fin t n d) tt tt h) (le→cross (fin t n d) (fin u l g) tt tt k))
 
 pub lt→le : (x y : Float) → T (lt x y) → T (le x y)
@@ -149,10 +150,12 @@ le-total x y p q = elim (le-or-lt x y p q) [ inl k ↦ inl k | inr k ↦ inr (lt
 
 -- ---- transitive where one is strict
 pub lt-le-trans : (x y z : Float) → T (lt x y) → T (le y z) → T (lt x z)
-lt-le-trans x y z h k = elim (le-or-lt z x (le-right-number y z k) (le-left-number x y (lt→le x y h))) [ inl l ↦ absurd (lt-not-le x y h (le-le-trans y z x k l)) | inr l ↦ l ]
+lt-le-trans x y z h k = elim (le-or-lt z x (le-right-number y z k) (le-left-number x y (lt→le x y h)))
+    [ inl l ↦ absurd (lt-not-le x y h (le-le-trans y z x k l)) | inr l ↦ l ]
 
 pub le-lt-trans : (x y z : Float) → T (le x y) → T (lt y z) → T (lt x z)
-le-lt-trans x y z h k = elim (le-or-lt z x (le-right-number y z (lt→le y z k)) (le-left-number x y h)) [ inl l ↦ absurd (lt-not-le y z k (le-le-trans z x y l h)) | inr l ↦ l ]
+le-lt-trans x y z h k = elim (le-or-lt z x (le-right-number y z (lt→le y z k)) (le-left-number x y h))
+    [ inl l ↦ absurd (lt-not-le y z k (le-le-trans z x y l h)) | inr l ↦ l ]
 
 pub lt-lt-trans : (x y z : Float) → T (lt x y) → T (lt y z) → T (lt x z)
 lt-lt-trans x y z h k = lt-le-trans x y z h (lt→le y z k)
@@ -200,4 +203,5 @@ pub eq-symmetric : (x y : Float) → T (eq x y) → T (eq y x)
 eq-symmetric x y h = le-antisymmetric y x (eq→ge x y h) (eq→le x y h)
 
 pub eq-transitive : (x y z : Float) → T (eq x y) → T (eq y z) → T (eq x z)
-eq-transitive x y z h k = le-antisymmetric x z (le-le-trans x y z (eq→le x y h) (eq→le y z k)) (le-le-trans z y x (eq→ge y z k) (eq→ge x y h))
+eq-transitive x y z h k = le-antisymmetric x z (le-le-trans x y z (eq→le x y h) (eq→le y z k))
+    (le-le-trans z y x (eq→ge y z k) (eq→ge x y h))

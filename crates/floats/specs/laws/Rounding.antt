@@ -30,10 +30,18 @@ neg-le (inf false) (fin t n d) h = absurd (unfold le in h)
 neg-le (fin s m e) nan h = absurd (unfold le in h)
 neg-le (fin s m e) (inf true) h = absurd (unfold le in h)
 neg-le (fin s m e) (inf false) h = unfold le neg in tt
-neg-le (fin false m e) (fin false n d) h = unfold neg in cross→le (fin true n d) (fin true m e) tt tt (turn (m * up e * down d) (0 * down e) (n * up d * down e) (0 * down d) (le→cross (fin false m e) (fin false n d) tt tt h))
-neg-le (fin false m e) (fin true n d) h = unfold neg in cross→le (fin false n d) (fin true m e) tt tt (turn (m * up e * down d) (n * up d * down e) (0 * down e) (0 * down d) (le→cross (fin false m e) (fin true n d) tt tt h))
-neg-le (fin true m e) (fin false n d) h = unfold neg in cross→le (fin true n d) (fin false m e) tt tt (turn (0 * down d) (0 * down e) (n * up d * down e) (m * up e * down d) (le→cross (fin true m e) (fin false n d) tt tt h))
-neg-le (fin true m e) (fin true n d) h = unfold neg in cross→le (fin false n d) (fin false m e) tt tt (turn (0 * down d) (n * up d * down e) (0 * down e) (m * up e * down d) (le→cross (fin true m e) (fin true n d) tt tt h))
+neg-le (fin false m e) (fin false n d) h = unfold neg in
+    cross→le (fin true n d) (fin true m e) tt tt
+    (turn (m * up e * down d) (0 * down e) (n * up d * down e) (0 * down d) (le→cross (fin false m e) (fin false n d) tt tt h))
+neg-le (fin false m e) (fin true n d) h = unfold neg in
+    cross→le (fin false n d) (fin true m e) tt tt
+    (turn (m * up e * down d) (n * up d * down e) (0 * down e) (0 * down d) (le→cross (fin false m e) (fin true n d) tt tt h))
+neg-le (fin true m e) (fin false n d) h = unfold neg in
+    cross→le (fin true n d) (fin false m e) tt tt
+    (turn (0 * down d) (0 * down e) (n * up d * down e) (m * up e * down d) (le→cross (fin true m e) (fin false n d) tt tt h))
+neg-le (fin true m e) (fin true n d) h = unfold neg in
+    cross→le (fin false n d) (fin false m e) tt tt
+    (turn (0 * down d) (n * up d * down e) (0 * down e) (m * up e * down d) (le→cross (fin true m e) (fin true n d) tt tt h))
 
 neg-odd : (d : ℕ) (s : Bool) (q k l : ℕ) → neg (odd d s q k l) ≡ odd d (not s) q k l
 unfolding odd neg
@@ -44,7 +52,8 @@ neg-units : (f : Format) (s : Bool) (q k : ℕ) → neg (units f s q k) ≡ unit
 unfolding units
 neg-units f s q k = go (ltb (q * 2 ^ k) (2 ^ (low f + suc (emax f))))
   where
-    go : (b : Bool) → neg (cond b (odd (suc (prec f)) s q k (low f)) (inf s)) ≡ cond b (odd (suc (prec f)) (not s) q k (low f)) (inf (not s))
+    go : (b : Bool) → neg (cond b (odd (suc (prec f)) s q k (low f)) (inf s)) ≡ cond b (odd (suc (prec f)) (not s) q k (low f))
+        (inf (not s))
     go true = neg-odd (suc (prec f)) s q k (low f)
     go false = unfold neg in refl
 
@@ -61,10 +70,12 @@ round-zero f s c C = round-same f s 0 c 0 1 C (zero-lt-suc 0) (sym (zero-mul c))
     go binary64 = unfold round in refl
 
 pub zero-le-round : (f : Format) (b d : ℕ) → 0 < d → T (le (fin false 0 (pos 0)) (round f false b d))
-zero-le-round f b d D = subst (λ (z : Float). T (le z (round f false b d))) (round-zero f false d D) (round-mono f 0 d b d D D (mul-le-mul-right d Prim.Native.Nat.zero-le))
+zero-le-round f b d D = subst (λ (z : Float). T (le z (round f false b d))) (round-zero f false d D)
+    (round-mono f 0 d b d D D (mul-le-mul-right d Prim.Native.Nat.zero-le))
 
 pub round-le-zero : (f : Format) (b d : ℕ) → 0 < d → T (le (round f true b d) (fin true 0 (pos 0)))
-round-le-zero f b d D = subst (λ (z : Float). T (le z (fin true 0 (pos 0)))) (neg-round f false b d) (unfold neg in neg-le (fin false 0 (pos 0)) (round f false b d) (zero-le-round f b d D))
+round-le-zero f b d D = subst (λ (z : Float). T (le z (fin true 0 (pos 0)))) (neg-round f false b d)
+    (unfold neg in neg-le (fin false 0 (pos 0)) (round f false b d) (zero-le-round f b d D))
 
 -- ---- rounding with a sign
 abbrev pub Rounds : Format → Float → ℕ → ℕ → ℕ → Type 0
@@ -86,7 +97,8 @@ no-factor a c C h = elim (eq-zero-or-pos a) [ inl z ↦ z | inr p ↦ absurd (ba
     bad : (x : ℕ) → 0 < x → x ≤ 0 → ⊥
     bad x p q = omega arith
 
-pub rounds-mono : (f : Format) (x y : Float) (P N c P' N' c' : ℕ) → 0 < c → 0 < c' → Rounds f x P N c → Rounds f y P' N' c' → Below P N c P' N' c' → T (le x y)
+pub rounds-mono : (f : Format) (x y : Float) (P N c P' N' c' : ℕ) → 0 < c → 0 < c' → Rounds f x P N c → Rounds f y P' N' c'
+    → Below P N c P' N' c' → T (le x y)
 rounds-mono f x y P N c P' N' c' C C' (inl p) (inl q) h =
     subst (λ (z : Float). T (le z y)) (sym (p .1)) (subst (λ (z : Float). T (le (round f false (P - N) c) z)) (sym (q .1))
     (round-mono f (P - N) c (P' - N') c' C C' (omega (arith, split P N c' (p .0), split P' N' c (q .0)))))
@@ -94,12 +106,14 @@ rounds-mono f x y P N c P' N' c' C C' (inl p) (inr q) h =
     let a : (P - N) * c' ≤ 0 = omega (arith, split P N c' (p .0), split N' P' c (q .0)) in
     let b : (N' - P') * c ≤ 0 = omega (arith, split P N c' (p .0), split N' P' c (q .0)) in
     subst (λ (z : Float). T (le z y)) (sym (p .1 ∙ ap (λ (z : ℕ). round f false z c) (no-factor (P - N) c' C' a) ∙ round-zero f false c C))
-    (subst (λ (z : Float). T (le (fin false 0 (pos 0)) z)) (sym (q .1 ∙ ap (λ (z : ℕ). round f true z c') (no-factor (N' - P') c C b) ∙ round-zero f true c' C'))
+    (subst (λ (z : Float). T (le (fin false 0 (pos 0)) z))
+    (sym (q .1 ∙ ap (λ (z : ℕ). round f true z c') (no-factor (N' - P') c C b) ∙ round-zero f true c' C'))
     (unfold le in tt))
 rounds-mono f x y P N c P' N' c' C C' (inr p) (inl q) h =
     subst (λ (z : Float). T (le z y)) (sym (p .1)) (subst (λ (z : Float). T (le (round f true (N - P) c) z)) (sym (q .1))
     (le-le-trans (round f true (N - P) c) (fin true 0 (pos 0)) (round f false (P' - N') c') (round-le-zero f (N - P) c C)
-    (le-le-trans (fin true 0 (pos 0)) (fin false 0 (pos 0)) (round f false (P' - N') c') (unfold le in tt) (zero-le-round f (P' - N') c' C'))))
+    (le-le-trans (fin true 0 (pos 0)) (fin false 0 (pos 0)) (round f false (P' - N') c') (unfold le in tt)
+    (zero-le-round f (P' - N') c' C'))))
 rounds-mono f x y P N c P' N' c' C C' (inr p) (inr q) h =
     subst (λ (z : Float). T (le z y)) (sym (p .1 ∙ sym (neg-round f false (N - P) c)))
     (subst (λ (z : Float). T (le (neg (round f false (N - P) c)) z)) (sym (q .1 ∙ sym (neg-round f false (N' - P') c')))

@@ -35,7 +35,8 @@ mul-commutes f (inf s) (fin t n d) = ap (λ (b : Bool). cond (eqb n 0) nan (inf 
 mul-commutes f (fin s m e) nan = refl
 mul-commutes f (fin s m e) (inf t) = ap (λ (b : Bool). cond (eqb m 0) nan (inf b)) (like s t)
 mul-commutes f (fin s m e) (fin t n d) =
-    ap (λ (b : Bool). round f b (m * up e * (n * up d)) (down e * down d)) (like s t) ∙ ap₂ (λ (a c : ℕ). round f (unlike t s) a c) (mul-comm (m * up e) (n * up d)) (mul-comm (down e) (down d))
+    ap (λ (b : Bool). round f b (m * up e * (n * up d)) (down e * down d)) (like s t)
+    ∙ ap₂ (λ (a c : ℕ). round f (unlike t s) a c) (mul-comm (m * up e) (n * up d)) (mul-comm (down e) (down d))
 
 unlike-not : (s t : Bool) → unlike s (not t) ≡ not (unlike s t)
 unlike-not true true = refl
@@ -50,7 +51,8 @@ mul-neg f (inf s) y p q = absurd p
 mul-neg f (fin s m e) nan p q = absurd q
 mul-neg f (fin s m e) (inf t) p q = absurd q
 mul-neg f (fin s m e) (fin t n d) p q =
-    ap (λ (b : Bool). round f b (m * up e * (n * up d)) (down e * down d)) (unlike-not s t) ∙ sym (neg-round f (unlike s t) (m * up e * (n * up d)) (down e * down d))
+    ap (λ (b : Bool). round f b (m * up e * (n * up d)) (down e * down d)) (unlike-not s t)
+    ∙ sym (neg-round f (unlike s t) (m * up e * (n * up d)) (down e * down d))
 
 -- ---- what is not negative
 no-mins : (a b : ℕ) → T (eqb a b && eqb a 0) → b ≡ 0
@@ -70,20 +72,25 @@ num-pos (fin true m e) p = absurd p
 num-pos (fin false m e) p = mul-pos (ltb→lt 0 m p) (up-pos e)
 
 rounds-nonneg : (f : Format) (x : Float) (P N c : ℕ) → 0 < c → Rounds f x P N c → N ≤ P → T (le zero x)
-rounds-nonneg f x P N c C r h = rounds-mono f zero x 0 0 1 P N c (zero-lt-suc 0) C (inl (le-refl 0, sym (round-zero f false 1 (zero-lt-suc 0)))) r (omega arith)
+rounds-nonneg f x P N c C r h =
+    rounds-mono f zero x 0 0 1 P N c (zero-lt-suc 0) C (inl (le-refl 0, sym (round-zero f false 1 (zero-lt-suc 0)))) r (omega arith)
 
 nothing-below : (a b c d : ℕ) → b ≡ 0 → c ≡ 0 → a * b + c * d ≡ 0
 nothing-below a b c d p q = ap₂ (λ (x y : ℕ). a * x + y * d) p q ∙ ap₂ (λ (x y : ℕ). x + y) (mul-zero a) (zero-mul d)
 
 pub mul-nonneg : (f : Format) (x y : Float) → T (finite x) → T (finite y) → T (le zero x) → T (le zero y) → T (le zero (mul f x y))
 mul-nonneg f x y p q h k =
-    rounds-nonneg f (mul f x y) (plus x * plus y + mins x * mins y) (plus x * mins y + mins x * plus y) (den x * den y) (mul-pos (den-pos x) (den-pos y)) (mul-rounds f x y p q)
-    (le-trans (le-of-eq (nothing-below (plus x) (mins y) (mins x) (plus y) (nonneg-mins y q k) (nonneg-mins x p h))) Prim.Native.Nat.zero-le)
+    rounds-nonneg f (mul f x y) (plus x * plus y + mins x * mins y) (plus x * mins y + mins x * plus y) (den x * den y)
+    (mul-pos (den-pos x) (den-pos y)) (mul-rounds f x y p q)
+    (le-trans (le-of-eq (nothing-below (plus x) (mins y) (mins x) (plus y) (nonneg-mins y q k) (nonneg-mins x p h)))
+    Prim.Native.Nat.zero-le)
 
 pub add-nonneg : (f : Format) (x y : Float) → T (finite x) → T (finite y) → T (le zero x) → T (le zero y) → T (le zero (add f x y))
 add-nonneg f x y p q h k =
-    rounds-nonneg f (add f x y) (plus x * den y + plus y * den x) (mins x * den y + mins y * den x) (den x * den y) (mul-pos (den-pos x) (den-pos y)) (add-rounds f x y p q)
-    (le-trans (le-of-eq (ap₂ (λ (a b : ℕ). a * den y + b * den x) (nonneg-mins x p h) (nonneg-mins y q k) ∙ ap₂ (λ (a b : ℕ). a + b) (zero-mul (den y)) (zero-mul (den x)))) Prim.Native.Nat.zero-le)
+    rounds-nonneg f (add f x y) (plus x * den y + plus y * den x) (mins x * den y + mins y * den x) (den x * den y)
+    (mul-pos (den-pos x) (den-pos y)) (add-rounds f x y p q)
+    (le-trans (le-of-eq (ap₂ (λ (a b : ℕ). a * den y + b * den x) (nonneg-mins x p h) (nonneg-mins y q k)
+    ∙ ap₂ (λ (a b : ℕ). a + b) (zero-mul (den y)) (zero-mul (den x)))) Prim.Native.Nat.zero-le)
 
 pub div-nonneg : (f : Format) (x y : Float) → T (finite x) → T (positive y) → T (le zero x) → T (le zero (div f x y))
 div-nonneg f x y p q h =

@@ -56,7 +56,8 @@ sum-turned f (inf false) (inf false) = refl
 sum-turned f (inf s) (fin t n d) = refl
 sum-turned f (fin s m e) nan = refl
 sum-turned f (fin s m e) (inf t) = refl
-sum-turned f (fin s m e) (fin t n d) = apart-sum f s t (m * up e * down d) (n * up d * down e) (down e * down d) ∙ ap (λ (c : ℕ). sum f t (n * up d * down e) s (m * up e * down d) c) (mul-comm (down e) (down d))
+sum-turned f (fin s m e) (fin t n d) = apart-sum f s t (m * up e * down d) (n * up d * down e) (down e * down d)
+    ∙ ap (λ (c : ℕ). sum f t (n * up d * down e) s (m * up e * down d) c) (mul-comm (down e) (down d))
 
 -- a <= a + b, infinities too
 le-sum : (a b : Float) → T (fits binary64 a) → T (le zero a) → T (le zero b) → T (le a (add binary64 a b))
@@ -75,7 +76,9 @@ le-sum (fin s m e) (fin u n d) t h k = le-add binary64 (fin s m e) (fin u n d) t
 
 dist-turned : (x y qx qy b : Float) → T (le (sqDist x y qx qy) b) → T (le (sqDist y x qy qx) b)
 dist-turned x y qx qy b d =
-    subst (λ (z : Float). T (le z b)) (sum-turned binary64 (mul binary64 (sub binary64 x qx) (sub binary64 x qx)) (mul binary64 (sub binary64 y qy) (sub binary64 y qy))) d
+    subst (λ (z : Float). T (le z b))
+    (sum-turned binary64 (mul binary64 (sub binary64 x qx) (sub binary64 x qx)) (mul binary64 (sub binary64 y qy) (sub binary64 y qy)))
+    d
 
 -- a square that is a number is not negative
 square-number : (x : Float) → T (not (isNan (mul binary64 x x))) → T (le zero (mul binary64 x x))
@@ -111,11 +114,15 @@ square-neg (fin false m e) = refl
 square-grows : (a b : Float) → T (le zero a) → T (le a b) → T (le (mul binary64 a a) (mul binary64 b b))
 square-grows nan b h k = absurd (unfold le in h)
 square-grows (inf true) b h k = absurd (unfold le in h)
-square-grows (inf false) b h k = subst (λ (z : Float). T (le (mul binary64 (inf false) (inf false)) (mul binary64 z z))) (sym (plus-inf-le b k)) (unfold mul le in tt)
+square-grows (inf false) b h k = subst (λ (z : Float). T (le (mul binary64 (inf false) (inf false)) (mul binary64 z z)))
+    (sym (plus-inf-le b k)) (unfold mul le in tt)
 square-grows (fin s m e) nan h k = absurd (unfold le in k)
 square-grows (fin s m e) (inf true) h k = absurd (unfold le in k)
-square-grows (fin s m e) (inf false) h k = unfold mul in le-plus-inf (mul binary64 (fin s m e) (fin s m e)) (le-right-number zero (mul binary64 (fin s m e) (fin s m e)) (square-above binary64 (fin s m e) (unfold isNan in tt)))
-square-grows (fin s m e) (fin t n d) h k = mul-mono-both binary64 (fin s m e) (fin t n d) (fin s m e) (fin t n d) tt tt tt tt (le-le-trans zero (fin s m e) (fin t n d) h k) h k k
+square-grows (fin s m e) (inf false) h k = unfold mul in
+    le-plus-inf (mul binary64 (fin s m e) (fin s m e))
+    (le-right-number zero (mul binary64 (fin s m e) (fin s m e)) (square-above binary64 (fin s m e) (unfold isNan in tt)))
+square-grows (fin s m e) (fin t n d) h k = mul-mono-both binary64 (fin s m e) (fin t n d) (fin s m e) (fin t n d) tt tt tt tt
+    (le-le-trans zero (fin s m e) (fin t n d) h k) h k k
 
 -- ---- the difference from a query
 
@@ -161,7 +168,8 @@ no-nan (inf s) h = unfold lt in h
 no-nan (fin s m e) h = unfold lt in h
 
 -- what lies right of s, where s lies right of the query: its square is as large or larger
-right-grows : (x s q : Float) → T (le s x) → T (lt q s) → T (le (mul binary64 (sub binary64 s q) (sub binary64 s q)) (mul binary64 (sub binary64 x q) (sub binary64 x q)))
+right-grows : (x s q : Float) → T (le s x) → T (lt q s)
+    → T (le (mul binary64 (sub binary64 s q) (sub binary64 s q)) (mul binary64 (sub binary64 x q) (sub binary64 x q)))
 right-grows x s nan h k = absurd (unfold lt in k)
 right-grows x s (inf true) h k = both-inf _ _ (above-minus-inf s k) (above-minus-inf x (lt-le-trans (inf true) s x k h))
 right-grows x s (inf false) h k = absurd (none-above s k)
@@ -171,11 +179,13 @@ right-grows x s (fin u l g) h k =
     let ns = sub-number s (fin u l g) (le-left-number s x h) tt in
     let nq = sub-number (fin u l g) (fin u l g) (finite-not-nan (fin u l g) tt) tt in
     square-grows (sub binary64 s q) (sub binary64 x q)
-    (subst (λ (z : Float). T (le z (sub binary64 s (fin u l g)))) (sub-self binary64 (fin u l g) tt) (sub-mono-any binary64 (fin u l g) s (fin u l g) (lt→le (fin u l g) s k) nq ns))
+    (subst (λ (z : Float). T (le z (sub binary64 s (fin u l g)))) (sub-self binary64 (fin u l g) tt)
+    (sub-mono-any binary64 (fin u l g) s (fin u l g) (lt→le (fin u l g) s k) nq ns))
     (sub-mono-any binary64 s x (fin u l g) h ns nx)
 
 -- what lies left of s, where s lies left of the query
-left-grows : (x s q : Float) → T (le x s) → T (lt s q) → T (le (mul binary64 (sub binary64 s q) (sub binary64 s q)) (mul binary64 (sub binary64 x q) (sub binary64 x q)))
+left-grows : (x s q : Float) → T (le x s) → T (lt s q)
+    → T (le (mul binary64 (sub binary64 s q) (sub binary64 s q)) (mul binary64 (sub binary64 x q) (sub binary64 x q)))
 left-grows x s nan h k = absurd (no-nan s k)
 left-grows x s (inf false) h k = both-inf _ _ (below-plus-inf s k) (below-plus-inf x (le-lt-trans x s (inf false) h k))
 left-grows x s (inf true) h k = absurd (none-below s k)
@@ -186,7 +196,8 @@ left-grows x s (fin u l g) h k =
     let ns = sub-number s (fin u l g) (le-right-number x s h) tt in
     let nq = sub-number (fin u l g) (fin u l g) (finite-not-nan (fin u l g) tt) tt in
     let low : T (le (sub binary64 s (fin u l g)) zero) =
-    subst (λ (z : Float). T (le (sub binary64 s (fin u l g)) z)) (sub-self binary64 (fin u l g) tt) (sub-mono-any binary64 s (fin u l g) (fin u l g) (lt→le s (fin u l g) k) ns nq) in
+    subst (λ (z : Float). T (le (sub binary64 s (fin u l g)) z)) (sub-self binary64 (fin u l g) tt)
+    (sub-mono-any binary64 s (fin u l g) (fin u l g) (lt→le s (fin u l g) k) ns nq) in
     let down : T (le (sub binary64 x (fin u l g)) (sub binary64 s (fin u l g))) = sub-mono-any binary64 x s (fin u l g) h nx ns in
     turned a b low down
   where
@@ -195,23 +206,30 @@ left-grows x s (fin u l g) h k =
 
     turned : (a b : Float) → T (le a zero) → T (le b a) → T (le (mul binary64 a a) (mul binary64 b b))
     turned a b low down =
-        subst (λ (z : Float). T (le z (mul binary64 b b))) (square-neg a) (subst (λ (z : Float). T (le (mul binary64 (neg a) (neg a)) z)) (square-neg b)
+        subst (λ (z : Float). T (le z (mul binary64 b b))) (square-neg a)
+        (subst (λ (z : Float). T (le (mul binary64 (neg a) (neg a)) z)) (square-neg b)
         (square-grows (neg a) (neg b) (nonneg a low) (neg-le b a down)))
 
 -- ---- nothing that is skipped passes: by x, and by y
 
 module _ (x y s qx qy b : Float) where
-  pub left-x-fails : T (le x s) → T (lt s qx) → T (lt b (mul binary64 (sub binary64 s qx) (sub binary64 s qx))) → T (le (sqDist x y qx qy) b) → ⊥
+  pub left-x-fails : T (le x s) → T (lt s qx) → T (lt b (mul binary64 (sub binary64 s qx) (sub binary64 s qx)))
+      → T (le (sqDist x y qx qy) b) → ⊥
   left-x-fails h k l = beside-fails (sub binary64 x qx) (sub binary64 y qy) b (lt-le-trans b _ _ l (left-grows x s qx h k))
 
-  pub right-x-fails : T (le s x) → T (lt qx s) → T (lt b (mul binary64 (sub binary64 s qx) (sub binary64 s qx))) → T (le (sqDist x y qx qy) b) → ⊥
+  pub right-x-fails : T (le s x) → T (lt qx s) → T (lt b (mul binary64 (sub binary64 s qx) (sub binary64 s qx)))
+      → T (le (sqDist x y qx qy) b) → ⊥
   right-x-fails h k l = beside-fails (sub binary64 x qx) (sub binary64 y qy) b (lt-le-trans b _ _ l (right-grows x s qx h k))
 
-  pub left-y-fails : T (le y s) → T (lt s qy) → T (lt b (mul binary64 (sub binary64 s qy) (sub binary64 s qy))) → T (le (sqDist x y qx qy) b) → ⊥
-  left-y-fails h k l d = beside-fails (sub binary64 y qy) (sub binary64 x qx) b (lt-le-trans b _ _ l (left-grows y s qy h k)) (dist-turned x y qx qy b d)
+  pub left-y-fails : T (le y s) → T (lt s qy) → T (lt b (mul binary64 (sub binary64 s qy) (sub binary64 s qy)))
+      → T (le (sqDist x y qx qy) b) → ⊥
+  left-y-fails h k l d = beside-fails (sub binary64 y qy) (sub binary64 x qx) b (lt-le-trans b _ _ l (left-grows y s qy h k))
+      (dist-turned x y qx qy b d)
 
-  pub right-y-fails : T (le s y) → T (lt qy s) → T (lt b (mul binary64 (sub binary64 s qy) (sub binary64 s qy))) → T (le (sqDist x y qx qy) b) → ⊥
-  right-y-fails h k l d = beside-fails (sub binary64 y qy) (sub binary64 x qx) b (lt-le-trans b _ _ l (right-grows y s qy h k)) (dist-turned x y qx qy b d)
+  pub right-y-fails : T (le s y) → T (lt qy s) → T (lt b (mul binary64 (sub binary64 s qy) (sub binary64 s qy)))
+      → T (le (sqDist x y qx qy) b) → ⊥
+  right-y-fails h k l d = beside-fails (sub binary64 y qy) (sub binary64 x qx) b (lt-le-trans b _ _ l (right-grows y s qy h k))
+      (dist-turned x y qx qy b d)
 
 -- ---- what passes has numbers for coordinates
 
@@ -221,7 +239,9 @@ sub-left-number (inf s) q h = unfold isNan in tt
 sub-left-number (fin s m e) q h = unfold isNan in tt
 
 pub y-number : (x y qx qy b : Float) → T (le (sqDist x y qx qy) b) → T (not (isNan y))
-y-number x y qx qy b d = sub-left-number y qy (add-number (mul binary64 (sub binary64 x qx) (sub binary64 x qx)) (mul binary64 (sub binary64 y qy) (sub binary64 y qy)) (le-left-number (sqDist x y qx qy) b d))
+y-number x y qx qy b d = sub-left-number y qy
+    (add-number (mul binary64 (sub binary64 x qx) (sub binary64 x qx)) (mul binary64 (sub binary64 y qy) (sub binary64 y qy))
+    (le-left-number (sqDist x y qx qy) b d))
 
 pub x-number : (x y qx qy b : Float) → T (le (sqDist x y qx qy) b) → T (not (isNan x))
 x-number x y qx qy b d = y-number y x qy qx b (dist-turned x y qx qy b d)

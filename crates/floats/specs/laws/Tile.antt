@@ -48,31 +48,40 @@ extent-nonneg : (extent : Float) → T (le one extent) → T (le zero extent)
 extent-nonneg extent lo = le-le-trans zero one extent (unfold le in tt) lo
 
 -- for any s from -2 ^ 31 to 2 ^ 31 + 1
-scaled : (extent s : Float) → T (le one extent) → T (le extent pow16) → T (le (neg pow31) s) → T (le s top) → T (le (neg pow48) (mul binary64 extent s)) × T (le (mul binary64 extent s) pow48)
+scaled : (extent s : Float) → T (le one extent) → T (le extent pow16) → T (le (neg pow31) s) → T (le s top)
+    → T (le (neg pow48) (mul binary64 extent s)) × T (le (mul binary64 extent s) pow48)
 scaled extent s lo hi l r =
     let fe : T (finite extent) = between-finite one extent pow16 tt tt lo hi in
     let fs : T (finite s) = between-finite (neg pow31) s top (neg-finite pow31 tt) tt l r in
     let ne : T (le zero extent) = extent-nonneg extent lo in
     let a : T (le (mul binary64 s extent) (mul binary64 top extent)) = mul-mono binary64 s top extent fs tt fe ne r in
     let b : T (le (mul binary64 extent top) (mul binary64 pow16 top)) = mul-mono binary64 extent pow16 top fe tt tt (unfold le in tt) hi in
-    let c : T (le (mul binary64 (neg pow31) extent) (mul binary64 s extent)) = mul-mono binary64 (neg pow31) s extent (neg-finite pow31 tt) fs fe ne l in
-    let d : T (le (mul binary64 extent pow31) (mul binary64 pow16 pow31)) = mul-mono binary64 extent pow16 pow31 fe tt tt (unfold le in tt) hi in
-    let is : mul binary64 (neg pow31) extent ≡ neg (mul binary64 extent pow31) = mul-commutes binary64 (neg pow31) extent ∙ mul-neg binary64 extent pow31 fe tt in (
+    let c : T (le (mul binary64 (neg pow31) extent) (mul binary64 s extent)) =
+    mul-mono binary64 (neg pow31) s extent (neg-finite pow31 tt) fs fe ne l in
+    let d : T (le (mul binary64 extent pow31) (mul binary64 pow16 pow31)) =
+    mul-mono binary64 extent pow16 pow31 fe tt tt (unfold le in tt) hi in
+    let is : mul binary64 (neg pow31) extent ≡ neg (mul binary64 extent pow31) = mul-commutes binary64 (neg pow31) extent
+    ∙ mul-neg binary64 extent pow31 fe tt in (
       le-le-trans (neg pow48) (neg (mul binary64 extent pow31)) (mul binary64 extent s)
           (neg-le (mul binary64 extent pow31) pow48 (le-le-trans (mul binary64 extent pow31) (mul binary64 pow16 pow31) pow48 d low-ok))
-          (subst (λ (w : Float). T (le w (mul binary64 extent s))) is (subst (λ (w : Float). T (le (mul binary64 (neg pow31) extent) w)) (mul-commutes binary64 s extent) c)),
+          (subst (λ (w : Float). T (le w (mul binary64 extent s))) is
+          (subst (λ (w : Float). T (le (mul binary64 (neg pow31) extent) w)) (mul-commutes binary64 s extent) c)),
       le-le-trans (mul binary64 extent s) (mul binary64 extent top) pow48
-          (subst (λ (w : Float). T (le w (mul binary64 extent top))) (mul-commutes binary64 s extent) (subst (λ (w : Float). T (le (mul binary64 s extent) w)) (mul-commutes binary64 top extent) a))
+          (subst (λ (w : Float). T (le w (mul binary64 extent top))) (mul-commutes binary64 s extent)
+          (subst (λ (w : Float). T (le (mul binary64 s extent) w)) (mul-commutes binary64 top extent) a))
           (le-le-trans (mul binary64 extent top) (mul binary64 pow16 top) pow48 b high-ok),
     )
 
-pub tile-bounds : (extent cx x : Float) (z : ℕ) → z ≤ 31 → T (le one extent) → T (le extent pow16) → In01 cx → T (le (neg one) x) → T (le x pow31)
-    → T (le (neg pow48) (mul binary64 extent (sub binary64 (mul binary64 cx (float (2 ^ z))) x))) × T (le (mul binary64 extent (sub binary64 (mul binary64 cx (float (2 ^ z))) x)) pow48)
+pub tile-bounds : (extent cx x : Float) (z : ℕ) → z ≤ 31 → T (le one extent) → T (le extent pow16) → In01 cx → T (le (neg one) x)
+    → T (le x pow31)
+    → T (le (neg pow48) (mul binary64 extent (sub binary64 (mul binary64 cx (float (2 ^ z))) x)))
+    × T (le (mul binary64 extent (sub binary64 (mul binary64 cx (float (2 ^ z))) x)) pow48)
 tile-bounds extent cx x z Z lo hi u l r =
     let n = 2 ^ z in
     let a = mul binary64 cx (float n) in
     let w : Weighted a n = weigh-one cx n u (pow-pos z) (le-trans (power-le z Z) (lit≤ tt)) in
-    let h : T (le a pow31) = le-le-trans a (float n) pow31 (w .1) (subst (λ (v : Float). T (le (float n) v)) pow31-is (ofInt-mono binary64 n (2 ^ 31) (power-le z Z))) in
+    let h : T (le a pow31) = le-le-trans a (float n) pow31 (w .1)
+    (subst (λ (v : Float). T (le (float n) v)) pow31-is (ofInt-mono binary64 n (2 ^ 31) (power-le z Z))) in
     let fa : T (finite a) = between-finite zero a pow31 tt tt (w .0) h in
     let fx : T (finite x) = between-finite (neg one) x pow31 (neg-finite one tt) tt l r in
     scaled extent (sub binary64 a x) lo hi

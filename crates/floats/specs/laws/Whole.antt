@@ -56,7 +56,8 @@ sum-cross X Y a b c d u v p q =
     let r : (a * d + b * c) * (u * v) ≡ a * u * (v * d) + b * v * (u * c) = simp ring in
     l ∙ ap (λ (z : ℕ). z * (v * d) + Y * d * (u * c)) p ∙ ap (λ (z : ℕ). a * u * (v * d) + z * (u * c)) q ∙ sym r
 
-pub add-at : (f : Format) (x y : Float) (a c b d : ℕ) → 0 < c → 0 < d → HasValue x false a c → HasValue y false b d → add f x y ≡ round f false (a * d + b * c) (c * d)
+pub add-at : (f : Format) (x y : Float) (a c b d : ℕ) → 0 < c → 0 < d → HasValue x false a c → HasValue y false b d
+    → add f x y ≡ round f false (a * d + b * c) (c * d)
 unfolding add sum
 add-at f nan y a c b d C D h k = absurd h
 add-at f (inf s) y a c b d C D h k = absurd h
@@ -65,10 +66,12 @@ add-at f (fin false m e) nan a c b d C D h k = absurd k
 add-at f (fin false m e) (inf t) a c b d C D h k = absurd k
 add-at f (fin false m e) (fin true n g) a c b d C D h k = absurd (true≢false (k .0))
 add-at f (fin false m e) (fin false n g) a c b d C D h k =
-    round-same f false (m * up e * down g + n * up g * down e) (down e * down g) (a * d + b * c) (c * d) (mul-pos (down-pos e) (down-pos g)) (mul-pos C D)
+    round-same f false (m * up e * down g + n * up g * down e) (down e * down g) (a * d + b * c) (c * d) (mul-pos (down-pos e) (down-pos g))
+    (mul-pos C D)
     (sum-cross (m * up e) (n * up g) a b c d (down e) (down g) (h .1) (k .1))
 
-pub div-at : (f : Format) (x y : Float) (a c b d : ℕ) → 0 < c → 0 < d → 0 < b → HasValue x false a c → HasValue y false b d → div f x y ≡ round f false (a * d) (b * c)
+pub div-at : (f : Format) (x y : Float) (a c b d : ℕ) → 0 < c → 0 < d → 0 < b → HasValue x false a c → HasValue y false b d
+    → div f x y ≡ round f false (a * d) (b * c)
 unfolding div
 div-at f nan y a c b d C D B h k = absurd h
 div-at f (inf s) y a c b d C D B h k = absurd h
@@ -79,7 +82,8 @@ div-at f (fin false m e) (fin true n g) a c b d C D B h k = absurd (true≢false
 div-at f (fin false m e) (fin false n g) a c b d C D B h k =
     let q : T (positive (fin false n g)) = positive-of-value (fin false n g) b d k B in
     skip n (cond (eqb m 0) nan (inf false)) (round f false (m * up e * down g) (n * up g * down e)) q
-    ∙ round-same f false (m * up e * down g) (n * up g * down e) (a * d) (b * c) (mul-pos (num-pos (fin false n g) q) (down-pos e)) (mul-pos B C)
+    ∙ round-same f false (m * up e * down g) (n * up g * down e) (a * d) (b * c) (mul-pos (num-pos (fin false n g) q) (down-pos e))
+    (mul-pos B C)
     (cross (m * up e) (n * up g) (down e) (down g) (h .1) (k .1))
   where
     cross : (X Y u v : ℕ) → X * c ≡ a * u → Y * d ≡ b * v → X * v * (b * c) ≡ a * d * (Y * u)
@@ -92,7 +96,8 @@ div-at f (fin false m e) (fin false n g) a c b d C D B h k =
 pub ofInt-add : (f : Format) (a b : ℕ) → a + b ≤ 2 ^ prec f → add f (ofInt f (pos a)) (ofInt f (pos b)) ≡ ofInt f (pos (a + b))
 unfolding ofInt
 ofInt-add f a b h =
-    add-at f (round f false a 1) (round f false b 1) a 1 b 1 (zero-lt-suc 0) (zero-lt-suc 0) (round-whole f false a (left (2 ^ prec f) h)) (round-whole f false b (right (2 ^ prec f) h))
+    add-at f (round f false a 1) (round f false b 1) a 1 b 1 (zero-lt-suc 0) (zero-lt-suc 0) (round-whole f false a (left (2 ^ prec f) h))
+    (round-whole f false b (right (2 ^ prec f) h))
     ∙ ap (λ (z : ℕ). round f false z 1) one-each
   where
     left : (k : ℕ) → a + b ≤ k → a ≤ k
@@ -107,7 +112,8 @@ ofInt-add f a b h =
 pub ofInt-div-self : (f : Format) (n : ℕ) → 0 < n → n ≤ 2 ^ prec f → div f (ofInt f (pos n)) (ofInt f (pos n)) ≡ ofInt f (pos 1)
 unfolding ofInt
 ofInt-div-self f n p h =
-    div-at f (round f false n 1) (round f false n 1) n 1 n 1 (zero-lt-suc 0) (zero-lt-suc 0) p (round-whole f false n h) (round-whole f false n h)
+    div-at f (round f false n 1) (round f false n 1) n 1 n 1 (zero-lt-suc 0) (zero-lt-suc 0) p (round-whole f false n h)
+    (round-whole f false n h)
     ∙ round-same f false (n * 1) (n * 1) 1 1 (mul-pos p (zero-lt-suc 0)) (zero-lt-suc 0) (flat n)
   where
     flat : (n : ℕ) → n * 1 * 1 ≡ 1 * (n * 1)
@@ -115,13 +121,16 @@ ofInt-div-self f n p h =
 
 pub ofInt-mul-one : (n : ℕ) → 0 < n → n ≤ 2 ^ 53 → mul binary64 one (ofInt binary64 (pos n)) ≡ ofInt binary64 (pos n)
 ofInt-mul-one n p h =
-    mul-at binary64 one (ofInt binary64 (pos n)) 1 1 n 1 tt (ofInt-positive binary64 n p h) (zero-lt-suc 0) (zero-lt-suc 0) (refl, refl) (ofInt-value binary64 n h)
+    mul-at binary64 one (ofInt binary64 (pos n)) 1 1 n 1 tt (ofInt-positive binary64 n p h) (zero-lt-suc 0) (zero-lt-suc 0) (refl, refl)
+    (ofInt-value binary64 n h)
     ∙ ap (λ (z : ℕ). round binary64 false z 1) (one-mul n) ∙ (unfold ofInt in refl)
 
 -- ---- a product of whole numbers
-pub ofInt-mul : (f : Format) (a b : ℕ) → 0 < a → 0 < b → a * b ≤ 2 ^ lib.Ieee.prec f → mul f (ofInt f (pos a)) (ofInt f (pos b)) ≡ ofInt f (pos (a * b))
+pub ofInt-mul : (f : Format) (a b : ℕ) → 0 < a → 0 < b → a * b ≤ 2 ^ lib.Ieee.prec f
+    → mul f (ofInt f (pos a)) (ofInt f (pos b)) ≡ ofInt f (pos (a * b))
 ofInt-mul f a b A B h =
     let u : a ≤ 2 ^ lib.Ieee.prec f = le-trans (le-trans (le-of-eq (sym (mul-one a))) (mul-le-mul-left a B)) h in
     let v : b ≤ 2 ^ lib.Ieee.prec f = le-trans (le-trans (le-of-eq (sym (one-mul b))) (mul-le-mul-right b A)) h in
-    mul-at f (ofInt f (pos a)) (ofInt f (pos b)) a 1 b 1 (ofInt-positive f a A u) (ofInt-positive f b B v) (zero-lt-suc 0) (zero-lt-suc 0) (ofInt-value f a u) (ofInt-value f b v)
+    mul-at f (ofInt f (pos a)) (ofInt f (pos b)) a 1 b 1 (ofInt-positive f a A u) (ofInt-positive f b B v) (zero-lt-suc 0) (zero-lt-suc 0)
+    (ofInt-value f a u) (ofInt-value f b v)
     ∙ (unfold ofInt in refl)

@@ -37,7 +37,18 @@ abbrev part-below : ℕ → In 3 part-kinds.ps
 part-below t = and 3 part-kinds.ps (falls 3 part-kinds.ps _<_ μ-part t) part.Pre
 
 abbrev part-told : ℕ → part-lts.Claims
-part-told t = (scan-reads.Asked, scan-reads.Learnt, put-reads.Asked, put-reads.Learnt, right-at-reads.Asked, right-at-reads.Learnt, part-below t, part.Post, left-at-reads.Asked, left-at-reads.Learnt)
+part-told t = (
+  scan-reads.Asked,
+  scan-reads.Learnt,
+  put-reads.Asked,
+  put-reads.Learnt,
+  right-at-reads.Asked,
+  right-at-reads.Learnt,
+  part-below t,
+  part.Post,
+  left-at-reads.Asked,
+  left-at-reads.Learnt,
+)
 
 -- ---- the places past the median
 abbrev After-k : ℕ → Type 0
@@ -76,33 +87,41 @@ abbrev lefts : (t : ℕ) → After-k t → List ℕ
 lefts t c = let a = start-of t c .args in slots (search-of t c) (1 - a .axis) (shape (a .most) (a .lo) (m-of t c))
 
 median-is : (t : ℕ) (c : After-k t) → let a = start-of t c .args in
-    ran (All (k-of t c)) (put-out t c) ≡ run (a .n) (a .at) (places (now (a .ids)) (when (search-of t c .test (m-of t c)) (m-of t c ∷ []))) (now (a .out))
+    ran (All (k-of t c)) (put-out t c) ≡ run (a .n) (a .at) (places (now (a .ids)) (when (search-of t c .test (m-of t c)) (m-of t c ∷ [])))
+    (now (a .out))
 median-is t c = ap (λ (r : Found). ran r (put-out t c)) (sym (c .before .k .given .1)) ∙ put-of t c .put .ensures
 
 k-small : (t : ℕ) (c : After-k t) → k-of t c ≤ start-of t c .args .at + 1
-k-small t c = let a = start-of t c .args in put-count (a .n) (a .at) (k-of t c) (now (a .ids)) (m-of t c) (search-of t c .test (m-of t c)) (now (a .out)) (put-out t c) (median-is t c)
+k-small t c = let a = start-of t c .args in put-count (a .n) (a .at) (k-of t c) (now (a .ids)) (m-of t c) (search-of t c .test (m-of t c))
+    (now (a .out)) (put-out t c) (median-is t c)
 
 ran-eq : {j k : ℕ} {o p : List ℕ} → j ≡ k → o ≡ p → ran (All j) o ≡ ran (All k) p
 ran-eq e f = cc
 
 -- the right part, gone into or not
 right-is : (t : ℕ) (c : Joined t) → let b = c .before .before in let a = start-of t b .args in
-    ran (All (c .if2 .j)) (c .if2 .out) ≡ run (a .n) (k-of t b) (places (now (a .ids)) (when (search-of t b .right (a .axis) (m-of t b)) (rights t b))) (put-out t b)
+    ran (All (c .if2 .j)) (c .if2 .out) ≡ run (a .n) (k-of t b)
+    (places (now (a .ids)) (when (search-of t b .right (a .axis) (m-of t b)) (rights t b))) (put-out t b)
 right-is t c =
     let b = c .before .before in
     let a = start-of t b .args in
     let r = c .before .right-at .ensures in
     ⊎-elim
     (λ w. let o = w .2 .last .1 .1 .1 .1 .1 .1 .1 .1 .1 .0 in
-    ran-eq (w .9) (w .8) ∙ went (a .n) (k-of t b) (now (a .ids)) (rights t b) (search-of t b .right (a .axis) (m-of t b)) (All (w .6 .given .0 .0)) (put-out t b) o (sym r ∙ w .0 .taken) (ap (λ (x : Found). ran x o) (sym (w .6 .given .1)) ∙ w .2 .ensures))
-    (λ w. ran-eq (w .2) (w .1) ∙ skipped (a .n) (k-of t b) (now (a .ids)) (rights t b) (search-of t b .right (a .axis) (m-of t b)) (put-out t b) (sym r ∙ w .0 .left))
+    ran-eq (w .9) (w .8) ∙ went (a .n) (k-of t b) (now (a .ids)) (rights t b) (search-of t b .right (a .axis) (m-of t b))
+    (All (w .6 .given .0 .0)) (put-out t b) o (sym r ∙ w .0 .taken) (ap (λ (x : Found). ran x o) (sym (w .6 .given .1))
+    ∙ w .2 .ensures))
+    (λ w. ran-eq (w .2) (w .1) ∙ skipped (a .n) (k-of t b) (now (a .ids)) (rights t b) (search-of t b .right (a .axis) (m-of t b))
+    (put-out t b) (sym r ∙ w .0 .left))
     (c .if2 .came)
 
-j-small : (t : ℕ) (c : Joined t) → let b = c .before .before in let a = start-of t b .args in c .if2 .j ≤ k-of t b + (a .hi - (m-of t b + 1))
+j-small : (t : ℕ) (c : Joined t) → let b = c .before .before in let a = start-of t b .args in
+    c .if2 .j ≤ k-of t b + (a .hi - (m-of t b + 1))
 j-small t c =
     let b = c .before .before in
     let a = start-of t b .args in
-    part-count (search-of t b) (1 - a .axis) (a .most) (m-of t b + 1) (a .hi) (a .n) (k-of t b) (c .if2 .j) (now (a .ids)) (search-of t b .right (a .axis) (m-of t b)) (put-out t b) (c .if2 .out) (right-is t c)
+    part-count (search-of t b) (1 - a .axis) (a .most) (m-of t b + 1) (a .hi) (a .n) (k-of t b) (c .if2 .j) (now (a .ids))
+    (search-of t b .right (a .axis) (m-of t b)) (put-out t b) (c .if2 .out) (right-is t c)
 
 out-long : (t : ℕ) (c : Joined t) → length (c .if2 .out) ≡ length (now (start-of t (c .before .before) .args .out))
 out-long t c =
@@ -122,7 +141,8 @@ part-returns : (t : ℕ) → part-lts.Need-returns (part-told t) (part-at t) par
 part-returns t c =
     let v = c .before .before in
     let a = v .before .before .before .before .before .before .args in
-    part-leaf (over (a .q) (now (a .coords))) (now (a .ids)) (a .n) (a .most) (a .lo) (a .hi) (a .axis) (a .at) (now (a .out)) (v .scan .result) (v .scan .last .1 .1 .1 .1 .1 .1 .1 .0)
+    part-leaf (over (a .q) (now (a .coords))) (now (a .ids)) (a .n) (a .most) (a .lo) (a .hi) (a .axis) (a .at) (now (a .out))
+    (v .scan .result) (v .scan .last .1 .1 .1 .1 .1 .1 .1 .0)
     (v .before .before .if1 .taken) (v .scan .ensures)
 
 part-sub-m : (t : ℕ) → part-lts.Need-sub-m (part-told t) (part-at t) part.Post
@@ -155,7 +175,8 @@ part-returns-2 t c =
     let e = v .before .before in
     let a = e .before .before .before .before .args in
     let o = v .put .last .1 .1 .1 .1 .1 .1 .0 in
-    node-put (over (a .q) (now (a .coords))) (now (a .ids)) (a .n) (a .most) (a .lo) (a .hi) (a .axis) (a .at) (now (a .out)) (e .if1 .left) o
+    node-put (over (a .q) (now (a .coords))) (now (a .ids)) (a .n) (a .most) (a .lo) (a .hi) (a .axis) (a .at) (now (a .out))
+    (e .if1 .left) o
     (ap (λ (r : Found). ran r o) (sym (c .enum-told .given .1)) ∙ v .put .ensures)
 
 part-right-at-requires : (t : ℕ) → part-lts.Need-right-at-requires (part-told t) (part-at t) part.Post
@@ -186,8 +207,10 @@ part-returns-3 t c =
     let b = v .before .before .before .before in
     let a = start-of t b .args in
     let o = v .part .last .1 .1 .1 .1 .1 .1 .1 .1 .1 .0 in
-    node-right (search-of t b) (now (a .ids)) (a .n) (a .most) (a .lo) (a .hi) (a .axis) (a .at) (now (a .out)) (split-of t b .if1 .left) (k-of t b) (put-out t b) (median-is t b) o
-    (went (a .n) (k-of t b) (now (a .ids)) (rights t b) (search-of t b .right (a .axis) (m-of t b)) Spoiled (put-out t b) o (sym (v .before .before .before .right-at .ensures) ∙ v .before .before .if2 .taken)
+    node-right (search-of t b) (now (a .ids)) (a .n) (a .most) (a .lo) (a .hi) (a .axis) (a .at) (now (a .out)) (split-of t b .if1 .left)
+    (k-of t b) (put-out t b) (median-is t b) o
+    (went (a .n) (k-of t b) (now (a .ids)) (rights t b) (search-of t b .right (a .axis) (m-of t b)) Spoiled (put-out t b) o
+    (sym (v .before .before .before .right-at .ensures) ∙ v .before .before .if2 .taken)
     (ap (λ (x : Found). ran x o) (sym (c .enum-told2 .given .1)) ∙ v .part .ensures))
 
 part-left-at-requires : (t : ℕ) → part-lts.Need-left-at-requires (part-told t) (part-at t) part.Post
@@ -214,8 +237,10 @@ part-returns-4 t c =
     let b = j .before .before in
     let a = start-of t b .args in
     let o = v .part2 .last .1 .1 .1 .1 .1 .1 .1 .1 .1 .0 in
-    node-left (search-of t b) (now (a .ids)) (a .n) (a .most) (a .lo) (a .hi) (a .axis) (a .at) (now (a .out)) (split-of t b .if1 .left) (k-of t b) (put-out t b) (median-is t b) (j .if2 .j) (j .if2 .out) (right-is t j) (v .part2 .result) o
-    (went (a .n) (j .if2 .j) (now (a .ids)) (lefts t b) (search-of t b .left (a .axis) (m-of t b)) (v .part2 .result) (j .if2 .out) o (sym (v .before .before .before .left-at .ensures) ∙ v .before .before .if3 .taken) (v .part2 .ensures))
+    node-left (search-of t b) (now (a .ids)) (a .n) (a .most) (a .lo) (a .hi) (a .axis) (a .at) (now (a .out)) (split-of t b .if1 .left)
+    (k-of t b) (put-out t b) (median-is t b) (j .if2 .j) (j .if2 .out) (right-is t j) (v .part2 .result) o
+    (went (a .n) (j .if2 .j) (now (a .ids)) (lefts t b) (search-of t b .left (a .axis) (m-of t b)) (v .part2 .result) (j .if2 .out) o
+    (sym (v .before .before .before .left-at .ensures) ∙ v .before .before .if3 .taken) (v .part2 .ensures))
 
 part-same-length-5 : (t : ℕ) → part-lts.Need-same-length-5 (part-told t) (part-at t) part.Post
 part-same-length-5 t c = out-long t (c .before .before)
@@ -225,8 +250,10 @@ part-returns-5 t c =
     let j = c .before .before in
     let b = j .before .before in
     let a = start-of t b .args in
-    node-left (search-of t b) (now (a .ids)) (a .n) (a .most) (a .lo) (a .hi) (a .axis) (a .at) (now (a .out)) (split-of t b .if1 .left) (k-of t b) (put-out t b) (median-is t b) (j .if2 .j) (j .if2 .out) (right-is t j) (All (j .if2 .j)) (j .if2 .out)
-    (skipped (a .n) (j .if2 .j) (now (a .ids)) (lefts t b) (search-of t b .left (a .axis) (m-of t b)) (j .if2 .out) (sym (c .before .left-at .ensures) ∙ c .if3 .left))
+    node-left (search-of t b) (now (a .ids)) (a .n) (a .most) (a .lo) (a .hi) (a .axis) (a .at) (now (a .out)) (split-of t b .if1 .left)
+    (k-of t b) (put-out t b) (median-is t b) (j .if2 .j) (j .if2 .out) (right-is t j) (All (j .if2 .j)) (j .if2 .out)
+    (skipped (a .n) (j .if2 .j) (now (a .ids)) (lefts t b) (search-of t b .left (a .axis) (m-of t b)) (j .if2 .out)
+    (sym (c .before .left-at .ensures) ∙ c .if3 .left))
 
 pub +part-spec : {M : Type 1} → statement M
 +part-spec = close μ-part λ t. part-lts.spec (part-told t) (part-at t) part.Post

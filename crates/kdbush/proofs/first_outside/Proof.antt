@@ -37,7 +37,8 @@ returns c =
     let v = c .before in
     let l = v .before .before .before in
     let a = l .before .before .before .args in
-    outside-here (now (a .xs)) (now (a .ys)) (l .loop .i) (v .before .before .loop-test .taken) (omega arith) (first-false _ (sym (v .in-unit .ensures) ∙ not-true _ (c .if1 .taken)))
+    outside-here (now (a .xs)) (now (a .ys)) (l .loop .i) (v .before .before .loop-test .taken) (omega arith)
+    (first-false _ (sym (v .in-unit .ensures) ∙ not-true _ (c .if1 .taken)))
     ∙ sym (l .loop .inv .1)
 
 mul-in-unit-2 : tie.Need-mul-in-unit-2 Inv-loop μ-loop
@@ -55,7 +56,9 @@ returns-2 c =
     let v = e .before in
     let l = v .before .before .before in
     let a = l .before .before .before .args in
-    outside-here (now (a .xs)) (now (a .ys)) (l .loop .i) (v .before .before .loop-test .taken) (omega arith) (second-false (sym (v .in-unit .ensures) ∙ not-false _ (e .if1 .left)) (sym (c .before .in-unit2 .ensures) ∙ not-true _ (c .if2 .taken)))
+    outside-here (now (a .xs)) (now (a .ys)) (l .loop .i) (v .before .before .loop-test .taken) (omega arith)
+    (second-false (sym (v .in-unit .ensures) ∙ not-false _ (e .if1 .left))
+    (sym (c .before .in-unit2 .ensures) ∙ not-true _ (c .if2 .taken)))
     ∙ sym (l .loop .inv .1)
 
 add-i : tie.Need-add-i Inv-loop μ-loop
@@ -69,15 +72,20 @@ loop-again c =
     let e = c .before .before .before in
     let v = e .before in
     let l = v .before .before .before in
-    let a = l .before .before .before .args in
-    (omega arith, l .loop .inv .1 ∙ outside-step (now (a .xs)) (now (a .ys)) (l .loop .i) (v .before .before .loop-test .taken) (omega arith) (both-true (sym (v .in-unit .ensures) ∙ not-false _ (e .if1 .left)) (sym (c .before .in-unit2 .ensures) ∙ not-false _ (c .if2 .left))))
+    let a = l .before .before .before .args in (
+      omega arith,
+      l .loop .inv .1 ∙ outside-step (now (a .xs)) (now (a .ys)) (l .loop .i) (v .before .before .loop-test .taken)
+          (omega arith) (both-true (sym (v .in-unit .ensures) ∙ not-false _ (e .if1 .left))
+          (sym (c .before .in-unit2 .ensures) ∙ not-false _ (c .if2 .left))),
+    )
 
 returns-3 : tie.Need-returns-3 Inv-loop μ-loop
 unfolding firstOutside
 returns-3 c =
     let l = c .before in
     let a = l .before .before .before .args in
-    sym (l .loop .inv .1 ∙ ap (λ (z : List Float). firstOutside z (drop (l .loop .i) (now (a .ys))) (l .loop .i)) (drop-of-length-le (now (a .xs)) (c .loop-test .left)))
+    sym (l .loop .inv .1 ∙ ap (λ (z : List Float). firstOutside z (drop (l .loop .i) (now (a .ys))) (l .loop .i))
+    (drop-of-length-le (now (a .xs)) (c .loop-test .left)))
 
 pub first-outside-spec : {M : Type 1} → statement M
 first-outside-spec =

@@ -44,7 +44,8 @@ returns c =
     let w = p .before .before .before in
     let a = w .before .before .before .before .args in
     let o = p .put .last .1 .1 .1 .1 .1 .1 .0 in
-    scan-ends (over (a .q) (now (a .coords))) (now (a .ids)) (a .n) (w .loop .k) (w .loop .i) (a .hi) (w .loop .out) o (p .before .before .loop-test .taken)
+    scan-ends (over (a .q) (now (a .coords))) (now (a .ids)) (a .n) (w .loop .k) (w .loop .i) (a .hi) (w .loop .out) o
+    (p .before .before .loop-test .taken)
     (ap (λ (r : Found). ran r o) (sym (c .enum-told .given .1)) ∙ p .put .ensures)
     ∙ sym (w .loop .inv .2)
 
@@ -63,8 +64,13 @@ loop-again c =
     let j = c .before .j .given .0 .0 in
     let e = ap (λ (r : Found). ran r o) (sym (c .before .j .given .1)) ∙ p .put .ensures in (
       p .put .kept .1 .1 .1 .1 .1 .1 .0 ∙ w .loop .inv .0,
-      omega (arith, put-count (a .n) (w .loop .k) j (now (a .ids)) (w .loop .i) (over (a .q) (now (a .coords)) .test (w .loop .i)) (w .loop .out) o e),
-      w .loop .inv .2 ∙ scan-more (over (a .q) (now (a .coords))) (now (a .ids)) (a .n) (w .loop .k) j (w .loop .i) (a .hi) (w .loop .out) o (p .before .before .loop-test .taken) e,
+      omega (
+        arith,
+        put-count (a .n) (w .loop .k) j (now (a .ids)) (w .loop .i) (over (a .q) (now (a .coords)) .test (w .loop .i))
+            (w .loop .out) o e,
+      ),
+      w .loop .inv .2 ∙ scan-more (over (a .q) (now (a .coords))) (now (a .ids)) (a .n) (w .loop .k) j (w .loop .i) (a .hi) (w .loop .out) o
+          (p .before .before .loop-test .taken) e,
     )
 
 same-length-2 : tie.Need-same-length-2 Inv-loop μ-loop

@@ -43,10 +43,12 @@ abbrev left-in : tie.After-part → List ℕ
 left-in v = v .part .last .1 .1 .1 .1 .1 .1 .1 .1 .1 .0
 
 left : (v : tie.After-part) (r : Found) → v .part .result ≡ r → let a = start-of (else-of v) .args in
-    ran r (left-in v) ≡ run (a .n) 0 (places (now (a .ids)) (slots (over (a .q) (now (a .coords))) 0 (shape (a .node-size + 1) 0 (a .n)))) (now (a .out))
+    ran r (left-in v) ≡ run (a .n) 0 (places (now (a .ids)) (slots (over (a .q) (now (a .coords))) 0 (shape (a .node-size + 1) 0 (a .n))))
+    (now (a .out))
 left v r e =
     let a = start-of (else-of v) .args in
-    ap (λ (f : Found). ran f (left-in v)) (sym e) ∙ v .part .ensures ∙ ap (λ (l : List ℕ). run (a .n) 0 (places (now (a .ids)) l) (now (a .out))) (v .before .before .narrow .ensures .0)
+    ap (λ (f : Found). ran f (left-in v)) (sym e) ∙ v .part .ensures
+    ∙ ap (λ (l : List ℕ). run (a .n) 0 (places (now (a .ids)) l) (now (a .out))) (v .before .before .narrow .ensures .0)
 
 -- ---- the ways out
 
@@ -56,13 +58,15 @@ coords-ok-requires c κs = search needs
 returns : tie.Need-returns
 returns c =
     let a = c .before .before .before .before .before .args in
-    search-spoiled (a .q) (a .node-size) (a .n) (now (a .ids)) (now (a .coords)) (now (a .out)) (first-false _ (sym (c .before .coords-ok .ensures) ∙ not-true _ (c .if1 .taken)))
+    search-spoiled (a .q) (a .node-size) (a .n) (now (a .ids)) (now (a .coords)) (now (a .out))
+    (first-false _ (sym (c .before .coords-ok .ensures) ∙ not-true _ (c .if1 .taken)))
 
 returns-2 : tie.Need-returns-2
 returns-2 c =
     let e = c .before in
     let a = e .before .before .before .before .before .args in
-    search-spoiled (a .q) (a .node-size) (a .n) (now (a .ids)) (now (a .coords)) (now (a .out)) (second-false (sym (e .before .coords-ok .ensures) ∙ not-false _ (e .if1 .left)) (lt-leb _ _ (c .if2 .taken)))
+    search-spoiled (a .q) (a .node-size) (a .n) (now (a .ids)) (now (a .coords)) (now (a .out))
+    (second-false (sym (e .before .coords-ok .ensures) ∙ not-false _ (e .if1 .left)) (lt-leb _ _ (c .if2 .taken)))
 
 add-narrow : tie.Need-add-narrow
 add-narrow c = let w = bounds c in omega arith
@@ -90,7 +94,8 @@ returns-3 c =
     let v = c .before .before .before .before in
     let k = else-of v in
     let a = start-of k .args in
-    search-past (a .q) (a .node-size) (a .n) (now (a .ids)) (now (a .coords)) (now (a .out)) (columns-fine k) (left-in v) (left v _ (c .enum-told .given .1))
+    search-past (a .q) (a .node-size) (a .n) (now (a .ids)) (now (a .coords)) (now (a .out)) (columns-fine k) (left-in v)
+    (left v _ (c .enum-told .given .1))
 
 same-length-2 : tie.Need-same-length-2
 same-length-2 c = search needs
@@ -101,7 +106,8 @@ returns-4 c =
     let k = else-of v in
     let a = start-of k .args in
     let g = c .before .before .k .given in
-    search-no-room (a .q) (a .node-size) (a .n) (now (a .ids)) (now (a .coords)) (now (a .out)) (columns-fine k) (g .0 .0) (left-in v) (left v _ (g .1)) (omega arith)
+    search-no-room (a .q) (a .node-size) (a .n) (now (a .ids)) (now (a .coords)) (now (a .out)) (columns-fine k) (g .0 .0) (left-in v)
+    (left v _ (g .1)) (omega arith)
 
 same-length-3 : tie.Need-same-length-3
 same-length-3 c = search needs
@@ -112,7 +118,8 @@ returns-5 c =
     let k = else-of v in
     let a = start-of k .args in
     let g = c .before .before .k .given in
-    search-found (a .q) (a .node-size) (a .n) (now (a .ids)) (now (a .coords)) (now (a .out)) (columns-fine k) (g .0 .0) (left-in v) (left v _ (g .1)) (omega arith)
+    search-found (a .q) (a .node-size) (a .n) (now (a .ids)) (now (a .coords)) (now (a .out)) (columns-fine k) (g .0 .0) (left-in v)
+    (left v _ (g .1)) (omega arith)
 
 pub search-spec : {M : Type 1} → statement M
 search-spec =

@@ -35,14 +35,16 @@ pub record AcceptedIndex (size : ℕ) (xs ys : List Float) (s : IndexCols) : Typ
   pub co-room : 2 * length xs ≤ length (s .co)
 
 -- where no point is outside, each is inside
-pub none-outside : (xs ys : List Float) (i : ℕ) → firstOutside xs ys i ≡ Nothing → length ys ≡ length xs → (p : ℕ) → p < length xs → In01 (getD xs p nan) × In01 (getD ys p nan)
+pub none-outside : (xs ys : List Float) (i : ℕ) → firstOutside xs ys i ≡ Nothing → length ys ≡ length xs → (p : ℕ) → p < length xs
+    → In01 (getD xs p nan) × In01 (getD ys p nan)
 unfolding firstOutside
 none-outside [] ys i e l p h = absurd (omega arith)
 none-outside (x ∷ xs) [] i e l p h = absurd (omega arith)
 none-outside (x ∷ xs) (y ∷ ys) i e l p h = go (in01 x && in01 y) refl p h (λ f k q. none-outside xs ys (suc i) f (omega arith) k q)
   where
     go : (b : Bool) → (in01 x && in01 y) ≡ b → (p : ℕ) → p < suc (length xs)
-        → (firstOutside xs ys (suc i) ≡ Nothing → (k : ℕ) → k < length xs → In01 (getD xs k nan) × In01 (getD ys k nan)) → In01 (getD (x ∷ xs) p nan) × In01 (getD (y ∷ ys) p nan)
+        → (firstOutside xs ys (suc i) ≡ Nothing → (k : ℕ) → k < length xs → In01 (getD xs k nan) × In01 (getD ys k nan))
+        → In01 (getD (x ∷ xs) p nan) × In01 (getD (y ∷ ys) p nan)
     go true f zero h r = let w = and-both (in01 x) (in01 y) f in (in01→In01 x (yes-of (w .0)), in01→In01 y (yes-of (w .1)))
     go true f (suc k) h r = r (rw (f, firstOutside) at e) k (omega arith)
     go false f p h r = let g : At i ≡ Nothing = rw (f, firstOutside) at e in absurd (let z : _≡_ {A = ℕ} 0 1 = cc in omega arith)
@@ -59,7 +61,8 @@ module _ (size : ℕ) (xs ys : List Float) (s : IndexCols) (e : indexChecked siz
   pub accepted : AcceptedIndex size xs ys s
   unfolding indexChecked
   accepted =
-      let w = done-tests (nodeSizeOk size) (pairOk xs ys) (firstOutside xs ys 0) (leb (length xs) (length (s .ids)) && leb (2 * length xs) (length (s .co))) e in
+      let w = done-tests (nodeSizeOk size) (pairOk xs ys) (firstOutside xs ys 0)
+      (leb (length xs) (length (s .ids)) && leb (2 * length xs) (length (s .co))) e in
       let n = size-is size (w .0) in
       let v = and-both (countOk (length xs)) (eqb (length ys) (length xs)) (w .1) in
       let c = count-is (length xs) (v .0) in
@@ -91,13 +94,15 @@ module _ (size : ℕ) (xs ys : List Float) (s : IndexCols) (e : indexChecked siz
 
 -- ---- and such points, a node size and columns as SCOPE asks are accepted
 
-no-outside : (xs ys : List Float) (i : ℕ) → length ys ≡ length xs → ((p : ℕ) → p < length xs → In01 (getD xs p nan) × In01 (getD ys p nan)) → firstOutside xs ys i ≡ Nothing
+no-outside : (xs ys : List Float) (i : ℕ) → length ys ≡ length xs → ((p : ℕ) → p < length xs → In01 (getD xs p nan) × In01 (getD ys p nan))
+    → firstOutside xs ys i ≡ Nothing
 unfolding firstOutside
 no-outside [] ys i l f = refl
 no-outside (x ∷ xs) [] i l f = refl
 no-outside (x ∷ xs) (y ∷ ys) i l f =
     let w = f 0 (omega arith) in
-    rw (is-true (in01 x) (In01→in01 x (w .0)), is-true (in01 y) (In01→in01 y (w .1)), firstOutside) (no-outside xs ys (suc i) (omega arith) (λ p h. f (suc p) (omega arith)))
+    rw (is-true (in01 x) (In01→in01 x (w .0)), is-true (in01 y) (In01→in01 y (w .1)), firstOutside)
+    (no-outside xs ys (suc i) (omega arith) (λ p h. f (suc p) (omega arith)))
 
 pub accepts : (size : ℕ) (xs ys : List Float) (s : IndexCols) → AcceptedIndex size xs ys s → indexChecked size xs ys s ≡ Done
 unfolding indexChecked

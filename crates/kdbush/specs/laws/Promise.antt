@@ -58,22 +58,26 @@ unfolding places BetweenSlots All
 places-below ids n f [] w = tt
 places-below ids n f (k ∷ ks) w = (f k (w .1), places-below ids n f ks (w .2))
 
-notin-places : (ids : List ℕ) (n : ℕ) → ((p q : ℕ) → p < n → q < n → getD ids p 0 ≡ getD ids q 0 → p ≡ q) → (k : ℕ) → k < n → (l : List ℕ) → BetweenSlots 0 n l → NotIn k l
+notin-places : (ids : List ℕ) (n : ℕ) → ((p q : ℕ) → p < n → q < n → getD ids p 0 ≡ getD ids q 0 → p ≡ q) → (k : ℕ) → k < n → (l : List ℕ)
+    → BetweenSlots 0 n l → NotIn k l
     → NotIn (getD ids k 0) (places ids l)
 unfolding places BetweenSlots
 notin-places ids n f k h [] w d = tt
 notin-places ids n f k h (j ∷ js) w d = ((λ e. d .0 (f k j h (w .1) e)), notin-places ids n f k h js (w .2) (d .1))
 
-distinct-places : (ids : List ℕ) (n : ℕ) → ((p q : ℕ) → p < n → q < n → getD ids p 0 ≡ getD ids q 0 → p ≡ q) → (l : List ℕ) → BetweenSlots 0 n l → Distinct l → Distinct (places ids l)
+distinct-places : (ids : List ℕ) (n : ℕ) → ((p q : ℕ) → p < n → q < n → getD ids p 0 ≡ getD ids q 0 → p ≡ q) → (l : List ℕ)
+    → BetweenSlots 0 n l → Distinct l → Distinct (places ids l)
 unfolding places BetweenSlots
 distinct-places ids n f [] w d = tt
 distinct-places ids n f (k ∷ ks) w d = (notin-places ids n f k (w .1) ks (w .2) (d .0), distinct-places ids n f ks (w .2) (d .1))
 
 -- what passes is kept before its places are taken, or after
-places-kept : (ids : List ℕ) (p q : ℕ → Bool) (n : ℕ) → ((i : ℕ) → i < n → q i ≡ p (getD ids i 0)) → (l : List ℕ) → BetweenSlots 0 n l → places ids (keep q l) ≡ keep p (places ids l)
+places-kept : (ids : List ℕ) (p q : ℕ → Bool) (n : ℕ) → ((i : ℕ) → i < n → q i ≡ p (getD ids i 0)) → (l : List ℕ) → BetweenSlots 0 n l
+    → places ids (keep q l) ≡ keep p (places ids l)
 unfolding places BetweenSlots
 places-kept ids p q n f [] w = refl
-places-kept ids p q n f (k ∷ ks) w = rw (f k (w .1)) (go (p (getD ids k 0)) (keep q ks) (keep p (places ids ks)) (places-kept ids p q n f ks (w .2)))
+places-kept ids p q n f (k ∷ ks) w =
+    rw (f k (w .1)) (go (p (getD ids k 0)) (keep q ks) (keep p (places ids ks)) (places-kept ids p q n f ks (w .2)))
   where
     go : (b : Bool) (u v : List ℕ) → places ids u ≡ v → places ids (put b k u) ≡ put b (getD ids k 0) v
     go true u v e = ap (λ (z : List ℕ). getD ids k 0 ∷ z) e
@@ -108,11 +112,13 @@ module _ (size : ℕ) (xs ys : List Float) (s S : IndexCols) (I : Index size xs 
   apart p r h k e = sym (I .slot-back p h) ∙ ap (I .slot-of) e ∙ I .slot-back r k
 
   pub answered-below : AllBelow (length xs) answered
-  answered-below = places-below (S .ids) (length xs) (I .id-in) (answers q (S .co) size (length xs)) (answers-between q (S .co) size (length xs))
+  answered-below = places-below (S .ids) (length xs) (I .id-in) (answers q (S .co) size (length xs))
+      (answers-between q (S .co) size (length xs))
 
   -- no place twice
   pub answered-once : Distinct answered
-  answered-once = distinct-places (S .ids) (length xs) apart (answers q (S .co) size (length xs)) (answers-between q (S .co) size (length xs)) (answers-distinct q (S .co) size (length xs))
+  answered-once = distinct-places (S .ids) (length xs) apart (answers q (S .co) size (length xs))
+      (answers-between q (S .co) size (length xs)) (answers-distinct q (S .co) size (length xs))
 
   pub answered-length : length answered ≤ length xs
   answered-length = omega (arith, places-length (S .ids) (answers q (S .co) size (length xs)), answers-length q (S .co) size (length xs))
@@ -137,16 +143,19 @@ module _ (size : ℕ) (xs ys : List Float) (s S : IndexCols) (I : Index size xs 
   pub answered-complete : (p : ℕ) → p < length xs → passesIn q xs ys p ≡ true → In p answered
   answered-complete p h e =
       let f : passesAt q (S .co) (I .slot-of p) ≡ true =
-      subst (λ (u : Float). passesQ q (key 0 (S .co) (I .slot-of p)) u ≡ true) (y-at p h) (subst (λ (u : Float). passesQ q u (getD ys p nan) ≡ true) (x-at p h) e) in
+      subst (λ (u : Float). passesQ q (key 0 (S .co) (I .slot-of p)) u ≡ true) (y-at p h)
+      (subst (λ (u : Float). passesQ q u (getD ys p nan) ≡ true) (x-at p h) e) in
       let m = answers-complete q (S .co) size (length xs) (I .tree) (I .slot-of p) (I .slot-in p h) f in
       let t = to-place (S .ids) (m .0) (I .slot-of p) (m .1) in
-      subst (λ (l : List ℕ). In p (places (S .ids) l)) (sym (m .2)) (subst (λ (k : ℕ). In k (places (S .ids) (m .0 ++ I .slot-of p ∷ m .1))) (I .id-back p h) t)
+      subst (λ (l : List ℕ). In p (places (S .ids) l)) (sym (m .2))
+      (subst (λ (k : ℕ). In k (places (S .ids) (m .0 ++ I .slot-of p ∷ m .1))) (I .id-back p h) t)
 
   -- the one law of both searches: those places of the tree's order that pass, in that order
   pub answered-kept : answered ≡ keep (passesIn q xs ys) (treeOrder size (length xs) (S .ids))
   answered-kept =
       ap (places (S .ids)) (answers-kept q (S .co) size (length xs) (I .tree))
-      ∙ places-kept (S .ids) (passesIn q xs ys) (passesAt q (S .co)) (length xs) (λ i h. rw (I .x-of i h, I .y-of i h)) (order size (length xs)) (order-between size (length xs))
+      ∙ places-kept (S .ids) (passesIn q xs ys) (passesAt q (S .co)) (length xs) (λ i h. rw (I .x-of i h, I .y-of i h))
+      (order size (length xs)) (order-between size (length xs))
 
 -- whatever the node size is, and whatever stood in the columns before, a query has the same members
 module _ (size more : ℕ) (xs ys : List Float) (s t S U : IndexCols) (I : Index size xs ys s S) (J : Index more xs ys t U) (q : Query) where
@@ -154,11 +163,13 @@ module _ (size more : ℕ) (xs ys : List Float) (s t S U : IndexCols) (I : Index
   same-members p m = let w = answered-sound size xs ys s S I q p m in answered-complete more xs ys t U J q p (w .0) (w .1)
 
 -- a query that passes what two others pass answers what the one answers of the other's answers, in the same order
-module _ (size : ℕ) (xs ys : List Float) (s S : IndexCols) (I : Index size xs ys s S) (p q b : Query) (both : (x y : Float) → passesQ b x y ≡ (passesQ p x y && passesQ q x y)) where
+module _ (size : ℕ) (xs ys : List Float) (s S : IndexCols) (I : Index size xs ys s S) (p q b : Query)
+    (both : (x y : Float) → passesQ b x y ≡ (passesQ p x y && passesQ q x y)) where
   pub answered-both : answered size xs ys s S I b ≡ keep (passesIn q xs ys) (answered size xs ys s S I p)
   answered-both =
       answered-kept size xs ys s S I b
-      ∙ keep-both (passesIn p xs ys) (passesIn q xs ys) (passesIn b xs ys) (λ k. both (getD xs k nan) (getD ys k nan)) (treeOrder size (length xs) (S .ids))
+      ∙ keep-both (passesIn p xs ys) (passesIn q xs ys) (passesIn b xs ys) (λ k. both (getD xs k nan) (getD ys k nan))
+      (treeOrder size (length xs) (S .ids))
       ∙ ap (keep (passesIn q xs ys)) (sym (answered-kept size xs ys s S I p))
 
 -- ---- what the clustering rests on: an index of n places, whose answers name each of them at most once, and nothing else
@@ -170,9 +181,18 @@ pub record Promised (size n : ℕ) (ids : List ℕ) (co : List Float) : Type 0 w
   pub once : (q : Query) → Distinct (found q size n ids co)
   pub short : (q : Query) → length (found q size n ids co) ≤ n
 
-pub promised : (size : ℕ) (xs ys : List Float) (s S : IndexCols) → Index size xs ys s S → coordsOk size (length xs) (length (S .co)) ≡ true → length xs ≤ length (S .ids)
+pub promised : (size : ℕ) (xs ys : List Float) (s S : IndexCols) → Index size xs ys s S → coordsOk size (length xs) (length (S .co)) ≡ true
+    → length xs ≤ length (S .ids)
     → Promised size (length xs) (S .ids) (S .co)
-promised size xs ys s S I ok wide = record { ok = ok; wide = wide; below = answered-below size xs ys s S I; once = answered-once size xs ys s S I; short = answered-length size xs ys s S I }
+promised size xs ys s S I ok wide =
+    record {
+      ok = ok;
+      wide = wide;
+      below = answered-below size xs ys s S I;
+      once = answered-once size xs ys s S I;
+      short =
+          answered-length size xs ys s S I;
+    }
 
 -- a search of it with room for all its places is answered: no refusal, and the places at the front of the column
 module _ (size n : ℕ) (ids : List ℕ) (co : List Float) (P : Promised size n ids co) (q : Query) where
@@ -180,13 +200,23 @@ module _ (size n : ℕ) (ids : List ℕ) (co : List Float) (P : Promised size n 
     pub promised-listed : listed q size n ids co (length out) ≡ Found (length (found q size n ids co))
     unfolding listed
     promised-listed =
-        rw (P .ok, le-leb n (length ids) (P .wide), all-whole n (found q size n ids co) (P .below q), le-leb (length (found q size n ids co)) (length out) (omega (arith, P .short q)))
+        rw (
+          P .ok,
+          le-leb n (length ids) (P .wide),
+          all-whole n (found q size n ids co) (P .below q),
+          le-leb (length (found q size n ids co)) (length out) (omega (arith, P .short q)),
+        )
 
     pub promised-listed-column : listedColumn q size n ids co out ≡ found q size n ids co ++ drop (length (found q size n ids co)) out
     unfolding listedColumn
     promised-listed-column =
         let h : length (found q size n ids co) ≤ length out = omega (arith, P .short q) in
-        rw (P .ok, le-leb n (length ids) (P .wide), all-sound n (found q size n ids co) (P .below q), take-all (length out) (found q size n ids co) h)
+        rw (
+          P .ok,
+          le-leb n (length ids) (P .wide),
+          all-sound n (found q size n ids co) (P .below q),
+          take-all (length out) (found q size n ids co) h,
+        )
 
   module _ (fine : queryOk q ≡ true) (out : List ℕ) (room : n ≤ length out) where
     pub promised-searched : searched q size n ids co (length out) ≡ Found (length (found q size n ids co))
@@ -202,4 +232,5 @@ module _ (size n : ℕ) (ids : List ℕ) (co : List Float) (P : Promised size n 
 module _ (size : ℕ) (xs ys : List Float) (s S : IndexCols) (I : Index size xs ys s S) (p : ℕ) (h : p < length xs) (r : Float)
     (x : T (finite (getD xs p nan))) (y : T (finite (getD ys p nan))) (fr : T (finite r)) where
   pub own-place : In p (found (Within (getD xs p nan) (getD ys p nan) r) size (length xs) (S .ids) (S .co))
-  own-place = answered-complete size xs ys s S I (Within (getD xs p nan) (getD ys p nan) r) p h (is-true _ (passes-self (getD xs p nan) (getD ys p nan) r x y fr))
+  own-place = answered-complete size xs ys s S I (Within (getD xs p nan) (getD ys p nan) r) p h
+      (is-true _ (passes-self (getD xs p nan) (getD ys p nan) r x y fr))

@@ -12,7 +12,8 @@ use Rattle.kdbush.specs.declared.SearchReply.{SearchReply}
 use Rattle.kdbush.specs.Reply.{buildNumber, buildCarried, searchNumber, searchCarried}
 use Rattle.kdbush.specs.Reply.{indexChecked, built, listed, listedColumn, searched, columnAfter}
 
-pub build-replies : (size : ℕ) (xs ys : List Float) (s : IndexCols) (r t : BuildReply) → r ≡ indexChecked size xs ys s → t ≡ indexChecked size xs ys s → r ≡ t
+pub build-replies : (size : ℕ) (xs ys : List Float) (s : IndexCols) (r t : BuildReply) → r ≡ indexChecked size xs ys s
+    → t ≡ indexChecked size xs ys s → r ≡ t
 build-replies size xs ys s r t = same-reply
 
 pub build-columns : (size : ℕ) (xs ys : List Float) (s u v : IndexCols) → u ≡ built size xs ys s → v ≡ built size xs ys s → u ≡ v
@@ -33,15 +34,19 @@ pub found-carried-replies : (s : SearchReply) (r t : ℕ) → r ≡ searchCarrie
 found-carried-replies s r t = same-reply
 
 -- `search`, which is below the surface
-pub list-replies : (q : Query) (size n : ℕ) (ids : List ℕ) (co : List Float) (room : ℕ) (r t : SearchReply) → r ≡ listed q size n ids co room → t ≡ listed q size n ids co room → r ≡ t
+pub list-replies : (q : Query) (size n : ℕ) (ids : List ℕ) (co : List Float) (room : ℕ) (r t : SearchReply)
+    → r ≡ listed q size n ids co room → t ≡ listed q size n ids co room → r ≡ t
 list-replies q size n ids co room r t = same-reply
 
-pub list-columns : (q : Query) (size n : ℕ) (ids : List ℕ) (co : List Float) (out u v : List ℕ) → u ≡ listedColumn q size n ids co out → v ≡ listedColumn q size n ids co out → u ≡ v
+pub list-columns : (q : Query) (size n : ℕ) (ids : List ℕ) (co : List Float) (out u v : List ℕ) → u ≡ listedColumn q size n ids co out
+    → v ≡ listedColumn q size n ids co out → u ≡ v
 list-columns q size n ids co out u v = same-reply
 
 -- `range` and `within`
-pub search-replies : (q : Query) (size n : ℕ) (ids : List ℕ) (co : List Float) (room : ℕ) (r t : SearchReply) → r ≡ searched q size n ids co room → t ≡ searched q size n ids co room → r ≡ t
+pub search-replies : (q : Query) (size n : ℕ) (ids : List ℕ) (co : List Float) (room : ℕ) (r t : SearchReply)
+    → r ≡ searched q size n ids co room → t ≡ searched q size n ids co room → r ≡ t
 search-replies q size n ids co room r t = same-reply
 
-pub search-columns : (q : Query) (size n : ℕ) (ids : List ℕ) (co : List Float) (out u v : List ℕ) → u ≡ columnAfter q size n ids co out → v ≡ columnAfter q size n ids co out → u ≡ v
+pub search-columns : (q : Query) (size n : ℕ) (ids : List ℕ) (co : List Float) (out u v : List ℕ) → u ≡ columnAfter q size n ids co out
+    → v ≡ columnAfter q size n ids co out → u ≡ v
 search-columns q size n ids co out u v = same-reply

@@ -40,7 +40,8 @@ unfolding run
 run-append n at [] qs out = refl
 run-append n at (p ∷ ps) qs out = go (ltb p n) refl (run-append n (at + 1) ps qs (set out at p))
   where
-    go : (b : Bool) → ltb p n ≡ b → run n (at + 1) (ps ++ qs) (set out at p) ≡ andThen (run n (at + 1) ps (set out at p)) (λ k o. run n k qs o)
+    go : (b : Bool) → ltb p n ≡ b → run n (at + 1) (ps ++ qs) (set out at p) ≡ andThen (run n (at + 1) ps (set out at p))
+        (λ k o. run n k qs o)
         → run n at ((p ∷ ps) ++ qs) out ≡ andThen (run n at (p ∷ ps) out) (λ k o. run n k qs o)
     go true e h = rw (e, run) h
     go false e h = rw (e, run)

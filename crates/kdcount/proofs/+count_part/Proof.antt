@@ -33,7 +33,18 @@ abbrev count-part-below : ℕ → In 1 count-part-kinds.ps
 count-part-below t = and 1 count-part-kinds.ps (falls 1 count-part-kinds.ps _<_ μ-count-part t) count-part.Pre
 
 abbrev told : ℕ → count-part-lts.Claims
-told t = (count-slots-reads.Asked, count-slots-reads.Learnt, test-at-reads.Asked, test-at-reads.Learnt, right-at-reads.Asked, right-at-reads.Learnt, left-at-reads.Asked, left-at-reads.Learnt, count-part-below t, count-part.Post)
+told t = (
+  count-slots-reads.Asked,
+  count-slots-reads.Learnt,
+  test-at-reads.Asked,
+  test-at-reads.Learnt,
+  right-at-reads.Asked,
+  right-at-reads.Learnt,
+  left-at-reads.Asked,
+  left-at-reads.Learnt,
+  count-part-below t,
+  count-part.Post,
+)
 
 -- ---- once both parts are counted
 
@@ -52,12 +63,22 @@ m-of t c = let a = start-of t c .args in mid (a .lo) (a .hi)
 right-few : (t : ℕ) (c : Ended t) → c .before .count-part .result ≤ start-of t c .args .hi - (m-of t c + 1)
 right-few t c =
     let a = start-of t c .args in
-    omega (arith, c .before .count-part .ensures, count-few (search-of t c) (c .before .before .before .right-at .result) (1 - a .axis) (a .most) (m-of t c + 1) (a .hi))
+    omega (
+      arith,
+      c .before .count-part .ensures,
+      count-few (search-of t c) (c .before .before .before .right-at .result) (1 - a .axis)
+          (a .most) (m-of t c + 1) (a .hi),
+    )
 
 left-few : (t : ℕ) (c : Ended t) → c .count-part2 .result ≤ m-of t c - start-of t c .args .lo
 left-few t c =
     let a = start-of t c .args in
-    omega (arith, c .count-part2 .ensures, count-few (search-of t c) (c .before .before .left-at .result) (1 - a .axis) (a .most) (a .lo) (m-of t c))
+    omega (
+      arith,
+      c .count-part2 .ensures,
+      count-few (search-of t c) (c .before .before .left-at .result) (1 - a .axis) (a .most) (a .lo)
+          (m-of t c),
+    )
 
 -- ---- the parts
 
@@ -75,7 +96,8 @@ count-part-count-slots-requires t c κs = c .before .before .before .pre .1 .0
 count-part-returns-2 : (t : ℕ) → count-part-lts.Need-returns-2 (told t) (count-part-at t) count-part.Post
 count-part-returns-2 t c =
     let a = c .before .before .before .before .args in
-    c .count-slots .ensures ∙ count-leaf (over (a .q) (now (a .coords))) (a .is-searched) (a .axis) (a .most) (a .lo) (a .hi) (not-false _ (c .before .before .if1 .left)) (c .before .if2 .taken)
+    c .count-slots .ensures ∙ count-leaf (over (a .q) (now (a .coords))) (a .is-searched) (a .axis) (a .most) (a .lo) (a .hi)
+    (not-false _ (c .before .before .if1 .left)) (c .before .if2 .taken)
 
 count-part-sub-m : (t : ℕ) → count-part-lts.Need-sub-m (told t) (count-part-at t) count-part.Post
 count-part-sub-m t c = omega arith
@@ -105,21 +127,38 @@ count-part-sub-count-part : (t : ℕ) → count-part-lts.Need-sub-count-part (to
 count-part-sub-count-part t c = omega arith
 
 count-part-count-part-requires : (t : ℕ) → count-part-lts.Need-count-part-requires (told t) (count-part-at t) count-part.Post
-count-part-count-part-requires t c κs = omega (arith, c .before .before .before .if2 .left, c .before .before .before .before .before .before .pre)
+count-part-count-part-requires t c κs =
+    omega (arith, c .before .before .before .if2 .left, c .before .before .before .before .before .before .pre)
 
 count-part-sub-count-part-2 : (t : ℕ) → count-part-lts.Need-sub-count-part-2 (told t) (count-part-at t) count-part.Post
 count-part-sub-count-part-2 t c = omega arith
 
 count-part-count-part-requires-2 : (t : ℕ) → count-part-lts.Need-count-part-requires-2 (told t) (count-part-at t) count-part.Post
-count-part-count-part-requires-2 t c κs = omega (arith, c .before .before .before .before .if2 .left, c .before .before .before .before .before .before .before .pre)
+count-part-count-part-requires-2 t c κs =
+    omega (arith, c .before .before .before .before .if2 .left, c .before .before .before .before .before .before .before .pre)
 
 count-part-add-result : (t : ℕ) → count-part-lts.Need-add-result (told t) (count-part-at t) count-part.Post
 count-part-add-result t c =
-    omega (arith, byte-most (c .before .before .before .before .test-at .result), right-few t c, c .before .before .before .before .before .if2 .left, start-of t c .pre, start-of t c .fits)
+    omega (
+      arith,
+      byte-most (c .before .before .before .before .test-at .result),
+      right-few t c,
+      c .before .before .before .before .before .if2 .left,
+      start-of t c .pre,
+      start-of t c .fits,
+    )
 
 count-part-add-result-2 : (t : ℕ) → count-part-lts.Need-add-result-2 (told t) (count-part-at t) count-part.Post
 count-part-add-result-2 t c =
-    omega (arith, byte-most (c .before .before .before .before .test-at .result), right-few t c, left-few t c, c .before .before .before .before .before .if2 .left, start-of t c .pre, start-of t c .fits)
+    omega (
+      arith,
+      byte-most (c .before .before .before .before .test-at .result),
+      right-few t c,
+      left-few t c,
+      c .before .before .before .before .before .if2 .left,
+      start-of t c .pre,
+      start-of t c .fits,
+    )
 
 count-part-returns-3 : (t : ℕ) → count-part-lts.Need-returns-3 (told t) (count-part-at t) count-part.Post
 count-part-returns-3 t c =
@@ -127,9 +166,13 @@ count-part-returns-3 t c =
     let s = search-of t c in
     let m = m-of t c in
     let e1 = ap (λ (b : Bool). boolByte b) (c .before .before .before .before .test-at .ensures) in
-    let e2 = c .before .count-part .ensures ∙ ap (λ (b : Bool). length (when b (slots s (1 - a .axis) (shape (a .most) (m + 1) (a .hi))))) (c .before .before .before .right-at .ensures) in
-    let e3 = c .count-part2 .ensures ∙ ap (λ (b : Bool). length (when b (slots s (1 - a .axis) (shape (a .most) (a .lo) m)))) (c .before .before .left-at .ensures) in
-    let w = count-node s (a .is-searched) (a .axis) (a .most) (a .lo) (a .hi) (not-false _ (c .before .before .before .before .before .before .if1 .left)) (c .before .before .before .before .before .if2 .left) in
+    let e2 = c .before .count-part .ensures ∙ ap (λ (b : Bool). length (when b (slots s (1 - a .axis) (shape (a .most) (m + 1) (a .hi)))))
+    (c .before .before .before .right-at .ensures) in
+    let e3 = c .count-part2 .ensures ∙ ap (λ (b : Bool). length (when b (slots s (1 - a .axis) (shape (a .most) (a .lo) m))))
+    (c .before .before .left-at .ensures) in
+    let w = count-node s (a .is-searched) (a .axis) (a .most) (a .lo) (a .hi)
+    (not-false _ (c .before .before .before .before .before .before .if1 .left))
+    (c .before .before .before .before .before .if2 .left) in
     omega (arith, e1, e2, e3, w)
 
 pub +count-part-spec : {M : Type 1} → statement M

@@ -62,7 +62,14 @@ abbrev fill-below-told : ℕ → fill-below-lts.Claims
 fill-below-told t = (right-at-reads.Asked, right-at-reads.Learnt, fill-in-below t, fill-in.Post, fill-left-below t, fill-left.Post)
 
 abbrev fill-in-told : ℕ → fill-in-lts.Claims
-fill-in-told t = (fill-from-reads.Asked, fill-from-reads.Learnt, test-at-reads.Asked, test-at-reads.Learnt, fill-below-below t, fill-below.Post)
+fill-in-told t = (
+  fill-from-reads.Asked,
+  fill-from-reads.Learnt,
+  test-at-reads.Asked,
+  test-at-reads.Learnt,
+  fill-below-below t,
+  fill-below.Post,
+)
 
 abbrev fill-left-told : ℕ → fill-left-lts.Claims
 fill-left-told t = (left-at-reads.Asked, left-at-reads.Learnt, fill-in-below t, fill-in.Post)
@@ -103,7 +110,8 @@ fill-below-returns t c =
     let i = u .before .before in
     let r = i .before in
     let a = r .before .before .before .args in
-    below-both (over (a .q) (now (a .coords))) (a .axis) (a .most) (a .lo) (a .hi) (a .at) (now (a .page)) (stored (v .fill-left .result) (v .fill-left .last .1 .1 .1 .1 .1 .1 .1 .0)) (sym (r .right-at .ensures) ∙ i .if1 .taken)
+    below-both (over (a .q) (now (a .coords))) (a .axis) (a .most) (a .lo) (a .hi) (a .at) (now (a .page))
+    (stored (v .fill-left .result) (v .fill-left .last .1 .1 .1 .1 .1 .1 .1 .0)) (sym (r .right-at .ensures) ∙ i .if1 .taken)
     (u .fill-in .result) (u .fill-in .last .1 .1 .1 .1 .1 .1 .1 .0) (u .fill-in .ensures) (v .fill-left .ensures)
 
 fill-below-fill-left-requires-2 : (t : ℕ) → fill-below-lts.Need-fill-left-requires-2 (fill-below-told t) (fill-below-at t) fill-below.Post
@@ -118,7 +126,9 @@ fill-below-returns-2 t c =
     let i = v .before .before in
     let r = i .before in
     let a = r .before .before .before .args in
-    below-left (over (a .q) (now (a .coords))) (a .axis) (a .most) (a .lo) (a .hi) (a .at) (now (a .page)) (stored (v .fill-left2 .result) (v .fill-left2 .last .1 .1 .1 .1 .1 .1 .1 .0)) (sym (r .right-at .ensures) ∙ i .if1 .left) (v .fill-left2 .ensures)
+    below-left (over (a .q) (now (a .coords))) (a .axis) (a .most) (a .lo) (a .hi) (a .at) (now (a .page))
+    (stored (v .fill-left2 .result) (v .fill-left2 .last .1 .1 .1 .1 .1 .1 .1 .0)) (sym (r .right-at .ensures) ∙ i .if1 .left)
+    (v .fill-left2 .ensures)
 
 fill-in-returns : (t : ℕ) → fill-in-lts.Need-returns (fill-in-told t) (fill-in-at t) fill-in.Post
 fill-in-returns t c =
@@ -139,7 +149,8 @@ fill-in-returns-2 t c =
     let v = c .before .before in
     let i = v .before .before in
     let a = i .before .before .before .before .args in
-    in-leaf (over (a .q) (now (a .coords))) (a .axis) (a .most) (a .lo) (a .hi) (a .at) (now (a .page)) (stored (v .fill-from .result) (v .fill-from .last .1 .1 .1 .1 .1 .0)) (i .if2 .taken) (v .fill-from .ensures)
+    in-leaf (over (a .q) (now (a .coords))) (a .axis) (a .most) (a .lo) (a .hi) (a .at) (now (a .page))
+    (stored (v .fill-from .result) (v .fill-from .last .1 .1 .1 .1 .1 .0)) (i .if2 .taken) (v .fill-from .ensures)
 
 fill-in-sub-m : (t : ℕ) → fill-in-lts.Need-sub-m (fill-in-told t) (fill-in-at t) fill-in.Post
 fill-in-sub-m t c = omega arith
@@ -177,7 +188,9 @@ fill-in-returns-3 t c =
     let i = v .before .before in
     let e = i .before .before in
     let a = e .before .before .before .before .args in
-    in-median (over (a .q) (now (a .coords))) (a .axis) (a .most) (a .lo) (a .hi) (a .at) (now (a .page)) (stored (v .fill-below .result) (v .fill-below .last .1 .1 .1 .1 .1 .1 .1 .0)) (e .if2 .left) (sym (i .before .test-at .ensures) ∙ i .if3 .taken) (e .before .if1 .left) (v .fill-below .ensures)
+    in-median (over (a .q) (now (a .coords))) (a .axis) (a .most) (a .lo) (a .hi) (a .at) (now (a .page))
+    (stored (v .fill-below .result) (v .fill-below .last .1 .1 .1 .1 .1 .1 .1 .0)) (e .if2 .left)
+    (sym (i .before .test-at .ensures) ∙ i .if3 .taken) (e .before .if1 .left) (v .fill-below .ensures)
 
 fill-in-fill-below-requires-2 : (t : ℕ) → fill-in-lts.Need-fill-below-requires-2 (fill-in-told t) (fill-in-at t) fill-in.Post
 fill-in-fill-below-requires-2 t c κs = omega arith
@@ -191,7 +204,9 @@ fill-in-returns-4 t c =
     let i = v .before .before in
     let e = i .before .before in
     let a = e .before .before .before .before .args in
-    in-parts (over (a .q) (now (a .coords))) (a .axis) (a .most) (a .lo) (a .hi) (a .at) (now (a .page)) (stored (v .fill-below2 .result) (v .fill-below2 .last .1 .1 .1 .1 .1 .1 .1 .0)) (e .if2 .left) (sym (i .before .test-at .ensures) ∙ i .if3 .left) (v .fill-below2 .ensures)
+    in-parts (over (a .q) (now (a .coords))) (a .axis) (a .most) (a .lo) (a .hi) (a .at) (now (a .page))
+    (stored (v .fill-below2 .result) (v .fill-below2 .last .1 .1 .1 .1 .1 .1 .1 .0)) (e .if2 .left)
+    (sym (i .before .test-at .ensures) ∙ i .if3 .left) (v .fill-below2 .ensures)
 
 fill-left-left-at-requires : (t : ℕ) → fill-left-lts.Need-left-at-requires (fill-left-told t) (fill-left-at t) fill-left.Post
 fill-left-left-at-requires t c κs = omega arith
@@ -212,14 +227,17 @@ fill-left-returns t c =
     let l = i .before in
     let a = l .before .before .before .args in
     let s = over (a .q) (now (a .coords)) in
-    left-in (s .left (a .axis) (a .m)) (a .at) (slots s (1 - a .axis) (shape (a .most) (a .lo) (a .m))) (now (a .page)) (stored (v .fill-in .result) (v .fill-in .last .1 .1 .1 .1 .1 .1 .1 .0)) (sym (l .left-at .ensures) ∙ i .if1 .taken) (v .fill-in .ensures)
+    left-in (s .left (a .axis) (a .m)) (a .at) (slots s (1 - a .axis) (shape (a .most) (a .lo) (a .m))) (now (a .page))
+    (stored (v .fill-in .result) (v .fill-in .last .1 .1 .1 .1 .1 .1 .1 .0)) (sym (l .left-at .ensures) ∙ i .if1 .taken)
+    (v .fill-in .ensures)
 
 fill-left-returns-2 : (t : ℕ) → fill-left-lts.Need-returns-2 (fill-left-told t) (fill-left-at t) fill-left.Post
 fill-left-returns-2 t c =
     let l = c .before in
     let a = l .before .before .before .args in
     let s = over (a .q) (now (a .coords)) in
-    left-out (s .left (a .axis) (a .m)) (a .at) (slots s (1 - a .axis) (shape (a .most) (a .lo) (a .m))) (now (a .page)) (sym (l .left-at .ensures) ∙ c .if1 .left)
+    left-out (s .left (a .axis) (a .m)) (a .at) (slots s (1 - a .axis) (shape (a .most) (a .lo) (a .m))) (now (a .page))
+    (sym (l .left-at .ensures) ∙ c .if1 .left)
 
 pub +fill-below+fill-in+fill-left-spec : {M : Type 1} → statement M
 +fill-below+fill-in+fill-left-spec =

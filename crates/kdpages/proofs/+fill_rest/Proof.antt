@@ -33,7 +33,16 @@ fill-rest-below t =
     and 2 fill-rest-kinds.ps (falls 2 fill-rest-kinds.ps _<_ μ-fill-rest t) fill-rest.Pre
 
 abbrev fill-rest-told : ℕ → fill-rest-lts.Claims
-fill-rest-told t = (fill-from-reads.Asked, fill-from-reads.Learnt, fill-rest-below t, fill-rest.Post, fill-below-reads.Asked, fill-below-reads.Learnt, fill-left-reads.Asked, fill-left-reads.Learnt)
+fill-rest-told t = (
+  fill-from-reads.Asked,
+  fill-from-reads.Learnt,
+  fill-rest-below t,
+  fill-rest.Post,
+  fill-below-reads.Asked,
+  fill-below-reads.Learnt,
+  fill-left-reads.Asked,
+  fill-left-reads.Learnt,
+)
 
 fill-rest-sub-if1 : (t : ℕ) → fill-rest-lts.Need-sub-if1 (fill-rest-told t) (fill-rest-at t) fill-rest.Post
 fill-rest-sub-if1 t c = omega arith
@@ -52,7 +61,8 @@ fill-rest-returns t c =
     let v = c .before .before in
     let i = v .before .before in
     let a = i .before .before .before .args in
-    v .fill-from .ensures ∙ ap (λ (l : List ℕ). store 0 l (now (a .page))) (sym (rest-leaf (over (a .q) (now (a .coords))) (a .axis) (a .most) (a .lo) (a .hi) (a .c) (i .if1 .taken)))
+    v .fill-from .ensures ∙ ap (λ (l : List ℕ). store 0 l (now (a .page)))
+    (sym (rest-leaf (over (a .q) (now (a .coords))) (a .axis) (a .most) (a .lo) (a .hi) (a .c) (i .if1 .taken)))
 
 fill-rest-sub-m : (t : ℕ) → fill-rest-lts.Need-sub-m (fill-rest-told t) (fill-rest-at t) fill-rest.Post
 fill-rest-sub-m t c = omega arith
@@ -78,7 +88,8 @@ fill-rest-returns-2 t c =
     let i = v .before .before in
     let e = i .before in
     let a = e .before .before .before .args in
-    v .fill-rest .ensures ∙ ap (λ (l : List ℕ). store 0 l (now (a .page))) (sym (rest-left (over (a .q) (now (a .coords))) (a .axis) (a .most) (a .lo) (a .hi) (e .if1 .left) (a .c) (i .if2 .taken)))
+    v .fill-rest .ensures ∙ ap (λ (l : List ℕ). store 0 l (now (a .page)))
+    (sym (rest-left (over (a .q) (now (a .coords))) (a .axis) (a .most) (a .lo) (a .hi) (e .if1 .left) (a .c) (i .if2 .taken)))
 
 fill-rest-fill-below-requires : (t : ℕ) → fill-rest-lts.Need-fill-below-requires (fill-rest-told t) (fill-rest-at t) fill-rest.Post
 fill-rest-fill-below-requires t c κs = omega arith
@@ -92,7 +103,8 @@ fill-rest-returns-3 t c =
     let i = v .before .before in
     let e = i .before .before in
     let a = e .before .before .before .args in
-    v .fill-below .ensures ∙ ap (λ (l : List ℕ). store 0 l (now (a .page))) (sym (rest-median (over (a .q) (now (a .coords))) (a .axis) (a .most) (a .lo) (a .hi) (e .if1 .left) (a .c) (i .if3 .taken)))
+    v .fill-below .ensures ∙ ap (λ (l : List ℕ). store 0 l (now (a .page)))
+    (sym (rest-median (over (a .q) (now (a .coords))) (a .axis) (a .most) (a .lo) (a .hi) (e .if1 .left) (a .c) (i .if3 .taken)))
 
 fill-rest-add-fill-rest : (t : ℕ) → fill-rest-lts.Need-add-fill-rest (fill-rest-told t) (fill-rest-at t) fill-rest.Post
 fill-rest-add-fill-rest t c = omega arith
@@ -122,7 +134,9 @@ fill-rest-returns-4 t c =
     let m = mid (a .lo) (a .hi) in
     let past : mid (a .lo) (a .hi) < a .c = omega (arith, i .if3 .left, i .before .if2 .left) in
     v .fill-left .ensures
-    ∙ sym (more 0 (u .fill-rest2 .result) (rest s (1 - a .axis) (shape (a .most) (m + 1) (a .hi)) (a .c)) (when (s .left (a .axis) m) (slots s (1 - a .axis) (shape (a .most) (a .lo) m))) (now (a .page)) (u .fill-rest2 .last .1 .1 .1 .1 .1 .1 .1 .0) (u .fill-rest2 .ensures))
+    ∙ sym (more 0 (u .fill-rest2 .result) (rest s (1 - a .axis) (shape (a .most) (m + 1) (a .hi)) (a .c))
+    (when (s .left (a .axis) m) (slots s (1 - a .axis) (shape (a .most) (a .lo) m))) (now (a .page))
+    (u .fill-rest2 .last .1 .1 .1 .1 .1 .1 .1 .0) (u .fill-rest2 .ensures))
     ∙ ap (λ (l : List ℕ). store 0 l (now (a .page))) (sym (rest-right s (a .axis) (a .most) (a .lo) (a .hi) (e .if1 .left) (a .c) past))
 
 pub +fill-rest-spec : {M : Type 1} → statement M

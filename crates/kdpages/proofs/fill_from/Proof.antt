@@ -36,7 +36,8 @@ returns : tie.Need-returns Inv-loop μ-loop
 returns c =
     let w = c .before .before in
     let a = start-of w .args in
-    full (w .loop .k) (scanned (over (a .q) (now (a .coords))) (w .loop .i) (a .hi - w .loop .i)) (w .loop .page) (c .if1 .taken) ∙ sym (w .loop .inv .1)
+    full (w .loop .k) (scanned (over (a .q) (now (a .coords))) (w .loop .i) (a .hi - w .loop .i)) (w .loop .page) (c .if1 .taken)
+    ∙ sym (w .loop .inv .1)
 
 test-at-requires : tie.Need-test-at-requires Inv-loop μ-loop
 test-at-requires c κs = omega arith
@@ -51,8 +52,11 @@ loop-again : tie.Need-loop-again Inv-loop μ-loop
 loop-again c =
     let e = c .before .before in
     let w = e .before .before in
-    let a = start-of w .args in
-    (w .loop .inv .0, w .loop .inv .1 ∙ scan-skips (over (a .q) (now (a .coords))) (w .loop .i) (a .hi) (w .loop .k) (w .loop .page) (e .before .loop-test .taken) (sym (c .before .test-at .ensures) ∙ not-true _ (c .if2 .taken)))
+    let a = start-of w .args in (
+      w .loop .inv .0,
+      w .loop .inv .1 ∙ scan-skips (over (a .q) (now (a .coords))) (w .loop .i) (a .hi) (w .loop .k) (w .loop .page)
+          (e .before .loop-test .taken) (sym (c .before .test-at .ensures) ∙ not-true _ (c .if2 .taken)),
+    )
 
 mul-page : tie.Need-mul-page Inv-loop μ-loop
 mul-page c = omega arith
@@ -75,7 +79,8 @@ loop-again-2 c =
     let w = e .before .before in
     let a = start-of w .args in (
       length-set (w .loop .page) (w .loop .k) (w .loop .i) ∙ w .loop .inv .0,
-      w .loop .inv .1 ∙ scan-stores (over (a .q) (now (a .coords))) (w .loop .i) (a .hi) (w .loop .k) (w .loop .page) (e .before .loop-test .taken) (sym (c .before .test-at .ensures) ∙ not-false _ (c .if2 .left)) (e .if1 .left),
+      w .loop .inv .1 ∙ scan-stores (over (a .q) (now (a .coords))) (w .loop .i) (a .hi) (w .loop .k) (w .loop .page)
+          (e .before .loop-test .taken) (sym (c .before .test-at .ensures) ∙ not-false _ (c .if2 .left)) (e .if1 .left),
     )
 
 same-length-2 : tie.Need-same-length-2 Inv-loop μ-loop

@@ -40,7 +40,8 @@ bounds k = let a = start-of k .args in coords-is (a .node-size) (a .n) (length (
 from-is : (k : tie.Else2) (o : Onward) → start-of k .args .from ≡ o → let a = start-of k .args in
     store 0 (onwardOf (a .q) (a .node-size) (a .n) (now (a .coords)) o (a .last)) (now (a .page))
     ≡ store 0 (onwardOf (a .q) (a .node-size) (a .n) (now (a .coords)) (a .from) (a .last)) (now (a .page))
-from-is k o e = let a = start-of k .args in sym (ap (λ (x : Onward). store 0 (onwardOf (a .q) (a .node-size) (a .n) (now (a .coords)) x (a .last)) (now (a .page))) e)
+from-is k o e = let a = start-of k .args in
+    sym (ap (λ (x : Onward). store 0 (onwardOf (a .q) (a .node-size) (a .n) (now (a .coords)) x (a .last)) (now (a .page))) e)
 
 -- ---- the ways out
 
@@ -50,7 +51,9 @@ coords-ok-requires c κs = search needs
 returns : tie.Need-returns
 returns c =
     let a = c .before .before .before .before .args in
-    page-refused (a .q) (a .node-size) (a .n) (now (a .coords)) (first-false (queryOk (a .q)) (sym (c .before .coords-ok .ensures) ∙ not-true _ (c .if1 .taken))) (a .from) (a .last) (now (a .page))
+    page-refused (a .q) (a .node-size) (a .n) (now (a .coords))
+    (first-false (queryOk (a .q)) (sym (c .before .coords-ok .ensures) ∙ not-true _ (c .if1 .taken))) (a .from) (a .last)
+    (now (a .page))
 
 query-ok-requires : tie.Need-query-ok-requires
 query-ok-requires c κs = search needs
@@ -59,7 +62,9 @@ returns-2 : tie.Need-returns-2
 returns-2 c =
     let e = c .before .before in
     let a = e .before .before .before .before .args in
-    page-refused (a .q) (a .node-size) (a .n) (now (a .coords)) (second-false (sym (e .before .coords-ok .ensures) ∙ not-false _ (e .if1 .left)) (sym (c .before .query-ok .ensures) ∙ not-true _ (c .if2 .taken))) (a .from) (a .last) (now (a .page))
+    page-refused (a .q) (a .node-size) (a .n) (now (a .coords))
+    (second-false (sym (e .before .coords-ok .ensures) ∙ not-false _ (e .if1 .left))
+    (sym (c .before .query-ok .ensures) ∙ not-true _ (c .if2 .taken))) (a .from) (a .last) (now (a .page))
 
 enum-told : tie.Need-enum-told
 enum-told c = search needs
@@ -77,7 +82,8 @@ add-if3 : tie.Need-add-if3
 add-if3 c = let w = bounds (c .before .before .before .before) in omega arith
 
 fill-from-requires : tie.Need-fill-from-requires
-fill-from-requires c κs = let w = bounds (c .before .before .before .before .before .before) in omega (arith, c .before .before .before .narrow .ensures .1)
+fill-from-requires c κs = let w = bounds (c .before .before .before .before .before .before) in
+    omega (arith, c .before .before .before .narrow .ensures .1)
 
 same-length : tie.Need-same-length
 same-length c = c .before .before .fill-from .kept .1 .1 .1 .1 .1 .0
@@ -92,15 +98,19 @@ returns-3 c =
     let k = t .before .before in
     let a = start-of k .args in
     let r = w .narrow .result in
-    page-start (a .q) (a .node-size) (a .n) (now (a .coords)) (fine k) (now (a .page)) (stored (v .fill-from .result) (v .fill-from .last .1 .1 .1 .1 .1 .0))
-    (v .fill-from .ensures ∙ ap (λ (l : List ℕ). store 0 l (now (a .page))) (sym (slots-leaf (over (a .q) (now (a .coords))) (r .axis) (a .node-size + 1) (r .lo) (r .hi) (h .if3 .taken)) ∙ w .narrow .ensures .0))
+    page-start (a .q) (a .node-size) (a .n) (now (a .coords)) (fine k) (now (a .page))
+    (stored (v .fill-from .result) (v .fill-from .last .1 .1 .1 .1 .1 .0))
+    (v .fill-from .ensures ∙ ap (λ (l : List ℕ). store 0 l (now (a .page)))
+    (sym (slots-leaf (over (a .q) (now (a .coords))) (r .axis) (a .node-size + 1) (r .lo) (r .hi) (h .if3 .taken))
+    ∙ w .narrow .ensures .0))
     ∙ from-is k Start (t .enum-told .given .1)
 
 add-fill-in : tie.Need-add-fill-in
 add-fill-in c = let w = bounds (c .before .before .before .before .before) in omega arith
 
 fill-in-requires : tie.Need-fill-in-requires
-fill-in-requires c κs = let w = bounds (c .before .before .before .before .before .before) in omega (arith, c .before .before .before .narrow .ensures .1)
+fill-in-requires c κs = let w = bounds (c .before .before .before .before .before .before) in
+    omega (arith, c .before .before .before .narrow .ensures .1)
 
 enum-told-2 : tie.Need-enum-told-2
 enum-told-2 c = search needs
@@ -110,7 +120,8 @@ returns-4 c =
     let f = c .before in
     let k = f .before .before in
     let a = start-of k .args in
-    page-past (a .q) (a .node-size) (a .n) (now (a .coords)) (fine k) (a .last) (c .if4 .taken) (now (a .page)) ∙ from-is k After (f .enum-told2 .given .1)
+    page-past (a .q) (a .node-size) (a .n) (now (a .coords)) (fine k) (a .last) (c .if4 .taken) (now (a .page))
+    ∙ from-is k After (f .enum-told2 .given .1)
 
 add-fill-rest : tie.Need-add-fill-rest
 add-fill-rest c = let w = bounds (c .before .before .before) in omega arith
@@ -131,7 +142,8 @@ returns-5 c =
     let t = w .before in
     let k = t .before .before in
     let a = start-of k .args in
-    page-start (a .q) (a .node-size) (a .n) (now (a .coords)) (fine k) (now (a .page)) (stored (v .fill-in .result) (v .fill-in .last .1 .1 .1 .1 .1 .1 .1 .0))
+    page-start (a .q) (a .node-size) (a .n) (now (a .coords)) (fine k) (now (a .page))
+    (stored (v .fill-in .result) (v .fill-in .last .1 .1 .1 .1 .1 .1 .1 .0))
     (v .fill-in .ensures ∙ ap (λ (l : List ℕ). store 0 l (now (a .page))) (w .narrow .ensures .0))
     ∙ from-is k Start (t .enum-told .given .1)
 
@@ -145,7 +157,8 @@ returns-6 c =
     let f = e .before in
     let k = f .before .before in
     let a = start-of k .args in
-    page-after (a .q) (a .node-size) (a .n) (now (a .coords)) (fine k) (a .last) (e .if4 .left) (now (a .page)) (stored (v .fill-rest .result) (v .fill-rest .last .1 .1 .1 .1 .1 .1 .1 .0)) (v .fill-rest .ensures)
+    page-after (a .q) (a .node-size) (a .n) (now (a .coords)) (fine k) (a .last) (e .if4 .left) (now (a .page))
+    (stored (v .fill-rest .result) (v .fill-rest .last .1 .1 .1 .1 .1 .1 .1 .0)) (v .fill-rest .ensures)
     ∙ from-is k After (f .enum-told2 .given .1)
 
 returns-7 : tie.Need-returns-7

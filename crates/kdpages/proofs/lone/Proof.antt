@@ -36,20 +36,25 @@ returns : tie.Need-returns
 returns c =
     let f = c .before in
     let a = f .before .before .before .before .args in
-    lone-first (a .q) (a .node-size) (a .n) (now (a .coords)) (c .stepped .result) (f .first .result) (f .first .ensures) (c .stepped .ensures)
-    ∙ sym (ap (λ (o : Onward). loneOf (onwardOf (a .q) (a .node-size) (a .n) (now (a .coords)) o (a .last))) (f .before .enum-told .given .1))
+    lone-first (a .q) (a .node-size) (a .n) (now (a .coords)) (c .stepped .result) (f .first .result) (f .first .ensures)
+    (c .stepped .ensures)
+    ∙ sym (ap (λ (o : Onward). loneOf (onwardOf (a .q) (a .node-size) (a .n) (now (a .coords)) o (a .last)))
+    (f .before .enum-told .given .1))
 
 returns-2 : tie.Need-returns-2
 returns-2 c =
     let f = c .before in
     let a = f .before .before .before .before .args in
-    lone-after (a .q) (a .node-size) (a .n) (now (a .coords)) (a .last) (c .stepped2 .result) (f .after .result) (f .after .ensures) (c .stepped2 .ensures)
-    ∙ sym (ap (λ (o : Onward). loneOf (onwardOf (a .q) (a .node-size) (a .n) (now (a .coords)) o (a .last))) (f .before .enum-told2 .given .1))
+    lone-after (a .q) (a .node-size) (a .n) (now (a .coords)) (a .last) (c .stepped2 .result) (f .after .result) (f .after .ensures)
+    (c .stepped2 .ensures)
+    ∙ sym (ap (λ (o : Onward). loneOf (onwardOf (a .q) (a .node-size) (a .n) (now (a .coords)) o (a .last)))
+    (f .before .enum-told2 .given .1))
 
 returns-3 : tie.Need-returns-3
 returns-3 c =
     let a = c .before .before .before .before .args in
-    c .stepped3 .ensures ∙ sym (ap (λ (o : Onward). loneOf (onwardOf (a .q) (a .node-size) (a .n) (now (a .coords)) o (a .last))) (c .before .enum-told3 .given .1))
+    c .stepped3 .ensures ∙ sym (ap (λ (o : Onward). loneOf (onwardOf (a .q) (a .node-size) (a .n) (now (a .coords)) o (a .last)))
+    (c .before .enum-told3 .given .1))
 
 pub lone-spec : {M : Type 1} → statement M
 lone-spec =

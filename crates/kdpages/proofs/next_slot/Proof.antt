@@ -16,7 +16,8 @@ returns c =
     let v = c .before .before in
     let i = v .before .before in
     let a = i .before .before .before .before .args in
-    by-turn (a .q) (a .node-size) (a .n) (now (a .coords)) (now (a .page)) (v .turn .last .1 .1 .1 .1 .0) (a .p) (v .turn .result) (read-out (a .q) (a .node-size) (a .n) (now (a .coords)) (now (a .page)) (a .p) (i .if1 .taken)) (v .turn .ensures)
+    by-turn (a .q) (a .node-size) (a .n) (now (a .coords)) (now (a .page)) (v .turn .last .1 .1 .1 .1 .0) (a .p) (v .turn .result)
+    (read-out (a .q) (a .node-size) (a .n) (now (a .coords)) (now (a .page)) (a .p) (i .if1 .taken)) (v .turn .ensures)
 
 turn-requires-2 : tie.Need-turn-requires-2
 turn-requires-2 c κs = search needs
@@ -29,7 +30,8 @@ returns-2 c =
     let v = c .before .before in
     let i = v .before .before in
     let a = i .before .before .before .before .before .args in
-    by-turn (a .q) (a .node-size) (a .n) (now (a .coords)) (now (a .page)) (v .turn2 .last .1 .1 .1 .1 .0) (a .p) (v .turn2 .result) (past-page (a .q) (a .node-size) (a .n) (now (a .coords)) (now (a .page)) (a .p) (i .if2 .taken)) (v .turn2 .ensures)
+    by-turn (a .q) (a .node-size) (a .n) (now (a .coords)) (now (a .page)) (v .turn2 .last .1 .1 .1 .1 .0) (a .p) (v .turn2 .result)
+    (past-page (a .q) (a .node-size) (a .n) (now (a .coords)) (now (a .page)) (a .p) (i .if2 .taken)) (v .turn2 .ensures)
 
 mul-c : tie.Need-mul-c
 mul-c c = search needs

@@ -16,7 +16,8 @@ use Rattle.kdpages.proofs.turn.Tie as tie
 room : (v : tie.After-fill-page) → v .fill-page .result ≤ length (v .fill-page .last .1 .1 .1 .1 .1 .1 .0)
 room v =
     let a = v .before .before .before .before .before .before .args in
-    page-room (a .q) (a .node-size) (a .n) (now (a .coords)) (a .from) (a .last) (now (a .page)) (v .fill-page .last .1 .1 .1 .1 .1 .1 .0) (v .fill-page .result) (v .fill-page .ensures)
+    page-room (a .q) (a .node-size) (a .n) (now (a .coords)) (a .from) (a .last) (now (a .page)) (v .fill-page .last .1 .1 .1 .1 .1 .1 .0)
+    (v .fill-page .result) (v .fill-page .ensures)
 
 enum-told : tie.Need-enum-told
 enum-told c = search needs
@@ -29,7 +30,8 @@ returns c =
     let t = c .before in
     let a = t .before .before .before .before .args in
     turn-lone (a .q) (a .node-size) (a .n) (now (a .coords)) (a .from) (a .last) (now (a .page)) (c .stepped .result)
-    (c .stepped .ensures ∙ sym (ap (λ (o : Onward). loneOf (onwardOf (a .q) (a .node-size) (a .n) (now (a .coords)) o (a .last))) (t .enum-told .given .1)))
+    (c .stepped .ensures ∙ sym (ap (λ (o : Onward). loneOf (onwardOf (a .q) (a .node-size) (a .n) (now (a .coords)) o (a .last)))
+    (t .enum-told .given .1)))
 
 lone-requires : tie.Need-lone-requires
 lone-requires c κs = search needs
@@ -54,7 +56,9 @@ returns-3 c =
     let v = i .before .before .before in
     let e = v .before .before in
     let a = e .before .before .before .before .args in
-    turn-none (a .q) (a .node-size) (a .n) (now (a .coords)) (a .from) (a .last) (now (a .page)) (v .fill-page .last .1 .1 .1 .1 .1 .1 .0) (v .fill-page .result) (v .fill-page .ensures) (i .if2 .taken) (omega (arith, e .if1 .left)) (c .stepped2 .result) (c .stepped2 .ensures)
+    turn-none (a .q) (a .node-size) (a .n) (now (a .coords)) (a .from) (a .last) (now (a .page)) (v .fill-page .last .1 .1 .1 .1 .1 .1 .0)
+    (v .fill-page .result) (v .fill-page .ensures) (i .if2 .taken) (omega (arith, e .if1 .left)) (c .stepped2 .result)
+    (c .stepped2 .ensures)
 
 slice-read-c : tie.Need-slice-read-c
 slice-read-c c = let v = c .before .before .before .before in omega (arith, room v, c .before .if2 .left)
@@ -67,7 +71,8 @@ returns-4 c =
     let e = c .before .before in
     let v = e .before .before .before in
     let a = v .before .before .before .before .before .before .args in
-    turn-part (a .q) (a .node-size) (a .n) (now (a .coords)) (a .from) (a .last) (now (a .page)) (v .fill-page .last .1 .1 .1 .1 .1 .1 .0) (v .fill-page .result) (v .fill-page .ensures) 0 (omega (arith, e .if2 .left)) (c .if3 .taken)
+    turn-part (a .q) (a .node-size) (a .n) (now (a .coords)) (a .from) (a .last) (now (a .page)) (v .fill-page .last .1 .1 .1 .1 .1 .1 .0)
+    (v .fill-page .result) (v .fill-page .ensures) 0 (omega (arith, e .if2 .left)) (c .if3 .taken)
 
 sub-d : tie.Need-sub-d
 sub-d c = omega (arith, c .before .before .if2 .left)
@@ -86,7 +91,8 @@ returns-5 c =
     let e = c .before .before .before in
     let v = e .before .before .before in
     let a = v .before .before .before .before .before .before .args in
-    turn-full (a .q) (a .node-size) (a .n) (now (a .coords)) (a .from) (a .last) (now (a .page)) (v .fill-page .last .1 .1 .1 .1 .1 .1 .0) (v .fill-page .result) (v .fill-page .ensures) (omega (arith, e .if2 .left))
+    turn-full (a .q) (a .node-size) (a .n) (now (a .coords)) (a .from) (a .last) (now (a .page)) (v .fill-page .last .1 .1 .1 .1 .1 .1 .0)
+    (v .fill-page .result) (v .fill-page .ensures) (omega (arith, e .if2 .left))
 
 pub turn-spec : {M : Type 1} → statement M
 turn-spec =

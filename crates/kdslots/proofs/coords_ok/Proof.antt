@@ -17,13 +17,23 @@ count-ok-requires : tie.Need-count-ok-requires
 count-ok-requires c κs = search needs
 
 returns-2 : tie.Need-returns-2
-returns-2 c = simp (sym (c .before .before .before .node-size-ok .ensures) ∙ not-false _ (c .before .before .if1 .left), sym (c .before .count-ok .ensures) ∙ not-true _ (c .if2 .taken))
+returns-2 c = simp (
+  sym (c .before .before .before .node-size-ok .ensures) ∙ not-false _ (c .before .before .if1 .left),
+  sym (c .before .count-ok .ensures) ∙ not-true _ (c .if2 .taken),
+)
 
 mul-result : tie.Need-mul-result
-mul-result c = omega (arith, count-is (c .before .before .before .before .args .n) (sym (c .before .count-ok .ensures) ∙ not-false _ (c .if2 .left)))
+mul-result c = omega (
+  arith,
+  count-is (c .before .before .before .before .args .n)
+      (sym (c .before .count-ok .ensures) ∙ not-false _ (c .if2 .left)),
+)
 
 returns-3 : tie.Need-returns-3
-returns-3 c = simp (sym (c .before .before .before .node-size-ok .ensures) ∙ not-false _ (c .before .before .if1 .left), sym (c .before .count-ok .ensures) ∙ not-false _ (c .if2 .left))
+returns-3 c = simp (
+  sym (c .before .before .before .node-size-ok .ensures) ∙ not-false _ (c .before .before .if1 .left),
+  sym (c .before .count-ok .ensures) ∙ not-false _ (c .if2 .left),
+)
 
 pub coords-ok-spec : {M : Type 1} → statement M
 coords-ok-spec =

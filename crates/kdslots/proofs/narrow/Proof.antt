@@ -72,7 +72,8 @@ loop-again c =
       omega arith,
       omega arith,
       omega arith,
-      sym (only-right s (w .loop .axis) (a .most) (w .loop .lo) (w .loop .hi) (omega (arith, t .before .loop-test .taken)) no r l) ∙ w .loop .inv .3,
+      sym (only-right s (w .loop .axis) (a .most) (w .loop .lo) (w .loop .hi) (omega (arith, t .before .loop-test .taken)) no r l)
+          ∙ w .loop .inv .3,
     )
 
 left-at-requires-2 : tie.Need-left-at-requires-2 Inv-loop μ-loop
@@ -101,7 +102,8 @@ loop-again-2 c =
       omega arith,
       omega arith,
       omega arith,
-      sym (only-left s (w .loop .axis) (a .most) (w .loop .lo) (w .loop .hi) (omega (arith, t .before .loop-test .taken)) no r l) ∙ w .loop .inv .3,
+      sym (only-left s (w .loop .axis) (a .most) (w .loop .lo) (w .loop .hi) (omega (arith, t .before .loop-test .taken)) no r l)
+          ∙ w .loop .inv .3,
     )
 
 returns-3 : tie.Need-returns-3 Inv-loop μ-loop

@@ -15,7 +15,11 @@ both-finite-requires-2 : tie.Need-both-finite-requires-2
 both-finite-requires-2 c κs = search needs
 
 returns : tie.Need-returns
-returns c = simp (c .before .before .before .before .q .given .1, sym (c .before .before .both-finite .ensures) ∙ c .before .if1 .taken, c .both-finite2 .ensures)
+returns c = simp (
+  c .before .before .before .before .q .given .1,
+  sym (c .before .before .both-finite .ensures) ∙ c .before .if1 .taken,
+  c .both-finite2 .ensures,
+)
 
 enum-known-q-2 : tie.Need-enum-known-q-2
 enum-known-q-2 c = search needs
@@ -28,13 +32,23 @@ is-finite-requires c κs = search needs
 
 returns-2 : tie.Need-returns-2
 unfolding ofBits
-returns-2 c = simp (c .before .before .before .before .before .q2 .given .1, sym (c .before .before .before .both-finite3 .ensures) ∙ c .before .before .if2 .taken, sym (c .before .is-finite .ensures) ∙ c .if3 .taken)
+returns-2 c = simp (
+  c .before .before .before .before .before .q2 .given .1,
+  sym (c .before .before .before .both-finite3 .ensures)
+      ∙ c .before .before .if2 .taken,
+  sym (c .before .is-finite .ensures) ∙ c .if3 .taken,
+)
 
 returns-3 : tie.Need-returns-3
 returns-3 c = simp (c .before .before .before .q .given .1, sym (c .before .both-finite .ensures) ∙ c .if1 .left)
 
 returns-4 : tie.Need-returns-4
-returns-4 c = simp (c .before .before .before .before .before .q2 .given .1, sym (c .before .before .before .both-finite3 .ensures) ∙ c .before .before .if2 .taken, sym (c .before .is-finite .ensures) ∙ c .if3 .left)
+returns-4 c = simp (
+  c .before .before .before .before .before .q2 .given .1,
+  sym (c .before .before .before .both-finite3 .ensures)
+      ∙ c .before .before .if2 .taken,
+  sym (c .before .is-finite .ensures) ∙ c .if3 .left,
+)
 
 returns-5 : tie.Need-returns-5
 returns-5 c = simp (c .before .before .before .q2 .given .1, sym (c .before .both-finite3 .ensures) ∙ c .if2 .left)

@@ -1,4 +1,5 @@
--- SCOPE's corner, over an index of three slots: x = 0.25 - 2 ^ -55, asked for with qx = 1 and radius 0.75. Slot 0 passes the distance test, though the
+-- SCOPE's corner, over an index of three slots: x = 0.25 - 2 ^ -55, asked for with qx = 1 and radius 0.75. Slot 0 passes the distance test,
+-- though the
 -- rounded edge qx - radius = 0.25 leaves it out: it is answered where the interval is not split, and where it is split at slot 1, with the
 -- same coordinate. Assumes nothing.
 use mathlib.Core.Path.{_≡_, refl}

@@ -28,7 +28,8 @@ pub slots-leaf : (s : Search) (ax most lo hi : ℕ) → hi - lo ≤ most → slo
 unfolding slots
 slots-leaf s ax most lo hi h = rw (shape-leaf most lo hi h)
 
-pub slots-node : (s : Search) (ax most lo hi : ℕ) → most < hi - lo → slots s ax (shape most lo hi) ≡ when (s .test (mid lo hi)) (mid lo hi ∷ []) ++ below s ax most lo hi
+pub slots-node : (s : Search) (ax most lo hi : ℕ) → most < hi - lo
+    → slots s ax (shape most lo hi) ≡ when (s .test (mid lo hi)) (mid lo hi ∷ []) ++ below s ax most lo hi
 unfolding slots
 slots-node s ax most lo hi h = rw (shape-node most lo hi h)
 
@@ -42,7 +43,12 @@ scanned-length : (s : Search) (i k : ℕ) → length (scanned s i k) ≤ k
 unfolding scanned
 scanned-length s i zero = omega arith
 scanned-length s i (suc k) =
-    omega (arith, length-append (when (s .test i) (i ∷ [])) (scanned s (i + 1) k), when-length (s .test i) (i ∷ []), scanned-length s (i + 1) k)
+    omega (
+      arith,
+      length-append (when (s .test i) (i ∷ [])) (scanned s (i + 1) k),
+      when-length (s .test i) (i ∷ []),
+      scanned-length s (i + 1) k,
+    )
 
 pub slots-length : (s : Search) (ax : ℕ) (lo hi : ℕ) (t : Shape) → Spans lo hi t → length (slots s ax t) ≤ hi - lo
 unfolding slots

@@ -22,10 +22,12 @@ keep-put p false x xs r h = h
 
 pub keep-both : (p q r : ℕ → Bool) → ((k : ℕ) → r k ≡ (p k && q k)) → (xs : List ℕ) → keep r xs ≡ keep q (keep p xs)
 keep-both p q r h [] = refl
-keep-both p q r h (x ∷ xs) = ap (λ (b : Bool). put b x (keep r xs)) (h x) ∙ keep-put q (p x) x (keep p xs) (keep r xs) (keep-both p q r h xs)
+keep-both p q r h (x ∷ xs) = ap (λ (b : Bool). put b x (keep r xs)) (h x)
+    ∙ keep-put q (p x) x (keep p xs) (keep r xs) (keep-both p q r h xs)
 
 -- nothing is kept where nothing passes
-pub keep-none : (p : ℕ → Bool) (lo hi : ℕ) (xs : List ℕ) → BetweenSlots lo hi xs → ((i : ℕ) → lo ≤ i → i < hi → p i ≡ false) → keep p xs ≡ []
+pub keep-none : (p : ℕ → Bool) (lo hi : ℕ) (xs : List ℕ) → BetweenSlots lo hi xs → ((i : ℕ) → lo ≤ i → i < hi → p i ≡ false)
+    → keep p xs ≡ []
 unfolding BetweenSlots
 keep-none p lo hi [] b f = refl
 keep-none p lo hi (x ∷ xs) b f = rw (f x (b .0) (b .1)) (keep-none p lo hi xs (b .2) f)

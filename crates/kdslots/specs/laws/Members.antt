@@ -109,7 +109,8 @@ notin-append k (j ∷ js) b p q = (p .0, notin-append k js b (p .1) q)
 pub distinct-right : (m lo hi : ℕ) (a b : List ℕ) → BetweenSlots m hi a → BetweenSlots lo m b → Distinct a → Distinct b → Distinct (a ++ b)
 unfolding BetweenSlots
 distinct-right m lo hi [] b p q x y = y
-distinct-right m lo hi (k ∷ ks) b p q x y = (notin-append k ks b (x .0) (apart-right k lo m b q (p .0)), distinct-right m lo hi ks b (p .2) q (x .1) y)
+distinct-right m lo hi (k ∷ ks) b p q x y =
+    (notin-append k ks b (x .0) (apart-right k lo m b q (p .0)), distinct-right m lo hi ks b (p .2) q (x .1) y)
 
 pub distinct-when : (t : Bool) (l : List ℕ) → Distinct l → Distinct (when t l)
 distinct-when true l d = d

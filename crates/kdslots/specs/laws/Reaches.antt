@@ -47,8 +47,10 @@ module _ (x y v : Float) where
   reaches-left (Range a b c d) zero h l e = is-true _ (le-le-trans a x v (in-box a b c d x y e .west) l)
   reaches-left (Range a b c d) (suc zero) h l e = is-true _ (le-le-trans b y v (in-box a b c d x y e .low) l)
   reaches-left (Range a b c d) (suc (suc k)) h l e = absurd (omega arith)
-  reaches-left (Within qx qy r) zero h l e = goes (lt v qx) (tooFar v qx r) (λ k j. left-x-fails x y v qx qy (mul binary64 r r) l k j (yes-of e))
-  reaches-left (Within qx qy r) (suc zero) h l e = goes (lt v qy) (tooFar v qy r) (λ k j. left-y-fails x y v qx qy (mul binary64 r r) l k j (yes-of e))
+  reaches-left (Within qx qy r) zero h l e =
+      goes (lt v qx) (tooFar v qx r) (λ k j. left-x-fails x y v qx qy (mul binary64 r r) l k j (yes-of e))
+  reaches-left (Within qx qy r) (suc zero) h l e =
+      goes (lt v qy) (tooFar v qy r) (λ k j. left-y-fails x y v qx qy (mul binary64 r r) l k j (yes-of e))
   reaches-left (Within qx qy r) (suc (suc k)) h l e = absurd (omega arith)
 
   -- a point right of it, or on it
@@ -56,8 +58,10 @@ module _ (x y v : Float) where
   reaches-right (Range a b c d) zero h l e = is-true _ (le-le-trans v x c l (in-box a b c d x y e .east))
   reaches-right (Range a b c d) (suc zero) h l e = is-true _ (le-le-trans v y d l (in-box a b c d x y e .high))
   reaches-right (Range a b c d) (suc (suc k)) h l e = absurd (omega arith)
-  reaches-right (Within qx qy r) zero h l e = goes (lt qx v) (tooFar v qx r) (λ k j. right-x-fails x y v qx qy (mul binary64 r r) l k j (yes-of e))
-  reaches-right (Within qx qy r) (suc zero) h l e = goes (lt qy v) (tooFar v qy r) (λ k j. right-y-fails x y v qx qy (mul binary64 r r) l k j (yes-of e))
+  reaches-right (Within qx qy r) zero h l e =
+      goes (lt qx v) (tooFar v qx r) (λ k j. right-x-fails x y v qx qy (mul binary64 r r) l k j (yes-of e))
+  reaches-right (Within qx qy r) (suc zero) h l e =
+      goes (lt qy v) (tooFar v qy r) (λ k j. right-y-fails x y v qx qy (mul binary64 r r) l k j (yes-of e))
   reaches-right (Within qx qy r) (suc (suc k)) h l e = absurd (omega arith)
 
 -- ---- the median
@@ -71,7 +75,8 @@ passes-number x y (Within qx qy r) (suc zero) h e = y-number x y qx qy (mul bina
 passes-number x y (Within qx qy r) (suc (suc k)) h e = absurd (omega arith)
 
 -- where a median passes, both its sides are gone into
-pub median-reached : (x y : Float) (q : Query) (ax : ℕ) → ax < 2 → passesQ q x y ≡ true → (goesRight q ax (onAxis ax x y) ≡ true) × (goesLeft q ax (onAxis ax x y) ≡ true)
+pub median-reached : (x y : Float) (q : Query) (ax : ℕ) → ax < 2 → passesQ q x y ≡ true → (goesRight q ax (onAxis ax x y) ≡ true)
+    × (goesLeft q ax (onAxis ax x y) ≡ true)
 median-reached x y q ax h e =
     let v = onAxis ax x y in
     let o = le-reflexive (onAxis ax x y) (passes-number x y q ax h e) in

@@ -24,7 +24,8 @@ when-true true l pre c post e = refl
 when-true false l pre c post e = absurd (no-nil pre c post e)
 
 passes-one : (s : Search) (m : ℕ) (pre : List ℕ) (c : ℕ) (post : List ℕ) → when (s .test m) (m ∷ []) ≡ pre ++ c ∷ post → s .test c ≡ true
-passes-one s m pre c post e = rw (sole m pre c post (when-all (s .test m) (m ∷ []) pre c post e) .0) (when-true (s .test m) (m ∷ []) pre c post e)
+passes-one s m pre c post e = rw (sole m pre c post (when-all (s .test m) (m ∷ []) pre c post e) .0)
+    (when-true (s .test m) (m ∷ []) pre c post e)
 
 scanned-sound : (s : Search) (i k : ℕ) (pre : List ℕ) (c : ℕ) (post : List ℕ) → scanned s i k ≡ pre ++ c ∷ post → s .test c ≡ true
 unfolding scanned
@@ -59,17 +60,21 @@ scanned-distinct : (s : Search) (i k : ℕ) → Distinct (scanned s i k)
 unfolding scanned
 scanned-distinct s i zero = tt
 scanned-distinct s i (suc k) =
-    distinct-one (s .test i) i (scanned s (i + 1) k) (apart-left i (i + 1) (i + 1 + k) (scanned s (i + 1) k) (scanned-between s (i + 1) k) (omega arith)) (scanned-distinct s (i + 1) k)
+    distinct-one (s .test i) i (scanned s (i + 1) k)
+    (apart-left i (i + 1) (i + 1 + k) (scanned s (i + 1) k) (scanned-between s (i + 1) k) (omega arith)) (scanned-distinct s (i + 1) k)
 
 pub slots-between : (s : Search) (ax : ℕ) (lo hi : ℕ) (t : Shape) → Spans lo hi t → lo ≤ hi → BetweenSlots lo hi (slots s ax t)
 unfolding slots
-slots-between s ax lo hi _ all h = widen lo (lo + (hi - lo)) lo hi (scanned s lo (hi - lo)) (le-refl lo) (omega arith) (scanned-between s lo (hi - lo))
+slots-between s ax lo hi _ all h = widen lo (lo + (hi - lo)) lo hi (scanned s lo (hi - lo)) (le-refl lo) (omega arith)
+    (scanned-between s lo (hi - lo))
 slots-between s ax lo hi _ (both {m = m} {r = r} {l = l} a b p q) h =
     between-append lo hi (when (s .test m) (m ∷ [])) (when (s .right ax m) (slots s (1 - ax) r) ++ when (s .left ax m) (slots s (1 - ax) l))
     (between-when (s .test m) lo hi (m ∷ []) (widen m (m + 1) lo hi (m ∷ []) a (omega arith) (between-one m)))
     (between-append lo hi (when (s .right ax m) (slots s (1 - ax) r)) (when (s .left ax m) (slots s (1 - ax) l))
-    (between-when (s .right ax m) lo hi (slots s (1 - ax) r) (widen (m + 1) hi lo hi (slots s (1 - ax) r) (omega arith) (le-refl hi) (slots-between s (1 - ax) (m + 1) hi r p (omega arith))))
-    (between-when (s .left ax m) lo hi (slots s (1 - ax) l) (widen lo m lo hi (slots s (1 - ax) l) (le-refl lo) (omega arith) (slots-between s (1 - ax) lo m l q a))))
+    (between-when (s .right ax m) lo hi (slots s (1 - ax) r)
+    (widen (m + 1) hi lo hi (slots s (1 - ax) r) (omega arith) (le-refl hi) (slots-between s (1 - ax) (m + 1) hi r p (omega arith))))
+    (between-when (s .left ax m) lo hi (slots s (1 - ax) l)
+    (widen lo m lo hi (slots s (1 - ax) l) (le-refl lo) (omega arith) (slots-between s (1 - ax) lo m l q a))))
 
 pub slots-distinct : (s : Search) (ax : ℕ) (lo hi : ℕ) (t : Shape) → Spans lo hi t → lo ≤ hi → Distinct (slots s ax t)
 unfolding slots
@@ -77,9 +82,11 @@ slots-distinct s ax lo hi _ all h = scanned-distinct s lo (hi - lo)
 slots-distinct s ax lo hi _ (both {m = m} {r = r} {l = l} a b p q) h =
     let B = when (s .right ax m) (slots s (1 - ax) r) in
     let C = when (s .left ax m) (slots s (1 - ax) l) in
-    let x : BetweenSlots (m + 1) hi B = between-when (s .right ax m) (m + 1) hi (slots s (1 - ax) r) (slots-between s (1 - ax) (m + 1) hi r p (omega arith)) in
+    let x : BetweenSlots (m + 1) hi B = between-when (s .right ax m) (m + 1) hi (slots s (1 - ax) r)
+    (slots-between s (1 - ax) (m + 1) hi r p (omega arith)) in
     let y : BetweenSlots lo m C = between-when (s .left ax m) lo m (slots s (1 - ax) l) (slots-between s (1 - ax) lo m l q a) in
-    distinct-one (s .test m) m (B ++ C) (notin-append m B C (apart-left m (m + 1) hi B x (omega arith)) (apart-right m lo m C y (le-refl m)))
+    distinct-one (s .test m) m (B ++ C)
+    (notin-append m B C (apart-left m (m + 1) hi B x (omega arith)) (apart-right m lo m C y (le-refl m)))
     (distinct-right (m + 1) lo hi B C x (widen lo m lo (m + 1) C (le-refl lo) (omega arith) y)
     (distinct-when (s .right ax m) (slots s (1 - ax) r) (slots-distinct s (1 - ax) (m + 1) hi r p (omega arith)))
     (distinct-when (s .left ax m) (slots s (1 - ax) l) (slots-distinct s (1 - ax) lo m l q a)))
@@ -89,8 +96,12 @@ slots-distinct s ax lo hi _ (both {m = m} {r = r} {l = l} a b p q) h =
 pub answers-between : (q : Query) (cs : List Float) (size n : ℕ) → BetweenSlots 0 n (answers q cs size n)
 answers-between q cs size n = slots-between (over q cs) 0 0 n (shape (size + 1) 0 n) (spans (size + 1) 0 n) (omega arith)
 
-pub answers-sound : (q : Query) (cs : List Float) (size n i : ℕ) → In i (answers q cs size n) → (i < n) × (passesQ q (key 0 cs i) (key 1 cs i) ≡ true)
-answers-sound q cs size n i p = (between-in 0 n (p .0) i (p .1) (subst (BetweenSlots 0 n) (p .2) (answers-between q cs size n)) .1, sound (over q cs) 0 (shape (size + 1) 0 n) (p .0) i (p .1) (p .2))
+pub answers-sound : (q : Query) (cs : List Float) (size n i : ℕ) → In i (answers q cs size n) → (i < n)
+    × (passesQ q (key 0 cs i) (key 1 cs i) ≡ true)
+answers-sound q cs size n i p = (
+  between-in 0 n (p .0) i (p .1) (subst (BetweenSlots 0 n) (p .2) (answers-between q cs size n)) .1,
+  sound (over q cs) 0 (shape (size + 1) 0 n) (p .0) i (p .1) (p .2),
+)
 
 pub answers-distinct : (q : Query) (cs : List Float) (size n : ℕ) → Distinct (answers q cs size n)
 answers-distinct q cs size n = slots-distinct (over q cs) 0 0 n (shape (size + 1) 0 n) (spans (size + 1) 0 n) (omega arith)

@@ -37,7 +37,8 @@ sort-sub-if1 : (t : ℕ) → sort-lts.Need-sub-if1 (sort-told t) (sort-at t) sor
 sort-sub-if1 t c = omega arith
 
 sort-returns : (t : ℕ) → sort-lts.Need-returns (sort-told t) (sort-at t) sort.Post
-sort-returns t c = let a = c .before .before .before .args in sym (sorted-leaf (a .axis) (a .most) (a .lo) (a .hi) (indexCols (a .ids .now) (a .coords .now)) (c .if1 .taken))
+sort-returns t c = let a = c .before .before .before .args in
+    sym (sorted-leaf (a .axis) (a .most) (a .lo) (a .hi) (indexCols (a .ids .now) (a .coords .now)) (c .if1 .taken))
 
 sort-sub-m : (t : ℕ) → sort-lts.Need-sub-m (sort-told t) (sort-at t) sort.Post
 sort-sub-m t c = omega arith
@@ -99,7 +100,8 @@ sort-returns-2 t c =
     let a = e .before .before .before .args in
     let m = mid (a .lo) (a .hi) in
     last .sort2 .ensures
-    ∙ ap (λ (x : IndexCols). sorted (1 - a .axis) (m + 1) (a .hi) (shape (a .most) (m + 1) (a .hi)) x) (first .sort .ensures ∙ ap (λ (x : IndexCols). sorted (1 - a .axis) (a .lo) m (shape (a .most) (a .lo) m) x) (one .select .ensures))
+    ∙ ap (λ (x : IndexCols). sorted (1 - a .axis) (m + 1) (a .hi) (shape (a .most) (m + 1) (a .hi)) x)
+    (first .sort .ensures ∙ ap (λ (x : IndexCols). sorted (1 - a .axis) (a .lo) m (shape (a .most) (a .lo) m) x) (one .select .ensures))
     ∙ sym (sorted-node (a .axis) (a .most) (a .lo) (a .hi) (indexCols (a .ids .now) (a .coords .now)) (e .if1 .left))
 
 pub +sort-spec : {M : Type 1} → statement M

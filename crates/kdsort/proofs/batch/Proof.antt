@@ -68,7 +68,8 @@ record Known (i j len m n count : ℕ) (a : ℕ) (t : Float) (s : IndexCols) (xs
   co : 2 * j + 1 < length (s .co)
   axis : a < 2
 
-known : (c : Ready) → let a = start c .args in Known (a .i) (a .j) (len-of c) (m-of c) (n-of c) (count-of c) (a .axis) (a .t) (columns c) (ups-of c) (downs-of c)
+known : (c : Ready) → let a = start c .args in Known (a .i) (a .j) (len-of c) (m-of c) (n-of c) (count-of c) (a .axis) (a .t) (columns c)
+    (ups-of c) (downs-of c)
 known c =
     let a = start c .args in
     let h = start c .pre in
@@ -131,8 +132,12 @@ slice-aggregate-exchange-2 c = search needs
 exchange-requires : tie.Need-exchange-requires
 exchange-requires c κs =
     let a = start c .args in
-    let h = known c in
-    (h .xs-long, h .ys-long, batch-slots (a .axis) (a .t) (columns c) (a .i) (a .j) _ _ _ _ _ _ (h .up) (h .down) (h .apart) (count-of c) _ (h .to-m) (h .to-n) (h .ids) (h .co))
+    let h = known c in (
+      h .xs-long,
+      h .ys-long,
+      batch-slots (a .axis) (a .t) (columns c) (a .i) (a .j) _ _ _ _ _ _ (h .up) (h .down) (h .apart) (count-of c) _
+          (h .to-m) (h .to-n) (h .ids) (h .co),
+    )
 
 mul-t13 : tie.Need-mul-t13
 mul-t13 c = search needs
@@ -158,7 +163,8 @@ returns-2 c =
     let a = start q .args in
     let h = known q in
     nearer-cols _ _ _ _ _ _ _ _ _ (c .before .before .before .before .exchange .ensures)
-    (batch-nearer (a .axis) (a .t) (columns q) (a .i) (a .j) _ _ _ _ _ _ (h .up) (h .down) (h .apart) (count-of q) (h .to-m) (h .to-n) (h .axis) (h .co))
+    (batch-nearer (a .axis) (a .t) (columns q) (a .i) (a .j) _ _ _ _ _ _ (h .up) (h .down) (h .apart) (count-of q) (h .to-m) (h .to-n)
+    (h .axis) (h .co))
 
 pub batch-spec : {M : Type 1} → statement M
 batch-spec =

@@ -11,7 +11,8 @@ use Rattle.kdsort.proofs.build_index.Statement.{statement}
 use Rattle.kdsort.proofs.build_index.Tie as tie
 
 abbrev Inv-loop : tie.InvT-loop
-Inv-loop node-size xs ys ids₀ coords₀ n i₀ ids coords i = (i ≤ length xs) × (length ids ≡ length ids₀) × (length coords ≡ length coords₀) × (indexCols ids coords ≡ filledSlots i xs ys (indexCols ids₀ coords₀))
+Inv-loop node-size xs ys ids₀ coords₀ n i₀ ids coords i = (i ≤ length xs) × (length ids ≡ length ids₀) × (length coords ≡ length coords₀)
+    × (indexCols ids coords ≡ filledSlots i xs ys (indexCols ids₀ coords₀))
 
 abbrev μ-loop : tie.MeasureT-loop
 μ-loop node-size xs ys ids₀ coords₀ n i₀ ids coords i = length xs - i
@@ -69,7 +70,12 @@ loop-less : tie.Need-loop-less Inv-loop μ-loop
 loop-less c = omega arith
 
 loop-again : tie.Need-loop-again Inv-loop μ-loop
-loop-again c = (omega arith, simp length-set (omega arith), simp length-set (omega arith), filled-more _ _ _ _ _ (c .before .before .before .loop .inv .3))
+loop-again c = (
+  omega arith,
+  simp length-set (omega arith),
+  simp length-set (omega arith),
+  filled-more _ _ _ _ _ (c .before .before .before .loop .inv .3),
+)
 
 add-sort : tie.Need-add-sort Inv-loop μ-loop
 add-sort c = omega arith
@@ -90,7 +96,8 @@ returns c =
     let l = c .before .before .before .before .before .before .before .before .loop in
     let e : l .i ≡ length (a .xs .now) = omega arith in
     c .before .before .before .before .sort .ensures
-    ∙ ap (λ (x : IndexCols). sorted 0 0 (length (a .xs .now)) (shape (a .node-size + 1) 0 (length (a .xs .now))) x) (l .inv .3 ∙ ap (λ (k : ℕ). filledSlots k (a .xs .now) (a .ys .now) (indexCols (a .ids .now) (a .coords .now))) e)
+    ∙ ap (λ (x : IndexCols). sorted 0 0 (length (a .xs .now)) (shape (a .node-size + 1) 0 (length (a .xs .now))) x)
+    (l .inv .3 ∙ ap (λ (k : ℕ). filledSlots k (a .xs .now) (a .ys .now) (indexCols (a .ids .now) (a .coords .now))) e)
 
 pub build-index-spec : {M : Type 1} → statement M
 build-index-spec =

@@ -9,7 +9,9 @@ use Rattle.kdsort.proofs.exchange.Statement.{statement}
 use Rattle.kdsort.proofs.exchange.Tie as tie
 
 abbrev Inv-loop : tie.InvT-loop
-Inv-loop ids₀ coords₀ ups downs count k₀ ids coords k = (indexCols ids coords ≡ exchanged (indexCols ids₀ coords₀) (batchEntry ups) (batchEntry downs) k) × (k ≤ count) × (length ids ≡ length ids₀) × (length coords ≡ length coords₀)
+Inv-loop ids₀ coords₀ ups downs count k₀ ids coords k =
+    (indexCols ids coords ≡ exchanged (indexCols ids₀ coords₀) (batchEntry ups) (batchEntry downs) k) × (k ≤ count)
+    × (length ids ≡ length ids₀) × (length coords ≡ length coords₀)
 
 abbrev μ-loop : tie.MeasureT-loop
 μ-loop ids₀ coords₀ ups downs count k₀ ids coords k = count - k

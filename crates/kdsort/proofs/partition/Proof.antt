@@ -169,8 +169,10 @@ down-less c = let h = down-ahead c in omega arith
 down-again : tie.Need-down-again Inv-up μ-up Inv-down μ-down Inv-loop μ-loop
 down-again c =
     let h = down-ahead c in
-    let low = c .before .before .down .inv .1 in
-    (down-more _ _ _ _ _ (omega arith) (c .before .before .down .inv .0) (not-false _ (c .if3 .left)), record { slot = low .slot; from = low .from; to = omega arith; stop = low .stop })
+    let low = c .before .before .down .inv .1 in (
+      down-more _ _ _ _ _ (omega arith) (c .before .before .down .inv .0) (not-false _ (c .if3 .left)),
+      record { slot = low .slot; from = low .from; to = omega arith; stop = low .stop },
+    )
 
 mul-if4 : tie.Need-mul-if4 Inv-up μ-up Inv-down μ-down Inv-loop μ-loop
 mul-if4 c = omega arith
@@ -195,10 +197,12 @@ swap-item-requires-4 c κs =
     both _ _ _ _ h (le-of-lt (h .lr)) (q .before .loop .inv .j-to) (e .ids-as) (e .co-as)
 
 same-length : tie.Need-same-length Inv-up μ-up Inv-down μ-down Inv-loop μ-loop
-same-length c = c .before .before .before .before .swap-item4 .kept .0 ∙ passed-long (c .before .before .before .before .before .before .before .before .before) .ids-as
+same-length c = c .before .before .before .before .swap-item4 .kept .0
+    ∙ passed-long (c .before .before .before .before .before .before .before .before .before) .ids-as
 
 same-length-2 : tie.Need-same-length-2 Inv-up μ-up Inv-down μ-down Inv-loop μ-loop
-same-length-2 c = c .before .before .before .before .swap-item4 .kept .1 .0 ∙ passed-long (c .before .before .before .before .before .before .before .before .before) .co-as
+same-length-2 c = c .before .before .before .before .swap-item4 .kept .1 .0
+    ∙ passed-long (c .before .before .before .before .before .before .before .before .before) .co-as
 
 returns : tie.Need-returns Inv-up μ-up Inv-down μ-down Inv-loop μ-loop
 returns c =
@@ -207,7 +211,8 @@ returns c =
     let a = s .args in
     let x = indexCols (q .before .loop .ids) (q .before .loop .coords) in (
       cut-eq (c .before .before .before .before .swap-item4 .ensures) refl
-          ∙ sym (parted-then (a .axis) (a .k) (columns s) x (a .left) (a .right) (q .before .loop .j) (passes-is q) (c .before .before .before .before .before .before .before .if4 .taken)),
+          ∙ sym (parted-then (a .axis) (a .k) (columns s) x (a .left) (a .right) (q .before .loop .j) (passes-is q)
+          (c .before .before .before .before .before .before .before .if4 .taken)),
       (q .before .loop .inv .j-from, q .before .loop .inv .j-to),
     )
 
@@ -225,10 +230,12 @@ add-result : tie.Need-add-result Inv-up μ-up Inv-down μ-down Inv-loop μ-loop
 add-result c = omega arith
 
 same-length-3 : tie.Need-same-length-3 Inv-up μ-up Inv-down μ-down Inv-loop μ-loop
-same-length-3 c = c .before .before .before .before .swap-item5 .kept .0 ∙ passed-long (c .before .before .before .before .before .before .before .before .before) .ids-as
+same-length-3 c = c .before .before .before .before .swap-item5 .kept .0
+    ∙ passed-long (c .before .before .before .before .before .before .before .before .before) .ids-as
 
 same-length-4 : tie.Need-same-length-4 Inv-up μ-up Inv-down μ-down Inv-loop μ-loop
-same-length-4 c = c .before .before .before .before .swap-item5 .kept .1 .0 ∙ passed-long (c .before .before .before .before .before .before .before .before .before) .co-as
+same-length-4 c = c .before .before .before .before .swap-item5 .kept .1 .0
+    ∙ passed-long (c .before .before .before .before .before .before .before .before .before) .co-as
 
 returns-2 : tie.Need-returns-2 Inv-up μ-up Inv-down μ-down Inv-loop μ-loop
 returns-2 c =
@@ -239,7 +246,8 @@ returns-2 c =
     let t = q .before .loop .inv .moved (q .loop-test .left) in
     let f = q .before .loop .inv .j-from in (
       cut-eq (c .before .before .before .before .swap-item5 .ensures) refl
-          ∙ sym (parted-else (a .axis) (a .k) (columns s) x (a .left) (a .right) (q .before .loop .j) (passes-is q) (c .before .before .before .before .before .before .before .if4 .left)),
+          ∙ sym (parted-else (a .axis) (a .k) (columns s) x (a .left) (a .right) (q .before .loop .j) (passes-is q)
+          (c .before .before .before .before .before .before .before .if4 .left)),
       (le-more f, lt-more t),
     )
 

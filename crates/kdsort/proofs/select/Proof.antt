@@ -86,7 +86,15 @@ partition-requires c κs =
     let l = c .before .before .before in
     let v = l .loop .inv in
     let w = v .around (c .before .before .loop-test .taken) in
-    record { lr = c .before .before .loop-test .taken; lk = w .0; kr = w .1; rn = omega arith; nm = omega arith; a2 = l .before .before .before .pre .0 .axis }
+    record {
+      lr = c .before .before .loop-test .taken;
+      lk = w .0;
+      kr = w .1;
+      rn = omega arith;
+      nm = omega arith;
+      a2 =
+          l .before .before .before .pre .0 .axis;
+    }
 
 add-left : tie.Need-add-left Inv-loop μ-loop
 add-left c = omega arith
@@ -109,8 +117,10 @@ loop-again c =
       co-long = omega arith;
       r-to = omega arith;
       around = λ l. ⊎-elim (λ w. absurd (omega arith)) (λ w. (omega arith, omega arith)) (left-cases q);
-      goes = selecting-turn _ (a .axis) (k-of q) (indexCols (loop-of q .loop .ids) (loop-of q .loop .coords)) (left-of q) (right-of q) _ _ (after q) (j-of q) (v .goes) (h .lr) less
-          (sym (made q .partition .ensures .0)) (sym (left-is q)) (ap (λ (b : Bool). cond b (j-of q - 1) (right-of q)) (le-leb (k-of q) (j-of q) (c .if2 .taken)));
+      goes = selecting-turn _ (a .axis) (k-of q) (indexCols (loop-of q .loop .ids) (loop-of q .loop .coords)) (left-of q) (right-of q) _ _
+          (after q) (j-of q) (v .goes) (h .lr) less
+          (sym (made q .partition .ensures .0)) (sym (left-is q))
+          (ap (λ (b : Bool). cond b (j-of q - 1) (right-of q)) (le-leb (k-of q) (j-of q) (c .if2 .taken)));
     }
 
 loop-less-2 : tie.Need-loop-less-2 Inv-loop μ-loop
@@ -128,8 +138,10 @@ loop-again-2 c =
       co-long = omega arith;
       r-to = omega arith;
       around = λ l. ⊎-elim (λ w. (omega arith, omega arith)) (λ w. absurd (omega arith)) (left-cases q);
-      goes = selecting-turn _ (a .axis) (k-of q) (indexCols (loop-of q .loop .ids) (loop-of q .loop .coords)) (left-of q) (right-of q) _ _ (after q) (j-of q) (v .goes) (h .lr) less
-          (sym (made q .partition .ensures .0)) (sym (left-is q)) (ap (λ (b : Bool). cond b (j-of q - 1) (right-of q)) (lt-leb (k-of q) (j-of q) (c .if2 .left)));
+      goes = selecting-turn _ (a .axis) (k-of q) (indexCols (loop-of q .loop .ids) (loop-of q .loop .coords)) (left-of q) (right-of q) _ _
+          (after q) (j-of q) (v .goes) (h .lr) less
+          (sym (made q .partition .ensures .0)) (sym (left-is q))
+          (ap (λ (b : Bool). cond b (j-of q - 1) (right-of q)) (lt-leb (k-of q) (j-of q) (c .if2 .left)));
     }
 
 same-length : tie.Need-same-length Inv-loop μ-loop

@@ -13,7 +13,8 @@ use Rattle.kdsort.proofs.stops_up.Statement.{statement}
 use Rattle.kdsort.proofs.stops_up.Tie as tie
 
 abbrev Inv-loop : tie.InvT-loop
-Inv-loop coords found₀ from len axis t end n₀ p₀ found n p = Ups axis t coords from p (batchEntry found) n × (p ≤ end) × (length found ≡ length found₀)
+Inv-loop coords found₀ from len axis t end n₀ p₀ found n p = Ups axis t coords from p (batchEntry found) n × (p ≤ end)
+    × (length found ≡ length found₀)
 
 abbrev μ-loop : tie.MeasureT-loop
 μ-loop coords found₀ from len axis t end n₀ p₀ found n p = end - p

@@ -77,7 +77,8 @@ slice-write-coords-2 : tie.Need-slice-write-coords-2
 slice-write-coords-2 c =
     let s = c .before .before .before .before in
     let a = s .args in
-    in-set (a .coords .now) (2 * a .i) (getD (a .coords .now) (2 * a .j) nan) (2 * a .j) (one-less (2 * a .j) (length (a .coords .now)) (s .pre .3))
+    in-set (a .coords .now) (2 * a .i) (getD (a .coords .now) (2 * a .j) nan) (2 * a .j)
+    (one-less (2 * a .j) (length (a .coords .now)) (s .pre .3))
 
 mul-yi : tie.Need-mul-yi
 mul-yi c = search needs
@@ -126,7 +127,8 @@ slice-write-coords-4 c =
     let s = c .before .before .before .before .before .before in
     let a = s .args in
     let x = swap nan (a .coords .now) (2 * a .i) (2 * a .j) in
-    in-set x (2 * a .i + 1) (getD x (2 * a .j + 1) nan) (2 * a .j + 1) (in-swap (a .coords .now) (2 * a .i) (2 * a .j) (2 * a .j + 1) (s .pre .3))
+    in-set x (2 * a .i + 1) (getD x (2 * a .j + 1) nan) (2 * a .j + 1)
+    (in-swap (a .coords .now) (2 * a .i) (2 * a .j) (2 * a .j + 1) (s .pre .3))
 
 same-length : tie.Need-same-length
 same-length c = search needs

@@ -81,10 +81,13 @@ module _ (a : ℕ) (t : Float) (c : List Float) (from p n : ℕ) (f g : ℕ → 
   ups-stop e z h =
       let w : n + from ≤ p = u .few in
       record {
-        scans = λ k l. ⊎-elim (λ q. rw q here) (λ m. rw (next-same n (λ k m. e k (omega arith)) k (omega arith), e k (omega arith)) (u .scans k (omega arith))) (eq-or-lt-of-le l);
+        scans = λ k l. ⊎-elim (λ q. rw q here)
+            (λ m. rw (next-same n (λ k m. e k (omega arith)) k (omega arith), e k (omega arith)) (u .scans k (omega arith)))
+            (eq-or-lt-of-le l);
         stops = λ k l. ⊎-elim (λ q. rw q (rw at-n h)) (λ m. rw (e k (omega arith)) (u .stops k m)) (eq-or-lt-of-le (le-before k l));
         over = λ k l. ⊎-elim (λ q. rw q (rw z (omega arith))) (λ m. rw (e k (omega arith)) (u .over k (omega arith))) (eq-or-lt-of-le l);
-        under = λ k l. ⊎-elim (λ q. rw q (rw at-n (omega arith))) (λ m. let v : f k < p = u .under k m in rw (e k (omega arith)) (omega arith)) (eq-or-lt-of-le (le-before k l));
+        under = λ k l. ⊎-elim (λ q. rw q (rw at-n (omega arith)))
+            (λ m. let v : f k < p = u .under k m in rw (e k (omega arith)) (omega arith)) (eq-or-lt-of-le (le-before k l));
         last = z;
         few = omega arith;
       } where
@@ -125,10 +128,13 @@ module _ (a : ℕ) (t : Float) (c : List Float) (from p n : ℕ) (f g : ℕ → 
   downs-stop e z h =
       let w : n + p ≤ from = u .few in
       record {
-        scans = λ k l. ⊎-elim (λ q. rw q here) (λ m. rw (down-same n (λ k m. e k (omega arith)) k (omega arith), e k (omega arith)) (u .scans k (omega arith))) (eq-or-lt-of-le l);
+        scans = λ k l. ⊎-elim (λ q. rw q here)
+            (λ m. rw (down-same n (λ k m. e k (omega arith)) k (omega arith), e k (omega arith)) (u .scans k (omega arith)))
+            (eq-or-lt-of-le l);
         stops = λ k l. ⊎-elim (λ q. rw q (rw at-n h)) (λ m. rw (e k (omega arith)) (u .stops k m)) (eq-or-lt-of-le (le-before k l));
         under = λ k l. ⊎-elim (λ q. rw q (rw z (omega arith))) (λ m. rw (e k (omega arith)) (u .under k (omega arith))) (eq-or-lt-of-le l);
-        over = λ k l. ⊎-elim (λ q. rw q (rw at-n (omega arith))) (λ m. let v : p < f k = u .over k m in rw (e k (omega arith)) (omega arith)) (eq-or-lt-of-le (le-before k l));
+        over = λ k l. ⊎-elim (λ q. rw q (rw at-n (omega arith)))
+            (λ m. let v : p < f k = u .over k m in rw (e k (omega arith)) (omega arith)) (eq-or-lt-of-le (le-before k l));
         last = z;
         few = omega arith;
       } where
@@ -162,7 +168,8 @@ pub exchanged-none : (s : IndexCols) (f g : ℕ → ℕ) → s ≡ exchanged s f
 unfolding exchanged
 exchanged-none s f g = refl
 
-pub exchanged-more : (s : IndexCols) (f g : ℕ → ℕ) (k : ℕ) (S S' : IndexCols) → S ≡ exchanged s f g k → S' ≡ swapItem S (f k) (g k) → S' ≡ exchanged s f g (k + 1)
+pub exchanged-more : (s : IndexCols) (f g : ℕ → ℕ) (k : ℕ) (S S' : IndexCols) → S ≡ exchanged s f g k → S' ≡ swapItem S (f k) (g k)
+    → S' ≡ exchanged s f g (k + 1)
 unfolding exchanged
 exchanged-more s f g k S S' e e' = rw (add-one k) (e' ∙ ap (λ (Z : IndexCols). swapItem Z (f k) (g k)) e)
 
@@ -184,7 +191,8 @@ record After (P : Cut) (a : ℕ) (t : Float) (c : List Float) (s : IndexCols) (x
   same : (p : ℕ) → x ≤ p → p ≤ y → key a (s .co) p ≡ key a c p
   goes : PassScanning P a t s x y
 
-after-scans : (P : Cut) (a : ℕ) (t : Float) (c : List Float) (s : IndexCols) (x y x' y' : ℕ) → After P a t c s x y → Up a t c x x' → Down a t c y y' → x' ≤ y' → After P a t c s x' y'
+after-scans : (P : Cut) (a : ℕ) (t : Float) (c : List Float) (s : IndexCols) (x y x' y' : ℕ) → After P a t c s x y → Up a t c x x'
+    → Down a t c y y' → x' ≤ y' → After P a t c s x' y'
 after-scans P a t c s x y x' y' h u d l =
     let lu : x ≤ x' = u .from in
     let ld : y' ≤ y = d .from in
@@ -196,7 +204,8 @@ after-scans P a t c s x y x' y' h u d l =
           (record { from = ld; past = λ p l1 l2. ap (λ (z : Float). lt t z) (h .same p (omega arith) l2) ∙ d .past p l1 l2 });
     }
 
-after-turn : (P : Cut) (a : ℕ) (t : Float) (c : List Float) (s : IndexCols) (x y : ℕ) → After P a t c s x y → x < y → a < 2 → 2 * y + 1 < length c
+after-turn : (P : Cut) (a : ℕ) (t : Float) (c : List Float) (s : IndexCols) (x y : ℕ) → After P a t c s x y → x < y → a < 2
+    → 2 * y + 1 < length c
     → lt (key a c x) t ≡ false → lt t (key a c y) ≡ false → After P a t c (swapItem s x y) (x + 1) (y - 1)
 after-turn P a t c s x y h l a2 room sx sy =
     let e : length (s .co) ≡ length c = h .long in
@@ -206,12 +215,14 @@ after-turn P a t c s x y h l a2 room sx sy =
     let sy' = ap (λ (z : Float). lt t z) (h .same y (omega arith) (le-refl y)) ∙ sy in
     record {
       long = length-swapCo (s .co) x y ∙ e;
-      same = λ p l1 l2. key-swap (s .co) x y p lx ly a a2 ∙ ap (key a (s .co)) (tr-other x y p (λ q. omega arith) (λ q. omega arith)) ∙ h .same p (omega arith) (omega arith);
+      same = λ p l1 l2. key-swap (s .co) x y p lx ly a a2 ∙ ap (key a (s .co)) (tr-other x y p (λ q. omega arith) (λ q. omega arith))
+          ∙ h .same p (omega arith) (omega arith);
       goes = scanning-turn P a t s x y (scanning-stops P a t s x y (h .goes) (omega arith) sx' sy') l a2 ly sx' sy';
     }
 
 -- the stops f of a scan up from i, as far as e, and the stops g of a scan down from j, as far as d
-module _ (a : ℕ) (t : Float) (s : IndexCols) (i j e d m n : ℕ) (f g : ℕ → ℕ) (u : Ups a t (s .co) i e f m) (v : Downs a t (s .co) j d g n) (ed : e ≤ d) where
+module _ (a : ℕ) (t : Float) (s : IndexCols) (i j e d m n : ℕ) (f g : ℕ → ℕ) (u : Ups a t (s .co) i e f m) (v : Downs a t (s .co) j d g n)
+    (ed : e ≤ d) where
   f-to : (k : ℕ) → k ≤ m → f k ≤ e
   f-to k l = ⊎-elim (λ q. rw q (rw (u .last) (le-refl e))) (λ h. let w = u .under k h in omega (arith, w)) (eq-or-lt-of-le l)
 
@@ -241,8 +252,10 @@ module _ (a : ℕ) (t : Float) (s : IndexCols) (i j e d m n : ℕ) (f g : ℕ �
 
   module _ (P : Cut) (a2 : a < 2) (room : 2 * j + 1 < length (s .co)) (h : PassScanning P a t s i j) where
     -- after k exchanges, where the scans go on, and where they stop next
-    goes-on : (k : ℕ) → k ≤ m → k ≤ n → After P a t (s .co) (exchanged s f g k) (nextUp f i k) (nextDown g j k) → After P a t (s .co) (exchanged s f g k) (f k) (g k)
-    goes-on k lm ln w = after-scans P a t (s .co) (exchanged s f g k) (nextUp f i k) (nextDown g j k) (f k) (g k) w (u .scans k lm) (v .scans k ln) (f-g k lm ln)
+    goes-on : (k : ℕ) → k ≤ m → k ≤ n → After P a t (s .co) (exchanged s f g k) (nextUp f i k) (nextDown g j k)
+        → After P a t (s .co) (exchanged s f g k) (f k) (g k)
+    goes-on k lm ln w = after-scans P a t (s .co) (exchanged s f g k) (nextUp f i k) (nextDown g j k) (f k) (g k) w (u .scans k lm)
+        (v .scans k ln) (f-g k lm ln)
 
     after : (k : ℕ) → k ≤ m → k ≤ n → After P a t (s .co) (exchanged s f g k) (nextUp f i k) (nextDown g j k)
     unfolding exchanged nextUp nextDown
@@ -251,7 +264,8 @@ module _ (a : ℕ) (t : Float) (s : IndexCols) (i j e d m n : ℕ) (f g : ℕ �
         let w = u .under k lm in
         let z = v .over k ln in
         let o = v .under k (omega arith) in
-        after-turn P a t (s .co) (exchanged s f g k) (f k) (g k) (goes-on k (omega arith) (omega arith) (after k (omega arith) (omega arith)))
+        after-turn P a t (s .co) (exchanged s f g k) (f k) (g k)
+        (goes-on k (omega arith) (omega arith) (after k (omega arith) (omega arith)))
         (omega (arith, w, z)) a2 (omega (arith, o)) (u .stops k lm) (v .stops k ln)
 
   -- the exchanges bring the scans nearer, and the passes from there come to the same

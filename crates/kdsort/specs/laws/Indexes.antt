@@ -24,7 +24,8 @@ pub filled-more : (i : ℕ) (xs ys : List Float) (s S : IndexCols) → S ≡ fil
     → indexCols (set (S .ids) i i) (set (set (S .co) (2 * i) (getD xs i nan)) (2 * i + 1) (getD ys i nan)) ≡ filledSlots (i + 1) xs ys s
 unfolding filledSlots
 filled-more i xs ys s S e =
-    rw (add-one i) (ap (λ (x : IndexCols). indexCols (set (x .ids) i i) (set (set (x .co) (2 * i) (getD xs i nan)) (2 * i + 1) (getD ys i nan))) e)
+    rw (add-one i) (ap (λ (x : IndexCols). indexCols (set (x .ids) i i)
+    (set (set (x .co) (2 * i) (getD xs i nan)) (2 * i + 1) (getD ys i nan))) e)
 
 module _ (xs ys : List Float) (s : IndexCols) where
   ids-long : (i : ℕ) → length (filledSlots i xs ys s .ids) ≡ length (s .ids)
@@ -35,7 +36,8 @@ module _ (xs ys : List Float) (s : IndexCols) where
   co-long : (i : ℕ) → length (filledSlots i xs ys s .co) ≡ length (s .co)
   unfolding filledSlots
   co-long zero = refl
-  co-long (suc i) = length-set (set (filledSlots i xs ys s .co) (2 * i) (getD xs i nan)) (2 * i + 1) (getD ys i nan) ∙ length-set (filledSlots i xs ys s .co) (2 * i) (getD xs i nan) ∙ co-long i
+  co-long (suc i) = length-set (set (filledSlots i xs ys s .co) (2 * i) (getD xs i nan)) (2 * i + 1) (getD ys i nan)
+      ∙ length-set (filledSlots i xs ys s .co) (2 * i) (getD xs i nan) ∙ co-long i
 
   id-at : (i p : ℕ) → p < i → i ≤ length (s .ids) → getD (filledSlots i xs ys s .ids) p 0 ≡ p
   unfolding filledSlots
@@ -43,7 +45,8 @@ module _ (xs ys : List Float) (s : IndexCols) where
   id-at (suc i) p h k =
       let w = ids-long i in
       ⊎-elim
-      (λ e. ap (λ (x : ℕ). getD (set (filledSlots i xs ys s .ids) i i) x 0) e ∙ getD-set-same (filledSlots i xs ys s .ids) i i 0 (omega arith) ∙ sym e)
+      (λ e. ap (λ (x : ℕ). getD (set (filledSlots i xs ys s .ids) i i) x 0) e
+      ∙ getD-set-same (filledSlots i xs ys s .ids) i i 0 (omega arith) ∙ sym e)
       (λ l. getD-set-other (filledSlots i xs ys s .ids) i p i 0 (λ e. omega arith) ∙ id-at i p l (omega arith))
       (eq-or-lt-of-le (omega arith))
 
@@ -66,7 +69,8 @@ module _ (xs ys : List Float) (s : IndexCols) where
       let w = co-long i in
       getD-set-other (set (filledSlots i xs ys s .co) (2 * i) (getD xs i nan)) (2 * i + 1) (2 * p) (getD ys i nan) nan (λ e. omega arith)
       ∙ ⊎-elim
-      (λ e. ap (λ (x : ℕ). getD (set (filledSlots i xs ys s .co) (2 * i) (getD xs i nan)) (2 * x) nan) e ∙ getD-set-same (filledSlots i xs ys s .co) (2 * i) (getD xs i nan) nan (omega arith) ∙ ap (λ (x : ℕ). getD xs x nan) (sym e))
+      (λ e. ap (λ (x : ℕ). getD (set (filledSlots i xs ys s .co) (2 * i) (getD xs i nan)) (2 * x) nan) e
+      ∙ getD-set-same (filledSlots i xs ys s .co) (2 * i) (getD xs i nan) nan (omega arith) ∙ ap (λ (x : ℕ). getD xs x nan) (sym e))
       (λ l. getD-set-other (filledSlots i xs ys s .co) (2 * i) (2 * p) (getD xs i nan) nan (λ e. omega arith) ∙ x-at i p l (omega arith))
       (eq-or-lt-of-le (omega arith))
 
@@ -77,13 +81,17 @@ module _ (xs ys : List Float) (s : IndexCols) where
       let w = co-long i in
       let v : 2 * i + 1 < length (set (filledSlots i xs ys s .co) (2 * i) (getD xs i nan)) = simp length-set (omega arith) in
       ⊎-elim
-      (λ e. ap (λ (x : ℕ). getD (set (set (filledSlots i xs ys s .co) (2 * i) (getD xs i nan)) (2 * i + 1) (getD ys i nan)) (2 * x + 1) nan) e ∙ getD-set-same (set (filledSlots i xs ys s .co) (2 * i) (getD xs i nan)) (2 * i + 1) (getD ys i nan) nan v ∙ ap (λ (x : ℕ). getD ys x nan) (sym e))
+      (λ e. ap (λ (x : ℕ). getD (set (set (filledSlots i xs ys s .co) (2 * i) (getD xs i nan)) (2 * i + 1) (getD ys i nan)) (2 * x + 1) nan)
+      e ∙ getD-set-same (set (filledSlots i xs ys s .co) (2 * i) (getD xs i nan)) (2 * i + 1) (getD ys i nan) nan v
+      ∙ ap (λ (x : ℕ). getD ys x nan) (sym e))
       (λ l.
-      getD-set-other (set (filledSlots i xs ys s .co) (2 * i) (getD xs i nan)) (2 * i + 1) (2 * p + 1) (getD ys i nan) nan (λ e. omega arith)
+      getD-set-other (set (filledSlots i xs ys s .co) (2 * i) (getD xs i nan)) (2 * i + 1) (2 * p + 1) (getD ys i nan) nan
+      (λ e. omega arith)
       ∙ getD-set-other (filledSlots i xs ys s .co) (2 * i) (2 * p + 1) (getD xs i nan) nan (λ e. omega arith) ∙ y-at i p l (omega arith))
       (eq-or-lt-of-le (omega arith))
 
-  module _ (n : ℕ) (n1 : 1 ≤ n) (some : 1 ≤ length xs) (room : length xs ≤ length (s .ids)) (room2 : 2 * length xs ≤ length (s .co)) (num : Points xs ys) where
+  module _ (n : ℕ) (n1 : 1 ≤ n) (some : 1 ≤ length xs) (room : length xs ≤ length (s .ids)) (room2 : 2 * length xs ≤ length (s .co))
+      (num : Points xs ys) where
     abbrev F : IndexCols
     F = filledSlots (length xs) xs ys s
 
@@ -117,7 +125,8 @@ module _ (xs ys : List Float) (s : IndexCols) where
     to-in : (q : ℕ) → q < length xs → built .perm .to q < length xs
     to-in q h =
         let b = built .perm .back q in
-        ⊎-elim (λ l. let e = built .perm .after (built .perm .to q) (omega arith) in absurd (omega arith)) (λ l. l) (le-or-lt (length xs) (built .perm .to q))
+        ⊎-elim (λ l. let e = built .perm .after (built .perm .to q) (omega arith) in absurd (omega arith)) (λ l. l)
+        (le-or-lt (length xs) (built .perm .to q))
 
     rest-at : (p : ℕ) → 2 * length xs ≤ p → getD (S .co) p nan ≡ getD (s .co) p nan
     rest-at p h =
@@ -136,7 +145,8 @@ module _ (xs ys : List Float) (s : IndexCols) where
         record {
           id-in = λ p h. subst (λ (x : ℕ). x < length xs) (sym (id-is p h)) (from-in p h);
           x-of = λ p h. P .key-of 0 p (omega arith) ∙ x-key (P .from p) (from-in p h) ∙ ap (λ (q : ℕ). getD xs q nan) (sym (id-is p h));
-          y-of = λ p h. P .key-of 1 p (omega arith) ∙ y-at (length xs) (P .from p) (from-in p h) room2 ∙ ap (λ (q : ℕ). getD ys q nan) (sym (id-is p h));
+          y-of = λ p h. P .key-of 1 p (omega arith) ∙ y-at (length xs) (P .from p) (from-in p h) room2
+              ∙ ap (λ (q : ℕ). getD ys q nan) (sym (id-is p h));
           slot-of = P .to;
           slot-in = to-in;
           id-back = λ q h. id-is (P .to q) (to-in q h) ∙ P .back q;
@@ -158,7 +168,8 @@ module _ (xs ys : List Float) (s t : IndexCols) (a : length (s .ids) ≡ length 
       ext-getD 0 (filledSlots (length xs) xs ys s .ids) (filledSlots (length xs) xs ys t .ids) (omega arith)
       (λ i h. id-at xs ys s (length xs) i (omega arith) (omega arith) ∙ sym (id-at xs ys t (length xs) i (omega arith) (omega arith)))
 
-  same-at : (i : ℕ) → i < 2 * length xs → getD (filledSlots (length xs) xs ys s .co) i nan ≡ getD (filledSlots (length xs) xs ys t .co) i nan
+  same-at : (i : ℕ) → i < 2 * length xs
+      → getD (filledSlots (length xs) xs ys s .co) i nan ≡ getD (filledSlots (length xs) xs ys t .co) i nan
   same-at i h =
       let e : i ≡ 2 * (i / 2) + i % 2 = omega arith in
       let two : i % 2 < 2 = omega arith in
@@ -176,7 +187,8 @@ module _ (xs ys : List Float) (s t : IndexCols) (a : length (s .ids) ≡ length 
   same-co =
       let p = co-long xs ys s (length xs) in
       let q = co-long xs ys t (length xs) in
-      ext-getD nan (filledSlots (length xs) xs ys s .co) (filledSlots (length xs) xs ys t .co) (omega arith) (λ i h. same-at i (omega arith))
+      ext-getD nan (filledSlots (length xs) xs ys s .co) (filledSlots (length xs) xs ys t .co) (omega arith)
+      (λ i h. same-at i (omega arith))
 
   pub indexed-same : (n : ℕ) → indexed n xs ys s ≡ indexed n xs ys t
   unfolding indexed

@@ -22,11 +22,13 @@ le-or-lt m n = go (leb m n) refl where
 -- where p comes from, by whether it is one of the two
 tr-cases : (i j p : ℕ) → ((p ≡ i) × (tr i j p ≡ j)) ⊎ (((p ≡ j) × (tr i j p ≡ i)) ⊎ (((p ≡ i) → ⊥) × ((p ≡ j) → ⊥) × (tr i j p ≡ p)))
 tr-cases i j p = go (eqb p i) refl where
-  other : (b : Bool) → eqb p i ≡ false → eqb p j ≡ b → ((p ≡ i) × (tr i j p ≡ j)) ⊎ (((p ≡ j) × (tr i j p ≡ i)) ⊎ (((p ≡ i) → ⊥) × ((p ≡ j) → ⊥) × (tr i j p ≡ p)))
+  other : (b : Bool) → eqb p i ≡ false → eqb p j ≡ b → ((p ≡ i) × (tr i j p ≡ j))
+      ⊎ (((p ≡ j) × (tr i j p ≡ i)) ⊎ (((p ≡ i) → ⊥) × ((p ≡ j) → ⊥) × (tr i j p ≡ p)))
   other true ei e = inr (inl (eqb-true p j e, ap (tr i j) (eqb-true p j e) ∙ tr-right i j))
   other false ei e = inr (inr (eqb-false p i ei, eqb-false p j e, tr-other i j p (eqb-false p i ei) (eqb-false p j e)))
 
-  go : (b : Bool) → eqb p i ≡ b → ((p ≡ i) × (tr i j p ≡ j)) ⊎ (((p ≡ j) × (tr i j p ≡ i)) ⊎ (((p ≡ i) → ⊥) × ((p ≡ j) → ⊥) × (tr i j p ≡ p)))
+  go : (b : Bool) → eqb p i ≡ b → ((p ≡ i) × (tr i j p ≡ j))
+      ⊎ (((p ≡ j) × (tr i j p ≡ i)) ⊎ (((p ≡ i) → ⊥) × ((p ≡ j) → ⊥) × (tr i j p ≡ p)))
   go true e = inl (eqb-true p i e, ap (tr i j) (eqb-true p i e) ∙ tr-left i j)
   go false e = other (eqb p j) e refl
 
@@ -38,7 +40,8 @@ tr-twice i j p =
 
 tr-inside : (l r i j p : ℕ) → l ≤ i → i ≤ r → l ≤ j → j ≤ r → l ≤ p → p ≤ r → (l ≤ tr i j p) × (tr i j p ≤ r)
 tr-inside l r i j p li ir lj jr lp pr =
-    ⊎-elim (λ w. let e = w .1 in omega arith) (λ v. ⊎-elim (λ w. let e = w .1 in omega arith) (λ w. let e = w .2 in omega arith) v) (tr-cases i j p)
+    ⊎-elim (λ w. let e = w .1 in omega arith) (λ v. ⊎-elim (λ w. let e = w .1 in omega arith) (λ w. let e = w .2 in omega arith) v)
+    (tr-cases i j p)
 
 pub perm-same : (l r : ℕ) (s : IndexCols) → Permuted l r s s
 perm-same l r s =
@@ -56,11 +59,13 @@ perm-same l r s =
       co-long = refl;
     }
 
-ids-at : (s : IndexCols) (i j p : ℕ) → i < length (s .ids) → j < length (s .ids) → getD (swapIds (s .ids) i j) p 0 ≡ getD (s .ids) (tr i j p) 0
+ids-at : (s : IndexCols) (i j p : ℕ) → i < length (s .ids) → j < length (s .ids)
+    → getD (swapIds (s .ids) i j) p 0 ≡ getD (s .ids) (tr i j p) 0
 unfolding swapIds
 ids-at s i j p h k = swap-at 0 (s .ids) i j p h k
 
-pub perm-swap : (l r : ℕ) (s : IndexCols) (i j : ℕ) → l ≤ i → i ≤ r → l ≤ j → j ≤ r → r < length (s .ids) → 2 * r + 1 < length (s .co) → Permuted l r s (swapItem s i j)
+pub perm-swap : (l r : ℕ) (s : IndexCols) (i j : ℕ) → l ≤ i → i ≤ r → l ≤ j → j ≤ r → r < length (s .ids) → 2 * r + 1 < length (s .co)
+    → Permuted l r s (swapItem s i j)
 perm-swap l r s i j li ir lj jr rn nm =
     record {
       from = tr i j;
@@ -99,7 +104,8 @@ perm-widen l r l' r' s s' hl hr P =
       to = P .to;
       there = P .there;
       back = P .back;
-      inside = λ p h k. ⊎-elim (λ u. ⊎-elim (λ v. let w = P .inside p u v in (le-trans hl (w .0), le-trans (w .1) hr)) (λ v. let e = P .after p v in omega arith) (le-or-lt p r')) (λ u. let e = P .before p u in omega arith) (le-or-lt l' p);
+      inside = λ p h k. ⊎-elim (λ u. ⊎-elim (λ v. let w = P .inside p u v in (le-trans hl (w .0), le-trans (w .1) hr))
+          (λ v. let e = P .after p v in omega arith) (le-or-lt p r')) (λ u. let e = P .before p u in omega arith) (le-or-lt l' p);
       before = λ p h. P .before p (lt-of-lt-of-le h hl);
       after = λ p h. P .after p (lt-of-le-of-lt hr h);
       id-of = P .id-of;

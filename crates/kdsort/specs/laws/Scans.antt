@@ -55,7 +55,11 @@ up-none a t c i = record { from = le-refl i; past = λ p h k. absurd (omega arit
 pub up-more : (a : ℕ) (t : Float) (c : List Float) (i r : ℕ) → Up a t c i r → lt (key a c r) t ≡ true → Up a t c i (r + 1)
 up-more a t c i r u h =
     let w : i ≤ r = u .from in
-    record { from = omega arith; past = λ p l k. ⊎-elim (λ q. ap (λ (x : ℕ). lt (key a c x) t) q ∙ h) (λ s. u .past p l s) (eq-or-lt-of-le (omega arith)) }
+    record {
+      from = omega arith;
+      past = λ p l k. ⊎-elim (λ q. ap (λ (x : ℕ). lt (key a c x) t) q ∙ h) (λ s. u .past p l s)
+          (eq-or-lt-of-le (omega arith));
+    }
 
 pub down-none : (a : ℕ) (t : Float) (c : List Float) (j : ℕ) → Down a t c j j
 down-none a t c j = record { from = le-refl j; past = λ p h k. absurd (omega arith) }
@@ -63,12 +67,17 @@ down-none a t c j = record { from = le-refl j; past = λ p h k. absurd (omega ar
 pub down-more : (a : ℕ) (t : Float) (c : List Float) (j r : ℕ) → 0 < r → Down a t c j r → lt t (key a c r) ≡ true → Down a t c j (r - 1)
 down-more a t c j r z u h =
     let w : r ≤ j = u .from in
-    record { from = omega arith; past = λ p l k. ⊎-elim (λ q. ap (λ (x : ℕ). lt t (key a c x)) (sym q) ∙ h) (λ s. u .past p s k) (eq-or-lt-of-le (omega arith)) }
+    record {
+      from = omega arith;
+      past = λ p l k. ⊎-elim (λ q. ap (λ (x : ℕ). lt t (key a c x)) (sym q) ∙ h) (λ s. u .past p s k)
+          (eq-or-lt-of-le (omega arith));
+    }
 
 pub up-stops : (f a : ℕ) (t : Float) (c : List Float) (i r : ℕ) → Up a t c i r → r - i ≤ f → lt (key a c r) t ≡ false → scanUp f a t c i ≡ r
 up-stops f a t c i r u fu at = up-is f (lt (key a c i) t) a t c i r refl (u .from) fu (u .past) at
 
-pub down-stops : (f a : ℕ) (t : Float) (c : List Float) (j r : ℕ) → Down a t c j r → j - r ≤ f → lt t (key a c r) ≡ false → scanDown f a t c j ≡ r
+pub down-stops : (f a : ℕ) (t : Float) (c : List Float) (j r : ℕ) → Down a t c j r → j - r ≤ f → lt t (key a c r) ≡ false
+    → scanDown f a t c j ≡ r
 down-stops f a t c j r u fu at = down-is f (lt t (key a c j)) a t c j r refl (u .from) fu (u .past) at
 
 -- ---- before the passes
@@ -86,7 +95,8 @@ length-placed-co a t s k l r = go (lt t (key a (swapItem s l k .co) r)) where
   go false = length-swapCo (s .co) l k
 
 pub placed-stops : (a : ℕ) (s : IndexCols) (k l r : ℕ) → Here k l r a (length (s .ids)) (length (s .co))
-    → (lt (key a (placed a (key a (s .co) k) s k l r .co) l) (key a (s .co) k) ≡ false) × (lt (key a (s .co) k) (key a (placed a (key a (s .co) k) s k l r .co) r) ≡ false)
+    → (lt (key a (placed a (key a (s .co) k) s k l r .co) l) (key a (s .co) k) ≡ false)
+    × (lt (key a (s .co) k) (key a (placed a (key a (s .co) k) s k l r .co) r) ≡ false)
 placed-stops a s k l r h = go (lt t (key a (swapItem s l k .co) r)) refl where
   t : Float
   t = key a (s .co) k
@@ -107,22 +117,28 @@ placed-stops a s k l r h = go (lt t (key a (swapItem s l k .co) r)) refl where
   first = key-swap (s .co) l k l ll lk a (h .a2) ∙ ap (key a (s .co)) (tr-left l k)
 
   go : (b : Bool) → lt t (key a (swapItem s l k .co) r) ≡ b
-      → (lt (key a (cond b (swapItem (swapItem s l k) l r) (swapItem s l k) .co) l) t ≡ false) × (lt t (key a (cond b (swapItem (swapItem s l k) l r) (swapItem s l k) .co) r) ≡ false)
+      → (lt (key a (cond b (swapItem (swapItem s l k) l r) (swapItem s l k) .co) l) t ≡ false)
+      × (lt t (key a (cond b (swapItem (swapItem s l k) l r) (swapItem s l k) .co) r) ≡ false)
   go true e = (
-    ap (λ (x : Float). lt x t) (key-swap (swapCo (s .co) l k) l r l ll' lr' a (h .a2) ∙ ap (key a (swapCo (s .co) l k)) (tr-left l r)) ∙ below-not-above t (key a (swapCo (s .co) l k) r) e,
-    ap (λ (x : Float). lt t x) (key-swap (swapCo (s .co) l k) l r r ll' lr' a (h .a2) ∙ ap (key a (swapCo (s .co) l k)) (tr-right l r) ∙ first) ∙ self-not-above t,
+    ap (λ (x : Float). lt x t) (key-swap (swapCo (s .co) l k) l r l ll' lr' a (h .a2) ∙ ap (key a (swapCo (s .co) l k)) (tr-left l r))
+        ∙ below-not-above t (key a (swapCo (s .co) l k) r) e,
+    ap (λ (x : Float). lt t x) (key-swap (swapCo (s .co) l k) l r r ll' lr' a (h .a2) ∙ ap (key a (swapCo (s .co) l k)) (tr-right l r)
+        ∙ first) ∙ self-not-above t,
   )
   go false e = (ap (λ (x : Float). lt x t) first ∙ self-not-above t, e)
 
 -- a slot that is not below t stands at or past each slot that the scan has reached
 pub before-stop : (a : ℕ) (t : Float) (c : List Float) (i q : ℕ) → i ≤ q → lt (key a c i) t ≡ true → lt (key a c q) t ≡ false → i < q
-before-stop a t c i q le y n = ⊎-elim (λ e. absurd (true≢false (sym y ∙ ap (λ (x : ℕ). lt (key a c x) t) e ∙ n))) (λ l. l) (eq-or-lt-of-le le)
+before-stop a t c i q le y n = ⊎-elim (λ e. absurd (true≢false (sym y ∙ ap (λ (x : ℕ). lt (key a c x) t) e ∙ n))) (λ l. l)
+    (eq-or-lt-of-le le)
 
 pub after-stop : (a : ℕ) (t : Float) (c : List Float) (j q : ℕ) → q ≤ j → lt t (key a c j) ≡ true → lt t (key a c q) ≡ false → q < j
-after-stop a t c j q le y n = ⊎-elim (λ e. absurd (true≢false (sym y ∙ ap (λ (x : ℕ). lt t (key a c x)) (sym e) ∙ n))) (λ l. l) (eq-or-lt-of-le le)
+after-stop a t c j q le y n = ⊎-elim (λ e. absurd (true≢false (sym y ∙ ap (λ (x : ℕ). lt t (key a c x)) (sym e) ∙ n))) (λ l. l)
+    (eq-or-lt-of-le le)
 
 -- a turn's exchange keeps what the scans stop at
-pub swap-stops : (a : ℕ) (t : Float) (c : List Float) (i j : ℕ) → a < 2 → 2 * i + 1 < length c → 2 * j + 1 < length c → lt (key a c i) t ≡ false → lt t (key a c j) ≡ false
+pub swap-stops : (a : ℕ) (t : Float) (c : List Float) (i j : ℕ) → a < 2 → 2 * i + 1 < length c → 2 * j + 1 < length c
+    → lt (key a c i) t ≡ false → lt t (key a c j) ≡ false
     → (lt (key a (swapCo c i j) j) t ≡ false) × (lt t (key a (swapCo c i j) i) ≡ false)
 swap-stops a t c i j a2 li lj hi hj = (
   ap (λ (x : Float). lt x t) (key-swap c i j j li lj a a2 ∙ ap (key a c) (tr-right i j)) ∙ hi,

@@ -39,7 +39,8 @@ same-side f z l r x s s' P fl rz side p fp pz =
     (λ u. let e = P .before p u in (omega arith, omega arith, λ h. omega arith, λ h. omega arith))
     (le-or-lt l p)
 
-apart-kept : (a f z l r x : ℕ) (s s' : IndexCols) → Permuted l r s s' → a < 2 → f ≤ l → r ≤ z → (x ≤ l) ⊎ (r < x) → Apart a f z (s .co) x → Apart a f z (s' .co) x
+apart-kept : (a f z l r x : ℕ) (s s' : IndexCols) → Permuted l r s s' → a < 2 → f ≤ l → r ≤ z → (x ≤ l) ⊎ (r < x) → Apart a f z (s .co) x
+    → Apart a f z (s' .co) x
 apart-kept a f z l r x s s' P a2 fl rz side A p q fp px xq qz =
     let u = same-side f z l r x s s' P fl rz side p fp (omega arith) in
     let v = same-side f z l r x s s' P fl rz side q (omega arith) qz in
@@ -47,7 +48,8 @@ apart-kept a f z l r x s s' P a2 fl rz side A p q fp px xq qz =
     ∙ ap (lt (key a (s .co) (P .from q))) (P .key-of a p a2)
     ∙ A (P .from p) (P .from q) (u .0) (u .2 px) (v .3 xq) (v .1)
 
-module _ (a f z l r j : ℕ) (t : Float) (c : List Float) (num : T (not (isNan t))) (K : Parted a t l r c j) (L : Apart a f z c l) (R : Apart a f z c (r + 1)) where
+module _ (a f z l r j : ℕ) (t : Float) (c : List Float) (num : T (not (isNan t))) (K : Parted a t l r c j) (L : Apart a f z c l)
+    (R : Apart a f z c (r + 1)) where
   low-at : (p : ℕ) → l ≤ p → p ≤ j → lt t (key a c p) ≡ false
   low-at p h k = ⊎-elim (λ e. ap (λ (x : ℕ). lt t (key a c x)) e ∙ K .at-low) (λ u. K .low p h u) (eq-or-lt-of-le k)
 
@@ -134,13 +136,17 @@ module _ (a k f z l r : ℕ) (s : IndexCols) (S : Stand a k f z l r s) (lr : l <
 
   l-cases : ((parted a k s l r .slot ≤ k) × (l-next ≡ parted a k s l r .slot + 1)) ⊎ ((k < parted a k s l r .slot) × (l-next ≡ l))
   l-cases = go (leb (parted a k s l r .slot) k) refl where
-    go : (b : Bool) → leb (parted a k s l r .slot) k ≡ b → ((parted a k s l r .slot ≤ k) × (cond b (parted a k s l r .slot + 1) l ≡ parted a k s l r .slot + 1)) ⊎ ((k < parted a k s l r .slot) × (cond b (parted a k s l r .slot + 1) l ≡ l))
+    go : (b : Bool) → leb (parted a k s l r .slot) k ≡ b
+        → ((parted a k s l r .slot ≤ k) × (cond b (parted a k s l r .slot + 1) l ≡ parted a k s l r .slot + 1))
+        ⊎ ((k < parted a k s l r .slot) × (cond b (parted a k s l r .slot + 1) l ≡ l))
     go true e = inl (leb-true _ _ e, refl)
     go false e = inr (leb-false _ _ e, refl)
 
   r-cases : ((k ≤ parted a k s l r .slot) × (r-next ≡ parted a k s l r .slot - 1)) ⊎ ((parted a k s l r .slot < k) × (r-next ≡ r))
   r-cases = go (leb k (parted a k s l r .slot)) refl where
-    go : (b : Bool) → leb k (parted a k s l r .slot) ≡ b → ((k ≤ parted a k s l r .slot) × (cond b (parted a k s l r .slot - 1) r ≡ parted a k s l r .slot - 1)) ⊎ ((parted a k s l r .slot < k) × (cond b (parted a k s l r .slot - 1) r ≡ r))
+    go : (b : Bool) → leb k (parted a k s l r .slot) ≡ b
+        → ((k ≤ parted a k s l r .slot) × (cond b (parted a k s l r .slot - 1) r ≡ parted a k s l r .slot - 1))
+        ⊎ ((parted a k s l r .slot < k) × (cond b (parted a k s l r .slot - 1) r ≡ r))
     go true e = inl (leb-true _ _ e, refl)
     go false e = inr (leb-false _ _ e, refl)
 
@@ -179,18 +185,25 @@ module _ (a k f z l r : ℕ) (s : IndexCols) (S : Stand a k f z l r s) (lr : l <
         nm = rw (made .perm .co-long) (S .nm);
         mid =
             ⊎-elim
-            (λ u. let e = u .1 in ⊎-elim (λ v. let d = v .1 in inr (omega arith, omega arith)) (λ v. let d = v .1 in inl (omega arith, omega arith)) r-cases)
-            (λ u. let e = u .1 in ⊎-elim (λ v. let d = v .1 in inl (omega arith, omega arith)) (λ v. let d = v .1 in absurd (omega arith)) r-cases)
+            (λ u. let e = u .1 in ⊎-elim (λ v. let d = v .1 in inr (omega arith, omega arith))
+            (λ v. let d = v .1 in inl (omega arith, omega arith)) r-cases)
+            (λ u. let e = u .1 in ⊎-elim (λ v. let d = v .1 in inl (omega arith, omega arith)) (λ v. let d = v .1 in absurd (omega arith))
+            r-cases)
             l-cases;
         numbers = numbers-kept f z s (parted a k s l r .at) wide (S .numbers);
         lows =
             ⊎-elim
-            (λ u. subst (Apart a f z (parted a k s l r .at .co)) (sym (u .1)) (across a f z l r (parted a k s l r .slot) (key a (s .co) k) (parted a k s l r .at .co) num (made .part) L' R' (parted a k s l r .slot + 1) (omega arith) (omega arith)))
+            (λ u. subst (Apart a f z (parted a k s l r .at .co)) (sym (u .1))
+            (across a f z l r (parted a k s l r .slot) (key a (s .co) k) (parted a k s l r .at .co) num (made .part) L' R'
+            (parted a k s l r .slot + 1) (omega arith) (omega arith)))
             (λ u. subst (Apart a f z (parted a k s l r .at .co)) (sym (u .1)) L')
             l-cases;
         highs =
             ⊎-elim
-            (λ u. let e : r-next + 1 ≡ parted a k s l r .slot = (let d = u .1 in omega arith) in subst (Apart a f z (parted a k s l r .at .co)) (sym e) (across a f z l r (parted a k s l r .slot) (key a (s .co) k) (parted a k s l r .at .co) num (made .part) L' R' (parted a k s l r .slot) (le-refl _) (omega arith)))
+            (λ u. let e : r-next + 1 ≡ parted a k s l r .slot = (let d = u .1 in omega arith) in
+            subst (Apart a f z (parted a k s l r .at .co)) (sym e)
+            (across a f z l r (parted a k s l r .slot) (key a (s .co) k) (parted a k s l r .at .co) num (made .part) L' R'
+            (parted a k s l r .slot) (le-refl _) (omega arith)))
             (λ u. subst (λ (x : ℕ). Apart a f z (parted a k s l r .at .co) (x + 1)) (sym (u .1)) R')
             r-cases;
       }
@@ -198,19 +211,23 @@ module _ (a k f z l r : ℕ) (s : IndexCols) (S : Stand a k f z l r s) (lr : l <
 through : (a k f z : ℕ) (s s' S : IndexCols) → Permuted f z s s' → Chosen a k f z s' S → Chosen a k f z s S
 through a k f z s s' S P C = record { perm = perm-trans f z s s' S P (C .perm); left = C .left; right = C .right }
 
-sel-ok : (g : ℕ) (b : Bool) (a k f z l r : ℕ) (s : IndexCols) → ltb l r ≡ b → r - l ≤ g → Stand a k f z l r s → Chosen a k f z s (sel g b a k s l r)
+sel-ok : (g : ℕ) (b : Bool) (a k f z l r : ℕ) (s : IndexCols) → ltb l r ≡ b → r - l ≤ g → Stand a k f z l r s
+    → Chosen a k f z s (sel g b a k s l r)
 unfolding sel
 sel-ok zero b a k f z l r s e fu S = ended a k f z l r s S (omega arith)
 sel-ok (suc g) false a k f z l r s e fu S = ended a k f z l r s S (ltb-false l r e)
 sel-ok (suc g) true a k f z l r s e fu S =
     through a k f z s (parted a k s l r .at) _ (wide a k f z l r s S (ltb-true l r e))
-    (sel-ok g (ltb (cond (leb (parted a k s l r .slot) k) (parted a k s l r .slot + 1) l) (cond (leb k (parted a k s l r .slot)) (parted a k s l r .slot - 1) r)) a k f z
-    (cond (leb (parted a k s l r .slot) k) (parted a k s l r .slot + 1) l) (cond (leb k (parted a k s l r .slot)) (parted a k s l r .slot - 1) r) (parted a k s l r .at) refl
+    (sel-ok g (ltb (cond (leb (parted a k s l r .slot) k) (parted a k s l r .slot + 1) l)
+    (cond (leb k (parted a k s l r .slot)) (parted a k s l r .slot - 1) r)) a k f z
+    (cond (leb (parted a k s l r .slot) k) (parted a k s l r .slot + 1) l)
+    (cond (leb k (parted a k s l r .slot)) (parted a k s l r .slot - 1) r) (parted a k s l r .at) refl
     (let w = next-less a k f z l r s S (ltb-true l r e) in omega arith)
     (next a k f z l r s S (ltb-true l r e)))
 
 -- of columns with no NaN between l and r, the selection of k from there
-pub selected-ok : (a k : ℕ) (s : IndexCols) (l r : ℕ) → a < 2 → 1 ≤ k → l ≤ k → k ≤ r → r < length (s .ids) → 2 * r + 1 < length (s .co) → Numbers l r s → Chosen a k l r s (selected a k s l r)
+pub selected-ok : (a k : ℕ) (s : IndexCols) (l r : ℕ) → a < 2 → 1 ≤ k → l ≤ k → k ≤ r → r < length (s .ids) → 2 * r + 1 < length (s .co)
+    → Numbers l r s → Chosen a k l r s (selected a k s l r)
 unfolding selected
 selected-ok a k s l r a2 k1 lk kr rn nm N =
     sel-ok (r - l) (ltb l r) a k l r l r s refl (le-refl (r - l))
@@ -231,7 +248,8 @@ selected-ok a k s l r a2 k1 lk kr rn nm N =
 
 -- ---- the fuel is never used up
 
-sel-same : (g g' : ℕ) (b : Bool) (a k f z l r : ℕ) (s : IndexCols) → ltb l r ≡ b → r - l ≤ g → r - l ≤ g' → Stand a k f z l r s → sel g b a k s l r ≡ sel g' b a k s l r
+sel-same : (g g' : ℕ) (b : Bool) (a k f z l r : ℕ) (s : IndexCols) → ltb l r ≡ b → r - l ≤ g → r - l ≤ g' → Stand a k f z l r s
+    → sel g b a k s l r ≡ sel g' b a k s l r
 unfolding sel
 sel-same zero zero b a k f z l r s e h h' S = refl
 sel-same zero (suc g') true a k f z l r s e h h' S = let w = ltb-true l r e in absurd (omega arith)
@@ -241,10 +259,12 @@ sel-same (suc g) zero false a k f z l r s e h h' S = refl
 sel-same (suc g) (suc g') false a k f z l r s e h h' S = refl
 sel-same (suc g) (suc g') true a k f z l r s e h h' S =
     let w = next-less a k f z l r s S (ltb-true l r e) in
-    sel-same g g' _ a k f z (cond (leb (parted a k s l r .slot) k) (parted a k s l r .slot + 1) l) (cond (leb k (parted a k s l r .slot)) (parted a k s l r .slot - 1) r) (parted a k s l r .at) refl
+    sel-same g g' _ a k f z (cond (leb (parted a k s l r .slot) k) (parted a k s l r .slot + 1) l)
+    (cond (leb k (parted a k s l r .slot)) (parted a k s l r .slot - 1) r) (parted a k s l r .at) refl
     (omega arith) (omega arith) (next a k f z l r s S (ltb-true l r e))
 
-pub selected-enough : (g a k : ℕ) (s : IndexCols) (l r : ℕ) → a < 2 → 1 ≤ k → l ≤ k → k ≤ r → r < length (s .ids) → 2 * r + 1 < length (s .co) → Numbers l r s → r - l ≤ g → sel g (ltb l r) a k s l r ≡ selected a k s l r
+pub selected-enough : (g a k : ℕ) (s : IndexCols) (l r : ℕ) → a < 2 → 1 ≤ k → l ≤ k → k ≤ r → r < length (s .ids)
+    → 2 * r + 1 < length (s .co) → Numbers l r s → r - l ≤ g → sel g (ltb l r) a k s l r ≡ selected a k s l r
 unfolding selected
 selected-enough g a k s l r a2 k1 lk kr rn nm N h =
     sel-same g (r - l) (ltb l r) a k l r l r s refl h (le-refl (r - l))

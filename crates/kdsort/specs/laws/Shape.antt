@@ -56,7 +56,8 @@ unfolding split
 split-spans most zero lo hi = all
 split-spans most (suc f) lo hi = go (leb (hi - lo) most) refl (split-spans most f (mid lo hi + 1) hi) (split-spans most f lo (mid lo hi))
   where
-    go : (b : Bool) → leb (hi - lo) most ≡ b → Spans (mid lo hi + 1) hi (split most f (mid lo hi + 1) hi) → Spans lo (mid lo hi) (split most f lo (mid lo hi))
+    go : (b : Bool) → leb (hi - lo) most ≡ b → Spans (mid lo hi + 1) hi (split most f (mid lo hi + 1) hi)
+        → Spans lo (mid lo hi) (split most f lo (mid lo hi))
         → Spans lo hi (split most (suc f) lo hi)
     go true e r l = rw (e, split) all
     go false e r l =

@@ -21,11 +21,15 @@ module _ {A : Type 0} (d : A) (xs : List A) (i j : ℕ) where
   length-swap = simp length-set
 
   at-i : (b : Bool) (p : ℕ) → eqb p i ≡ b → p ≢ j → i < length xs → getD (swap d xs i j) p d ≡ getD xs (cond b j p) d
-  at-i true p e n li = getD-set-other (set xs i (getD xs j d)) j p (getD xs i d) d n ∙ ap (λ (q : ℕ). getD (set xs i (getD xs j d)) q d) (eqb-true p i e) ∙ getD-set-same xs i (getD xs j d) d li
-  at-i false p e n li = getD-set-other (set xs i (getD xs j d)) j p (getD xs i d) d n ∙ getD-set-other xs i p (getD xs j d) d (eqb-false p i e)
+  at-i true p e n li = getD-set-other (set xs i (getD xs j d)) j p (getD xs i d) d n
+      ∙ ap (λ (q : ℕ). getD (set xs i (getD xs j d)) q d) (eqb-true p i e) ∙ getD-set-same xs i (getD xs j d) d li
+  at-i false p e n li = getD-set-other (set xs i (getD xs j d)) j p (getD xs i d) d n
+      ∙ getD-set-other xs i p (getD xs j d) d (eqb-false p i e)
 
-  at-j : (b : Bool) (p : ℕ) → eqb p j ≡ b → i < length xs → j < length xs → getD (swap d xs i j) p d ≡ getD xs (cond b i (cond (eqb p i) j p)) d
-  at-j true p e li lj = ap (λ (q : ℕ). getD (swap d xs i j) q d) (eqb-true p j e) ∙ getD-set-same (set xs i (getD xs j d)) j (getD xs i d) d (simp length-set lj)
+  at-j : (b : Bool) (p : ℕ) → eqb p j ≡ b → i < length xs → j < length xs
+      → getD (swap d xs i j) p d ≡ getD xs (cond b i (cond (eqb p i) j p)) d
+  at-j true p e li lj = ap (λ (q : ℕ). getD (swap d xs i j) q d) (eqb-true p j e)
+      ∙ getD-set-same (set xs i (getD xs j d)) j (getD xs i d) d (simp length-set lj)
   at-j false p e li lj = at-i (eqb p i) p refl (eqb-false p j e) li
 
   pub swap-at : (p : ℕ) → i < length xs → j < length xs → getD (swap d xs i j) p d ≡ getD xs (tr i j p) d
@@ -90,7 +94,8 @@ module _ (c : List Float) (i j p : ℕ) (li : 2 * i + 1 < length c) (lj : 2 * j 
       let l1 : 2 * i + 1 < length (swap nan c (2 * i) (2 * j)) = simp length-set (omega arith) in
       let l2 : 2 * j + 1 < length (swap nan c (2 * i) (2 * j)) = simp length-set (omega arith) in
       swap-at nan (swap nan c (2 * i) (2 * j)) (2 * i + 1) (2 * j + 1) (2 * p) l1 l2
-      ∙ ap (λ (q : ℕ). getD (swap nan c (2 * i) (2 * j)) q nan) (tr-other (2 * i + 1) (2 * j + 1) (2 * p) (λ h. omega arith) (λ h. omega arith))
+      ∙ ap (λ (q : ℕ). getD (swap nan c (2 * i) (2 * j)) q nan)
+      (tr-other (2 * i + 1) (2 * j + 1) (2 * p) (λ h. omega arith) (λ h. omega arith))
       ∙ swap-at nan c (2 * i) (2 * j) (2 * p) (omega arith) (omega arith)
       ∙ ap (λ (q : ℕ). getD c q nan) (tr-even i j p)
 

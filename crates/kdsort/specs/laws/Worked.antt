@@ -22,7 +22,8 @@ abbrev ys : List Float
 ys = e 1 ∷ e 7 ∷ e 3 ∷ e 5 ∷ e 3 ∷ e 5 ∷ e 1 ∷ []
 
 abbrev lent : IndexCols
-lent = indexCols (8 ∷ 8 ∷ 8 ∷ 8 ∷ 8 ∷ 8 ∷ 8 ∷ 8 ∷ []) (e 9 ∷ e 9 ∷ e 9 ∷ e 9 ∷ e 9 ∷ e 9 ∷ e 9 ∷ e 9 ∷ e 9 ∷ e 9 ∷ e 9 ∷ e 9 ∷ e 9 ∷ e 9 ∷ e 9 ∷ [])
+lent = indexCols (8 ∷ 8 ∷ 8 ∷ 8 ∷ 8 ∷ 8 ∷ 8 ∷ 8 ∷ [])
+    (e 9 ∷ e 9 ∷ e 9 ∷ e 9 ∷ e 9 ∷ e 9 ∷ e 9 ∷ e 9 ∷ e 9 ∷ e 9 ∷ e 9 ∷ e 9 ∷ e 9 ∷ e 9 ∷ e 9 ∷ [])
 
 pub seven-ids : indexed 1 xs ys lent .ids ≡ 6 ∷ 4 ∷ 3 ∷ 1 ∷ 0 ∷ 2 ∷ 5 ∷ 8 ∷ []
 unfolding indexed sorted filledSlots shape split selected sel parted passes up down swapCo swapIds lt eq

@@ -66,7 +66,14 @@ abbrev first-below-told : ℕ → first-below-lts.Claims
 first-below-told t = (right-at-reads.Asked, right-at-reads.Learnt, first-in-below t, first-in.Post, first-left-below t, first-left.Post)
 
 abbrev first-in-told : ℕ → first-in-lts.Claims
-first-in-told t = (first-from-reads.Asked, first-from-reads.Learnt, test-at-reads.Asked, test-at-reads.Learnt, first-below-below t, first-below.Post)
+first-in-told t = (
+  first-from-reads.Asked,
+  first-from-reads.Learnt,
+  test-at-reads.Asked,
+  test-at-reads.Learnt,
+  first-below-below t,
+  first-below.Post,
+)
 
 abbrev first-left-told : ℕ → first-left-lts.Claims
 first-left-told t = (left-at-reads.Asked, left-at-reads.Learnt, first-in-below t, first-in.Post)
@@ -103,13 +110,16 @@ first-below-returns t c =
     let s = over (a .q) (now (a .coords)) in
     let m = mid (a .lo) (a .hi) in
     let l = slots s (1 - a .axis) (shape (a .most) (m + 1) (a .hi)) in
-    picks (when (s .right (a .axis) m) l) (when (s .left (a .axis) m) (slots s (1 - a .axis) (shape (a .most) (a .lo) m))) (c .before .i .given .0 .0)
-    (went-in l (s .right (a .axis) m) _ (sym (r .right-at .ensures) ∙ v .before .if1 .taken) (sym (c .before .i .given .1) ∙ v .first-in .ensures))
+    picks (when (s .right (a .axis) m) l) (when (s .left (a .axis) m) (slots s (1 - a .axis) (shape (a .most) (a .lo) m)))
+    (c .before .i .given .0 .0)
+    (went-in l (s .right (a .axis) m) _ (sym (r .right-at .ensures) ∙ v .before .if1 .taken)
+    (sym (c .before .i .given .1) ∙ v .first-in .ensures))
 
 first-below-enum-told : (t : ℕ) → first-below-lts.Need-enum-told (first-below-told t) (first-below-at t) first-below.Post
 first-below-enum-told t c = search needs
 
-first-below-first-left-requires : (t : ℕ) → first-below-lts.Need-first-left-requires (first-below-told t) (first-below-at t) first-below.Post
+first-below-first-left-requires : (t : ℕ)
+    → first-below-lts.Need-first-left-requires (first-below-told t) (first-below-at t) first-below.Post
 first-below-first-left-requires t c κs = omega arith
 
 first-below-returns-2 : (t : ℕ) → first-below-lts.Need-returns-2 (first-below-told t) (first-below-at t) first-below.Post
@@ -135,7 +145,8 @@ first-in-first-from-requires t c κs = omega arith
 first-in-returns : (t : ℕ) → first-in-lts.Need-returns (first-in-told t) (first-in-at t) first-in.Post
 first-in-returns t c =
     let a = c .before .before .before .args in
-    first-leaf (over (a .q) (now (a .coords))) (a .axis) (a .most) (a .lo) (a .hi) (c .first-from .result) (c .before .if1 .taken) (c .first-from .ensures)
+    first-leaf (over (a .q) (now (a .coords))) (a .axis) (a .most) (a .lo) (a .hi) (c .first-from .result) (c .before .if1 .taken)
+    (c .first-from .ensures)
 
 first-in-sub-m : (t : ℕ) → first-in-lts.Need-sub-m (first-in-told t) (first-in-at t) first-in.Post
 first-in-sub-m t c = omega arith
@@ -153,7 +164,8 @@ first-in-returns-2 : (t : ℕ) → first-in-lts.Need-returns-2 (first-in-told t)
 first-in-returns-2 t c =
     let e = c .before .before in
     let a = e .before .before .args in
-    first-median (over (a .q) (now (a .coords))) (a .axis) (a .most) (a .lo) (a .hi) (e .if1 .left) (sym (c .before .test-at .ensures) ∙ c .if2 .taken)
+    first-median (over (a .q) (now (a .coords))) (a .axis) (a .most) (a .lo) (a .hi) (e .if1 .left)
+    (sym (c .before .test-at .ensures) ∙ c .if2 .taken)
 
 first-in-first-below-requires : (t : ℕ) → first-in-lts.Need-first-below-requires (first-in-told t) (first-in-at t) first-in.Post
 first-in-first-below-requires t c κs = omega arith
@@ -162,7 +174,8 @@ first-in-returns-3 : (t : ℕ) → first-in-lts.Need-returns-3 (first-in-told t)
 first-in-returns-3 t c =
     let e = c .before .before .before in
     let a = e .before .before .args in
-    first-parts (over (a .q) (now (a .coords))) (a .axis) (a .most) (a .lo) (a .hi) (e .if1 .left) (c .first-below .result) (sym (c .before .before .test-at .ensures) ∙ c .before .if2 .left) (c .first-below .ensures)
+    first-parts (over (a .q) (now (a .coords))) (a .axis) (a .most) (a .lo) (a .hi) (e .if1 .left) (c .first-below .result)
+    (sym (c .before .before .test-at .ensures) ∙ c .before .if2 .left) (c .first-below .ensures)
 
 first-left-left-at-requires : (t : ℕ) → first-left-lts.Need-left-at-requires (first-left-told t) (first-left-at t) first-left.Post
 first-left-left-at-requires t c κs = omega arith
@@ -178,7 +191,8 @@ first-left-returns t c =
     let l = c .before .before in
     let a = l .before .before .args in
     let s = over (a .q) (now (a .coords)) in
-    went-in (slots s (1 - a .axis) (shape (a .most) (a .lo) (a .m))) (s .left (a .axis) (a .m)) (c .first-in .result) (sym (l .left-at .ensures) ∙ c .before .if1 .taken) (c .first-in .ensures)
+    went-in (slots s (1 - a .axis) (shape (a .most) (a .lo) (a .m))) (s .left (a .axis) (a .m)) (c .first-in .result)
+    (sym (l .left-at .ensures) ∙ c .before .if1 .taken) (c .first-in .ensures)
 
 first-left-returns-2 : (t : ℕ) → first-left-lts.Need-returns-2 (first-left-told t) (first-left-at t) first-left.Post
 first-left-returns-2 t c =

@@ -31,7 +31,16 @@ abbrev next-in-below : ℕ → In 1 next-in-kinds.ps
 next-in-below t = and 1 next-in-kinds.ps (falls 1 next-in-kinds.ps _<_ μ-next-in t) next-in.Pre
 
 abbrev next-in-told : ℕ → next-in-lts.Claims
-next-in-told t = (first-from-reads.Asked, first-from-reads.Learnt, next-in-below t, next-in.Post, first-below-reads.Asked, first-below-reads.Learnt, first-left-reads.Asked, first-left-reads.Learnt)
+next-in-told t = (
+  first-from-reads.Asked,
+  first-from-reads.Learnt,
+  next-in-below t,
+  next-in.Post,
+  first-below-reads.Asked,
+  first-below-reads.Learnt,
+  first-left-reads.Asked,
+  first-left-reads.Learnt,
+)
 
 next-in-sub-if1 : (t : ℕ) → next-in-lts.Need-sub-if1 (next-in-told t) (next-in-at t) next-in.Post
 next-in-sub-if1 t c = omega arith
@@ -45,7 +54,8 @@ next-in-first-from-requires t c κs = omega arith
 next-in-returns : (t : ℕ) → next-in-lts.Need-returns (next-in-told t) (next-in-at t) next-in.Post
 next-in-returns t c =
     let a = c .before .before .before .args in
-    c .first-from .ensures ∙ ap headOf (sym (rest-leaf (over (a .q) (now (a .coords))) (a .axis) (a .most) (a .lo) (a .hi) (a .c) (c .before .if1 .taken)))
+    c .first-from .ensures ∙ ap headOf
+    (sym (rest-leaf (over (a .q) (now (a .coords))) (a .axis) (a .most) (a .lo) (a .hi) (a .c) (c .before .if1 .taken)))
 
 next-in-sub-m : (t : ℕ) → next-in-lts.Need-sub-m (next-in-told t) (next-in-at t) next-in.Post
 next-in-sub-m t c = omega arith
@@ -66,7 +76,8 @@ next-in-returns-2 : (t : ℕ) → next-in-lts.Need-returns-2 (next-in-told t) (n
 next-in-returns-2 t c =
     let e = c .before .before in
     let a = e .before .before .args in
-    c .next-in .ensures ∙ ap headOf (sym (rest-left (over (a .q) (now (a .coords))) (a .axis) (a .most) (a .lo) (a .hi) (e .if1 .left) (a .c) (c .before .if2 .taken)))
+    c .next-in .ensures ∙ ap headOf
+    (sym (rest-left (over (a .q) (now (a .coords))) (a .axis) (a .most) (a .lo) (a .hi) (e .if1 .left) (a .c) (c .before .if2 .taken)))
 
 next-in-first-below-requires : (t : ℕ) → next-in-lts.Need-first-below-requires (next-in-told t) (next-in-at t) next-in.Post
 next-in-first-below-requires t c κs = omega arith
@@ -75,7 +86,9 @@ next-in-returns-3 : (t : ℕ) → next-in-lts.Need-returns-3 (next-in-told t) (n
 next-in-returns-3 t c =
     let e = c .before .before .before in
     let a = e .before .before .args in
-    c .first-below .ensures ∙ ap headOf (sym (rest-median (over (a .q) (now (a .coords))) (a .axis) (a .most) (a .lo) (a .hi) (e .if1 .left) (a .c) (c .before .if3 .taken)))
+    c .first-below .ensures ∙ ap headOf
+    (sym (rest-median (over (a .q) (now (a .coords))) (a .axis) (a .most) (a .lo) (a .hi) (e .if1 .left) (a .c)
+    (c .before .if3 .taken)))
 
 next-in-add-next-in : (t : ℕ) → next-in-lts.Need-add-next-in (next-in-told t) (next-in-at t) next-in.Post
 next-in-add-next-in t c = omega arith
@@ -97,7 +110,9 @@ next-in-returns-4 t c =
     let s = over (a .q) (now (a .coords)) in
     let m = mid (a .lo) (a .hi) in
     let past : mid (a .lo) (a .hi) < a .c = omega (arith, v .before .if3 .left, v .before .before .if2 .left) in
-    picks (rest s (1 - a .axis) (shape (a .most) (m + 1) (a .hi)) (a .c)) (when (s .left (a .axis) m) (slots s (1 - a .axis) (shape (a .most) (a .lo) m))) (c .before .i .given .0 .0) (sym (c .before .i .given .1) ∙ v .next-in2 .ensures)
+    picks (rest s (1 - a .axis) (shape (a .most) (m + 1) (a .hi)) (a .c))
+    (when (s .left (a .axis) m) (slots s (1 - a .axis) (shape (a .most) (a .lo) m))) (c .before .i .given .0 .0)
+    (sym (c .before .i .given .1) ∙ v .next-in2 .ensures)
     ∙ ap headOf (sym (rest-right s (a .axis) (a .most) (a .lo) (a .hi) (e .if1 .left) (a .c) past))
 
 next-in-enum-told : (t : ℕ) → next-in-lts.Need-enum-told (next-in-told t) (next-in-at t) next-in.Post
@@ -114,7 +129,9 @@ next-in-returns-5 t c =
     let s = over (a .q) (now (a .coords)) in
     let m = mid (a .lo) (a .hi) in
     let past : mid (a .lo) (a .hi) < a .c = omega (arith, v .before .if3 .left, v .before .before .if2 .left) in
-    falls-to (rest s (1 - a .axis) (shape (a .most) (m + 1) (a .hi)) (a .c)) (when (s .left (a .axis) m) (slots s (1 - a .axis) (shape (a .most) (a .lo) m))) (c .first-left .result) (sym (c .before .enum-told .given .1) ∙ v .next-in2 .ensures) (c .first-left .ensures)
+    falls-to (rest s (1 - a .axis) (shape (a .most) (m + 1) (a .hi)) (a .c))
+    (when (s .left (a .axis) m) (slots s (1 - a .axis) (shape (a .most) (a .lo) m))) (c .first-left .result)
+    (sym (c .before .enum-told .given .1) ∙ v .next-in2 .ensures) (c .first-left .ensures)
     ∙ ap headOf (sym (rest-right s (a .axis) (a .most) (a .lo) (a .hi) (e .if1 .left) (a .c) past))
 
 pub +next-in-spec : {M : Type 1} → statement M

@@ -41,7 +41,8 @@ bounds k = let a = start-of k .args in coords-is (a .node-size) (a .n) (length (
 -- what is found is the step after the slot
 found : (k : tie.Else3) (x : Next) → let a = start-of k .args in x ≡ headOf (restOf (a .q) (now (a .coords)) (a .node-size) (a .n) (a .c))
     → stepOf x ≡ afterStep (a .q) (a .node-size) (a .n) (now (a .coords)) (a .c)
-found k x e = let a = start-of k .args in after-found (a .q) (a .node-size) (a .n) (now (a .coords)) (a .c) (coords-fine k) (query-fine k) (lt-ltb _ _ (k .if3 .left)) x e
+found k x e = let a = start-of k .args in after-found (a .q) (a .node-size) (a .n) (now (a .coords)) (a .c) (coords-fine k) (query-fine k)
+    (lt-ltb _ _ (k .if3 .left)) x e
 
 -- ---- the ways out
 
@@ -49,7 +50,8 @@ coords-ok-requires : tie.Need-coords-ok-requires
 coords-ok-requires c κs = search needs
 
 returns : tie.Need-returns
-returns c = let a = c .before .before .before .args in after-spoiled (a .q) (a .node-size) (a .n) (now (a .coords)) (a .c) (sym (c .before .coords-ok .ensures) ∙ not-true _ (c .if1 .taken))
+returns c = let a = c .before .before .before .args in after-spoiled (a .q) (a .node-size) (a .n) (now (a .coords)) (a .c)
+    (sym (c .before .coords-ok .ensures) ∙ not-true _ (c .if1 .taken))
 
 query-ok-requires : tie.Need-query-ok-requires
 query-ok-requires c κs = search needs
@@ -58,13 +60,15 @@ returns-2 : tie.Need-returns-2
 returns-2 c =
     let e = c .before .before in
     let a = e .before .before .before .args in
-    after-box (a .q) (a .node-size) (a .n) (now (a .coords)) (a .c) (sym (e .before .coords-ok .ensures) ∙ not-false _ (e .if1 .left)) (sym (c .before .query-ok .ensures) ∙ not-true _ (c .if2 .taken))
+    after-box (a .q) (a .node-size) (a .n) (now (a .coords)) (a .c) (sym (e .before .coords-ok .ensures) ∙ not-false _ (e .if1 .left))
+    (sym (c .before .query-ok .ensures) ∙ not-true _ (c .if2 .taken))
 
 returns-3 : tie.Need-returns-3
 returns-3 c =
     let e = c .before .before .before in
     let a = e .before .before .before .args in
-    after-past (a .q) (a .node-size) (a .n) (now (a .coords)) (a .c) (sym (e .before .coords-ok .ensures) ∙ not-false _ (e .if1 .left)) (sym (c .before .before .query-ok .ensures) ∙ not-false _ (c .before .if2 .left)) (le-ltb _ _ (c .if3 .taken))
+    after-past (a .q) (a .node-size) (a .n) (now (a .coords)) (a .c) (sym (e .before .coords-ok .ensures) ∙ not-false _ (e .if1 .left))
+    (sym (c .before .before .query-ok .ensures) ∙ not-false _ (c .before .if2 .left)) (le-ltb _ _ (c .if3 .taken))
 
 add-first-from : tie.Need-add-first-from
 add-first-from c = let w = bounds c in omega arith
@@ -94,9 +98,11 @@ returns-4 c =
     let a = start-of k .args in
     let s = over (a .q) (now (a .coords)) in
     let i = c .before .i .given .0 .0 in
-    let e : Slot i ≡ headOf (scanned s (a .c + 1) (l .leaf-end .result - (a .c + 1))) = sym (c .before .i .given .1) ∙ f .first-from .ensures in
+    let e : Slot i ≡ headOf (scanned s (a .c + 1) (l .leaf-end .result - (a .c + 1))) = sym (c .before .i .given .1)
+    ∙ f .first-from .ensures in
     found k (Slot i)
-    (leaf-first s 0 (shape (a .node-size + 1) 0 (a .n)) (a .c) i (e ∙ ap (λ (h : ℕ). headOf (scanned s (a .c + 1) (h - (a .c + 1)))) (l .leaf-end .ensures)))
+    (leaf-first s 0 (shape (a .node-size + 1) 0 (a .n)) (a .c) i
+    (e ∙ ap (λ (h : ℕ). headOf (scanned s (a .c + 1) (h - (a .c + 1)))) (l .leaf-end .ensures)))
 
 enum-told : tie.Need-enum-told
 enum-told c = search needs

@@ -30,11 +30,13 @@ bounds : (k : tie.Else2) → let a = start-of k .args in Searchable (a .node-siz
 bounds k = let a = start-of k .args in coords-is (a .node-size) (a .n) (length (now (a .coords))) (coords-fine k)
 
 -- what is found is the first step
-found : (f : tie.After-first-in) → let a = start-of (f .before .before) .args in stepOf (f .first-in .result) ≡ firstStep (a .q) (a .node-size) (a .n) (now (a .coords))
+found : (f : tie.After-first-in) → let a = start-of (f .before .before) .args in
+    stepOf (f .first-in .result) ≡ firstStep (a .q) (a .node-size) (a .n) (now (a .coords))
 found f =
     let k = f .before .before in
     let a = start-of k .args in
-    first-found (a .q) (a .node-size) (a .n) (now (a .coords)) (coords-fine k) (query-fine k) (f .first-in .result) (f .first-in .ensures ∙ ap headOf (f .before .narrow .ensures .0))
+    first-found (a .q) (a .node-size) (a .n) (now (a .coords)) (coords-fine k) (query-fine k) (f .first-in .result)
+    (f .first-in .ensures ∙ ap headOf (f .before .narrow .ensures .0))
 
 -- ---- the ways out
 
@@ -42,7 +44,8 @@ coords-ok-requires : tie.Need-coords-ok-requires
 coords-ok-requires c κs = search needs
 
 returns : tie.Need-returns
-returns c = let a = c .before .before .before .args in first-spoiled (a .q) (a .node-size) (a .n) (now (a .coords)) (sym (c .before .coords-ok .ensures) ∙ not-true _ (c .if1 .taken))
+returns c = let a = c .before .before .before .args in first-spoiled (a .q) (a .node-size) (a .n) (now (a .coords))
+    (sym (c .before .coords-ok .ensures) ∙ not-true _ (c .if1 .taken))
 
 query-ok-requires : tie.Need-query-ok-requires
 query-ok-requires c κs = search needs
@@ -51,7 +54,8 @@ returns-2 : tie.Need-returns-2
 returns-2 c =
     let e = c .before .before in
     let a = e .before .before .before .args in
-    first-box (a .q) (a .node-size) (a .n) (now (a .coords)) (sym (e .before .coords-ok .ensures) ∙ not-false _ (e .if1 .left)) (sym (c .before .query-ok .ensures) ∙ not-true _ (c .if2 .taken))
+    first-box (a .q) (a .node-size) (a .n) (now (a .coords)) (sym (e .before .coords-ok .ensures) ∙ not-false _ (e .if1 .left))
+    (sym (c .before .query-ok .ensures) ∙ not-true _ (c .if2 .taken))
 
 add-narrow : tie.Need-add-narrow
 add-narrow c = let w = bounds c in omega arith

@@ -27,7 +27,8 @@ returns c =
     let t = c .before in
     let w = t .before .before in
     let a = w .before .before .args in
-    here (over (a .q) (now (a .coords))) (w .loop .i) (a .hi) (t .before .loop-test .taken) (sym (t .test-at .ensures) ∙ c .if1 .taken) ∙ sym (w .loop .inv)
+    here (over (a .q) (now (a .coords))) (w .loop .i) (a .hi) (t .before .loop-test .taken) (sym (t .test-at .ensures) ∙ c .if1 .taken)
+    ∙ sym (w .loop .inv)
 
 add-i : tie.Need-add-i Inv-loop μ-loop
 add-i c = omega arith
@@ -40,7 +41,8 @@ loop-again c =
     let t = c .before in
     let w = t .before .before in
     let a = w .before .before .args in
-    w .loop .inv ∙ on (over (a .q) (now (a .coords))) (w .loop .i) (a .hi) (t .before .loop-test .taken) (sym (t .test-at .ensures) ∙ c .if1 .left)
+    w .loop .inv ∙ on (over (a .q) (now (a .coords))) (w .loop .i) (a .hi) (t .before .loop-test .taken)
+    (sym (t .test-at .ensures) ∙ c .if1 .left)
 
 returns-2 : tie.Need-returns-2 Inv-loop μ-loop
 returns-2 c =

@@ -11,7 +11,8 @@ use Rattle.kdwalk.specs.Reply.{stepNumber, stepCarried, firstStep, after
 pub first-replies : (q : Query) (size n : ℕ) (co : List Float) (r t : Step) → r ≡ firstStep q size n co → t ≡ firstStep q size n co → r ≡ t
 first-replies q size n co r t = same-reply
 
-pub after-replies : (q : Query) (size n : ℕ) (co : List Float) (c : ℕ) (r t : Step) → r ≡ afterStep q size n co c → t ≡ afterStep q size n co c → r ≡ t
+pub after-replies : (q : Query) (size n : ℕ) (co : List Float) (c : ℕ) (r t : Step) → r ≡ afterStep q size n co c
+    → t ≡ afterStep q size n co c → r ≡ t
 after-replies q size n co c r t = same-reply
 
 -- the methods of a step

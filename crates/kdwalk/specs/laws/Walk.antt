@@ -39,7 +39,8 @@ scanned-rest s i (suc k) pre c post e = ⊎-elim
     (split (when (s .test i) (i ∷ [])) (scanned s (i + 1) k) pre c post e)
 
 -- a slot of the answer lies in the interval, and `rest` is what follows it
-pub rest-follows : (s : Search) (ax : ℕ) (lo hi : ℕ) (t : Shape) → Spans lo hi t → (pre : List ℕ) (c : ℕ) (post : List ℕ) → slots s ax t ≡ pre ++ c ∷ post
+pub rest-follows : (s : Search) (ax : ℕ) (lo hi : ℕ) (t : Shape) → Spans lo hi t → (pre : List ℕ) (c : ℕ) (post : List ℕ)
+    → slots s ax t ≡ pre ++ c ∷ post
     → (lo ≤ c) × (c < hi) × (rest s ax t c ≡ post)
 unfolding slots rest
 rest-follows s ax lo hi _ all pre c post e =
@@ -54,7 +55,8 @@ rest-follows s ax lo hi _ (both {m = m} {r = r} {l = l} a b p q) pre c post e =
     (λ w. let o = sole m pre c (w .0) (when-all (s .test m) (m ∷ []) pre c (w .0) (w .1)) in
     (omega arith, omega arith, rw (eq-eqb c m (o .0), rest) (sym (w .2 ∙ ap (λ (z : List ℕ). z ++ (B ++ C)) (o .1)))))
     (λ w. ⊎-elim
-    (λ v. let h = rest-follows s (1 - ax) (m + 1) hi r p (w .0) c (v .0) (when-all (s .right ax m) (slots s (1 - ax) r) (w .0) c (v .0) (v .1)) in
+    (λ v. let h = rest-follows s (1 - ax) (m + 1) hi r p (w .0) c (v .0)
+    (when-all (s .right ax m) (slots s (1 - ax) r) (w .0) c (v .0) (v .1)) in
     let g : m < c = omega (arith, h) in
     (omega arith, h .1, rw (ne-eqb c m (λ f. omega arith), lt-ltb m c g, rest) (ap (λ (z : List ℕ). z ++ C) (h .2) ∙ sym (v .2))))
     (λ v. let h = rest-follows s (1 - ax) lo m l q (v .0) c post (when-all (s .left ax m) (slots s (1 - ax) l) (v .0) c post (v .1)) in
@@ -91,7 +93,8 @@ module _ (q : Query) (size n : ℕ) (co : List Float) where
   pub goes : (pre : List ℕ) (c : ℕ) (post : List ℕ) → walk q size n co ≡ pre ++ c ∷ post → (coordsOk size n (length co) && queryOk q) ≡ true
   goes pre c post e = go (coordsOk size n (length co) && queryOk q) refl e
     where
-      go : (b : Bool) → (coordsOk size n (length co) && queryOk q) ≡ b → cond b (answers q co size n) [] ≡ pre ++ c ∷ post → (coordsOk size n (length co) && queryOk q) ≡ true
+      go : (b : Bool) → (coordsOk size n (length co) && queryOk q) ≡ b → cond b (answers q co size n) [] ≡ pre ++ c ∷ post
+          → (coordsOk size n (length co) && queryOk q) ≡ true
       go true h f = h
       go false h f = absurd (no-nil pre c post f)
 
@@ -123,20 +126,26 @@ module _ (q : Query) (size n : ℕ) (co : List Float) where
   -- the first step
   pub on-first : (cur : Step) → cur ≡ firstStep q size n co → On q size n co cur × (ahead q size n co cur ≡ walk q size n co)
   unfolding firstStep
-  on-first cur e = (record { done = []; todo = walk q size n co; joins = refl; front = e }, ap (ahead q size n co) e ∙ ahead-next [] (walk q size n co) refl)
+  on-first cur e = (
+    record { done = []; todo = walk q size n co; joins = refl; front = e },
+    ap (ahead q size n co) e
+        ∙ ahead-next [] (walk q size n co) refl,
+  )
 
   -- a step at a slot: what is left begins with it
   at-slot : (cur : Step) (c : ℕ) → cur ≡ Slot c → (o : On q size n co cur) → (post : List ℕ) × (walk q size n co ≡ o .done ++ c ∷ post)
   at-slot cur c e o = go (o .todo) (o .joins) (sym e ∙ o .front)
     where
-      go : (t : List ℕ) → walk q size n co ≡ o .done ++ t → Slot c ≡ nextStep (ending q size n co) t → (post : List ℕ) × (walk q size n co ≡ o .done ++ c ∷ post)
+      go : (t : List ℕ) → walk q size n co ≡ o .done ++ t → Slot c ≡ nextStep (ending q size n co) t → (post : List ℕ)
+          × (walk q size n co ≡ o .done ++ c ∷ post)
       go [] j f = absurd (ending-no-slot c (sym f))
       go (x ∷ t) j f = let z : x ≡ c = cc in (t, j ∙ ap (λ (i : ℕ). o .done ++ i ∷ t) z)
 
   pub on-slot : (cur : Step) (c : ℕ) → cur ≡ Slot c → On q size n co cur → c < n
   on-slot cur c e o = let p = at-slot cur c e o in walk-follows (o .done) c (p .0) (p .1) .0
 
-  after-is : (pre : List ℕ) (c : ℕ) (post : List ℕ) → walk q size n co ≡ pre ++ c ∷ post → afterStep q size n co c ≡ nextStep (ending q size n co) post
+  after-is : (pre : List ℕ) (c : ℕ) (post : List ℕ) → walk q size n co ≡ pre ++ c ∷ post
+      → afterStep q size n co c ≡ nextStep (ending q size n co) post
   unfolding afterStep
   after-is pre c post e =
       let w = walk-follows pre c post e in

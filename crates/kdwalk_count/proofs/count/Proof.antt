@@ -15,7 +15,8 @@ use Rattle.kdwalk_count.proofs.count.Statement.{statement}
 use Rattle.kdwalk_count.proofs.count.Tie as tie
 
 abbrev Inv-loop : tie.InvT-loop
-Inv-loop q node-size n coords k₀ cur₀ k cur = On q node-size n coords cur × (k + length (ahead q node-size n coords cur) ≡ length (walk q node-size n coords))
+Inv-loop q node-size n coords k₀ cur₀ k cur = On q node-size n coords cur
+    × (k + length (ahead q node-size n coords cur) ≡ length (walk q node-size n coords))
 
 abbrev μ-loop : tie.MeasureT-loop
 μ-loop q node-size n coords k₀ cur₀ k cur = length (ahead q node-size n coords cur)
@@ -27,7 +28,8 @@ abbrev start-of : Loop → tie.Start Inv-loop μ-loop
 start-of w = w .before .before .before
 
 -- at a step that is no slot, the count is whole and the step is how the walk ends
-ended : (w : Loop) (e : Step) → w .loop .cur ≡ e → ((i : ℕ) → e ≡ Slot i → ⊥) → let a = start-of w .args in length (ahead (a .q) (a .node-size) (a .n) (now (a .coords)) e) ≡ 0
+ended : (w : Loop) (e : Step) → w .loop .cur ≡ e → ((i : ℕ) → e ≡ Slot i → ⊥) → let a = start-of w .args in
+    length (ahead (a .q) (a .node-size) (a .n) (now (a .coords)) e) ≡ 0
     → endedWith e (w .loop .k) ≡ countedOf (a .q) (a .node-size) (a .n) (now (a .coords))
 unfolding countedOf
 ended w e f h z =
@@ -56,7 +58,13 @@ add-k : tie.Need-add-k Inv-loop μ-loop
 add-k c =
     let w = c .before .before .before in
     let a = start-of w .args in
-    omega (arith, w .loop .inv .1, ap (λ (s : Step). length (ahead (a .q) (a .node-size) (a .n) (now (a .coords)) s)) (c .before .cur .given .1), walk-length (a .q) (a .node-size) (a .n) (now (a .coords)))
+    omega (
+      arith,
+      w .loop .inv .1,
+      ap (λ (s : Step). length (ahead (a .q) (a .node-size) (a .n) (now (a .coords)) s))
+          (c .before .cur .given .1),
+      walk-length (a .q) (a .node-size) (a .n) (now (a .coords)),
+    )
 
 after-requires : tie.Need-after-requires Inv-loop μ-loop
 after-requires c κs = tt
@@ -66,7 +74,8 @@ loop-less c =
     let k = c .before .before in
     let w = k .before .before in
     let a = start-of w .args in
-    let h = on-next (a .q) (a .node-size) (a .n) (now (a .coords)) (w .loop .cur) (k .cur .given .0 .0) (c .after .result) (k .cur .given .1) (w .loop .inv .0) (c .after .ensures) in
+    let h = on-next (a .q) (a .node-size) (a .n) (now (a .coords)) (w .loop .cur) (k .cur .given .0 .0) (c .after .result)
+    (k .cur .given .1) (w .loop .inv .0) (c .after .ensures) in
     omega (arith, ap length (h .1))
 
 loop-again : tie.Need-loop-again Inv-loop μ-loop
@@ -74,7 +83,8 @@ loop-again c =
     let k = c .before .before in
     let w = k .before .before in
     let a = start-of w .args in
-    let h = on-next (a .q) (a .node-size) (a .n) (now (a .coords)) (w .loop .cur) (k .cur .given .0 .0) (c .after .result) (k .cur .given .1) (w .loop .inv .0) (c .after .ensures) in
+    let h = on-next (a .q) (a .node-size) (a .n) (now (a .coords)) (w .loop .cur) (k .cur .given .0 .0) (c .after .result)
+    (k .cur .given .1) (w .loop .inv .0) (c .after .ensures) in
     (h .0, omega (arith, ap length (h .1), w .loop .inv .1))
 
 enum-told : tie.Need-enum-told Inv-loop μ-loop

@@ -219,7 +219,8 @@ module _ (G : Given) (a : AcceptedBuild G) where
         → Indexed (stateBy G) (columnsBy G l .ids) (columnsBy G l .coords) z (xsOf (built G z)) (ysOf (built G z))
     table-indexed z h k =
         let t = built G z in
-        let e : indexOfTable size t ≡ indexCols (idsAt (stateBy G) (columnsBy G l .ids) z) (coordsAt (stateBy G) (columnsBy G l .coords) z) =
+        let e : indexOfTable size t ≡ indexCols (idsAt (stateBy G) (columnsBy G l .ids) z)
+        (coordsAt (stateBy G) (columnsBy G l .coords) z) =
         ap₂ indexCols (sym (ids-are G a l r z h k)) (sym (coords-are G a l r z h k)) in
         record {
           long = length-map t (λ e. e .x) ∙ sym (long-is G a z h k);

@@ -26,7 +26,8 @@ use Rattle.law_lamps.specs.Owner.{lampsOf, owner}
 use Rattle.law_lamps.specs.laws.Carries.{lamps-long, num-owned}
 use Rattle.law_answers.specs.laws.Stored.{stateBy, columnsBy}
 use Rattle.law_answers.specs.laws.Clusters.{target-is, no-spoiled-slot, not-childless}
-use Rattle.law_answers.specs.laws.Page.{skippedBy, listedBy, paged, Going, listed-most, paged-none, paged-more, paged-full, paged-going}
+use Rattle.law_answers.specs.laws.Page.{skippedBy, listedBy, paged, Going, listed-most, paged-none, paged-more, paged-full}
+use Rattle.law_answers.specs.laws.Page.{paged-going}
 use Rattle.law_answers.specs.laws.Walks.{Rules, walks}
 
 -- ---- what a walk comes to, by its limit and offset
@@ -47,16 +48,19 @@ module _ (limit offset : ℕ) where
   skips n out ls h =
       let e : n + length ls ≡ skippedBy limit offset n ls = omega arith in
       let d : drop (offset - n) ls ≡ [] = drop-of-length-le ls {i = offset - n} (omega arith) in
-      ap₂ went e (sym (ap (λ (q : List ℕ). out ++ take (limit - length out) q) d ∙ ap (λ (q : List ℕ). out ++ q) (take-nil (limit - length out)) ∙ append-nil out))
+      ap₂ went e (sym (ap (λ (q : List ℕ). out ++ take (limit - length out) q) d
+      ∙ ap (λ (q : List ℕ). out ++ q) (take-nil (limit - length out)) ∙ append-nil out))
 
-  lists : (n : ℕ) (out : List ℕ) (id : ℕ) → Going limit offset n out → offset ≤ n → went n (out ++ (id ∷ [])) ≡ paged limit offset n out (id ∷ [])
+  lists : (n : ℕ) (out : List ℕ) (id : ℕ) → Going limit offset n out → offset ≤ n
+      → went n (out ++ (id ∷ [])) ≡ paged limit offset n out (id ∷ [])
   lists n out id g h =
       let v = g .few in
       let u = g .most in
       let e : n ≡ skippedBy limit offset n (id ∷ []) = omega arith in
       let z : offset - n ≡ 0 = omega arith in
       let m : limit - length out ≡ suc (limit - length out - 1) = omega arith in
-      ap₂ went e (sym (ap₂ (λ (p s : ℕ). out ++ take p (drop s (id ∷ []))) m z ∙ ap (λ (t : List ℕ). out ++ (id ∷ t)) (take-nil (limit - length out - 1))))
+      ap₂ went e (sym (ap₂ (λ (p s : ℕ). out ++ take p (drop s (id ∷ []))) m z
+      ∙ ap (λ (t : List ℕ). out ++ (id ∷ t)) (take-nil (limit - length out - 1))))
 
   page-rules : Rules limit offset (Going limit offset) Pages
   page-rules =
@@ -72,7 +76,9 @@ module _ (limit offset : ℕ) where
               (paged-going limit offset n out ls g (λ w. f (ap length (same-out _ _ _ _ e) ∙ w)))),
           (let w = ap length (same-out _ _ _ _ e) in let v = listed-most limit offset n out ls in omega arith),
         );
-        more = λ n out ls ms m p t g s e f w. w ∙ ap₂ (λ (x : ℕ) (y : List ℕ). paged limit offset x y ms) (same-n _ _ _ _ e) (same-out _ _ _ _ e) ∙ paged-more limit offset n out ls ms (g .most);
+        more = λ n out ls ms m p t g s e f w. w
+            ∙ ap₂ (λ (x : ℕ) (y : List ℕ). paged limit offset x y ms) (same-n _ _ _ _ e) (same-out _ _ _ _ e)
+            ∙ paged-more limit offset n out ls ms (g .most);
       }
 
 -- ---- the leaves of a cluster

@@ -72,7 +72,8 @@ module _ (limit offset : ℕ) where
   pub paged-none : (n : ℕ) (out : List ℕ) → n ≤ offset → paged n out [] ≡ went n out
   paged-none n out h =
       let e : min offset (n + 0) ≡ n = omega arith in
-      ap₂ went e (ap (λ (q : List ℕ). out ++ take (limit - length out) q) (drop-nil (offset - n)) ∙ ap (λ (q : List ℕ). out ++ q) (take-nil (limit - length out)) ∙ append-nil out)
+      ap₂ went e (ap (λ (q : List ℕ). out ++ take (limit - length out) q) (drop-nil (offset - n))
+      ∙ ap (λ (q : List ℕ). out ++ q) (take-nil (limit - length out)) ∙ append-nil out)
 
   skipped-more : (n : ℕ) (ls ms : List ℕ) → skippedBy (skippedBy n ls) ms ≡ skippedBy n (ls ++ ms)
   skipped-more n ls ms = let e = length-append ls ms in omega arith
@@ -88,7 +89,8 @@ module _ (limit offset : ℕ) where
       short w =
           let D = drop (offset - n) ls in
           let z : offset - skippedBy n ls ≡ 0 = omega arith in
-          let k = left limit (length out) (length D) (length (listedBy n out ls)) (length-append out (take a D) ∙ ap (λ (q : ℕ). length out + q) (take-few a D)) in
+          let k = left limit (length out) (length D) (length (listedBy n out ls))
+          (length-append out (take a D) ∙ ap (λ (q : ℕ). length out + q) (take-few a D)) in
           ap₂ (λ (u v : ℕ). listedBy n out ls ++ take u (drop v ms)) k z
           ∙ append-assoc out (take a D) (take (a - length D) ms)
           ∙ ap (λ (q : List ℕ). out ++ q) (sym (take-over a D ms) ∙ ap (take a) (sym (drop-append-le (offset - n) ls ms (omega arith))))
@@ -97,11 +99,13 @@ module _ (limit offset : ℕ) where
       long : length ls ≤ offset - n → listedBy (skippedBy n ls) (listedBy n out ls) ms ≡ listedBy n out (ls ++ ms)
       long w =
           let none : drop (offset - n) ls ≡ [] = drop-of-length-le ls w in
-          let same : listedBy n out ls ≡ out = ap (λ (q : List ℕ). out ++ take a q) none ∙ ap (λ (q : List ℕ). out ++ q) (take-nil a) ∙ append-nil out in
+          let same : listedBy n out ls ≡ out = ap (λ (q : List ℕ). out ++ take a q) none ∙ ap (λ (q : List ℕ). out ++ q) (take-nil a)
+          ∙ append-nil out in
           let z : offset - skippedBy n ls ≡ offset - n - length ls = omega arith in
           let k : offset - n ≡ length ls + (offset - n - length ls) = omega arith in
           ap₂ (λ (o : List ℕ) (v : ℕ). o ++ take (limit - length o) (drop v ms)) same z
-          ∙ ap (λ (q : List ℕ). out ++ take a q) (sym (ap (λ (v : ℕ). drop v (ls ++ ms)) k ∙ drop-append-add ls ms (offset - n - length ls)))
+          ∙ ap (λ (q : List ℕ). out ++ take a q)
+          (sym (ap (λ (v : ℕ). drop v (ls ++ ms)) k ∙ drop-append-add ls ms (offset - n - length ls)))
 
   -- after some lamps, and then more
   pub paged-more : (n : ℕ) (out ls ms : List ℕ) → n ≤ offset → paged (skippedBy n ls) (listedBy n out ls) ms ≡ paged n out (ls ++ ms)
@@ -119,7 +123,8 @@ module _ (limit offset : ℕ) where
       ap₂ went s o ∙ paged-more n out ls ms (g .most)
 
   -- otherwise the walk goes on
-  pub paged-going : (n : ℕ) (out ls : List ℕ) → Going n out → (length (listedBy n out ls) ≡ limit → ⊥) → Going (skippedBy n ls) (listedBy n out ls)
+  pub paged-going : (n : ℕ) (out ls : List ℕ) → Going n out → (length (listedBy n out ls) ≡ limit → ⊥)
+      → Going (skippedBy n ls) (listedBy n out ls)
   paged-going n out ls g e =
       let f = g .few in
       let m = listed-few n out ls (omega arith) in

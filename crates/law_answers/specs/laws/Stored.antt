@@ -3,15 +3,14 @@
 use mathlib.Core.Path.{_≡_, refl, ap, ap₂, sym, _∙_, subst}
 use mathlib.Core.Logic.{⊎-elim}
 use mathlib.Core.Bool.{true}
-use mathlib.Core.List.{List, [], _∷_, _++_, map, append-assoc}
-use Prim.Native.Nat.{ℕ, zero, suc, _+_, _-_, _*_, _/_, _<_, _≤_, min}
+use mathlib.Core.List.{List, [], _∷_, _++_, append-assoc}
+use Prim.Native.Nat.{ℕ, zero, suc, _+_, _-_, _*_, _/_, _<_, _≤_}
 use native.Mathlib.Omega.{arith}
 use borrow.Author.Tests.{le-leb, eq-eqb}
-use lib.ListN.{length, getD, take, drop, length-append, length-map}
+use lib.ListN.{length, getD, take, drop, length-append}
 use lib.Seq.{drop-drop, drop-append-seam, take-append-seam}
 use lib.Ieee.{Float}
 use Rattle.kdslots.specs.laws.All.{All, all-map}
-use Rattle.build_tables.specs.declared.Entry.{Entry}
 use Rattle.build_tables.specs.declared.State.{State}
 use Rattle.build_tables.specs.laws.Bounds.{options-are}
 use Rattle.build_tables.specs.Columns.{part, heldAt}
@@ -22,15 +21,16 @@ use Rattle.build_tables.specs.Sound.{packed, stateOk}
 use Rattle.build_one_zoom.specs.laws.Keeps.{cluster-long}
 use Rattle.law_groups.specs.laws.Sums.{below}
 use Rattle.build_tables.specs.Room.{Columns, columns, roomOf}
+use Rattle.build_tables.specs.laws.Roomy.{both, roomy-room}
 use Rattle.ask_base.specs.Columns.{tableAt, idsAt, coordsAt}
-use Rattle.build_all_zooms.specs.Zooms.{Plan, runZooms, indexOfTable, zoomsOf, joined, joinedIds, joinedCo, laidOver}
+use Rattle.build_all_zooms.specs.Zooms.{Plan, runZooms, indexOfTable, zoomsOf, joined, joinedIds, joinedCo}
 use Rattle.build_all_zooms.specs.laws.Running.{slots-ids, slots-co}
 use Rattle.supercluster.specs.declared.LoadReply.the-variants.{Done}
 use Rattle.supercluster.specs.Build.{tablesOf, builtState, BuildColumns, Outcome, written, need, checked, byReply, loaded}
 use Rattle.supercluster.specs.laws.Held.{LaidOut, held, built-laid, built-held}
 use Rattle.supercluster.specs.laws.Load.{Holds, accepted, holds, replies, rowsIn}
 use Rattle.supercluster.specs.laws.Over.{over-length}
-use Rattle.supercluster.specs.laws.Right.{Right, tables-right, tables-count, tables-room}
+use Rattle.supercluster.specs.laws.Right.{Right, tables-right, tables-count, tables-room, roomy-written}
 use Rattle.law_builds.specs.Given.{Given, AcceptedBuild, points, minZ, maxZ, plan, tablesOfBuild, lampsIn, energyIn, lampsIn-length}
 use Rattle.law_builds.specs.Came.{tableOfZoom as built}
 use Rattle.law_answers.specs.Stored.{columnsOf}
@@ -64,7 +64,8 @@ co-pieces size [] = refl
 co-pieces size (t ∷ ts) = ap (λ (q : List Float). indexOfTable size t .co ++ q) (co-pieces size ts)
 
 module _ (ss ll : List ℕ) (low : ℕ) where
-  shift : (t : Table) (ts : List Table) (k : ℕ) → k < length ts → getD ts (length ts - 1 - k) [] ≡ getD (t ∷ ts) (length (t ∷ ts) - 1 - k) []
+  shift : (t : Table) (ts : List Table) (k : ℕ) → k < length ts
+      → getD ts (length ts - 1 - k) [] ≡ getD (t ∷ ts) (length (t ∷ ts) - 1 - k) []
   shift t ts k h =
       let e : suc (length ts - 1 - k) ≡ length (t ∷ ts) - 1 - k = omega arith in
       ap (λ (i : ℕ). getD (t ∷ ts) i []) e
@@ -73,23 +74,28 @@ module _ (ss ll : List ℕ) (low : ℕ) where
   first t ts = let e : length (t ∷ ts) - 1 - length ts ≡ 0 = omega arith in ap (λ (i : ℕ). getD (t ∷ ts) i []) e
 
   -- the length of each
-  laid-long : (ts : List Table) (at : ℕ) → LaidOut ss ll low at ts → (k : ℕ) → k < length ts → getD ll (low + k) 0 ≡ length (getD ts (length ts - 1 - k) [])
+  laid-long : (ts : List Table) (at : ℕ) → LaidOut ss ll low at ts → (k : ℕ) → k < length ts
+      → getD ll (low + k) 0 ≡ length (getD ts (length ts - 1 - k) [])
   unfolding LaidOut
   laid-long [] at d k h = absurd (omega arith)
-  laid-long (t ∷ ts) at d k h = ⊎-elim (λ l. laid-long ts (at + length t) (d .2) k l ∙ ap length (shift t ts k l)) here (below k (length ts))
+  laid-long (t ∷ ts) at d k h = ⊎-elim (λ l. laid-long ts (at + length t) (d .2) k l ∙ ap length (shift t ts k l)) here
+      (below k (length ts))
     where
       here : length ts ≤ k → getD ll (low + k) 0 ≡ length (getD (t ∷ ts) (length (t ∷ ts) - 1 - k) [])
       here l =
           let e : length ts ≡ k = omega arith in
-          subst (λ (i : ℕ). getD ll (low + i) 0 ≡ length (getD (t ∷ ts) (length (t ∷ ts) - 1 - i) [])) e (d .1 ∙ sym (ap length (first t ts)))
+          subst (λ (i : ℕ). getD ll (low + i) 0 ≡ length (getD (t ∷ ts) (length (t ∷ ts) - 1 - i) [])) e
+          (d .1 ∙ sym (ap length (first t ts)))
 
   -- a column that holds a piece g of each, of m times its length
   module _ {A : Type 0} (g : Table → List A) (m : ℕ → ℕ) (madd : (a b : ℕ) → m (a + b) ≡ m a + m b) where
-    laid-piece : (ts : List Table) (at : ℕ) (C rest : List A) → LaidOut ss ll low at ts → All (λ t. length (g t) ≡ m (length t)) ts → drop (m at) C ≡ pieces g ts ++ rest
+    laid-piece : (ts : List Table) (at : ℕ) (C rest : List A) → LaidOut ss ll low at ts → All (λ t. length (g t) ≡ m (length t)) ts
+        → drop (m at) C ≡ pieces g ts ++ rest
         → (k : ℕ) → k < length ts → part (m (getD ss (low + k) 0)) (m (getD ll (low + k) 0)) C ≡ g (getD ts (length ts - 1 - k) [])
     unfolding LaidOut All pieces
     laid-piece [] at C rest d w e k h = absurd (omega arith)
-    laid-piece (t ∷ ts) at C rest d w e k h = ⊎-elim (λ l. laid-piece ts (at + length t) C rest (d .2) (w .1) after k l ∙ ap g (shift t ts k l)) here (below k (length ts))
+    laid-piece (t ∷ ts) at C rest d w e k h =
+        ⊎-elim (λ l. laid-piece ts (at + length t) C rest (d .2) (w .1) after k l ∙ ap g (shift t ts k l)) here (below k (length ts))
       where
         e′ : drop (m at) C ≡ g t ++ (pieces g ts ++ rest)
         e′ = e ∙ append-assoc (g t) (pieces g ts) rest
@@ -107,7 +113,8 @@ module _ (ss ll : List ℕ) (low : ℕ) where
         here : length ts ≤ k → part (m (getD ss (low + k) 0)) (m (getD ll (low + k) 0)) C ≡ g (getD (t ∷ ts) (length (t ∷ ts) - 1 - k) [])
         here l =
             let e : length ts ≡ k = omega arith in
-            subst (λ (i : ℕ). part (m (getD ss (low + i) 0)) (m (getD ll (low + i) 0)) C ≡ g (getD (t ∷ ts) (length (t ∷ ts) - 1 - i) [])) e (whole ∙ sym (ap g (first t ts)))
+            subst (λ (i : ℕ). part (m (getD ss (low + i) 0)) (m (getD ll (low + i) 0)) C ≡ g (getD (t ∷ ts) (length (t ∷ ts) - 1 - i) [])) e
+            (whole ∙ sym (ap g (first t ts)))
 
 -- the tables that are held, by their places
 held-at : (ss ll : List ℕ) (t : Table) (low k i : ℕ) → i < k → getD (held ss ll t low k) i [] ≡ heldAt ss ll t (low + (k - 1 - i))
@@ -134,9 +141,6 @@ laid-packed s cap e (t ∷ ts) at d w h =
     rw (eq-eqb (startOf s z) at (d .0), le-leb 1 (lenOf s z) (omega arith), le-leb (lenOf s z) (s .count) (omega arith), n)
 
 -- ---- of a build
-
-both : (m a b : ℕ) → m ≤ a → m ≤ b → m ≤ min a b
-both m a b p q = omega arith
 
 half : (m h : ℕ) → m * 2 ≤ h → m ≤ h / 2
 half m h p = omega arith
@@ -172,14 +176,24 @@ module _ (G : Given) (a : AcceptedBuild G) where
       all-map (Right (points G) (energyIn G)) Slots
       (λ t r.
       let m : length t ≤ 1048576 = omega (arith, r .few, a .few) in
-      record { ids = slots-ids size t (b .size-from) (b .size-to) (r .some) m (r .unit); co = slots-co size t (b .size-from) (b .size-to) (r .some) m (r .unit) ∙ (omega arith) })
+      record {
+        ids = slots-ids size t (b .size-from) (b .size-to) (r .some) m (r .unit);
+        co =
+            slots-co size t (b .size-from) (b .size-to) (r .some) m (r .unit) ∙ (omega arith);
+      })
       Ts rights
 
   ids-joined : (ts : List Table) → All Slots ts → length (joinedIds size ts) ≡ length (joined ts)
   unfolding All joinedIds joined
   ids-joined [] w = refl
   ids-joined (t ∷ ts) w =
-      omega (arith, length-append (indexOfTable size t .ids) (joinedIds size ts), length-append t (joined ts), w .0 .ids, ids-joined ts (w .1))
+      omega (
+        arith,
+        length-append (indexOfTable size t .ids) (joinedIds size ts),
+        length-append t (joined ts),
+        w .0 .ids,
+        ids-joined ts (w .1),
+      )
 
   co-joined : (ts : List Table) → All Slots ts → length (joinedCo size ts) ≡ 2 * length (joined ts)
   unfolding All joinedCo joined
@@ -239,11 +253,6 @@ module _ (G : Given) (a : AcceptedBuild G) where
     abbrev C : Columns
     C = columnsBy G l
 
-    -- a column of the tables, over one that holds them
-    wide : {A : Type 0} (f : Entry → A) (d : List A) → need (G .options) (points G) ≤ length d
-        → need (G .options) (points G) ≤ length (laidOver (map f (joined Ts)) d)
-    wide f d h = omega (arith, over-length (map f (joined Ts)) d (omega (arith, fits, length-map (joined Ts) f, h)), h)
-
     room : need (G .options) (points G) ≤ roomOf (columnsBy G l)
     unfolding written
     room =
@@ -252,12 +261,10 @@ module _ (G : Given) (a : AcceptedBuild G) where
         let i = ids-joined Ts slots-long in
         let c = co-joined Ts slots-long in
         let k : n ≤ length (C .ids) = omega (arith, over-length (joinedIds size Ts) (l .ids) (omega (arith, f, i, r .hd)), r .hd) in
-        let t : n * 2 ≤ length (C .coords) = omega (arith, over-length (joinedCo size Ts) (l .coords) (omega (arith, f, c, r .hc)), r .hc) in
-        let c = l .table in
-        both n _ _ (both n _ _ (both n _ _ (wide (λ e. e .x) (c .x) (r .hx)) (wide (λ e. e .y) (c .y) (r .hy)))
-        (both n _ _ (wide (λ e. e .seen) (c .seen) (r .hs)) (wide (λ e. e .id) (c .id) (r .hi))))
-        (both n _ _ (both n _ _ (wide (λ e. e .parent) (c .parent) (r .hp)) (wide (λ e. e .num) (c .num) (r .hn)))
-        (both n _ _ (wide (λ e. e .energy) (c .energy) (r .hw)) (both n _ _ k (half n (length (C .coords)) t))))
+        let t : n * 2 ≤ length (C .coords) =
+        omega (arith, over-length (joinedCo size Ts) (l .coords) (omega (arith, f, c, r .hc)), r .hc) in
+        roomy-room C n (roomy-written (G .options) (G .xs) (G .ys) (G .energies) l a (r .table))
+        (both n _ _ k (half n (length (C .coords)) t))
 
     -- the state passes its check
     pub state-sound : stateOk (stateBy G) (roomOf (columnsBy G l)) ≡ true

@@ -4,7 +4,7 @@
 -- entry in one of the three; where strips do not run, as on a plan with the option on, no entry is listed twice. The tally is the sum of
 -- num over the distinct places listed whose centre the tile holds. Neither is ever refused 11. Assumes nothing.
 use mathlib.Core.Path.{_≡_, refl, ap, ap₂, sym, _∙_, subst}
-use mathlib.Core.Bool.{Bool, true, false, cond, _&&_}
+use mathlib.Core.Bool.{Bool, true, false, _&&_}
 use mathlib.Core.List.{List, [], _∷_, _++_, map, append-nil}
 use Prim.Native.Nat.{ℕ, zero as nought, suc, _+_, _^_, _<_}
 use native.Mathlib.Omega.{arith}
@@ -15,10 +15,8 @@ use lib.Ieee.{Float, binary64, sub}
 use Rattle.floats.specs.Numbers.{zero, one}
 use Rattle.floats.specs.laws.Unit.{In01}
 use Rattle.range.specs.declared.DataRange.{DataRange}
-use Rattle.range.specs.declared.CoordinateSystem.{CoordinateSystem}
-use Rattle.range.specs.declared.CoordinateSystem.the-variants.{LatLng, Cartesian}
-use Rattle.kdsort.specs.Cols.{IndexCols}
-use Rattle.kdsort.specs.Cols.{blank}
+use Rattle.range.specs.declared.CoordinateSystem.the-variants.{Cartesian}
+use Rattle.kdsort.specs.Cols.{IndexCols, blank}
 use Rattle.kdsort.specs.Tree.{Index}
 use Rattle.kdslots.specs.declared.Query.the-variants.{Range}
 use Rattle.kdslots.specs.laws.All.{All, all-append}
@@ -46,9 +44,10 @@ use Rattle.ask_tile_table.specs.declared.Tally.the-variants.{Sum, Tile as Tally
 use Rattle.ask_tile_table.specs.laws.Framed.{tile-is}
 use Rattle.ask_tile_table.specs.laws.Inside.{InTile, inside-passes}
 use Rattle.ask_tile_table.specs.laws.Lists.{Lists, tile-whole, listed-whole}
+use Rattle.ask_tile_table.specs.laws.Wraps.{plan-wraps}
 use Rattle.ask_tile_table.specs.Tally.{tallyNumber, weightIn, distinct, total, tallyOf}
-use Rattle.ask_tile_table.specs.Tile.{Visit, isTile, edge, least, greatest, here, goesRound, wraps, eastStrip, westStrip, visitsOf, visited, tileListed, wholeTile}
-use Rattle.ask_tile_table.specs.Tile.{itemOf, itemAt, tileItems}
+use Rattle.ask_tile_table.specs.Tile.{Visit, isTile, edge, least, greatest, here, wraps, eastStrip, westStrip, visitsOf, visited}
+use Rattle.ask_tile_table.specs.Tile.{tileListed, wholeTile, itemOf, itemAt, tileItems}
 use Rattle.ask_tile.specs.Asked.{TileAsked, tileAsked, tileAnswerOf, someOf}
 use Rattle.ask_tile.specs.laws.Ends.{asked-is}
 use Rattle.ask_tile.specs.Tallied.{tallySum, tallied}
@@ -103,26 +102,6 @@ pub data Why (o : Options) (z x y : ℕ) (t : Table) (i : Item) : Type 0 where
   western : wraps o ≡ true → x + 1 ≡ 2 ^ z
       → FoundFrom t (westStrip o z x y) zero (least o z y) (edge o z) (greatest o z y) i → Why o z x y t i
 
--- ---- when strips run: always where the option is off, and for longitude either way; on a plan with the option on never
-
-pub off-wraps : (o : Options) → o .«longitude_strips_only» ≡ false → wraps o ≡ true
-unfolding wraps
-off-wraps o e = ap (λ (b : Bool). cond b (goesRound (o .«coordinate_system»)) true) e
-
-pub longitude-wraps : (o : Options) → o .«coordinate_system» ≡ LatLng → wraps o ≡ true
-unfolding wraps
-longitude-wraps o e =
-    ap (λ (c : CoordinateSystem). cond (o .«longitude_strips_only») (goesRound c) true) e ∙ of (o .«longitude_strips_only»)
-  where
-    of : (b : Bool) → cond b true true ≡ true
-    of true = refl
-    of false = refl
-
-pub plan-wraps : (o : Options) (d : DataRange) → o .«longitude_strips_only» ≡ true
-    → o .«coordinate_system» ≡ Cartesian d → wraps o ≡ false
-unfolding wraps
-plan-wraps o d e c = ap₂ (λ (b : Bool) (x : CoordinateSystem). cond b (goesRound x) true) e c
-
 -- ---- lists of items
 
 items-append : (t : Table) (a b : List Visit) → tileItems t (a ++ b) ≡ tileItems t a ++ tileItems t b
@@ -142,14 +121,17 @@ places-by t g [] = refl
 places-by t g (p ∷ ps) = ap (λ (l : List ℕ). p ∷ l) (places-by t g ps)
 
 -- an item stands among those of its search
-by-at : (t : Table) (g : TileSearch) (pre : List ℕ) (p : ℕ) (post : List ℕ) (rest : List Item) → Lists (itemOf g p (entry t p)) (itemsBy t g (pre ++ p ∷ post) ++ rest)
+by-at : (t : Table) (g : TileSearch) (pre : List ℕ) (p : ℕ) (post : List ℕ) (rest : List Item)
+    → Lists (itemOf g p (entry t p)) (itemsBy t g (pre ++ p ∷ post) ++ rest)
 by-at t g [] p post rest = ([], itemsBy t g post ++ rest, refl)
 by-at t g (q ∷ pre) p post rest =
     let w = by-at t g pre p post rest in
     (itemOf g q (entry t q) ∷ w .0, w .1, ap (λ (l : List Item). itemOf g q (entry t q) ∷ l) (w .2))
 
-by-in : (t : Table) (g : TileSearch) (p : ℕ) (ps : List ℕ) (rest : List Item) → In p ps → Lists (itemOf g p (entry t p)) (itemsBy t g ps ++ rest)
-by-in t g p ps rest m = subst (λ (l : List ℕ). Lists (itemOf g p (entry t p)) (itemsBy t g l ++ rest)) (sym (m .2)) (by-at t g (m .0) p (m .1) rest)
+by-in : (t : Table) (g : TileSearch) (p : ℕ) (ps : List ℕ) (rest : List Item) → In p ps
+    → Lists (itemOf g p (entry t p)) (itemsBy t g ps ++ rest)
+by-in t g p ps rest m = subst (λ (l : List ℕ). Lists (itemOf g p (entry t p)) (itemsBy t g l ++ rest)) (sym (m .2))
+    (by-at t g (m .0) p (m .1) rest)
 
 -- what holds of each holds of one that is listed
 lists-all : (P : Item → Type 0) (i : Item) (pre post : List Item) → All P (pre ++ i ∷ post) → P i
@@ -157,7 +139,8 @@ unfolding All
 lists-all P i [] post h = h .0
 lists-all P i (j ∷ pre) post h = lists-all P i pre post (h .1)
 
-all-by : (P : Item → Type 0) (t : Table) (g : TileSearch) (ps : List ℕ) → ((p : ℕ) → In p ps → P (itemOf g p (entry t p))) → All P (itemsBy t g ps)
+all-by : (P : Item → Type 0) (t : Table) (g : TileSearch) (ps : List ℕ) → ((p : ℕ) → In p ps → P (itemOf g p (entry t p)))
+    → All P (itemsBy t g ps)
 unfolding All
 all-by P t g [] f = tt
 all-by P t g (p ∷ ps) f = (f p ([], ps, refl), all-by P t g ps (λ q m. f q (in-right q (p ∷ []) ps m)))
@@ -185,7 +168,8 @@ module _ (size : ℕ) (t : Table) (old S : IndexCols) (I : Index size (xsOf t) (
 -- ---- why an item is listed
 
 module _ (o : Options) (z x y : ℕ) (t : Table) where
-  from-by : (g : TileSearch) (w s e n : Float) (ps : List ℕ) → Boxes w s e n t ps → (p : ℕ) → In p ps → FoundFrom t g w s e n (itemOf g p (entry t p))
+  from-by : (g : TileSearch) (w s e n : Float) (ps : List ℕ) → Boxes w s e n t ps → (p : ℕ) → In p ps
+      → FoundFrom t g w s e n (itemOf g p (entry t p))
   from-by g w s e n ps b p m = let q = b .inside p m in record { place-in = q .0; inside = q .1; is = refl }
 
   strip-all : (g : TileSearch) (w s e n : Float) (P : Item → Type 0) (made : Bool) (ps : List ℕ) → Strip made w s e n t ps
@@ -274,7 +258,8 @@ module _ (G : Given) (a : AcceptedBuild G) (l : BuildColumns) (r : Holds (need (
         b = B;
         c = C;
         is = items-append t (visitsOf g A) (visitsOf h B ++ visitsOf k C)
-            ∙ ap₂ (λ (p q : List Item). p ++ q) (items-by t g A) (items-append t (visitsOf h B) (visitsOf k C) ∙ ap₂ (λ (p q : List Item). p ++ q) (items-by t h B) (items-by t k C));
+            ∙ ap₂ (λ (p q : List Item). p ++ q) (items-by t g A) (items-append t (visitsOf h B) (visitsOf k C)
+            ∙ ap₂ (λ (p q : List Item). p ++ q) (items-by t h B) (items-by t k C));
         own = range-boxes (G .options .«node_size») t old S index body _ _ _ _;
         eastern = strip-of (G .options .«node_size») t old S index body _ _ _ _ (wraps (G .options) && eqb x 0);
         western = strip-of (G .options .«node_size») t old S index body _ _ _ _ (wraps (G .options) && eqb (x + 1) (2 ^ z));
@@ -359,7 +344,8 @@ module _ (G : Given) (a : AcceptedBuild G) (l : BuildColumns) (r : Holds (need (
     tally-is =
         rw (state-sound G a l r, tile)
         (moved (λ q ids co. let v = visited (G .options) z x y q ids co in tallySum (wholeTile q v) (tallyOf (weightIn z x y) q v))
-        ∙ ap₂ (λ (k : Bool) (v : List Visit). tallySum k (total (weightIn z x y) t (distinct [] (map (λ w. w .place) v)))) all-whole all-listed)
+        ∙ ap₂ (λ (k : Bool) (v : List Visit). tallySum k (total (weightIn z x y) t (distinct [] (map (λ w. w .place) v)))) all-whole
+        all-listed)
 
     -- the tally is the sum, over the distinct places of the items that the tile lists, of the num of those entries whose centre the tile
     -- holds; 0 where there is none
@@ -381,7 +367,8 @@ module _ (G : Given) (a : AcceptedBuild G) (l : BuildColumns) (r : Holds (need (
   tile-not-spoiled room = by (isTile z x y) refl
     where
       by : (b : Bool) → isTile z x y ≡ b → tileAnswerOf (tileBy G l z x y) room ≡ Spoiled → ⊥
-      by true f h = let w = tile-listed f in some-somehow (length (w .0)) room (sym (ap (λ (q : TileAsked). tileAnswerOf q room) (w .1)) ∙ h)
+      by true f h = let w = tile-listed f in
+          some-somehow (length (w .0)) room (sym (ap (λ (q : TileAsked). tileAnswerOf q room) (w .1)) ∙ h)
       by false f h = let w = sym (ap (λ (q : TileAsked). tileAnswerOf q room) (tile-refused f)) ∙ h in omega (arith, ap answerNumber w)
 
   -- nor its tally

@@ -73,14 +73,16 @@ grows-tree e = let z : _≡_ {A = ℕ} 0 1 = cc in omega arith
 -- ---- where an id leads
 
 module _ (s : State) (cap id : ℕ) (good : stateOk s cap ≡ true) (P : Target → Type 0) (none : P Target·NoCluster) (tree : P Target·NoTree)
-    (at : let T = tableOf (s .count) id in let I = originOf (s .count) id in s .count ≤ id → s .options .«min_zoom» < T → T ≤ s .options .«max_zoom» + 1 → I < lenOf s T → P (At T I)) where
+    (at : let T = tableOf (s .count) id in let I = originOf (s .count) id in s .count ≤ id → s .options .«min_zoom» < T
+    → T ≤ s .options .«max_zoom» + 1 → I < lenOf s T → P (At T I)) where
   abbrev U : ℕ
   U = tableOf (s .count) id
 
   abbrev O : ℕ
   O = originOf (s .count) id
 
-  by-place : (b : Bool) → leb (lenOf s U) O ≡ b → s .count ≤ id → s .options .«min_zoom» < U → U ≤ s .options .«max_zoom» + 1 → P (cond b Target·NoCluster (At U O))
+  by-place : (b : Bool) → leb (lenOf s U) O ≡ b → s .count ≤ id → s .options .«min_zoom» < U → U ≤ s .options .«max_zoom» + 1
+      → P (cond b Target·NoCluster (At U O))
   by-place true e n h k = none
   by-place false e n h k = at n h k (leb-false _ _ e)
 
@@ -93,14 +95,16 @@ module _ (s : State) (cap id : ℕ) (good : stateOk s cap ≡ true) (P : Target 
       more w = ⊎-elim (λ v. v) (λ v. absurd (w (omega arith))) (below (s .options .«min_zoom») U)
 
   by-built : (a b : Bool) → leb (s .options .«min_zoom») U ≡ a → leb U (s .options .«max_zoom» + 1) ≡ b → s .count ≤ id
-      → P (cond (not (a && b)) Target·NoTree (cond (eqb U (s .options .«min_zoom»)) Target·NoCluster (cond (leb (lenOf s U) O) Target·NoCluster (At U O))))
+      → P (cond (not (a && b)) Target·NoTree
+      (cond (eqb U (s .options .«min_zoom»)) Target·NoCluster (cond (leb (lenOf s U) O) Target·NoCluster (At U O))))
   by-built true true e d n = by-low (eqb U (s .options .«min_zoom»)) refl n (leb-true _ _ e) (leb-true _ _ d)
   by-built true false e d n = tree
   by-built false true e d n = tree
   by-built false false e d n = tree
 
   by-id : (b : Bool) → ltb id (s .count) ≡ b
-      → P (cond b Target·NoCluster (cond (not (isBuilt s U)) Target·NoTree (cond (eqb U (s .options .«min_zoom»)) Target·NoCluster (cond (leb (lenOf s U) O) Target·NoCluster (At U O)))))
+      → P (cond b Target·NoCluster (cond (not (isBuilt s U)) Target·NoTree
+      (cond (eqb U (s .options .«min_zoom»)) Target·NoCluster (cond (leb (lenOf s U) O) Target·NoCluster (At U O)))))
   by-id true e = none
   by-id false e = by-built (leb (s .options .«min_zoom») U) (leb U (s .options .«max_zoom» + 1)) refl refl (ltb-false _ _ e)
 

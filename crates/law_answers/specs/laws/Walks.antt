@@ -122,7 +122,8 @@ module _ (G : Given) (a : AcceptedBuild G) (l : BuildColumns) (r : Holds (need (
         is = lamps-of-lamp G a z h k j q b
 
         skipped : n < offset → Visits
-        skipped w = by-trip (went (n + 1) out) (E .id ∷ []) (rw (one, lt-ltb n offset w)) is (rules .skip n out (E .id ∷ []) ok (omega arith) (omega arith))
+        skipped w = by-trip (went (n + 1) out) (E .id ∷ []) (rw (one, lt-ltb n offset w)) is
+            (rules .skip n out (E .id ∷ []) ok (omega arith) (omega arith))
 
         there : offset ≤ n → Visits
         there w =
@@ -176,7 +177,8 @@ module _ (G : Given) (a : AcceptedBuild G) (l : BuildColumns) (r : Holds (need (
       let s = some g t j ih h k (w .0) deep n out ok (omega arith) in
       let x = rules .whole n out L X v in
       subst (λ (y : Trip). R n out (L ++ M) (after S C limit offset y (λ m p. stepsOver g t ks m p))) (sym (x .2))
-      (on (x .0) (x .1) s (subst (λ (y : Trip). R n out L y) (x .2) v) (eqb (length (x .1)) limit) refl (λ c e. steps-are g t ih h k deep ks (w .1) (x .0) (x .1) c e))
+      (on (x .0) (x .1) s (subst (λ (y : Trip). R n out L y) (x .2) v) (eqb (length (x .1)) limit) refl
+      (λ c e. steps-are g t ih h k deep ks (w .1) (x .0) (x .1) c e))
     where
       L : List ℕ
       L = lampsOf G t j

@@ -16,7 +16,8 @@ use Rattle.law_groups.specs.laws.Sums.{hit, below, count-head, sum-appen
 
 notin-count : (k : ℕ) (l : List ℕ) → NotIn k l → count k l ≡ 0
 notin-count k [] h = refl
-notin-count k (j ∷ js) h = let a = notin-count k js (h .1) in ⊎-elim (λ e. absurd (h .0 (e .0))) (λ e. let b = e .1 in omega arith) (hit k j)
+notin-count k (j ∷ js) h = let a = notin-count k js (h .1) in ⊎-elim (λ e. absurd (h .0 (e .0))) (λ e. let b = e .1 in omega arith)
+    (hit k j)
 
 pub distinct-count : (k : ℕ) (l : List ℕ) → Distinct l → count k l ≤ 1
 distinct-count k [] d = omega arith
@@ -47,8 +48,10 @@ count-notin k (j ∷ js) c = ((λ e. ⊎-elim (λ h. let a = h .1 in omega arith
 
 pub count-distinct : (l : List ℕ) → ((k : ℕ) → count k l ≤ 1) → Distinct l
 count-distinct [] h = tt
-count-distinct (j ∷ js) h =
-    (count-notin j js (let a = h j in ⊎-elim (λ e. let b = e .1 in omega arith) (λ e. absurd (e .0 refl)) (hit j j)), count-distinct js (λ k. let a = h k in omega arith))
+count-distinct (j ∷ js) h = (
+  count-notin j js (let a = h j in ⊎-elim (λ e. let b = e .1 in omega arith) (λ e. absurd (e .0 refl)) (hit j j)),
+  count-distinct js (λ k. let a = h k in omega arith),
+)
 
 pub count-in : (k : ℕ) (l : List ℕ) → 1 ≤ count k l → In k l
 count-in k [] c = absurd (omega arith)
@@ -63,8 +66,10 @@ count-in k (j ∷ js) c = ⊎-elim here (later (λ w. count-in k js w)) (hit k j
 pub count-below : (n : ℕ) (l : List ℕ) → ((k : ℕ) → n ≤ k → count k l ≡ 0) → AllBelow n l
 unfolding All
 count-below n [] h = tt
-count-below n (j ∷ js) h =
-    (⊎-elim (λ a. a) (λ a. absurd (let b = h j a in let c = count-head j js in omega arith)) (below j n), count-below n js (λ k a. let b = h k a in omega arith))
+count-below n (j ∷ js) h = (
+  ⊎-elim (λ a. a) (λ a. absurd (let b = h j a in let c = count-head j js in omega arith)) (below j n),
+  count-below n js (λ k a. let b = h k a in omega arith),
+)
 
 -- what each counted number is mapped to has the property
 pub all-counted : {A : Type 0} (P : A → Type 0) (g : ℕ → A) (ks : List ℕ) → ((k : ℕ) → 0 < count k ks → P (g k)) → All P (map g ks)
@@ -91,7 +96,8 @@ same-counts (x ∷ xs) ys h = List·Permᴰ·trans (List·Permᴰ·cons refl (sa
         omega arith
 
     back : List·Permᴰ (x ∷ (there .0 ++ there .1)) ys
-    back = subst (λ (m : List ℕ). List·Permᴰ (x ∷ (there .0 ++ there .1)) m) (sym (there .2)) (Permᴰ·symm (Permᴰ·middle x (there .0) (there .1)))
+    back = subst (λ (m : List ℕ). List·Permᴰ (x ∷ (there .0 ++ there .1)) m) (sym (there .2))
+        (Permᴰ·symm (Permᴰ·middle x (there .0) (there .1)))
 
 -- and they add up to the same
 pub sum-permute : (f : ℕ → ℕ) {xs ys : List ℕ} → List·Permᴰ xs ys → sum f xs ≡ sum f ys
@@ -104,4 +110,5 @@ sum-permute f (List·Permᴰ·trans d e) = sum-permute f d ∙ sum-permute f e
 pub permutes : (n : ℕ) (l : List ℕ) → ((k : ℕ) → k < n → count k l ≡ 1) → ((k : ℕ) → n ≤ k → count k l ≡ 0) → List·Permᴰ l (range 0 n)
 permutes n l once out =
     same-counts l (range 0 n)
-    (λ k. ⊎-elim (λ h. once k h ∙ sym (range-in 0 n k (omega arith) (omega arith))) (λ h. out k h ∙ sym (range-out 0 n k (inr (omega arith)))) (below k n))
+    (λ k. ⊎-elim (λ h. once k h ∙ sym (range-in 0 n k (omega arith) (omega arith)))
+    (λ h. out k h ∙ sym (range-out 0 n k (inr (omega arith)))) (below k n))

@@ -24,11 +24,13 @@ use Rattle.build_one_zoom.specs.Zoom.{Scan, cluster}
 use Rattle.law_groups.specs.laws.Sums.{pick, not-both, eqb-same, below, count-head, sum-ext, keep-ext, keep-in}
 use Rattle.law_groups.specs.Sums.{oneIf, sum, count, range}
 use Rattle.law_groups.specs.laws.Sums.{range-in, range-out}
-use Rattle.law_groups.specs.Groups.{Group, copied, unseenAt, turn, weighedSum, without, meanOf, others, members, groupTotal, joins, centreAt}
+use Rattle.law_groups.specs.Groups.{Group, copied, unseenAt, turn, weighedSum, without, meanOf, others, members, groupTotal, joins}
+use Rattle.law_groups.specs.Groups.{centreAt}
 use Rattle.law_groups.specs.Groups.{groupsAt, afterGroup, around, groupsOf}
 use Rattle.law_groups.specs.laws.Counts.{all-counted}
 use Rattle.law_groups.specs.laws.Sweeps.{inside, seen-alike}
-use Rattle.law_groups.specs.laws.Run.{Run, stop, pass, acts, run, Answers, members-here, members-unseen, others-are, after-in, after-out}
+use Rattle.law_groups.specs.laws.Run.{Run, stop, pass, acts, run, Answers, members-here, members-unseen, others-are, after-in}
+use Rattle.law_groups.specs.laws.Run.{after-out}
 use Rattle.law_groups.specs.laws.Run.{after-done, after-seen, members-split, length-after, run-length, frame}
 use Rattle.law_groups.specs.laws.Walks.{weighed-ext}
 use Rattle.law_groups.specs.laws.Literal.{answers, centre-carries, cluster-groups}
@@ -36,7 +38,8 @@ use Rattle.law_groups.specs.laws.Once.{groups-once, groups-none}
 use Rattle.law_groups.specs.laws.OneZoom.{Copied, FitsZoom, OneZoom}
 
 -- a member's parent is no other cluster's
-turn-parent : (n z : ℕ) (b : Bool) (i j : ℕ) (e : Entry) → (i ≡ j → ⊥) → (e .parent ≡ clusterId n z j → ⊥) → turn b z (clusterId n z i) e .parent ≡ clusterId n z j → ⊥
+turn-parent : (n z : ℕ) (b : Bool) (i j : ℕ) (e : Entry) → (i ≡ j → ⊥) → (e .parent ≡ clusterId n z j → ⊥)
+    → turn b z (clusterId n z i) e .parent ≡ clusterId n z j → ⊥
 turn-parent n z true i j e h k p = h (omega arith)
 turn-parent n z false i j e h k p = k p
 
@@ -49,9 +52,16 @@ module _ (n least z : ℕ) (near : ℕ → List ℕ) (T : Table) (A : Answers (l
     apart : (k : ℕ) → count k is ≤ 1
 
   before-pass : {i : ℕ} {is : List ℕ} {d : Table} → Before (i ∷ is) d → Before is d
-  before-pass h = record { long = h .long; asT = h .asT; clear = λ k j c. h .clear k j (omega arith); apart = λ k. let a = h .apart k in omega arith }
+  before-pass h = record {
+    long = h .long;
+    asT = h .asT;
+    clear = λ k j c. h .clear k j (omega arith);
+    apart = λ k. let a = h .apart k in
+        omega arith;
+  }
 
-  before-acts : {i : ℕ} {is : List ℕ} {d : Table} (b : Bool) → unseenAt z d i ≡ true → Before (i ∷ is) d → Before is (afterGroup n z near b d i)
+  before-acts : {i : ℕ} {is : List ℕ} {d : Table} (b : Bool) → unseenAt z d i ≡ true → Before (i ∷ is) d
+      → Before is (afterGroup n z near b d i)
   before-acts {i} {is} {d} b u h =
       record {
         long = length-after n z near b d i (length T) (h .long);
@@ -63,23 +73,29 @@ module _ (n least z : ℕ) (near : ℕ → List ℕ) (T : Table) (A : Answers (l
       i<len : i < length T
       i<len = let a = inside z d i u in let b = h .long in omega arith
 
-      fresh : (k : ℕ) → unseenAt z (afterGroup n z near b d i) k ≡ true → 0 < count k (members z near d i) → entry (afterGroup n z near b d i) k ≡ entry T k
+      fresh : (k : ℕ) → unseenAt z (afterGroup n z near b d i) k ≡ true → 0 < count k (members z near d i)
+          → entry (afterGroup n z near b d i) k ≡ entry T k
       fresh k e c = absurd (not-both (unseenAt z (afterGroup n z near b d i) k) e (after-done n z near b d i k c))
 
-      stale : (k : ℕ) → unseenAt z (afterGroup n z near b d i) k ≡ true → count k (members z near d i) ≤ 0 → entry (afterGroup n z near b d i) k ≡ entry T k
+      stale : (k : ℕ) → unseenAt z (afterGroup n z near b d i) k ≡ true → count k (members z near d i) ≤ 0
+          → entry (afterGroup n z near b d i) k ≡ entry T k
       stale k e c =
           let a = after-out n least z (length T) near A b d i k i<len (omega arith) in
           a ∙ h .asT k (seen-alike z _ _ true (sym a) e)
 
-      taken : (k j : ℕ) → 0 < count j is → 0 < count k (members z near d i) → entry (afterGroup n z near b d i) k .parent ≡ clusterId n z j → ⊥
+      taken : (k j : ℕ) → 0 < count j is → 0 < count k (members z near d i) → entry (afterGroup n z near b d i) k .parent ≡ clusterId n z j
+          → ⊥
       taken k j c w p =
           turn-parent n z b i j (entry d k)
-          (λ e. let a = h .apart j in let q : oneIf (eqb j i) ≡ 1 = ap (λ (y : ℕ). oneIf (eqb j y)) e ∙ ap oneIf (eqb-same j) in omega arith)
+          (λ e. let a = h .apart j in let q : oneIf (eqb j i) ≡ 1 = ap (λ (y : ℕ). oneIf (eqb j y)) e ∙ ap oneIf (eqb-same j) in
+          omega arith)
           (h .clear k j (omega arith))
           (ap (λ (x : Entry). x .parent) (sym (after-in n z near b d i k w)) ∙ p)
 
-      left : (k j : ℕ) → 0 < count j is → count k (members z near d i) ≤ 0 → entry (afterGroup n z near b d i) k .parent ≡ clusterId n z j → ⊥
-      left k j c w p = h .clear k j (omega arith) (ap (λ (x : Entry). x .parent) (sym (after-out n least z (length T) near A b d i k i<len (omega arith))) ∙ p)
+      left : (k j : ℕ) → 0 < count j is → count k (members z near d i) ≤ 0 → entry (afterGroup n z near b d i) k .parent ≡ clusterId n z j
+          → ⊥
+      left k j c w p = h .clear k j (omega arith)
+          (ap (λ (x : Entry). x .parent) (sym (after-out n least z (length T) near A b d i k i<len (omega arith))) ∙ p)
 
   -- the groups of a place that acts; d' is the table at the end of the scan
   module _ (i : ℕ) (is : List ℕ) (d d' : Table) (u : unseenAt z d i ≡ true) (h : Before (i ∷ is) d) where
@@ -104,36 +120,45 @@ module _ (n least z : ℕ) (near : ℕ → List ℕ) (T : Table) (A : Answers (l
         let a : entry d i .num < groupTotal z near d i = ltb-true (entry d i .num) (groupTotal z near d i) (w .0) in
         (subst (λ (e : Entry). e .num < groupTotal z near d i) (h .asT i u) a, leb-true least (groupTotal z near d i) (w .1))
 
-    mean : (c : Entry → Float) → meanOf c d i (others z near d i) (groupTotal z near d i) ≡ meanOf c T i (without i (members z near d i)) (groupTotal z near d i)
+    mean : (c : Entry → Float) → meanOf c d i (others z near d i) (groupTotal z near d i) ≡ meanOf c T i (without i (members z near d i))
+        (groupTotal z near d i)
     mean c =
         let ks = without i (members z near d i) in
         let w : Float = mul binary64 (c (entry T i)) (float (entry T i .num)) in
         ap (λ (l : List ℕ). meanOf c d i l (groupTotal z near d i)) (others-are z near d i u)
-        ∙ ap (λ (e : Entry). div binary64 (weighedSum c d (mul binary64 (c e) (float (e .num))) ks) (float (groupTotal z near d i))) (h .asT i u)
+        ∙ ap (λ (e : Entry). div binary64 (weighedSum c d (mul binary64 (c e) (float (e .num))) ks) (float (groupTotal z near d i)))
+        (h .asT i u)
         ∙ ap (λ (v : Float). div binary64 v (float (groupTotal z near d i)))
-        (weighed-ext c d T ks w (λ k l. let a = member-as k (keep-in (λ j. not (eqb j i)) (members z near d i) k l) in (ap c a, ap (λ (e : Entry). e .num) a)))
+        (weighed-ext c d T ks w (λ k l. let a = member-as k (keep-in (λ j. not (eqb j i)) (members z near d i) k l) in
+        (ap c a, ap (λ (e : Entry). e .num) a)))
 
     -- a member at the end of the scan
-    member-end : (b : Bool) → ((k : ℕ) → unseenAt z (afterGroup n z near b d i) k ≡ false → entry d' k ≡ entry (afterGroup n z near b d i) k) →
+    member-end : (b : Bool) → ((k : ℕ) → unseenAt z (afterGroup n z near b d i) k ≡ false
+        → entry d' k ≡ entry (afterGroup n z near b d i) k) →
         (k : ℕ) → 0 < count k (members z near d i) → entry d' k ≡ turn b z (clusterId n z i) (entry T k)
-    member-end b fr k c = fr k (after-done n z near b d i k c) ∙ after-in n z near b d i k c ∙ ap (λ (x : Entry). turn b z (clusterId n z i) x) (member-as k c)
+    member-end b fr k c = fr k (after-done n z near b d i k c) ∙ after-in n z near b d i k c
+        ∙ ap (λ (x : Entry). turn b z (clusterId n z i) x) (member-as k c)
 
     kids-are : ((k : ℕ) → unseenAt z (afterGroup n z near true d i) k ≡ false → entry d' k ≡ entry (afterGroup n z near true d i) k) →
         members z near d i ≡ keep (λ k. eqb (entry d' k .parent) (clusterId n z i)) (near i)
-    kids-are fr = keep-ext (unseenAt z d) (λ k. eqb (entry d' k .parent) (clusterId n z i)) (near i) (λ k c. ⊎-elim (taken k c) (left k) (pick (unseenAt z d k)))
+    kids-are fr = keep-ext (unseenAt z d) (λ k. eqb (entry d' k .parent) (clusterId n z i)) (near i)
+        (λ k c. ⊎-elim (taken k c) (left k) (pick (unseenAt z d k)))
       where
         taken : (k : ℕ) → 0 < count k (near i) → unseenAt z d k ≡ true → unseenAt z d k ≡ eqb (entry d' k .parent) (clusterId n z i)
         taken k c e =
             let w = members-here z near d i k e in
-            e ∙ sym (ap (λ (x : Entry). eqb (x .parent) (clusterId n z i)) (member-end true fr k (omega arith)) ∙ eqb-same (clusterId n z i))
+            e ∙ sym (ap (λ (x : Entry). eqb (x .parent) (clusterId n z i)) (member-end true fr k (omega arith))
+            ∙ eqb-same (clusterId n z i))
 
         left : (k : ℕ) → unseenAt z d k ≡ false → unseenAt z d k ≡ eqb (entry d' k .parent) (clusterId n z i)
         left k e =
             let a = after-seen n z near true d i k e in
             let f : entry d' k ≡ entry d k = fr k (seen-alike z _ _ false a e) ∙ a in
-            e ∙ sym (ne-eqb (entry d' k .parent) (clusterId n z i) (λ p. h .clear k i (count-head i is) (ap (λ (x : Entry). x .parent) (sym f) ∙ p)))
+            e ∙ sym (ne-eqb (entry d' k .parent) (clusterId n z i)
+            (λ p. h .clear k i (count-head i is) (ap (λ (x : Entry). x .parent) (sym f) ∙ p)))
 
-    groups-fit : (b : Bool) → joins least z near d i ≡ b → ((k : ℕ) → unseenAt z (afterGroup n z near b d i) k ≡ false → entry d' k ≡ entry (afterGroup n z near b d i) k) →
+    groups-fit : (b : Bool) → joins least z near d i ≡ b
+        → ((k : ℕ) → unseenAt z (afterGroup n z near b d i) k ≡ false → entry d' k ≡ entry (afterGroup n z near b d i) k) →
         All (FitsZoom n least z near T d') (groupsAt n z near b d i)
     unfolding All
     groups-fit true m fr = (
@@ -162,17 +187,21 @@ module _ (n least z : ℕ) (near : ℕ → List ℕ) (T : Table) (A : Answers (l
             let w : 0 < count k (members z near d i) = omega arith in
             record { place = member-in k w; same = ap (λ (x : Entry). marked z x) (member-as k w); finer = member-end false fr k w }
 
-  fits : {is : List ℕ} {d d' : Table} {gs : List Group} → Run n least z near is d d' gs → Before is d → All (FitsZoom n least z near T d') gs
+  fits : {is : List ℕ} {d d' : Table} {gs : List Group} → Run n least z near is d d' gs → Before is d
+      → All (FitsZoom n least z near T d') gs
   unfolding All
   fits stop h = tt
   fits (pass e r) h = fits r (before-pass h)
   fits (acts {i = i} {is = is} {d = d} {d' = d'} {rs = rs} b m u r) h =
-      all-append (FitsZoom n least z near T d') (groupsAt n z near b d i) rs (groups-fit i is d d' u h b m (frame n least z (length T) near A r)) (fits r (before-acts b u h))
+      all-append (FitsZoom n least z near T d') (groupsAt n z near b d i) rs
+      (groups-fit i is d d' u h b m (frame n least z (length T) near A r)) (fits r (before-acts b u h))
 
 -- ---- one zoom of a table of which nothing is seen and nothing has a parent
 
-module _ (n least z : ℕ) (near : Float → Float → List ℕ) (t : Table) (once : (x y : Float) → Distinct (near x y)) (own : (i : ℕ) → i < length t → In i (around near t i))
-    (hz : z ≤ 30) (hn : n ≤ 1048576) (few : length t ≤ n) (ready : (k : ℕ) → k < length t → unseen z (entry t k) ≡ true) (lone : (k : ℕ) → k < length t → entry t k .parent ≡ unset) where
+module _ (n least z : ℕ) (near : Float → Float → List ℕ) (t : Table) (once : (x y : Float) → Distinct (near x y))
+    (own : (i : ℕ) → i < length t → In i (around near t i))
+    (hz : z ≤ 30) (hn : n ≤ 1048576) (few : length t ≤ n) (ready : (k : ℕ) → k < length t → unseen z (entry t k) ≡ true)
+    (lone : (k : ℕ) → k < length t → entry t k .parent ≡ unset) where
   A : Answers (length t) (around near t)
   A = answers near t once own
 
@@ -184,8 +213,10 @@ module _ (n least z : ℕ) (near : Float → Float → List ℕ) (t : Table) (on
       record {
         long = refl;
         asT = λ k e. refl;
-        clear = λ k i c p. ⊎-elim (λ l. let a = id-small n z i hz hn (omega arith) in let b = no-parent k in omega arith) (λ l. let w = range-out 0 (length t) i (inr (omega arith)) in omega arith) (below i (length t));
-        apart = λ k. ⊎-elim (λ l. let w = range-in 0 (length t) k (omega arith) (omega arith) in omega arith) (λ l. let w = range-out 0 (length t) k (inr (omega arith)) in omega arith) (below k (length t));
+        clear = λ k i c p. ⊎-elim (λ l. let a = id-small n z i hz hn (omega arith) in let b = no-parent k in omega arith)
+            (λ l. let w = range-out 0 (length t) i (inr (omega arith)) in omega arith) (below i (length t));
+        apart = λ k. ⊎-elim (λ l. let w = range-in 0 (length t) k (omega arith) (omega arith) in omega arith)
+            (λ l. let w = range-out 0 (length t) k (inr (omega arith)) in omega arith) (below k (length t));
       }
 
   r : Run n least z (around near t) (range 0 (length t)) t (groupsOf n least z near t .0) (groupsOf n least z near t .1)

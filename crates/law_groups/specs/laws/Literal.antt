@@ -18,12 +18,14 @@ use Rattle.build_tables.specs.Entries.{Table, entry, none, marked, under}
 use Rattle.build_tables.specs.Ids.{clusterId}
 use Rattle.build_one_zoom.specs.laws.Steps.{totalOf, visit-made, visit-left, scan-seen, scan-visit}
 use Rattle.build_one_zoom.specs.laws.Lamps.{Carried, energy-carried}
-use Rattle.build_one_zoom.specs.Zoom.{numOf, energyOf, moreOf, Absorbed, absorbed, absorb, started, centre, Scan, made, enough, visit, scanOne}
+use Rattle.build_one_zoom.specs.Zoom.{numOf, energyOf, moreOf, Absorbed, absorbed, absorb, started, centre, Scan, made, enough, visit}
+use Rattle.build_one_zoom.specs.Zoom.{scanOne}
 use Rattle.build_one_zoom.specs.Zoom.{scanFrom, cluster}
 use Rattle.law_groups.specs.laws.Sums.{hit, sum-ext}
 use Rattle.law_groups.specs.Sums.{range}
 use Rattle.law_groups.specs.laws.Counts.{distinct-count, in-count, count-distinct}
-use Rattle.law_groups.specs.Groups.{Group, copied, entryOf, unseenAt, markedAt, took, turn, change, sweep, others, sumAt, groupTotal, joins}
+use Rattle.law_groups.specs.Groups.{Group, copied, entryOf, unseenAt, markedAt, took, turn, change, sweep, others, sumAt, groupTotal}
+use Rattle.law_groups.specs.Groups.{joins}
 use Rattle.law_groups.specs.Groups.{weighedSum, centreAt, groupsAt, afterGroup, turning, groupsFrom, around, groupsOf}
 use Rattle.law_groups.specs.laws.Sweeps.{inside, seen-alike, turn-seen, length-sweep, sweep-seen, sweep-local, sweep-field}
 use Rattle.law_groups.specs.laws.Run.{Answers, length-after}
@@ -33,13 +35,15 @@ use Rattle.law_groups.specs.laws.Walks.{map-ext, more-is, absorb-table, 
 
 marked-like : (z i : ℕ) (d : Table) (k : ℕ) → i < length d → marked z (entry (markedAt z i d) k) ≡ marked z (entry d k)
 marked-like z i d k l =
-    ⊎-elim (λ e. subst (λ (j : ℕ). marked z (entry (markedAt z i d) j) ≡ marked z (entry d j)) (sym (e .0)) (ap (λ (w : Entry). marked z w) (getD-set-same d i (marked z (entry d i)) none l)))
+    ⊎-elim (λ e. subst (λ (j : ℕ). marked z (entry (markedAt z i d) j) ≡ marked z (entry d j)) (sym (e .0))
+    (ap (λ (w : Entry). marked z w) (getD-set-same d i (marked z (entry d i)) none l)))
     (λ e. ap (λ (w : Entry). marked z w) (getD-set-other d i k (marked z (entry d i)) none (e .0))) (hit k i)
 
 -- ---- the origin's parent, set last or first
 
 last-first : (z p : ℕ) (ks : List ℕ) (d : Table) (i : ℕ) → i < length d →
-    set (sweep z (took z p) ks (markedAt z i d)) i (under p (entry (sweep z (took z p) ks (markedAt z i d)) i)) ≡ sweep z (took z p) ks (set d i (took z p (entry d i)))
+    set (sweep z (took z p) ks (markedAt z i d)) i (under p (entry (sweep z (took z p) ks (markedAt z i d)) i)) ≡ sweep z (took z p) ks
+    (set d i (took z p (entry d i)))
 last-first z p ks d i l = ext-getD none L R lens each
   where
     hf : (e : Entry) → took z p e .seen ≡ z
@@ -58,7 +62,8 @@ last-first z p ks d i l = ext-getD none L R lens each
     long = length-sweep z (took z p) hf ks (markedAt z i d) ∙ length-set d i (marked z (entry d i))
 
     lens : length L ≡ length R
-    lens = length-set M i (under p (entry M i)) ∙ long ∙ sym (length-sweep z (took z p) hf ks (set d i (took z p (entry d i))) ∙ length-set d i (took z p (entry d i)))
+    lens = length-set M i (under p (entry M i)) ∙ long
+        ∙ sym (length-sweep z (took z p) hf ks (set d i (took z p (entry d i))) ∙ length-set d i (took z p (entry d i)))
 
     seen-now : (v : Entry) → v .seen ≡ z → unseenAt z (set d i v) i ≡ false
     seen-now v e = seen-alike z _ _ false (getD-set-same d i v none l) (ap (λ (w : ℕ). ltb z w) e ∙ le-ltb z z (le-refl z))
@@ -66,14 +71,17 @@ last-first z p ks d i l = ext-getD none L R lens each
     here : entry L i ≡ entry R i
     here =
         getD-set-same M i (under p (entry M i)) none (let a = long in omega arith)
-        ∙ ap (λ (w : Entry). under p w) (sweep-seen z (took z p) hf ks (markedAt z i d) i (seen-now (marked z (entry d i)) refl) ∙ getD-set-same d i (marked z (entry d i)) none l)
-        ∙ sym (sweep-seen z (took z p) hf ks (set d i (took z p (entry d i))) i (seen-now (took z p (entry d i)) refl) ∙ getD-set-same d i (took z p (entry d i)) none l)
+        ∙ ap (λ (w : Entry). under p w) (sweep-seen z (took z p) hf ks (markedAt z i d) i (seen-now (marked z (entry d i)) refl)
+        ∙ getD-set-same d i (marked z (entry d i)) none l)
+        ∙ sym (sweep-seen z (took z p) hf ks (set d i (took z p (entry d i))) i (seen-now (took z p (entry d i)) refl)
+        ∙ getD-set-same d i (took z p (entry d i)) none l)
 
     each : (j : ℕ) → j < length L → entry L j ≡ entry R j
     each j w =
         ⊎-elim (λ e. subst (λ (k : ℕ). entry L k ≡ entry R k) (sym (e .0)) here)
         (λ e. getD-set-other M i j (under p (entry M i)) none (e .0)
-        ∙ sweep-local z (took z p) hf ks (markedAt z i d) (set d i (took z p (entry d i))) j (getD-set-other d i j (marked z (entry d i)) none (e .0) ∙ sym (getD-set-other d i j (took z p (entry d i)) none (e .0))))
+        ∙ sweep-local z (took z p) hf ks (markedAt z i d) (set d i (took z p (entry d i))) j
+        (getD-set-other d i j (marked z (entry d i)) none (e .0) ∙ sym (getD-set-other d i j (took z p (entry d i)) none (e .0))))
         (hit j i)
 
 -- ---- the entries of groups
@@ -98,7 +106,8 @@ next-entry (r ∷ gs) g (suc j) h = next-entry gs g j (omega arith)
 abbrev scanAfter : ℕ → ℕ → (ℕ → List ℕ) → Bool → Table → ℕ → Table → Scan
 scanAfter n z near b d i nx = record { table = afterGroup n z near b d i; next = nx ++ map entryOf (groupsAt n z near b d i) }
 
-module _ (n least z len : ℕ) (near : ℕ → List ℕ) (A : Answers len near) (d : Table) (i : ℕ) (l : length d ≡ len) (u : unseenAt z d i ≡ true) where
+module _ (n least z len : ℕ) (near : ℕ → List ℕ) (A : Answers len near) (d : Table) (i : ℕ) (l : length d ≡ len)
+    (u : unseenAt z d i ≡ true) where
   at-i : i < length d
   at-i = inside z d i u
 
@@ -122,14 +131,21 @@ module _ (n least z len : ℕ) (near : ℕ → List ℕ) (A : Answers len near) 
   total-is : totalOf z (near i) i (markedAt z i d) ≡ groupTotal z near d i
   total-is = more-at numOf (λ e q. refl)
 
-  parent-last : set (sweep z (took z (clusterId n z i)) (near i) (markedAt z i d)) i (under (clusterId n z i) (entry (sweep z (took z (clusterId n z i)) (near i) (markedAt z i d)) i))
+  parent-last : set (sweep z (took z (clusterId n z i)) (near i) (markedAt z i d)) i
+      (under (clusterId n z i) (entry (sweep z (took z (clusterId n z i)) (near i) (markedAt z i d)) i))
       ≡ afterGroup n z near true d i
-  parent-last = last-first z (clusterId n z i) (near i) d i at-i ∙ ap (λ (b : Bool). sweep z (took z (clusterId n z i)) (near i) (change b (took z (clusterId n z i)) d i)) (sym u)
+  parent-last = last-first z (clusterId n z i) (near i) d i at-i
+      ∙ ap (λ (b : Bool). sweep z (took z (clusterId n z i)) (near i) (change b (took z (clusterId n z i)) d i)) (sym u)
 
-  sum-is : (c : Entry → Float) → ((e : Entry) → c (marked z e) ≡ c e) → (w : Float) → weighedSum c (markedAt z i d) w (others z near d i) ≡ weighedSum c d w (others z near d i)
+  sum-is : (c : Entry → Float) → ((e : Entry) → c (marked z e) ≡ c e) → (w : Float)
+      → weighedSum c (markedAt z i d) w (others z near d i) ≡ weighedSum c d w (others z near d i)
   sum-is c same w =
       weighed-ext c (markedAt z i d) d (others z near d i) w
-      (λ k h. (sym (same (entry (markedAt z i d) k)) ∙ ap c (marked-like z i d k at-i) ∙ same (entry d k), ap (λ (e : Entry). e .num) (marked-like z i d k at-i)))
+      (λ k h. (
+        sym (same (entry (markedAt z i d) k)) ∙ ap c (marked-like z i d k at-i)
+            ∙ same (entry d k),
+        ap (λ (e : Entry). e .num) (marked-like z i d k at-i),
+      ))
 
   -- what the answers are absorbed to, and the entry of the cluster
   abbrev grown : Absorbed
@@ -167,9 +183,11 @@ module _ (n least z len : ℕ) (near : ℕ → List ℕ) (A : Answers len near) 
       ap₂ (λ (a : Table) (e : Entry). record { table = a; next = nx ++ (e ∷ []) })
       (ap (λ (w : Table). set w i (under p (entry w i))) (absorb-table z p s (near i)) ∙ parent-last) centre-is
 
-  left-is : (nx : Table) → copiesOf z (record { table = markedAt z i d; next = nx ++ (marked z (entry d i) ∷ []) }) (near i) ≡ scanAfter n z near false d i nx
+  left-is : (nx : Table) → copiesOf z (record { table = markedAt z i d; next = nx ++ (marked z (entry d i) ∷ []) }) (near i)
+      ≡ scanAfter n z near false d i nx
   left-is nx =
-      ap₂ (λ (a b : Table). record { table = a; next = b }) (ap (λ (b : Bool). sweep z (marked z) (near i) (change b (marked z) d i)) (sym u))
+      ap₂ (λ (a b : Table). record { table = a; next = b })
+      (ap (λ (b : Bool). sweep z (marked z) (near i) (change b (marked z) d i)) (sym u))
       (append-snoc nx (marked z (entry d i)) (map (λ k. marked z (entry (markedAt z i d) k)) (others z near d i))
       ∙ ap (λ (q : Table). nx ++ marked z (entry d i) ∷ q)
       (map-ext (λ k. marked z (entry (markedAt z i d) k)) (λ k. marked z (entry d k)) (others z near d i) (λ k w. marked-like z i d k at-i)
@@ -178,10 +196,12 @@ module _ (n least z len : ℕ) (near : ℕ → List ℕ) (A : Answers len near) 
   test-is : enough (entry (markedAt z i d) i .num) (totalOf z (near i) i (markedAt z i d)) least ≡ joins least z near d i
   test-is = ap₂ (λ (o t : ℕ). enough o t least) (ap (λ (e : Entry). e .num) own) total-is
 
-  visit-is : (nx : Table) (b : Bool) → joins least z near d i ≡ b → visit n least z (near i) i (record { table = markedAt z i d; next = nx }) ≡ scanAfter n z near b d i nx
+  visit-is : (nx : Table) (b : Bool) → joins least z near d i ≡ b
+      → visit n least z (near i) i (record { table = markedAt z i d; next = nx }) ≡ scanAfter n z near b d i nx
   visit-is nx true e =
       visit-made n least z (near i) i (record { table = markedAt z i d; next = nx }) (test-is ∙ e)
-      ∙ ap₂ (λ (w : Entry) (t : ℕ). made i (absorb z (clusterId n z i) (started (markedAt z i d) w) (near i)) nx (clusterId n z i) t) own total-is
+      ∙ ap₂ (λ (w : Entry) (t : ℕ). made i (absorb z (clusterId n z i) (started (markedAt z i d) w) (near i)) nx (clusterId n z i) t) own
+      total-is
       ∙ made-is nx
   visit-is nx false e =
       visit-left n least z (near i) i (record { table = markedAt z i d; next = nx }) (test-is ∙ e)
@@ -220,17 +240,26 @@ module _ (n least z : ℕ) (near : Float → Float → List ℕ) (t : Table) (A 
 
   from-is : (k i : ℕ) (d nx : Table) → length d ≡ length t → Placed t d →
       scanFrom n least z near (record { table = d; next = nx }) i k
-      ≡ record { table = groupsFrom n least z (around near t) (range i k) d .0; next = nx ++ map entryOf (groupsFrom n least z (around near t) (range i k) d .1) }
+      ≡ record {
+        table = groupsFrom n least z (around near t) (range i k) d .0;
+        next =
+            nx ++ map entryOf (groupsFrom n least z (around near t) (range i k) d .1);
+      }
   unfolding scanFrom
   from-is zero i d nx l h = λ j. record { table = d; next = sym (append-nil nx) j }
   from-is (suc k) i d nx l h = go (λ e q w v. from-is k (suc i) e q w v) (unseenAt z d i) refl
     where
       go : ((e q : Table) → length e ≡ length t → Placed t e → scanFrom n least z near (record { table = e; next = q }) (suc i) k
-          ≡ record { table = groupsFrom n least z (around near t) (range (suc i) k) e .0; next = q ++ map entryOf (groupsFrom n least z (around near t) (range (suc i) k) e .1) }) →
+          ≡ record {
+            table = groupsFrom n least z (around near t) (range (suc i) k) e .0;
+            next =
+                q ++ map entryOf (groupsFrom n least z (around near t) (range (suc i) k) e .1);
+          }) →
           (b : Bool) → unseenAt z d i ≡ b → scanFrom n least z near (scanOne n least z near (record { table = d; next = nx }) i) (suc i) k
           ≡ record {
             table = turning n least z (around near t) b d i (λ e. groupsFrom n least z (around near t) (range (suc i) k) e) .0;
-            next = nx ++ map entryOf (turning n least z (around near t) b d i (λ e. groupsFrom n least z (around near t) (range (suc i) k) e) .1);
+            next = nx ++ map entryOf (turning n least z (around near t) b d i
+                (λ e. groupsFrom n least z (around near t) (range (suc i) k) e) .1);
           }
       go ih true u =
           let b : Bool = joins least z (around near t) d i in
@@ -241,18 +270,22 @@ module _ (n least z : ℕ) (near : Float → Float → List ℕ) (t : Table) (A 
           ∙ ih e (nx ++ map entryOf g) (length-after n z (around near t) b d i (length t) l) (placed-after n z (around near t) t b d i h)
           ∙ ap (λ (q : Table). record { table = groupsFrom n least z (around near t) (range (suc i) k) e .0; next = q })
           (append-assoc nx (map entryOf g) (map entryOf r) ∙ ap (λ (q : Table). nx ++ q) (sym (entries-append g r)))
-      go ih false u = ap (λ (m : Scan). scanFrom n least z near m (suc i) k) (scan-seen n least z near (record { table = d; next = nx }) i (ltb-false z (entry d i .seen) u)) ∙ ih d nx l h
+      go ih false u = ap (λ (m : Scan). scanFrom n least z near m (suc i) k)
+          (scan-seen n least z near (record { table = d; next = nx }) i (ltb-false z (entry d i .seen) u)) ∙ ih d nx l h
 
 -- what kdbush promises of the answers, in counts
-pub answers : (near : Float → Float → List ℕ) (t : Table) → ((x y : Float) → Distinct (near x y)) → ((i : ℕ) → i < length t → In i (around near t i)) → Answers (length t) (around near t)
+pub answers : (near : Float → Float → List ℕ) (t : Table) → ((x y : Float) → Distinct (near x y))
+    → ((i : ℕ) → i < length t → In i (around near t i)) → Answers (length t) (around near t)
 answers near t once own =
     record {
-      self = λ i h. let a = distinct-count i (around near t i) (once (entry t i .x) (entry t i .y)) in let b = in-count i (around near t i) (own i h) in omega arith;
+      self = λ i h. let a = distinct-count i (around near t i) (once (entry t i .x) (entry t i .y)) in let b =
+          in-count i (around near t i) (own i h) in omega arith;
       single = λ i k h. distinct-count k (around near t i) (once (entry t i .x) (entry t i .y));
     }
 
 -- a zoom's table and its next one are the groups' table and the groups' entries
-pub cluster-groups : (n least z : ℕ) (near : Float → Float → List ℕ) (t : Table) → ((x y : Float) → Distinct (near x y)) → ((i : ℕ) → i < length t → In i (around near t i)) →
+pub cluster-groups : (n least z : ℕ) (near : Float → Float → List ℕ) (t : Table) → ((x y : Float) → Distinct (near x y))
+    → ((i : ℕ) → i < length t → In i (around near t i)) →
     cluster n least z near t ≡ record { table = groupsOf n least z near t .0; next = map entryOf (groupsOf n least z near t .1) }
 unfolding cluster
 cluster-groups n least z near t once own = from-is n least z near t (answers near t once own) (length t) 0 t [] refl (λ k. (refl, refl))

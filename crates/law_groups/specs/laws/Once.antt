@@ -26,14 +26,16 @@ pub places-count : (n least z : ℕ) (near : ℕ → List ℕ) (t : Table) → A
     count k (froms (groupsFrom n least z near (range 0 (length t)) t .1)) ≡ oneIf (unseenAt z t k)
 places-count n least z near t A k = ⊎-elim here past (below k (length t))
   where
-    r : Run n least z near (range 0 (length t)) t (groupsFrom n least z near (range 0 (length t)) t .0) (groupsFrom n least z near (range 0 (length t)) t .1)
+    r : Run n least z near (range 0 (length t)) t (groupsFrom n least z near (range 0 (length t)) t .0)
+        (groupsFrom n least z near (range 0 (length t)) t .1)
     r = run n least z near (range 0 (length t)) t
 
     here : k < length t → count k (froms (groupsFrom n least z near (range 0 (length t)) t .1)) ≡ oneIf (unseenAt z t k)
     here h =
         let a = tally n least z (length t) near A r refl k in
         let c = range-in 0 (length t) k (omega arith) (omega arith) in
-        let b : oneIf (unseenAt z (groupsFrom n least z near (range 0 (length t)) t .0) k) ≡ 0 = ap oneIf (covered n least z (length t) near A r refl k (omega arith)) in
+        let b : oneIf (unseenAt z (groupsFrom n least z near (range 0 (length t)) t .0) k) ≡ 0 =
+        ap oneIf (covered n least z (length t) near A r refl k (omega arith)) in
         omega arith
 
     past : length t ≤ k → count k (froms (groupsFrom n least z near (range 0 (length t)) t .1)) ≡ oneIf (unseenAt z t k)
@@ -42,7 +44,8 @@ places-count n least z near t A k = ⊎-elim here past (below k (length t))
         let c : oneIf (unseenAt z t k) ≡ 0 = ap oneIf (unseen-past z t k h) in
         omega arith
 
-module _ (n least z : ℕ) (near : Float → Float → List ℕ) (t : Table) (once : (x y : Float) → Distinct (near x y)) (own : (i : ℕ) → i < length t → In i (around near t i)) where
+module _ (n least z : ℕ) (near : Float → Float → List ℕ) (t : Table) (once : (x y : Float) → Distinct (near x y))
+    (own : (i : ℕ) → i < length t → In i (around near t i)) where
   -- a place is in the groups once if it is unseen, and not otherwise
   pub groups-count : (k : ℕ) → count k (froms (groupsOf n least z near t .1)) ≡ oneIf (unseen z (entry t k))
   groups-count k = places-count n least z (around near t) t (answers near t once own) k

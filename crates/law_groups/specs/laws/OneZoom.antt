@@ -20,7 +20,8 @@ use Rattle.law_groups.specs.laws.Sums.{below, sum-append}
 use Rattle.law_groups.specs.laws.Counts.{count-distinct, count-below, permutes}
 use Rattle.law_groups.specs.Groups.{Group, copied, joinedGroup, entryOf, from, froms, took, without, meanOf}
 
--- ---- what the groups are. n is the number of points, least is min_points, z the zoom, `near i` the places answered around i, T the table, T' the table afterwards
+-- ---- what the groups are. n is the number of points, least is min_points, z the zoom, `near i` the places answered around i, T the table,
+-- T' the table afterwards
 
 module _ (n least z : ℕ) (near : ℕ → List ℕ) (T : Table) where
   -- e is the copy of the entry at k, marked; the entry itself is marked too
@@ -64,7 +65,8 @@ module _ (n least z : ℕ) (near : ℕ → List ℕ) (T : Table) where
     pub fit : All (FitsZoom T') gs
 
 -- what the entry of a group carries is the sum of what the places that it stands for do
-pub fits-carry : (n least z : ℕ) (near : ℕ → List ℕ) (T T' : Table) (f : Entry → ℕ) → Carried f → (g : Group) → FitsZoom n least z near T T' g
+pub fits-carry : (n least z : ℕ) (near : ℕ → List ℕ) (T T' : Table) (f : Entry → ℕ) → Carried f → (g : Group)
+    → FitsZoom n least z near T T' g
     → f (entryOf g) ≡ sum (λ k. f (entry T k)) (from g)
 fits-carry n least z near T T' f C (copied k e) w = let a = ap f (w .same) in let b = C .marks (entry T k) z in omega arith
 fits-carry n least z near T T' f C (joinedGroup i ks e) w = w .carries f C
@@ -79,14 +81,18 @@ madeIds (joinedGroup i ks e ∷ gs) = e .id ∷ madeIds gs
 from-count : (k : ℕ) (g : Group) (gs : List Group) (a : ℕ) → a < length gs → count k (from (getD gs a g)) ≤ count k (froms gs)
 from-count k g [] a h = absurd (omega arith)
 from-count k g (r ∷ gs) zero h = let a = sum-append (λ x. oneIf (eqb k x)) (from r) (froms gs) in omega arith
-from-count k g (r ∷ gs) (suc a) h = let b = sum-append (λ x. oneIf (eqb k x)) (from r) (froms gs) in let c = from-count k g gs a (omega arith) in omega arith
+from-count k g (r ∷ gs) (suc a) h = let b = sum-append (λ x. oneIf (eqb k x)) (from r) (froms gs) in let c =
+    from-count k g gs a (omega arith) in omega arith
 
-pair-count : (k : ℕ) (g : Group) (gs : List Group) (a b : ℕ) → a < b → b < length gs → count k (from (getD gs a g)) + count k (from (getD gs b g)) ≤ count k (froms gs)
+pair-count : (k : ℕ) (g : Group) (gs : List Group) (a b : ℕ) → a < b → b < length gs
+    → count k (from (getD gs a g)) + count k (from (getD gs b g)) ≤ count k (froms gs)
 pair-count k g [] a b h l = absurd (omega arith)
 pair-count k g (r ∷ gs) a zero h l = absurd (omega arith)
-pair-count k g (r ∷ gs) zero (suc b) h l = let a = sum-append (λ x. oneIf (eqb k x)) (from r) (froms gs) in let c = from-count k g gs b (omega arith) in omega arith
+pair-count k g (r ∷ gs) zero (suc b) h l = let a = sum-append (λ x. oneIf (eqb k x)) (from r) (froms gs) in let c =
+    from-count k g gs b (omega arith) in omega arith
 pair-count k g (r ∷ gs) (suc a) (suc b) h l =
-    let c = sum-append (λ x. oneIf (eqb k x)) (from r) (froms gs) in let d = pair-count k g gs a b (omega arith) (omega arith) in omega arith
+    let c = sum-append (λ x. oneIf (eqb k x)) (from r) (froms gs) in let d = pair-count k g gs a b (omega arith) (omega arith) in
+    omega arith
 
 -- clusters of different origins have different ids
 origin-of : (n z i j : ℕ) → clusterId n z i ≡ clusterId n z j → i ≡ j
@@ -141,10 +147,14 @@ module _ (n least z : ℕ) (near : ℕ → List ℕ) (T T' : Table) where
     made-distinct = ids-apart gs at-most-once (Z .fit)
 
     -- the same by place: clusters at two places of the next table have different ids. g is what getD answers past the end
-    pub made-apart : (g : Group) (a b i j : ℕ) (ks ls : List ℕ) (e f : Entry) → a < b → b < length gs → getD gs a g ≡ joinedGroup i ks e → getD gs b g ≡ joinedGroup j ls f → e .id ≡ f .id → ⊥
+    pub made-apart : (g : Group) (a b i j : ℕ) (ks ls : List ℕ) (e f : Entry) → a < b → b < length gs → getD gs a g ≡ joinedGroup i ks e
+        → getD gs b g ≡ joinedGroup j ls f → e .id ≡ f .id → ⊥
     made-apart g a b i j ks ls e f h k p q s =
-        let u : Joined n least z near T T' i ks e = subst (λ (r : Group). FitsZoom n least z near T T' r) p (all-getD (FitsZoom n least z near T T') gs a g (Z .fit) (omega arith)) in
-        let v : Joined n least z near T T' j ls f = subst (λ (r : Group). FitsZoom n least z near T T' r) q (all-getD (FitsZoom n least z near T T') gs b g (Z .fit) k) in
+        let u : Joined n least z near T T' i ks e =
+        subst (λ (r : Group). FitsZoom n least z near T T' r) p
+        (all-getD (FitsZoom n least z near T T') gs a g (Z .fit) (omega arith)) in
+        let v : Joined n least z near T T' j ls f =
+        subst (λ (r : Group). FitsZoom n least z near T T' r) q (all-getD (FitsZoom n least z near T T') gs b g (Z .fit) k) in
         let o : j ≡ i = origin-of n z j i (sym (v .made-id) ∙ sym s ∙ u .made-id) in
         let c = pair-count i g gs a b h k in
         let d : count i (from (getD gs a g)) ≡ count i ks = ap (λ (r : Group). count i (from r)) p in

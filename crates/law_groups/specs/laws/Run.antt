@@ -49,8 +49,10 @@ module _ (n least z : ℕ) (near : ℕ → List ℕ) where
   run [] d = stop
   run (i ∷ is) d = go (λ e. run is e) (unseenAt z d i) refl
     where
-      go : ((e : Table) → Run is e (groupsFrom n least z near is e .0) (groupsFrom n least z near is e .1)) → (b : Bool) → unseenAt z d i ≡ b →
-          Run (i ∷ is) d (turning n least z near b d i (λ e. groupsFrom n least z near is e) .0) (turning n least z near b d i (λ e. groupsFrom n least z near is e) .1)
+      go : ((e : Table) → Run is e (groupsFrom n least z near is e .0) (groupsFrom n least z near is e .1)) → (b : Bool)
+          → unseenAt z d i ≡ b →
+          Run (i ∷ is) d (turning n least z near b d i (λ e. groupsFrom n least z near is e) .0)
+          (turning n least z near b d i (λ e. groupsFrom n least z near is e) .1)
       go ih true e = acts (joins least z near d i) refl e (ih (afterGroup n z near (joins least z near d i) d i))
       go ih false e = pass e (ih d)
 
@@ -64,7 +66,8 @@ pub record Answers (len : ℕ) (near : ℕ → List ℕ) : Type 0 where
 pub members-seen : (z : ℕ) (near : ℕ → List ℕ) (d : Table) (i k : ℕ) → unseenAt z d k ≡ false → count k (members z near d i) ≡ 0
 members-seen z near d i k e = count-keep k (unseenAt z d) (near i) ∙ ap (λ (b : Bool). gate b (count k (near i))) e
 
-pub members-here : (z : ℕ) (near : ℕ → List ℕ) (d : Table) (i k : ℕ) → unseenAt z d k ≡ true → count k (members z near d i) ≡ count k (near i)
+pub members-here : (z : ℕ) (near : ℕ → List ℕ) (d : Table) (i k : ℕ) → unseenAt z d k ≡ true
+    → count k (members z near d i) ≡ count k (near i)
 members-here z near d i k e = count-keep k (unseenAt z d) (near i) ∙ ap (λ (b : Bool). gate b (count k (near i))) e
 
 pub members-unseen : (z : ℕ) (near : ℕ → List ℕ) (d : Table) (i k : ℕ) → 0 < count k (members z near d i) → unseenAt z d k ≡ true
@@ -75,7 +78,8 @@ and-not true = refl
 and-not false = refl
 
 -- the others are the members without the place itself
-pub others-are : (z : ℕ) (near : ℕ → List ℕ) (d : Table) (i : ℕ) → unseenAt z d i ≡ true → others z near d i ≡ without i (members z near d i)
+pub others-are : (z : ℕ) (near : ℕ → List ℕ) (d : Table) (i : ℕ) → unseenAt z d i ≡ true
+    → others z near d i ≡ without i (members z near d i)
 others-are z near d i u = keep-both (unseenAt z d) (λ k. not (eqb k i)) (unseenAt z (markedAt z i d)) each (near i)
   where
     each : (k : ℕ) → unseenAt z (markedAt z i d) k ≡ (unseenAt z d k && not (eqb k i))
@@ -96,14 +100,16 @@ others-are z near d i u = keep-both (unseenAt z d) (λ k. not (eqb k i)) (unseen
 
 module _ (n z : ℕ) (near : ℕ → List ℕ) where
   -- a member is marked, and under the cluster if there is one
-  pub after-in : (b : Bool) (d : Table) (i k : ℕ) → 0 < count k (members z near d i) → entry (afterGroup n z near b d i) k ≡ turn b z (clusterId n z i) (entry d k)
+  pub after-in : (b : Bool) (d : Table) (i k : ℕ) → 0 < count k (members z near d i)
+      → entry (afterGroup n z near b d i) k ≡ turn b z (clusterId n z i) (entry d k)
   after-in b d i k c =
       let e = members-unseen z near d i k c in
       let h = members-here z near d i k e in
       sweep-in z (turn b z (clusterId n z i)) (turn-seen b z (clusterId n z i)) (i ∷ near i) d k e (omega arith)
 
   pub after-done : (b : Bool) (d : Table) (i k : ℕ) → 0 < count k (members z near d i) → unseenAt z (afterGroup n z near b d i) k ≡ false
-  after-done b d i k c = seen-alike z _ _ false (after-in b d i k c) (ap (λ (s : ℕ). ltb z s) (turn-seen b z (clusterId n z i) (entry d k)) ∙ le-ltb z z (le-refl z))
+  after-done b d i k c = seen-alike z _ _ false (after-in b d i k c) (ap (λ (s : ℕ). ltb z s) (turn-seen b z (clusterId n z i) (entry d k))
+      ∙ le-ltb z z (le-refl z))
 
   pub after-seen : (b : Bool) (d : Table) (i k : ℕ) → unseenAt z d k ≡ false → entry (afterGroup n z near b d i) k ≡ entry d k
   after-seen b d i k e = sweep-seen z (turn b z (clusterId n z i)) (turn-seen b z (clusterId n z i)) (i ∷ near i) d k e
@@ -114,14 +120,17 @@ module _ (n z : ℕ) (near : ℕ → List ℕ) where
 module _ (n least z len : ℕ) (near : ℕ → List ℕ) (A : Answers len near) where
   members-le : (d : Table) (i k : ℕ) → i < len → count k (members z near d i) ≤ 1
   members-le d i k h =
-      ⊎-elim (λ e. let c = members-here z near d i k e in let s = A .single i k h in omega arith) (λ e. let c = members-seen z near d i k e in omega arith) (pick (unseenAt z d k))
+      ⊎-elim (λ e. let c = members-here z near d i k e in let s = A .single i k h in omega arith)
+      (λ e. let c = members-seen z near d i k e in omega arith) (pick (unseenAt z d k))
 
   -- any other place stays as it is
-  pub after-out : (b : Bool) (d : Table) (i k : ℕ) → i < len → count k (members z near d i) ≡ 0 → entry (afterGroup n z near b d i) k ≡ entry d k
+  pub after-out : (b : Bool) (d : Table) (i k : ℕ) → i < len → count k (members z near d i) ≡ 0
+      → entry (afterGroup n z near b d i) k ≡ entry d k
   after-out b d i k l c = ⊎-elim live (λ e. after-seen n z near b d i k e) (pick (unseenAt z d k))
     where
       apart : count k (near i) ≡ 0 → oneIf (eqb k i) ≡ 0
-      apart w = ⊎-elim (λ h. absurd (let s = A .self i l in let t : count k (near i) ≡ count i (near i) = ap (λ (j : ℕ). count j (near i)) (h .0) in omega arith)) (λ h. h .1) (hit k i)
+      apart w = ⊎-elim (λ h. absurd (let s = A .self i l in let t : count k (near i) ≡ count i (near i) =
+          ap (λ (j : ℕ). count j (near i)) (h .0) in omega arith)) (λ h. h .1) (hit k i)
 
       live : unseenAt z d k ≡ true → entry (afterGroup n z near b d i) k ≡ entry d k
       live e =
@@ -130,16 +139,19 @@ module _ (n least z len : ℕ) (near : ℕ → List ℕ) (A : Answers len near) 
           sweep-out z (turn b z (clusterId n z i)) (turn-seen b z (clusterId n z i)) (i ∷ near i) d k (omega arith)
 
   -- the members are the place itself and the others, summed by any f
-  pub members-split : (f : ℕ → ℕ) (d : Table) (i : ℕ) → length d ≡ len → unseenAt z d i ≡ true → sum f (members z near d i) ≡ f i + sum f (others z near d i)
+  pub members-split : (f : ℕ → ℕ) (d : Table) (i : ℕ) → length d ≡ len → unseenAt z d i ≡ true
+      → sum f (members z near d i) ≡ f i + sum f (others z near d i)
   members-split f d i l e =
       sum-split f (unseenAt z d) (unseenAt z (markedAt z i d)) i (near i) (A .self i (let h = inside z d i e in omega arith)) e
       (seen-alike z _ _ false (getD-set-same d i (marked z (entry d i)) none (inside z d i e)) (le-ltb z z (le-refl z)))
       (λ k h. ap (λ (r : Entry). ltb z (r .seen)) (sym (getD-set-other d i k (marked z (entry d i)) none h)))
 
   -- the places of its groups are the members, summed by any f
-  groups-sum : (f : ℕ → ℕ) (b : Bool) (d : Table) (i : ℕ) → length d ≡ len → unseenAt z d i ≡ true → sum f (froms (groupsAt n z near b d i)) ≡ sum f (members z near d i)
+  groups-sum : (f : ℕ → ℕ) (b : Bool) (d : Table) (i : ℕ) → length d ≡ len → unseenAt z d i ≡ true
+      → sum f (froms (groupsAt n z near b d i)) ≡ sum f (members z near d i)
   groups-sum f true d i l e = let a = sum-append f (members z near d i) [] in omega arith
-  groups-sum f false d i l e = let a = sum-froms-copies f (λ k. marked z (entry d k)) (i ∷ others z near d i) in let b = members-split f d i l e in omega arith
+  groups-sum f false d i l e = let a = sum-froms-copies f (λ k. marked z (entry d k)) (i ∷ others z near d i) in let b =
+      members-split f d i l e in omega arith
 
   -- a place that acts sees its members
   after-count : (b : Bool) (d : Table) (i : ℕ) → length d ≡ len → unseenAt z d i ≡ true → (k : ℕ) →
@@ -149,17 +161,20 @@ module _ (n least z len : ℕ) (near : ℕ → List ℕ) (A : Answers len near) 
       i<len : i < len
       i<len = let h = inside z d i u in omega arith
 
-      member : 0 < count k (members z near d i) → count k (members z near d i) + oneIf (unseenAt z (afterGroup n z near b d i) k) ≡ oneIf (unseenAt z d k)
+      member : 0 < count k (members z near d i) → count k (members z near d i) + oneIf (unseenAt z (afterGroup n z near b d i) k)
+          ≡ oneIf (unseenAt z d k)
       member h =
           let p : oneIf (unseenAt z (afterGroup n z near b d i) k) ≡ 0 = ap oneIf (after-done n z near b d i k h) in
           let q : oneIf (unseenAt z d k) ≡ 1 = ap oneIf (members-unseen z near d i k h) in
           let r = members-le d i k i<len in
           omega arith
 
-      other : count k (members z near d i) ≤ 0 → count k (members z near d i) + oneIf (unseenAt z (afterGroup n z near b d i) k) ≡ oneIf (unseenAt z d k)
+      other : count k (members z near d i) ≤ 0 → count k (members z near d i) + oneIf (unseenAt z (afterGroup n z near b d i) k)
+          ≡ oneIf (unseenAt z d k)
       other h =
           let c : count k (members z near d i) ≡ 0 = omega arith in
-          let p : oneIf (unseenAt z (afterGroup n z near b d i) k) ≡ oneIf (unseenAt z d k) = ap (λ (x : Entry). oneIf (ltb z (x .seen))) (after-out b d i k i<len c) in
+          let p : oneIf (unseenAt z (afterGroup n z near b d i) k) ≡ oneIf (unseenAt z d k) =
+          ap (λ (x : Entry). oneIf (ltb z (x .seen))) (after-out b d i k i<len c) in
           omega arith
 
   -- ---- along a run
@@ -170,7 +185,8 @@ module _ (n least z len : ℕ) (near : ℕ → List ℕ) (A : Answers len near) 
   run-length (acts {i = i} {d = d} b m e r) l = run-length r (length-after n z near b d i len l)
 
   -- what is seen stays as it is
-  pub frame : {is : List ℕ} {d d' : Table} {rs : List Group} → Run n least z near is d d' rs → (k : ℕ) → unseenAt z d k ≡ false → entry d' k ≡ entry d k
+  pub frame : {is : List ℕ} {d d' : Table} {rs : List Group} → Run n least z near is d d' rs → (k : ℕ) → unseenAt z d k ≡ false
+      → entry d' k ≡ entry d k
   frame stop k e = refl
   frame (pass u r) k e = frame r k e
   frame (acts {i = i} {d = d} b m u r) k e =
@@ -190,22 +206,28 @@ module _ (n least z len : ℕ) (near : ℕ → List ℕ) (A : Answers len near) 
       omega arith
 
   -- a place that has had its turn is seen
-  pub covered : {is : List ℕ} {d d' : Table} {rs : List Group} → Run n least z near is d d' rs → length d ≡ len → (k : ℕ) → 0 < count k is → unseenAt z d' k ≡ false
+  pub covered : {is : List ℕ} {d d' : Table} {rs : List Group} → Run n least z near is d d' rs → length d ≡ len → (k : ℕ) → 0 < count k is
+      → unseenAt z d' k ≡ false
   covered stop l k c = absurd (omega arith)
   covered (pass {i = i} {is = is} {d = d} {d' = d'} u r) l k c = go (λ w. covered r l k w) (frame r) (hit k i)
     where
-      go : (0 < count k is → unseenAt z d' k ≡ false) → ((j : ℕ) → unseenAt z d j ≡ false → entry d' j ≡ entry d j) → Hit k i → unseenAt z d' k ≡ false
+      go : (0 < count k is → unseenAt z d' k ≡ false) → ((j : ℕ) → unseenAt z d j ≡ false → entry d' j ≡ entry d j) → Hit k i
+          → unseenAt z d' k ≡ false
       go ih fr (inl h) = let e : unseenAt z d k ≡ false = ap (λ (j : ℕ). unseenAt z d j) (h .0) ∙ u in seen-alike z _ _ false (fr k e) e
       go ih fr (inr h) = ih (omega arith)
-  covered (acts {i = i} {is = is} {d = d} {d' = d'} b m u r) l k c = go (λ w. covered r (length-after n z near b d i len l) k w) (frame r) (hit k i)
+  covered (acts {i = i} {is = is} {d = d} {d' = d'} b m u r) l k c = go (λ w. covered r (length-after n z near b d i len l) k w) (frame r)
+      (hit k i)
     where
       i<len : i < len
       i<len = let h = inside z d i u in omega arith
 
-      go : (0 < count k is → unseenAt z d' k ≡ false) → ((j : ℕ) → unseenAt z (afterGroup n z near b d i) j ≡ false → entry d' j ≡ entry (afterGroup n z near b d i) j) → Hit k i → unseenAt z d' k ≡ false
+      go : (0 < count k is → unseenAt z d' k ≡ false)
+          → ((j : ℕ) → unseenAt z (afterGroup n z near b d i) j ≡ false → entry d' j ≡ entry (afterGroup n z near b d i) j) → Hit k i
+          → unseenAt z d' k ≡ false
       go ih fr (inl h) =
           let a = members-here z near d i i u in
           let s = A .self i i<len in
-          let e : unseenAt z (afterGroup n z near b d i) k ≡ false = ap (λ (j : ℕ). unseenAt z (afterGroup n z near b d i) j) (h .0) ∙ after-done n z near b d i i (omega arith) in
+          let e : unseenAt z (afterGroup n z near b d i) k ≡ false = ap (λ (j : ℕ). unseenAt z (afterGroup n z near b d i) j) (h .0)
+          ∙ after-done n z near b d i i (omega arith) in
           seen-alike z _ _ false (fr k e) e
       go ih fr (inr h) = ih (omega arith)

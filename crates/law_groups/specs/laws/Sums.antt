@@ -91,7 +91,8 @@ gate-zero false = refl
 pub count-keep : (k : ℕ) (p : ℕ → Bool) (xs : List ℕ) → count k (keep p xs) ≡ gate (p k) (count k xs)
 count-keep k p [] = sym (gate-zero (p k))
 count-keep k p (x ∷ xs) =
-    sum-put (λ x. oneIf (eqb k x)) (p x) x (keep p xs) ∙ ap₂ (λ (a b : ℕ). a + b) (gate-hit p k x) (count-keep k p xs) ∙ gate-add (p k) (oneIf (eqb k x)) (count k xs)
+    sum-put (λ x. oneIf (eqb k x)) (p x) x (keep p xs) ∙ ap₂ (λ (a b : ℕ). a + b) (gate-hit p k x) (count-keep k p xs)
+    ∙ gate-add (p k) (oneIf (eqb k x)) (count k xs)
 
 -- what is kept was in the list
 pub keep-in : (p : ℕ → Bool) (xs : List ℕ) (k : ℕ) → 0 < count k (keep p xs) → 0 < count k xs
@@ -106,13 +107,15 @@ keep-ext p q [] h = refl
 keep-ext p q (x ∷ xs) h = ap₂ (λ (b : Bool) (r : List ℕ). put b x r) (h x (count-head x xs)) (keep-ext p q xs (λ k l. h k (omega arith)))
 
 -- one that is there once, taken out in front
-pub sum-split : (f : ℕ → ℕ) (p q : ℕ → Bool) (i : ℕ) (xs : List ℕ) → count i xs ≡ 1 → p i ≡ true → q i ≡ false → ((k : ℕ) → (k ≡ i → ⊥) → p k ≡ q k) →
+pub sum-split : (f : ℕ → ℕ) (p q : ℕ → Bool) (i : ℕ) (xs : List ℕ) → count i xs ≡ 1 → p i ≡ true → q i ≡ false
+    → ((k : ℕ) → (k ≡ i → ⊥) → p k ≡ q k) →
     sum f (keep p xs) ≡ f i + sum f (keep q xs)
 sum-split f p q i [] c a b h = absurd (let z : _≡_ {A = ℕ} 0 1 = c in omega arith)
 sum-split f p q i (x ∷ xs) c a b h = go (λ w. sum-split f p q i xs w a b h) (hit i x)
   where
     tail : count i xs ≡ 0 → sum f (keep p xs) ≡ sum f (keep q xs)
-    tail z = ap (λ (l : List ℕ). sum f l) (keep-ext p q xs (λ k l. h k (λ e. let y : count i xs ≡ count k xs = ap (λ (w : ℕ). count w xs) (sym e) in omega arith)))
+    tail z = ap (λ (l : List ℕ). sum f l)
+        (keep-ext p q xs (λ k l. h k (λ e. let y : count i xs ≡ count k xs = ap (λ (w : ℕ). count w xs) (sym e) in omega arith)))
 
     go : (count i xs ≡ 1 → sum f (keep p xs) ≡ f i + sum f (keep q xs)) → Hit i x → sum f (keep p (x ∷ xs)) ≡ f i + sum f (keep q (x ∷ xs))
     go ih (inl e) =

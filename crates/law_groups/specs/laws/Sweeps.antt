@@ -71,17 +71,20 @@ module _ (z : ℕ) (f : Entry → Entry) (hf : (e : Entry) → f e .seen ≡ z) 
   sweep-out [] d k c = refl
   sweep-out (j ∷ ks) d k c =
       sweep-out ks (change (unseenAt z d j) f d j) k (omega arith)
-      ∙ change-other (unseenAt z d j) d j k (λ e. let h : oneIf (eqb k j) ≡ 1 = ap (λ (i : ℕ). oneIf (eqb k i)) (sym e) ∙ ap oneIf (eqb-same k) in omega arith)
+      ∙ change-other (unseenAt z d j) d j k (λ e. let h : oneIf (eqb k j) ≡ 1 = ap (λ (i : ℕ). oneIf (eqb k i)) (sym e)
+      ∙ ap oneIf (eqb-same k) in omega arith)
 
   -- what is unseen and in the list is changed
   pub sweep-in : (ks : List ℕ) (d : Table) (k : ℕ) → unseenAt z d k ≡ true → 0 < count k ks → entry (sweep z f ks d) k ≡ f (entry d k)
   sweep-in [] d k e c = absurd (omega arith)
   sweep-in (j ∷ ks) d k e c = go (λ u v. sweep-in ks (change (unseenAt z d j) f d j) k u v) (hit k j)
     where
-      go : (unseenAt z (change (unseenAt z d j) f d j) k ≡ true → 0 < count k ks → entry (sweep z f ks (change (unseenAt z d j) f d j)) k ≡ f (entry (change (unseenAt z d j) f d j) k)) →
+      go : (unseenAt z (change (unseenAt z d j) f d j) k ≡ true → 0 < count k ks
+          → entry (sweep z f ks (change (unseenAt z d j) f d j)) k ≡ f (entry (change (unseenAt z d j) f d j) k)) →
           Hit k j → entry (sweep z f ks (change (unseenAt z d j) f d j)) k ≡ f (entry d k)
       go ih (inl h) =
-          let a : entry (change (unseenAt z d j) f d j) k ≡ f (entry d k) = subst (λ (i : ℕ). entry (change (unseenAt z d i) f d i) k ≡ f (entry d k)) (h .0) (change-same d k e) in
+          let a : entry (change (unseenAt z d j) f d j) k ≡ f (entry d k) =
+          subst (λ (i : ℕ). entry (change (unseenAt z d i) f d i) k ≡ f (entry d k)) (h .0) (change-same d k e) in
           sweep-seen ks (change (unseenAt z d j) f d j) k (seen-alike z _ _ false a (now-seen (entry d k))) ∙ a
       go ih (inr h) =
           let a : entry (change (unseenAt z d j) f d j) k ≡ entry d k = change-other (unseenAt z d j) d j k (h .0) in
@@ -104,7 +107,9 @@ module _ (z : ℕ) (f : Entry → Entry) (hf : (e : Entry) → f e .seen ≡ z) 
           (below 0 (count j ks))
 
   -- a field that the change keeps
-  pub sweep-field : {B : Type 0} (c : Entry → B) → ((e : Entry) → c (f e) ≡ c e) → (ks : List ℕ) (d : Table) (k : ℕ) → c (entry (sweep z f ks d) k) ≡ c (entry d k)
+  pub sweep-field : {B : Type 0} (c : Entry → B) → ((e : Entry) → c (f e) ≡ c e) → (ks : List ℕ) (d : Table) (k : ℕ)
+      → c (entry (sweep z f ks d) k) ≡ c (entry d k)
   sweep-field c same ks d k =
-      ⊎-elim (λ u. ⊎-elim (λ h. ap c (sweep-in ks d k u h) ∙ same (entry d k)) (λ h. ap c (sweep-out ks d k (omega arith))) (below 0 (count k ks)))
+      ⊎-elim (λ u. ⊎-elim (λ h. ap c (sweep-in ks d k u h) ∙ same (entry d k)) (λ h. ap c (sweep-out ks d k (omega arith)))
+      (below 0 (count k ks)))
       (λ u. ap c (sweep-seen ks d k u)) (pick (unseenAt z d k))

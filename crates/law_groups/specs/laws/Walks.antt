@@ -25,8 +25,10 @@ use Rattle.law_groups.specs.Groups.{unseenAt, took, change, sweep, weigh
 rest-same : (d : Table) (k : ℕ) (v : Entry) (ks : List ℕ) → count k ks ≡ 0 → (j : ℕ) → 0 < count j ks → entry (set d k v) j ≡ entry d j
 rest-same d k v ks h j l = getD-set-other d k j v none (λ e. let a : count j ks ≡ count k ks = ap (λ (i : ℕ). count i ks) e in omega arith)
 
-rest-kept : (z : ℕ) (d : Table) (k : ℕ) (v : Entry) (ks : List ℕ) → count k ks ≡ 0 → keep (unseenAt z (set d k v)) ks ≡ keep (unseenAt z d) ks
-rest-kept z d k v ks h = keep-ext (unseenAt z (set d k v)) (unseenAt z d) ks (λ j l. ap (λ (e : Entry). ltb z (e .seen)) (rest-same d k v ks h j l))
+rest-kept : (z : ℕ) (d : Table) (k : ℕ) (v : Entry) (ks : List ℕ) → count k ks ≡ 0
+    → keep (unseenAt z (set d k v)) ks ≡ keep (unseenAt z d) ks
+rest-kept z d k v ks h = keep-ext (unseenAt z (set d k v)) (unseenAt z d) ks
+    (λ j l. ap (λ (e : Entry). ltb z (e .seen)) (rest-same d k v ks h j l))
 
 alone : (k : ℕ) (ks : List ℕ) → ((j : ℕ) → count j (k ∷ ks) ≤ 1) → count k ks ≡ 0
 alone k ks h = let a = h k in let b : oneIf (eqb k k) ≡ 1 = ap oneIf (eqb-same k) in omega arith
@@ -64,7 +66,8 @@ absorb-table z p s (k ∷ ks) = go (λ u. absorb-table z p u ks) (unseenAt z (s 
     go ih false = ih s
 
 -- the sums look at coordinates and nums only
-pub weighed-ext : (c : Entry → Float) (d e : Table) (ks : List ℕ) (w : Float) → ((k : ℕ) → 0 < count k ks → (c (entry d k) ≡ c (entry e k)) × (entry d k .num ≡ entry e k .num)) →
+pub weighed-ext : (c : Entry → Float) (d e : Table) (ks : List ℕ) (w : Float)
+    → ((k : ℕ) → 0 < count k ks → (c (entry d k) ≡ c (entry e k)) × (entry d k .num ≡ entry e k .num)) →
     weighedSum c d w ks ≡ weighedSum c e w ks
 unfolding weighedSum
 weighed-ext c d e [] w h = refl
@@ -75,7 +78,8 @@ weighed-ext c d e (k ∷ ks) w h =
 
 -- the running sums are those over the unseen
 abbrev SumsAre : Table → ℕ → List ℕ → Absorbed → Absorbed → Type 0
-SumsAre d z ks s r = (r .sx ≡ weighedSum (λ e. e .x) d (s .sx) (keep (unseenAt z d) ks)) × (r .sy ≡ weighedSum (λ e. e .y) d (s .sy) (keep (unseenAt z d) ks))
+SumsAre d z ks s r = (r .sx ≡ weighedSum (λ e. e .x) d (s .sx) (keep (unseenAt z d) ks))
+    × (r .sy ≡ weighedSum (λ e. e .y) d (s .sy) (keep (unseenAt z d) ks))
 
 pub absorb-sums : (z p : ℕ) (s : Absorbed) (ks : List ℕ) → ((j : ℕ) → count j ks ≤ 1) → SumsAre (s .table) z ks s (absorb z p s ks)
 unfolding absorb absorbOne weighedSum
@@ -83,13 +87,16 @@ absorb-sums z p s [] h = (refl, refl)
 absorb-sums z p s (k ∷ ks) h = go (λ u. absorb-sums z p u ks (λ j. let a = h j in omega arith)) (unseenAt z (s .table) k)
   where
     moved : (c : Entry → Float) (w : Float) →
-        weighedSum c (set (s .table) k (took z p (entry (s .table) k))) w (keep (unseenAt z (set (s .table) k (took z p (entry (s .table) k)))) ks) ≡ weighedSum c (s .table) w (keep (unseenAt z (s .table)) ks)
+        weighedSum c (set (s .table) k (took z p (entry (s .table) k))) w
+        (keep (unseenAt z (set (s .table) k (took z p (entry (s .table) k)))) ks) ≡ weighedSum c (s .table) w
+        (keep (unseenAt z (s .table)) ks)
     moved c w =
         let t : Table = s .table in
         let u : Table = set t k (took z p (entry t k)) in
         ap (λ (l : List ℕ). weighedSum c u w l) (rest-kept z t k (took z p (entry t k)) ks (alone k ks h))
         ∙ weighed-ext c u t (keep (unseenAt z t) ks) w
-        (λ j l. let a = rest-same t k (took z p (entry t k)) ks (alone k ks h) j (keep-in (unseenAt z t) ks j l) in (ap c a, ap (λ (e : Entry). e .num) a))
+        (λ j l. let a = rest-same t k (took z p (entry t k)) ks (alone k ks h) j (keep-in (unseenAt z t) ks j l) in
+        (ap c a, ap (λ (e : Entry). e .num) a))
 
     go : ((u : Absorbed) → SumsAre (u .table) z ks u (absorb z p u ks)) → (b : Bool) →
         (absorb z p (absorbBy b z p s k) ks .sx ≡ weighedSum (λ e. e .x) (s .table) (s .sx) (put b k (keep (unseenAt z (s .table)) ks)))
@@ -108,14 +115,19 @@ copyBy b z s k = cond b (copiedOne z s k) s
 
 -- the unseen in order, marked in the table, and their copies at the end of the next one
 abbrev pub copiesOf : ℕ → Scan → List ℕ → Scan
-copiesOf z s ks = record { table = sweep z (marked z) ks (s .table); next = s .next ++ map (λ k. marked z (entry (s .table) k)) (keep (unseenAt z (s .table)) ks) }
+copiesOf z s ks = record {
+  table = sweep z (marked z) ks (s .table);
+  next =
+      s .next ++ map (λ k. marked z (entry (s .table) k)) (keep (unseenAt z (s .table)) ks);
+}
 
 pub copy-is : (z : ℕ) (s : Scan) (ks : List ℕ) → ((j : ℕ) → count j ks ≤ 1) → copyAll z s ks ≡ copiesOf z s ks
 unfolding copyAll copyOne
 copy-is z s [] h = λ i. record { table = s .table; next = sym (append-nil (s .next)) i }
 copy-is z s (k ∷ ks) h = go (λ u. copy-is z u ks (λ j. let a = h j in omega arith)) (unseenAt z (s .table) k)
   where
-    rest : map (λ j. marked z (entry (set (s .table) k (marked z (entry (s .table) k))) j)) (keep (unseenAt z (set (s .table) k (marked z (entry (s .table) k)))) ks)
+    rest : map (λ j. marked z (entry (set (s .table) k (marked z (entry (s .table) k))) j))
+        (keep (unseenAt z (set (s .table) k (marked z (entry (s .table) k)))) ks)
         ≡ map (λ j. marked z (entry (s .table) j)) (keep (unseenAt z (s .table)) ks)
     rest =
         let t : Table = s .table in
@@ -125,10 +137,15 @@ copy-is z s (k ∷ ks) h = go (λ u. copy-is z u ks (λ j. let a = h j in omega 
         (λ j l. ap (λ (e : Entry). marked z e) (rest-same t k (marked z (entry t k)) ks (alone k ks h) j (keep-in (unseenAt z t) ks j l)))
 
     go : ((u : Scan) → copyAll z u ks ≡ copiesOf z u ks) → (b : Bool) →
-        copyAll z (copyBy b z s k) ks ≡ record { table = sweep z (marked z) ks (change b (marked z) (s .table) k); next = s .next ++ map (λ k. marked z (entry (s .table) k)) (put b k (keep (unseenAt z (s .table)) ks)) }
+        copyAll z (copyBy b z s k) ks ≡ record {
+          table = sweep z (marked z) ks (change b (marked z) (s .table) k);
+          next =
+              s .next ++ map (λ k. marked z (entry (s .table) k)) (put b k (keep (unseenAt z (s .table)) ks));
+        }
     go ih true =
         ih (copyBy true z s k)
         ∙ ap (λ (l : Table). record { table = sweep z (marked z) ks (set (s .table) k (marked z (entry (s .table) k))); next = l })
         (ap (λ (l : Table). s .next ++ (marked z (entry (s .table) k) ∷ []) ++ l) rest
-        ∙ append-snoc (s .next) (marked z (entry (s .table) k)) (map (λ j. marked z (entry (s .table) j)) (keep (unseenAt z (s .table)) ks)))
+        ∙ append-snoc (s .next) (marked z (entry (s .table) k))
+        (map (λ j. marked z (entry (s .table) j)) (keep (unseenAt z (s .table)) ks)))
     go ih false = ih s

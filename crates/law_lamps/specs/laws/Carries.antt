@@ -24,7 +24,8 @@ use Rattle.law_builds.specs.Places.{groupAt}
 use Rattle.law_builds.specs.Same.{same-carried, table-same}
 use Rattle.law_lamps.specs.Owner.{owner, lampsOf}
 use Rattle.law_lamps.specs.laws.Gather.{sum-gather, sum-ones, sum-bound, range-length, range-below}
-use Rattle.law_lamps.specs.laws.Owners.{lamps-first, lamps-next, first-long, first-same, place-came, group-same, group-fits, group-member}
+use Rattle.law_lamps.specs.laws.Owners.{lamps-first, lamps-next, first-long, first-same, place-came, group-same, group-fits}
+use Rattle.law_lamps.specs.laws.Owners.{group-member}
 use Rattle.law_lamps.specs.laws.Owners.{lamps-owned, lamps-permute}
 
 module _ (G : Given) (a : AcceptedBuild G) where
@@ -70,7 +71,8 @@ module _ (G : Given) (a : AcceptedBuild G) where
         sum (λ j. f (entry (tableOfZoom G z) j)) (range 0 (length (tableOfZoom G z))) ≡ sum c (range 0 (points G))
     carried-together z h k =
         let n = length (tableOfZoom G z) in
-        sum-ext (λ j. f (entry (tableOfZoom G z) j)) (λ j. sum c (lampsOf G z j)) (range 0 n) (λ j m. carried-lamps z h k j (range-below n j m))
+        sum-ext (λ j. f (entry (tableOfZoom G z) j)) (λ j. sum c (lampsOf G z j)) (range 0 n)
+        (λ j m. carried-lamps z h k j (range-below n j m))
         ∙ sym (sum-gather c (λ j. lampsOf G z j) (range 0 n)) ∙ sum-permute c (lamps-permute G a z h k)
 
   -- ---- nums: 1 of each lamp

@@ -29,7 +29,8 @@ use Rattle.law_builds.specs.Identities.{Known, identities, ids-distinct, id-tab
 use Rattle.law_builds.specs.Places.{groupAt}
 use Rattle.law_builds.specs.Same.{idOf, table-same, near-same}
 use Rattle.law_lamps.specs.Owner.{gather, lampsOf, answersAt, membersOf}
-use Rattle.law_lamps.specs.laws.Owners.{lamps-first, lamps-joined, lamps-copied, first-long, first-id, group-same, group-id, group-fits}
+use Rattle.law_lamps.specs.laws.Owners.{lamps-first, lamps-joined, lamps-copied, first-long, first-id, group-same, group-id}
+use Rattle.law_lamps.specs.laws.Owners.{group-fits}
 use Rattle.law_lamps.specs.laws.Carries.{lamps-long}
 
 module _ (G : Given) (a : AcceptedBuild G) where
@@ -95,14 +96,16 @@ module _ (G : Given) (a : AcceptedBuild G) where
 
   -- the lamps of a lamp: its id alone
   abbrev Itself : ℕ → Type 0
-  Itself z = (j : ℕ) → j < length (tableOfZoom G z) → entry (tableOfZoom G z) j .id < points G → lampsOf G z j ≡ entry (tableOfZoom G z) j .id ∷ []
+  Itself z = (j : ℕ) → j < length (tableOfZoom G z) → entry (tableOfZoom G z) j .id < points G
+      → lampsOf G z j ≡ entry (tableOfZoom G z) j .id ∷ []
 
   pub lamps-of-lamp : (z : ℕ) → minZ G ≤ z → z ≤ maxZ G + 1 → Itself z
   lamps-of-lamp =
       down Itself (minZ G) (maxZ G + 1) (λ j q b. lamps-first G j ∙ ap (λ (i : ℕ). i ∷ []) (sym (first-id G a j q)))
       (λ z h k ih j q b. by z j b ih (from-by z h (omega arith) j q))
     where
-      by : (z j : ℕ) → entry (tableOfZoom G z) j .id < points G → Itself (suc z) → From z j → lampsOf G z j ≡ entry (tableOfZoom G z) j .id ∷ []
+      by : (z j : ℕ) → entry (tableOfZoom G z) j .id < points G → Itself (suc z) → From z j
+          → lampsOf G z j ≡ entry (tableOfZoom G z) j .id ∷ []
       by z j b ih (again k q e s) = s ∙ ih k q (omega arith) ∙ ap (λ (i : ℕ). i ∷ []) (sym e)
       by z j b ih (anew i ks e m w c s) = absurd (let w = id-from (points G) z i in omega arith)
 
@@ -136,14 +139,16 @@ module _ (G : Given) (a : AcceptedBuild G) where
           omega arith
 
   abbrev Like : ℕ → ℕ → ℕ → Type 0
-  Like w k v = (j : ℕ) → j < length (tableOfZoom G v) → entry (tableOfZoom G v) j .id ≡ entry (tableOfZoom G w) k .id → lampsOf G v j ≡ lampsOf G w k
+  Like w k v = (j : ℕ) → j < length (tableOfZoom G v) → entry (tableOfZoom G v) j .id ≡ entry (tableOfZoom G w) k .id
+      → lampsOf G v j ≡ lampsOf G w k
 
   same-above : (z w : ℕ) → minZ G ≤ z → z ≤ w → w ≤ maxZ G + 1 → (k : ℕ) → k < length (tableOfZoom G w) → Like w k z
   same-above z w h l m k q =
       down (Like w k) (minZ G) w (λ j p e. ap (λ (i : ℕ). lampsOf G w i) (ids-distinct G a w (omega arith) m j k p q e))
       (λ v r s ih j p e. by v r s ih j e (from-by v r (omega arith) j p)) z h l
     where
-      by : (v : ℕ) → minZ G ≤ v → v < w → Like w k (suc v) → (j : ℕ) → entry (tableOfZoom G v) j .id ≡ entry (tableOfZoom G w) k .id → From v j →
+      by : (v : ℕ) → minZ G ≤ v → v < w → Like w k (suc v) → (j : ℕ) → entry (tableOfZoom G v) j .id ≡ entry (tableOfZoom G w) k .id
+          → From v j →
           lampsOf G v j ≡ lampsOf G w k
       by v r s ih j e (again i p d t) = t ∙ ih i p (sym d ∙ e)
       by v r s ih j e (anew i ks d u y c t) = absurd (not-yet v w i k s (omega arith) m q (sym e ∙ d))
@@ -193,7 +198,8 @@ module _ (G : Given) (a : AcceptedBuild G) where
   -- each cluster of each table
   abbrev AllClustered : ℕ → Type 0
   AllClustered z =
-      (j : ℕ) → j < length (tableOfZoom G z) → points G ≤ entry (tableOfZoom G z) j .id → Clustered (entry (tableOfZoom G z) j .id) (lampsOf G z j)
+      (j : ℕ) → j < length (tableOfZoom G z) → points G ≤ entry (tableOfZoom G z) j .id
+      → Clustered (entry (tableOfZoom G z) j .id) (lampsOf G z j)
 
   pub clustered : (z : ℕ) → minZ G ≤ z → z ≤ maxZ G + 1 → AllClustered z
   clustered =

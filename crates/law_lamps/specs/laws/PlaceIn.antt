@@ -23,26 +23,32 @@ none-at k (g ∷ gs) h zero l = let a = sum-append (λ x. oneIf (eqb k x)) (from
 none-at k (g ∷ gs) h (suc j) l = none-at k gs (let a = sum-append (λ x. oneIf (eqb k x)) (from g) (froms gs) in omega arith) j (omega arith)
 
 -- how often a group has the place: once the one at `placeIn`, and no other
-pub place-at : (k : ℕ) (gs : List Group) → count k (froms gs) ≡ 1 → (j : ℕ) → j < length gs → count k (from (groupAt gs j)) ≡ oneIf (eqb (placeIn gs k) j)
+pub place-at : (k : ℕ) (gs : List Group) → count k (froms gs) ≡ 1 → (j : ℕ) → j < length gs
+    → count k (from (groupAt gs j)) ≡ oneIf (eqb (placeIn gs k) j)
 place-at k [] h j l = absurd (omega arith)
 place-at k (g ∷ gs) h j l = go (λ a. place-at k gs a) j l (ltb 0 (count k (from g))) refl
   where
     both : count k (from g ++ froms gs) ≡ count k (from g) + count k (froms gs)
     both = sum-append (λ x. oneIf (eqb k x)) (from g) (froms gs)
 
-    go : (count k (froms gs) ≡ 1 → (j : ℕ) → j < length gs → count k (from (groupAt gs j)) ≡ oneIf (eqb (placeIn gs k) j)) → (j : ℕ) → j < length (g ∷ gs) →
+    go : (count k (froms gs) ≡ 1 → (j : ℕ) → j < length gs → count k (from (groupAt gs j)) ≡ oneIf (eqb (placeIn gs k) j)) → (j : ℕ)
+        → j < length (g ∷ gs) →
         (b : Bool) → ltb 0 (count k (from g)) ≡ b → count k (from (groupAt (g ∷ gs) j)) ≡ oneIf (eqb (cond b 0 (suc (placeIn gs k))) j)
     go ih zero l true e = let a = ltb-true 0 (count k (from g)) e in let c = both in omega arith
-    go ih (suc j) l true e = none-at k gs (let a = ltb-true 0 (count k (from g)) e in let c = both in omega arith) j (omega arith) ∙ sym (ap oneIf (eqb·zero-suc j))
-    go ih zero l false e = let a = ltb-false 0 (count k (from g)) e in let c : oneIf (eqb (suc (placeIn gs k)) 0) ≡ 0 = ap oneIf (eqb·suc-zero (placeIn gs k)) in omega arith
-    go ih (suc j) l false e = ih (let a = ltb-false 0 (count k (from g)) e in let c = both in omega arith) j (omega arith) ∙ sym (ap oneIf (eqb·suc-suc (placeIn gs k) j))
+    go ih (suc j) l true e = none-at k gs (let a = ltb-true 0 (count k (from g)) e in let c = both in omega arith) j (omega arith)
+        ∙ sym (ap oneIf (eqb·zero-suc j))
+    go ih zero l false e = let a = ltb-false 0 (count k (from g)) e in let c : oneIf (eqb (suc (placeIn gs k)) 0) ≡ 0 =
+        ap oneIf (eqb·suc-zero (placeIn gs k)) in omega arith
+    go ih (suc j) l false e = ih (let a = ltb-false 0 (count k (from g)) e in let c = both in omega arith) j (omega arith)
+        ∙ sym (ap oneIf (eqb·suc-suc (placeIn gs k) j))
 
 -- it is a place of the next table
 pub place-in : (k : ℕ) (gs : List Group) → count k (froms gs) ≡ 1 → placeIn gs k < length gs
 place-in k [] h = absurd (omega arith)
 place-in k (g ∷ gs) h = go (λ a. place-in k gs a) (ltb 0 (count k (from g))) refl
   where
-    go : (count k (froms gs) ≡ 1 → placeIn gs k < length gs) → (b : Bool) → ltb 0 (count k (from g)) ≡ b → cond b 0 (suc (placeIn gs k)) < suc (length gs)
+    go : (count k (froms gs) ≡ 1 → placeIn gs k < length gs) → (b : Bool) → ltb 0 (count k (from g)) ≡ b
+        → cond b 0 (suc (placeIn gs k)) < suc (length gs)
     go ih true e = omega arith
     go ih false e =
         let a = ltb-false 0 (count k (from g)) e in
@@ -59,6 +65,7 @@ pub copy-is : (k m : ℕ) → 0 < count k (m ∷ []) → k ≡ m
 copy-is k m c = ⊎-elim (λ h. h .0) (λ h. absurd (let b = h .1 in omega arith)) (hit k m)
 
 -- each member of a group that fits is a place of the table
-pub member-in : (n least z : ℕ) (near : ℕ → List ℕ) (T T' : Table) (g : Group) → FitsZoom n least z near T T' g → (k : ℕ) → 0 < count k (from g) → k < length T
+pub member-in : (n least z : ℕ) (near : ℕ → List ℕ) (T T' : Table) (g : Group) → FitsZoom n least z near T T' g → (k : ℕ)
+    → 0 < count k (from g) → k < length T
 member-in n least z near T T' (copied m e) w k c = let a = w .place in let b = copy-is k m c in omega arith
 member-in n least z near T T' (joinedGroup i ks e) w k c = w .member k c

@@ -129,7 +129,8 @@ put-decimal-returns-3 t c =
     let d = f .before .before .before .before in
     let t2 = d .before .before in
     let t1 = t2 .before in
-    rw (decimal-more _ _ (t1 .if1 .left) (t2 .if2 .left)) (put-near (omega arith) (put-more (d .put-decimal .ensures) (f .put-byte2 .ensures)))
+    rw (decimal-more _ _ (t1 .if1 .left) (t2 .if2 .left))
+    (put-near (omega arith) (put-more (d .put-decimal .ensures) (f .put-byte2 .ensures)))
 
 pub +put-decimal-spec : {M : Type 1} → statement M
 +put-decimal-spec = close μ-put-decimal λ t. put-decimal-lts.spec (

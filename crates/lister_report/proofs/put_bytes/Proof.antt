@@ -25,7 +25,8 @@ next : (bs : List ℕ) (i : ℕ) → i < length bs → drop i bs ≡ (getD bs i 
 next bs i h = rw (drop-cons bs i 0 h, add-one) refl
 
 loop-holds : tie.Need-loop-holds Inv-loop μ-loop
-loop-holds c = let s = c .before .before in (omega arith, (omega arith, storing-start (now (s .args .out)) (s .args .at) (now (s .args .bs))))
+loop-holds c = let s = c .before .before in
+    (omega arith, (omega arith, storing-start (now (s .args .out)) (s .args .at) (now (s .args .bs))))
 
 shared-slice-read-put-byte : tie.Need-shared-slice-read-put-byte Inv-loop μ-loop
 shared-slice-read-put-byte c = omega arith
@@ -52,7 +53,8 @@ loop-again c =
       omega (arith, p .past, l .loop .inv .0),
       (
         omega (arith, t .loop-test .taken),
-        storing-step (now (s .args .out)) (s .args .at) (now (s .args .bs)) (l .loop .out) _ (l .loop .p) (w .put-byte .result) (drop i (now (s .args .bs))) (getD (now (s .args .bs)) i 0 ∷ []) (drop (i + 1) (now (s .args .bs))) 1
+        storing-step (now (s .args .out)) (s .args .at) (now (s .args .bs)) (l .loop .out) _ (l .loop .p) (w .put-byte .result)
+            (drop i (now (s .args .bs))) (getD (now (s .args .bs)) i 0 ∷ []) (drop (i + 1) (now (s .args .bs))) 1
             (l .loop .inv .1 .1) (next (now (s .args .bs)) i (t .loop-test .taken)) p,
       ),
     )
@@ -64,7 +66,8 @@ returns : tie.Need-returns Inv-loop μ-loop
 returns c =
     let l = c .before in
     let s = start-of l in
-    storing-end (now (s .args .out)) (s .args .at) (now (s .args .bs)) (l .loop .out) (l .loop .p) (drop (l .loop .i) (now (s .args .bs))) (length (now (s .args .bs))) (l .loop .inv .1 .1)
+    storing-end (now (s .args .out)) (s .args .at) (now (s .args .bs)) (l .loop .out) (l .loop .p) (drop (l .loop .i) (now (s .args .bs)))
+    (length (now (s .args .bs))) (l .loop .inv .1 .1)
     (drop-of-length-le (now (s .args .bs)) (c .loop-test .left)) (omega (arith, l .loop .inv .0))
 
 pub put-bytes-spec : {M : Type 1} → statement M

@@ -38,7 +38,8 @@ returns c =
     let m = n .before .before .before .before .before .before in
     let q = m .before .before .before .before .before .before in
     let p = q .before .before .before .before in
-    put-near (omega arith) (put-more (put-more (put-more (p .put-place .ensures) (q .put-point .ensures)) (m .put-marks .ensures)) (n .put-end .ensures))
+    put-near (omega arith) (put-more (put-more (put-more (p .put-place .ensures) (q .put-point .ensures)) (m .put-marks .ensures))
+    (n .put-end .ensures))
 
 pub put-line-spec : {M : Type 1} → statement M
 put-line-spec =

@@ -26,7 +26,8 @@ returns c =
     let d = f .before .before .before .before in
     let b = d .before .before .before .before in
     let o = b .before .before .before .before in
-    put-near (omega arith) (put-more (put-more (put-more (o .put-or-dash .ensures) (b .put-byte .ensures)) (d .put-decimal .ensures)) (f .put-byte2 .ensures))
+    put-near (omega arith) (put-more (put-more (put-more (o .put-or-dash .ensures) (b .put-byte .ensures)) (d .put-decimal .ensures))
+    (f .put-byte2 .ensures))
 
 pub put-marks-spec : {M : Type 1} → statement M
 put-marks-spec =

@@ -26,7 +26,8 @@ returns c =
     let e = f .before .before .before .before in
     let b = e .before .before .before .before in
     let d = b .before .before .before .before in
-    put-near (omega arith) (put-more (put-more (put-more (d .put-decimal .ensures) (b .put-byte .ensures)) (e .put-decimal2 .ensures)) (f .put-byte2 .ensures))
+    put-near (omega arith) (put-more (put-more (put-more (d .put-decimal .ensures) (b .put-byte .ensures)) (e .put-decimal2 .ensures))
+    (f .put-byte2 .ensures))
 
 pub put-place-spec : {M : Type 1} → statement M
 put-place-spec =

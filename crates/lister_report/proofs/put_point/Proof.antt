@@ -34,7 +34,9 @@ returns c =
     let b = v .before .before .before .before in
     let h = b .before .before .before .before in
     let u = h .before in
-    put-near (omega arith) (put-more (put-more (put-more (rw (u .bits .ensures) at (h .put-hex .ensures)) (b .put-byte .ensures)) (rw (v .bits2 .ensures) at (k .put-hex2 .ensures))) (f .put-byte2 .ensures))
+    put-near (omega arith) (put-more
+    (put-more (put-more (rw (u .bits .ensures) at (h .put-hex .ensures)) (b .put-byte .ensures))
+    (rw (v .bits2 .ensures) at (k .put-hex2 .ensures))) (f .put-byte2 .ensures))
 
 pub put-point-spec : {M : Type 1} → statement M
 put-point-spec =

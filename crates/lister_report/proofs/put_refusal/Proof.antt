@@ -29,7 +29,8 @@ returns c =
     let e = f .before .before .before .before in
     let d = e .before .before .before .before in
     let b = d .before .before .before .before in
-    put-near (omega arith) (put-more (put-more (put-more (b .put-bytes .ensures) (d .put-decimal .ensures)) (e .put-carried .ensures)) (f .put-byte .ensures))
+    put-near (omega arith) (put-more (put-more (put-more (b .put-bytes .ensures) (d .put-decimal .ensures)) (e .put-carried .ensures))
+    (f .put-byte .ensures))
 
 pub put-refusal-spec : {M : Type 1} → statement M
 put-refusal-spec =

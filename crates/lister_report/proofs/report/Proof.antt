@@ -12,7 +12,7 @@ use lib.Ieee.{ofBits}
 use Rattle.floats.specs.Numbers.{zero}
 use Rattle.lister_text.specs.declared.Parsed.{Parsed}
 use Rattle.lister_text.specs.declared.Head.{Head}
-use Rattle.lister_text.specs.Text.{Place, xOf, yOf, whOf, PointCols, pointCols, putPoints, Parsing, Reads}
+use Rattle.lister_text.specs.Text.{LampText, xOf, yOf, whOf, PointCols, pointCols, putPoints, Parsing, Reads}
 use Rattle.lister_text.specs.Values.{optionsOf}
 use Rattle.lister_text.specs.laws.Whole.{Wide, Front, reads-front}
 use Rattle.build_all_zooms.specs.Zooms.{laidOver}
@@ -59,12 +59,13 @@ reads-of : (c : tie.After-px2) → let p = parse-of c in Reads (now (start-of p 
 reads-of c = parsed (parse-of c) _ (told-of c .h .given .1)
 
 -- the columns are as long as they were
-put-wide : (c : PointCols) (ps : List Place) → c ≡ putPoints points 0 ps → Wide c
+put-wide : (c : PointCols) (ps : List LampText) → c ≡ putPoints points 0 ps → Wide c
 put-wide c ps e =
     record {
       x = ap (λ (d : PointCols). length (d .xs)) e ∙ length-sets (points .xs) 0 (map xOf ps) ∙ length-replicate 1152 zero;
       y = ap (λ (d : PointCols). length (d .ys)) e ∙ length-sets (points .ys) 0 (map yOf ps) ∙ length-replicate 1152 zero;
-      energy = ap (λ (d : PointCols). length (d .energies)) e ∙ length-sets (points .energies) 0 (map whOf ps) ∙ length-replicate {A = ℕ} 1152 0;
+      energy = ap (λ (d : PointCols). length (d .energies)) e ∙ length-sets (points .energies) 0 (map whOf ps)
+          ∙ length-replicate {A = ℕ} 1152 0;
     }
 
 wide-of : (c : tie.After-px2) → Wide (points-after (parse-of c))

@@ -21,7 +21,7 @@ use Rattle.supercluster.specs.declared.LoadReply.the-variants.{Done, Options as
 use Rattle.supercluster.specs.Build.{convertedAll, BuildColumns, written, builtState, need, firstOver, tripleOk, ordered}
 use Rattle.supercluster.specs.Build.{checked, loadNumber, loadCarried, Outcome, outcome, loaded}
 use Rattle.supercluster.specs.laws.Held.{heldBy, built-held, built-within}
-use Rattle.supercluster.specs.laws.Load.{accepted, replies, holds, rowsIn, EvenIn, by-reply}
+use Rattle.supercluster.specs.laws.Load.{accepted, replies, number-done, holds, rowsIn, EvenIn, by-reply}
 use Rattle.supercluster.specs.laws.Over.{over-length}
 use Rattle.supercluster.specs.laws.Right.{tables-room}
 use Rattle.supercluster.specs.declared.Loaded.{Loaded}
@@ -68,15 +68,6 @@ reply-is o p l l′ b s e =
     ap (λ (q : Outcome). q .reply .reply) e ∙ replies o (p .xs) (p .ys) (p .energies) l (checkedBy o p l)
     ∙ checked-sized o p l listerColumns s columns-sized
 
--- the number 0 is that of no refusal
-number-done : (r : LoadReply) → loadNumber r ≡ 0 → r ≡ Done
-number-done Done e = refl
-number-done No·Options e = absurd (omega arith)
-number-done Count e = absurd (omega arith)
-number-done (Point i) e = absurd (omega arith)
-number-done (Energy i) e = absurd (omega arith)
-number-done Tables e = absurd (omega arith)
-
 refused-by : (o : Options) (p : PointCols) (r : LoadReply) → (loadNumber r ≡ 0 → ⊥)
     → answerText o p r ≡ refusalText (loadNumber r) (loadCarried r)
 refused-by o p Done e = absurd (e refl)
@@ -110,7 +101,7 @@ module _ (o : Options) (p : PointCols) (l : BuildColumns) (s : Sized l) (done : 
   entries : length (joined ts) ≤ 1152
   entries =
       let a = accepted o (p .xs) (p .ys) (p .energies) l done in
-      omega (arith, tables-room o (p .xs) (p .ys) (p .energies) (a .0), holds (need o n) l (a .1) .hx, s .x)
+      omega (arith, tables-room o (p .xs) (p .ys) (p .energies) (a .0), holds (need o n) l (a .1) .table .hx, s .x)
 
   -- a column that is as long as x is so after the build
   column : {A B : Type 0} (f : Entry → A) (g : Entry → B) (d : List A) (x : List B) → length d ≡ length x → length x ≡ 1152
@@ -156,6 +147,6 @@ pub printable : (o : Options) (p : PointCols) (l l′ : BuildColumns) (b : Loade
     → loadNumber (b .reply) ≡ 0 → Printable o p (b .state) l′
 printable o p l l′ b s e n =
     let done : checkedBy o p l ≡ Done =
-    checked-sized o p l listerColumns s columns-sized ∙ sym (reply-is o p l l′ b s e) ∙ number-done (b .reply) n in
+    checked-sized o p l listerColumns s columns-sized ∙ sym (reply-is o p l l′ b s e) ∙ number-done (b .reply) (omega (arith, n)) in
     let is = e ∙ by-reply o (p .xs) (p .ys) (p .energies) l (checkedBy o p l) Done refl done in
     subst (λ (q : Outcome). Printable o p (q .reply .state) (q .columns)) (sym is) (built-printable o p l s done)

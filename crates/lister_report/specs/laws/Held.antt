@@ -29,7 +29,8 @@ module _ (ss ll : List ℕ) (t : Table) (low z : ℕ) where
       let f : low + (z - 1 - low) ≡ z - 1 = omega arith in
       ap (held ss ll t low) e ∙ ap (λ (q : ℕ). heldAt ss ll t q ∷ held ss ll t low (z - 1 - low)) f
 
-  pub text-step : low < z → tablesText (z - 1) (held ss ll t low (z - low)) ≡ tableText (z - 1) 0 (heldAt ss ll t (z - 1)) ++ tablesText (z - 1 - 1) (held ss ll t low (z - 1 - low))
+  pub text-step : low < z → tablesText (z - 1) (held ss ll t low (z - low)) ≡ tableText (z - 1) 0 (heldAt ss ll t (z - 1))
+      ++ tablesText (z - 1 - 1) (held ss ll t low (z - 1 - low))
   unfolding tablesText
   text-step h = ap (tablesText (z - 1)) (held-step h)
 

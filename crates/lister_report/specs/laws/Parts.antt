@@ -25,4 +25,5 @@ module _ (start len : ℕ) (t : Table) (h : start + len ≤ length t) where
 
   pub line-none : (zoom i : ℕ) → len ≤ i → tableText zoom i (drop i (part start len t)) ≡ []
   unfolding tableText
-  line-none zoom i k = let l = part-long start len t h in let m : length (part start len t) ≤ i = omega arith in rw (drop-of-length-le (part start len t) m) refl
+  line-none zoom i k = let l = part-long start len t h in let m : length (part start len t) ≤ i = omega arith in
+      rw (drop-of-length-le (part start len t) m) refl

@@ -18,9 +18,11 @@ pub sets-append : (xs ys l : List ℕ) (i : ℕ) → sets (sets l i xs) (i + len
 sets-append [] ys l i = rw add-zero
 sets-append (a ∷ xs) ys l i = rw (add-suc, ← suc-add) (sets-append xs ys (set l i a) (suc i))
 
-pub put-more : {o o′ o″ : List ℕ} {at p r : ℕ} {xs ys : List ℕ} {m n : ℕ} → Put o o′ at xs m p → Put o′ o″ p ys n r → Put o o″ at (xs ++ ys) (m + n) r
+pub put-more : {o o′ o″ : List ℕ} {at p r : ℕ} {xs ys : List ℕ} {m n : ℕ} → Put o o′ at xs m p → Put o′ o″ p ys n r
+    → Put o o″ at (xs ++ ys) (m + n) r
 put-more {o} {o′} {o″} {at} {p} {r} {xs} {ys} a b = record {
-  stored = b .stored ∙ ap (λ (q : ℕ). sets o′ q ys) (a .past) ∙ ap (λ (l : List ℕ). sets l (at + length xs) ys) (a .stored) ∙ sets-append xs ys o at;
+  stored = b .stored ∙ ap (λ (q : ℕ). sets o′ q ys) (a .past) ∙ ap (λ (l : List ℕ). sets l (at + length xs) ys) (a .stored)
+      ∙ sets-append xs ys o at;
   past = omega (arith, length-append xs ys, a .past, b .past);
   near = omega (arith, a .near, b .near);
 }
@@ -51,14 +53,17 @@ module _ (o : List ℕ) (a : ℕ) (all : List ℕ) where
   pub storing-start : Storing o a all o a all
   storing-start = record { is = refl; long = refl; kept = refl }
 
-  pub storing-step : (o′ o″ : List ℕ) (at r : ℕ) (now part rest : List ℕ) (most : ℕ) → Storing o a all o′ at now → now ≡ part ++ rest → Put o′ o″ at part most r → Storing o a all o″ r rest
+  pub storing-step : (o′ o″ : List ℕ) (at r : ℕ) (now part rest : List ℕ) (most : ℕ) → Storing o a all o′ at now → now ≡ part ++ rest
+      → Put o′ o″ at part most r → Storing o a all o″ r rest
   storing-step o′ o″ at r now part rest most s e p =
       record {
-        is = ap (λ (q : ℕ). sets o″ q rest) (p .past) ∙ ap (λ (b : List ℕ). sets b (at + length part) rest) (p .stored) ∙ sets-append part rest o′ at ∙ ap (sets o′ at) (sym e) ∙ s .is;
+        is = ap (λ (q : ℕ). sets o″ q rest) (p .past) ∙ ap (λ (b : List ℕ). sets b (at + length part) rest) (p .stored)
+            ∙ sets-append part rest o′ at ∙ ap (sets o′ at) (sym e) ∙ s .is;
         long = omega (arith, p .past, length-append part rest, ap length e, s .long);
         kept = put-length p ∙ s .kept;
       }
 
-  pub storing-end : (o′ : List ℕ) (at : ℕ) (rest : List ℕ) (most : ℕ) → Storing o a all o′ at rest → rest ≡ [] → at ≤ a + most → Put o o′ a all most at
+  pub storing-end : (o′ : List ℕ) (at : ℕ) (rest : List ℕ) (most : ℕ) → Storing o a all o′ at rest → rest ≡ [] → at ≤ a + most
+      → Put o o′ a all most at
   storing-end o′ at rest most s e h =
       record { stored = sym (ap (sets o′ at) e) ∙ s .is; past = omega (arith, ap length e, s .long); near = h }

@@ -26,7 +26,8 @@ counts l o o′ r n e =
     let h : r ≤ length o′ = omega (arith, n, ap length e, length-append l (drop (length l) o)) in
     (h, sym (length-take-le r o′ h))
 
-pub report-counts : (s : List ℕ) (d : Lending) (r : ℕ) (d′ : Lending) → Reports s d r d′ → (r ≤ length (d′ .out)) × (r ≡ length (take r (d′ .out)))
+pub report-counts : (s : List ℕ) (d : Lending) (r : ℕ) (d′ : Lending) → Reports s d r d′ → (r ≤ length (d′ .out))
+    × (r ≡ length (take r (d′ .out)))
 unfolding left
 report-counts s d r d′ (read i v e n l) = counts (linesOf i) (d .out) (d′ .out) r n (ap (λ (q : Lending). q .out) l)
 report-counts s d r d′ (refusedReport no′ n l) = counts refusedLine (d .out) (d′ .out) r n (ap (λ (q : Lending). q .out) l)

@@ -34,24 +34,47 @@ unfolding lineOf atMost
 returns-3 c =
     let n = c .before .before .before .before in
     let e = n .before in
-    let p = e .before in
-    (simp (le-ltb _ _ (p .before .if1 .left), sym (p .starts .ensures) ∙ not-false _ (e .if2 .left), sym (n .number .ensures) ∙ c .before .before .v .given .1, le-leb _ _ (c .if3 .taken)), c .if3 .taken)
+    let p = e .before in (
+      simp (
+        le-ltb _ _ (p .before .if1 .left),
+        sym (p .starts .ensures) ∙ not-false _ (e .if2 .left),
+        sym (n .number .ensures)
+            ∙ c .before .before .v .given .1,
+        le-leb _ _ (c .if3 .taken),
+      ),
+      c .if3 .taken,
+    )
 
 returns-4 : tie.Need-returns-4
 unfolding lineOf atMost
 returns-4 c =
     let n = c .before .before .before .before in
     let e = n .before in
-    let p = e .before in
-    (simp (le-ltb _ _ (p .before .if1 .left), sym (p .starts .ensures) ∙ not-false _ (e .if2 .left), sym (n .number .ensures) ∙ c .before .before .v .given .1, lt-leb _ _ (c .if3 .left)), tt)
+    let p = e .before in (
+      simp (
+        le-ltb _ _ (p .before .if1 .left),
+        sym (p .starts .ensures) ∙ not-false _ (e .if2 .left),
+        sym (n .number .ensures)
+            ∙ c .before .before .v .given .1,
+        lt-leb _ _ (c .if3 .left),
+      ),
+      tt,
+    )
 
 returns-5 : tie.Need-returns-5
 unfolding lineOf atMost
 returns-5 c =
     let n = c .before .before in
     let e = n .before in
-    let p = e .before in
-    (simp (le-ltb _ _ (p .before .if1 .left), sym (p .starts .ensures) ∙ not-false _ (e .if2 .left), sym (n .number .ensures) ∙ c .enum-told .given .1), tt)
+    let p = e .before in (
+      simp (
+        le-ltb _ _ (p .before .if1 .left),
+        sym (p .starts .ensures) ∙ not-false _ (e .if2 .left),
+        sym (n .number .ensures)
+            ∙ c .enum-told .given .1,
+      ),
+      tt,
+    )
 
 pub line-spec : {M : Type 1} → statement M
 line-spec =

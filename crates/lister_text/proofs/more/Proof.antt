@@ -36,7 +36,8 @@ returns-2 c =
     let t1 = c .before in
     let l = t1 .before .before .before in
     let s = l .before .before in
-    sym (more-here (s .args .s .now) (l .loop .at) (l .loop .v) (omega arith) ∙ simp (ne-eqb _ _ (t1 .if1 .left), lt-ltb _ _ (c .if2 .taken))) ∙ l .loop .inv .0
+    sym (more-here (s .args .s .now) (l .loop .at) (l .loop .v) (omega arith)
+    ∙ simp (ne-eqb _ _ (t1 .if1 .left), lt-ltb _ _ (c .if2 .taken))) ∙ l .loop .inv .0
 
 returns-3 : tie.Need-returns-3 Inv-loop μ-loop
 unfolding moreText
@@ -45,7 +46,8 @@ returns-3 c =
     let t1 = t2 .before in
     let l = t1 .before .before .before in
     let s = l .before .before in
-    sym (more-here (s .args .s .now) (l .loop .at) (l .loop .v) (omega arith) ∙ simp (ne-eqb _ _ (t1 .if1 .left), le-ltb _ _ (t2 .if2 .left), lt-ltb _ _ (c .if3 .taken))) ∙ l .loop .inv .0
+    sym (more-here (s .args .s .now) (l .loop .at) (l .loop .v) (omega arith)
+    ∙ simp (ne-eqb _ _ (t1 .if1 .left), le-ltb _ _ (t2 .if2 .left), lt-ltb _ _ (c .if3 .taken))) ∙ l .loop .inv .0
 
 returns-4 : tie.Need-returns-4 Inv-loop μ-loop
 unfolding moreText
@@ -55,7 +57,9 @@ returns-4 c =
     let t1 = t2 .before in
     let l = t1 .before .before .before in
     let s = l .before .before in
-    sym (more-here (s .args .s .now) (l .loop .at) (l .loop .v) (omega arith) ∙ simp (ne-eqb _ _ (t1 .if1 .left), le-ltb _ _ (t2 .if2 .left), le-ltb _ _ (t3 .if3 .left), lt-ltb _ _ (c .if4 .taken))) ∙ l .loop .inv .0
+    sym (more-here (s .args .s .now) (l .loop .at) (l .loop .v) (omega arith)
+    ∙ simp (ne-eqb _ _ (t1 .if1 .left), le-ltb _ _ (t2 .if2 .left), le-ltb _ _ (t3 .if3 .left), lt-ltb _ _ (c .if4 .taken)))
+    ∙ l .loop .inv .0
 
 returns-5 : tie.Need-returns-5 Inv-loop μ-loop
 unfolding moreText
@@ -66,7 +70,14 @@ returns-5 c =
     let t1 = t2 .before in
     let l = t1 .before .before .before in
     let s = l .before .before in
-    sym (more-here (s .args .s .now) (l .loop .at) (l .loop .v) (omega arith) ∙ simp (ne-eqb _ _ (t1 .if1 .left), le-ltb _ _ (t2 .if2 .left), le-ltb _ _ (t3 .if3 .left), le-ltb _ _ (t4 .if4 .left), lt-ltb _ _ (c .if5 .taken))) ∙ l .loop .inv .0
+    sym (more-here (s .args .s .now) (l .loop .at) (l .loop .v) (omega arith)
+    ∙ simp (
+      ne-eqb _ _ (t1 .if1 .left),
+      le-ltb _ _ (t2 .if2 .left),
+      le-ltb _ _ (t3 .if3 .left),
+      le-ltb _ _ (t4 .if4 .left),
+      lt-ltb _ _ (c .if5 .taken),
+    )) ∙ l .loop .inv .0
 
 mul-v : tie.Need-mul-v Inv-loop μ-loop
 mul-v c = omega arith
@@ -90,7 +101,14 @@ loop-again c = (
       let t1 = t2 .before in
       let l = t1 .before .before .before in
       let s = l .before .before in
-      rw (c .wide .ensures) (sym (more-here (s .args .s .now) (l .loop .at) (l .loop .v) (omega arith) ∙ simp (ne-eqb _ _ (t1 .if1 .left), le-ltb _ _ (t2 .if2 .left), le-ltb _ _ (t3 .if3 .left), le-ltb _ _ (t4 .if4 .left), le-ltb _ _ (t5 .if5 .left))) ∙ l .loop .inv .0),
+      rw (c .wide .ensures) (sym (more-here (s .args .s .now) (l .loop .at) (l .loop .v) (omega arith)
+      ∙ simp (
+        ne-eqb _ _ (t1 .if1 .left),
+        le-ltb _ _ (t2 .if2 .left),
+        le-ltb _ _ (t3 .if3 .left),
+        le-ltb _ _ (t4 .if4 .left),
+        le-ltb _ _ (t5 .if5 .left),
+      )) ∙ l .loop .inv .0),
   omega arith,
 )
 

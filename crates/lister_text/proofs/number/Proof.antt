@@ -44,7 +44,8 @@ returns-4 c =
     let t2 = t3 .before in
     let t1 = t2 .before .before in
     let s = t1 .before .before in
-    (simp (w .wide .ensures) at (c .more .ensures)) ∙ sym (number-here (s .args .s .now) (s .args .at) (t1 .if1 .left) ∙ simp (le-ltb _ _ (t2 .if2 .left), le-ltb _ _ (t3 .if3 .left)))
+    (simp (w .wide .ensures) at (c .more .ensures))
+    ∙ sym (number-here (s .args .s .now) (s .args .at) (t1 .if1 .left) ∙ simp (le-ltb _ _ (t2 .if2 .left), le-ltb _ _ (t3 .if3 .left)))
 
 pub number-spec : {M : Type 1} → statement M
 number-spec =

@@ -9,7 +9,9 @@ use Rattle.lister_text.proofs.read_head.Tie as tie
 
 -- the third line's place, and the two before it
 abbrev third : tie.After-known-told7 → tie.After-p
-third c = c .before .before .before .before .before .before .before .before .before .before .before .before .before .before .before .before .before .before .before .before .before
+third c =
+    c .before .before .before .before .before .before .before .before .before .before .before .before .before .before
+    .before .before .before .before .before .before .before
 
 abbrev second : tie.After-p → tie.After-b
 second p = p .before .before .before .before .before

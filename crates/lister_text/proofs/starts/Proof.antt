@@ -30,7 +30,8 @@ returns-2 : tie.Need-returns-2 Inv-loop μ-loop
 returns-2 c =
     let l = c .before .before .before .before .before in
     let s = l .before in
-    sym (starts-here (s .args .s .now) (l .loop .p) (s .args .key .now) (l .loop .i) (omega arith) (omega arith) ∙ simp (ne-eqb _ _ (c .if2 .taken))) ∙ l .loop .inv
+    sym (starts-here (s .args .s .now) (l .loop .p) (s .args .key .now) (l .loop .i) (omega arith) (omega arith)
+    ∙ simp (ne-eqb _ _ (c .if2 .taken))) ∙ l .loop .inv
 
 add-i : tie.Need-add-i Inv-loop μ-loop
 add-i c = omega arith
@@ -45,7 +46,8 @@ loop-again : tie.Need-loop-again Inv-loop μ-loop
 loop-again c =
     let l = c .before .before .before .before .before in
     let s = l .before in
-    sym (starts-here (s .args .s .now) (l .loop .p) (s .args .key .now) (l .loop .i) (omega arith) (omega arith) ∙ simp (eq-eqb _ _ (c .if2 .left))) ∙ l .loop .inv
+    sym (starts-here (s .args .s .now) (l .loop .p) (s .args .key .now) (l .loop .i) (omega arith) (omega arith)
+    ∙ simp (eq-eqb _ _ (c .if2 .left))) ∙ l .loop .inv
 
 returns-3 : tie.Need-returns-3 Inv-loop μ-loop
 returns-3 c =

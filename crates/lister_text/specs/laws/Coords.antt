@@ -39,7 +39,8 @@ coord-is k h = div-by (ofInt binary64 (pos k)) k (whole k h)
 
 pub coord-value : (k : ℕ) → k ≤ 9999999 → HasValue (coordOf k) false k 65536
 coord-value k h = subst (λ (x : Float). HasValue x false k 65536) (sym (coord-is k h))
-    (round-exact binary64 false k 65536 k (low binary64 - 16) (omega arith) (omega arith) (room k 1058 h tt) (sym (mul-assoc k (2 ^ 1058) 65536)))
+    (round-exact binary64 false k 65536 k (low binary64 - 16) (omega arith) (omega arith) (room k 1058 h tt)
+    (sym (mul-assoc k (2 ^ 1058) 65536)))
 
 no-nan : (x : Float) (a c : ℕ) → HasValue x false a c → T (not (isNan x))
 unfolding isNan
@@ -51,10 +52,12 @@ pub coord-number : (k : ℕ) → k ≤ 9999999 → T (not (isNan (coordOf k)))
 coord-number k h = no-nan (coordOf k) k 65536 (coord-value k h)
 
 pub coord-least : (k : ℕ) → k ≤ 9999999 → T (le (fin false 0 (pos 0)) (coordOf k))
-coord-least k h = le-of-values (fin false 0 (pos 0)) (coordOf k) 0 1 k 65536 (omega arith) (omega arith) (refl, refl) (coord-value k h) (omega arith)
+coord-least k h = le-of-values (fin false 0 (pos 0)) (coordOf k) 0 1 k 65536 (omega arith) (omega arith) (refl, refl) (coord-value k h)
+    (omega arith)
 
 pub coord-most : (k : ℕ) → k ≤ 65536 → T (le (coordOf k) (fin false 1 (pos 0)))
-coord-most k h = le-of-values (coordOf k) (fin false 1 (pos 0)) k 65536 1 1 (omega arith) (omega arith) (coord-value k (omega arith)) (refl, refl) (omega arith)
+coord-most k h = le-of-values (coordOf k) (fin false 1 (pos 0)) k 65536 1 1 (omega arith) (omega arith) (coord-value k (omega arith))
+    (refl, refl) (omega arith)
 
 -- 16,384 prints as 3fd0000000000000
 example : toBits binary64 (coordOf 16384) ≡ 0x3fd0_0000_0000_0000

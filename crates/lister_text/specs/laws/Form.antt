@@ -15,15 +15,16 @@ use Rattle.lister_text.specs.declared.Parsed.the-variants.{Read, Refused
 use Rattle.lister_text.specs.declared.WrittenPoint.{WrittenPoint}
 use Rattle.lister_text.specs.declared.WrittenPoint.the-variants.{Stands, Missing}
 use Rattle.lister_text.specs.laws.Scan.{lineOf}
-use Rattle.lister_text.specs.Text.{minZoomKey, maxZoomKey, minPointsKey, radiusKey, extentKey, nodeSizeKey, countKey, xKey, yKey, whKey}
-use Rattle.lister_text.specs.Text.{Place, PointCols, putPoints}
+use Rattle.lister_text.specs.Text.{minZoomKey, maxZoomKey, minPointsKey, radiusKey, extentKey, nodeSizeKey, countKey, xKey, yKey}
+use Rattle.lister_text.specs.Text.{whKey}
+use Rattle.lister_text.specs.Text.{LampText, PointCols, putPoints}
 
 -- what a line was read as goes on, or all ends with `other`; the same of a point
 abbrev pub eachValue : {A : Type 0} → Value → A → (ℕ → ℕ → A) → A
 eachValue (Number v next) other f = f v (next .at)
 eachValue Bad other f = other
 
-abbrev pub eachPoint : {A : Type 0} → WrittenPoint → A → (Place → ℕ → A) → A
+abbrev pub eachPoint : {A : Type 0} → WrittenPoint → A → (LampText → ℕ → A) → A
 eachPoint (Stands x y wh next) other f = f (record { x = x; y = y; wh = wh }) (next .at)
 eachPoint Missing other f = other
 
@@ -37,7 +38,17 @@ headOfText s =
     eachValue (lineOf s p4 extentKey 9999999) Refused (λ e p5.
     eachValue (lineOf s p5 nodeSizeKey 9999999) Refused (λ n p6.
     eachValue (lineOf s p6 countKey 1152) Refused (λ k p7.
-    Read (record { «min_zoom» = a; «max_zoom» = b; «min_points» = m; radius = r; extent = e; «node_size» = n; count = k; next = record { at = p7 } }))))))))
+    Read (record {
+      «min_zoom» = a;
+      «max_zoom» = b;
+      «min_points» = m;
+      radius = r;
+      extent = e;
+      «node_size» = n;
+      count = k;
+      next =
+          record { at = p7 };
+    }))))))))
 
 -- the lines of a point
 unfoldable pub pointOf : List ℕ → ℕ → WrittenPoint
@@ -97,7 +108,8 @@ unfolding filledForm
 filled-end zero s at i c h = refl
 filled-end (suc k) s at i c h = let z : ⊥ = omega arith in absurd z
 
-pub each-number : {A : Type 0} {x : Value} {v : ℕ} {n : Cursor} (other : A) (f : ℕ → ℕ → A) → x ≡ Number v n → eachValue x other f ≡ f v (n .at)
+pub each-number : {A : Type 0} {x : Value} {v : ℕ} {n : Cursor} (other : A) (f : ℕ → ℕ → A) → x ≡ Number v n
+    → eachValue x other f ≡ f v (n .at)
 each-number other f e = ap (λ (y : Value). eachValue y other f) e
 
 pub each-bad : {A : Type 0} {x : Value} (other : A) (f : ℕ → ℕ → A) → x ≡ Bad → eachValue x other f ≡ other

@@ -56,7 +56,8 @@ module _ (s : List ℕ) (a b m r e n k : ℕ) (t : List ℕ) where
 
 -- what a head that was read is
 pub record HeadStands (s : List ℕ) (h : Head) : Type 0 where
-  pub is : s ≡ headText (h .«min_zoom») (h .«max_zoom») (h .«min_points») (h .radius) (h .extent) (h .«node_size») (h .count) (drop (h .next .at) s)
+  pub is : s ≡ headText (h .«min_zoom») (h .«max_zoom») (h .«min_points») (h .radius) (h .extent) (h .«node_size») (h .count)
+      (drop (h .next .at) s)
   pub ha : h .«min_zoom» ≤ 255
   pub hb : h .«max_zoom» ≤ 255
   pub hm : h .«min_points» ≤ 255

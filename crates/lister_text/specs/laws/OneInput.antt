@@ -5,9 +5,10 @@ use Prim.Native.Nat.{ℕ, _+_, _≤_}
 use native.Mathlib.Omega.{arith}
 use lib.ListN.{length, drop, length-append}
 use Rattle.lister_text.specs.laws.Reading.{line-read, line-length, after}
-use Rattle.lister_text.specs.Text.{line, minZoomKey, maxZoomKey, minPointsKey, radiusKey, extentKey, nodeSizeKey, countKey, xKey, yKey}
+use Rattle.lister_text.specs.Text.{line, minZoomKey, maxZoomKey, minPointsKey, radiusKey, extentKey, nodeSizeKey, countKey, xKey}
+use Rattle.lister_text.specs.Text.{yKey}
 use Rattle.lister_text.specs.Text.{whKey}
-use Rattle.lister_text.specs.Text.{Place, Input, pointsText, text, Small, Valid}
+use Rattle.lister_text.specs.Text.{LampText, Input, pointsText, text, Small, Valid}
 
 -- two lines of one key that begin one text: their numbers are equal, and what follows them
 module _ (key : List ℕ) (v w : ℕ) (t u : List ℕ) (e : line key v ++ t ≡ line key w ++ u) (hv : v ≤ 9999999) (hw : w ≤ 9999999) where
@@ -30,7 +31,7 @@ module _ (key : List ℕ) (v w : ℕ) (t u : List ℕ) (e : line key v ++ t ≡ 
 line-some : (key : List ℕ) (v : ℕ) (t : List ℕ) → [] ≡ line key v ++ t → ⊥
 line-some key v t e = omega (arith, ap length e, length-append (line key v) t, line-length key v)
 
-points-one : (ps qs : List Place) → Small ps → Small qs → pointsText ps ≡ pointsText qs → ps ≡ qs
+points-one : (ps qs : List LampText) → Small ps → Small qs → pointsText ps ≡ pointsText qs → ps ≡ qs
 unfolding pointsText
 points-one [] [] s r e = refl
 points-one [] (q ∷ qs) s r e = absurd (line-some xKey (q .x) _ e)
@@ -52,4 +53,13 @@ text-one i j v w e =
     let n = line-one nodeSizeKey (i .nodeSize) (j .nodeSize) _ _ (x .1) (v .nodeSize) (w .nodeSize) in
     let k = line-one countKey (length (i .points)) (length (j .points)) _ _ (n .1) (omega (arith, v .count)) (omega (arith, w .count)) in
     let p = points-one (i .points) (j .points) (v .points) (w .points) (k .1) in
-    λ d. record { minZoom = a .0 d; maxZoom = b .0 d; minPoints = m .0 d; radius = r .0 d; extent = x .0 d; nodeSize = n .0 d; points = p d }
+    λ d. record {
+      minZoom = a .0 d;
+      maxZoom = b .0 d;
+      minPoints = m .0 d;
+      radius = r .0 d;
+      extent = x .0 d;
+      nodeSize = n .0 d;
+      points =
+          p d;
+    }

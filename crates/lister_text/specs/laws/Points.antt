@@ -9,17 +9,17 @@ use borrow.Author.Tests.{eq-eqb, eqb-true}
 use lib.ListN.{length, drop, length-drop, drop-of-length-le}
 use Rattle.lister_text.specs.declared.WrittenPoint.{WrittenPoint}
 use Rattle.lister_text.specs.declared.WrittenPoint.the-variants.{Stands, Missing}
-use Rattle.lister_text.specs.Text.{line, xKey, yKey, whKey, Place, PointCols, putPoints, pointText, pointsText, Small}
+use Rattle.lister_text.specs.Text.{line, xKey, yKey, whKey, LampText, PointCols, putPoints, pointText, pointsText, Small}
 use Rattle.lister_text.specs.laws.Form.{eachPoint, pointOf, pointsOk, filledForm}
 use Rattle.lister_text.specs.laws.Lines.{LeftText, past, goes-on, got}
 
 -- the lines of a point that is left are read, and what follows them is left
-pub record PointRead (s : List ℕ) (at : ℕ) (p : Place) (t : List ℕ) : Type 0 where
+pub record PointRead (s : List ℕ) (at : ℕ) (p : LampText) (t : List ℕ) : Type 0 where
   pub to : ℕ
   pub reads : pointOf s at ≡ Stands (p .x) (p .y) (p .wh) (record { at = to })
   pub rest : LeftText s to t
 
-pub point-read : (s : List ℕ) (at : ℕ) (p : Place) (t : List ℕ) → LeftText s at (pointText p t)
+pub point-read : (s : List ℕ) (at : ℕ) (p : LampText) (t : List ℕ) → LeftText s at (pointText p t)
     → (p .x ≤ 9999999) × (p .y ≤ 9999999) × (p .wh ≤ 9999999) → PointRead s at p t
 unfolding pointOf
 point-read s at p t wx h =
@@ -34,11 +34,11 @@ point-read s at p t wx h =
     }
 
 -- what the parser's two walks over the points find where the points stand
-pub record Found (n : ℕ) (s : List ℕ) (at : ℕ) (ps : List Place) : Type 0 where
+pub record Found (n : ℕ) (s : List ℕ) (at : ℕ) (ps : List LampText) : Type 0 where
   pub ok : pointsOk n s at ≡ true
   pub stored : (i : ℕ) (c : PointCols) → filledForm n s at i c ≡ putPoints c i ps
 
-pub points-read : (ps : List Place) (s : List ℕ) (at : ℕ) → LeftText s at (pointsText ps) → Small ps → Found (length ps) s at ps
+pub points-read : (ps : List LampText) (s : List ℕ) (at : ℕ) → LeftText s at (pointsText ps) → Small ps → Found (length ps) s at ps
 unfolding pointsText pointsOk filledForm
 points-read [] s at w sm =
     let q : length s - at ≡ 0 = sym (length-drop at s) ∙ ap length (w .is) in
@@ -59,7 +59,7 @@ false-not : false ≡ true → ⊥
 false-not e = let z : _≡_ {A = ℕ} 0 1 = cc in omega arith
 
 pub record PointsRead (n : ℕ) (s : List ℕ) (at : ℕ) : Type 0 where
-  pub ps : List Place
+  pub ps : List LampText
   pub count : length ps ≡ n
   pub is : drop at s ≡ pointsText ps
   pub small : Small ps

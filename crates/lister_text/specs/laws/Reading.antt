@@ -30,7 +30,8 @@ cond-bad false x e = (refl, e)
 tenth : (k n : ℕ) → n < 10 ^ suc (suc k) → n / 10 < 10 ^ suc k
 tenth k n h = let e : 10 ^ suc (suc k) ≡ 10 ^ suc k * 10 = pow-suc 10 (suc k) in omega (arith, e)
 
-fuel-by : (k n : ℕ) → decimalOf (suc k) (n / 10) ≡ decimalOf (suc (suc k)) (n / 10) → (b : Bool) → ltb n 10 ≡ b → decimalOf (suc (suc k)) n ≡ decimalOf (suc (suc (suc k))) n
+fuel-by : (k n : ℕ) → decimalOf (suc k) (n / 10) ≡ decimalOf (suc (suc k)) (n / 10) → (b : Bool) → ltb n 10 ≡ b
+    → decimalOf (suc (suc k)) n ≡ decimalOf (suc (suc (suc k))) n
 fuel-by k n ih true e = one-digit (suc k) n (ltb-true n 10 e) ∙ sym (one-digit (suc (suc k)) n (ltb-true n 10 e))
 fuel-by k n ih false e =
     more-digits (suc k) n (ltb-false n 10 e) ∙ ap (λ (l : List ℕ). l ++ ((48 + n % 10) ∷ [])) ih
@@ -61,14 +62,22 @@ pub record Ends (whole : List ℕ) (len v : ℕ) (n : Cursor) : Type 0 where
 module _ (c : ℕ) (l : List ℕ) (w at v : ℕ) (n : Cursor) (h : w ≤ 9999999) where
   more-step : ((w′ : ℕ) → w′ ≤ 9999999 → moreText w′ (at + 1) l ≡ Number v n → Ends (decimalOf 7 w′ ++ l) (at + 1 + length l) v n)
       → (b : Bool) → eqb c 10 ≡ b
-      → cond b (Number w (record { at = at + 1 })) (cond (ltb c 48) Bad (cond (ltb 57 c) Bad (cond (ltb w 1) Bad (cond (ltb 999999 w) Bad (moreText (w * 10 + (c - 48)) (at + 1) l))))) ≡ Number v n
+      → cond b (Number w (record { at = at + 1 }))
+      (cond (ltb c 48) Bad (cond (ltb 57 c) Bad
+      (cond (ltb w 1) Bad (cond (ltb 999999 w) Bad (moreText (w * 10 + (c - 48)) (at + 1) l))))) ≡ Number v n
       → Ends (decimalOf 7 w ++ (c ∷ l)) (at + length (c ∷ l)) v n
   more-step ih true q e =
       let ten : c ≡ 10 = eqb-true c 10 q in
       let same : w ≡ v = cc in
       let cur : _≡_ {A = Cursor} (record { at = at + 1 }) n = cc in
       let place : at + 1 ≡ n .at = ap (λ (k : Cursor). k .at) cur in
-      record { rest = l; is = ap (λ (k : ℕ). decimalOf 7 w ++ (k ∷ l)) ten ∙ ap (λ (k : ℕ). decimalOf 7 k ++ (10 ∷ l)) same; past = omega arith; small = omega arith }
+      record {
+        rest = l;
+        is = ap (λ (k : ℕ). decimalOf 7 w ++ (k ∷ l)) ten ∙ ap (λ (k : ℕ). decimalOf 7 k ++ (10 ∷ l)) same;
+        past =
+            omega arith;
+        small = omega arith;
+      }
   more-step ih false q e =
       let a = cond-bad (ltb c 48) _ e in
       let b = cond-bad (ltb 57 c) _ (a .1) in
@@ -88,7 +97,8 @@ module _ (c : ℕ) (l : List ℕ) (w at v : ℕ) (n : Cursor) (h : w ≤ 9999999
         small = r .small;
       }
 
-more-ends : (l : List ℕ) (w at v : ℕ) (n : Cursor) → w ≤ 9999999 → moreText w at l ≡ Number v n → Ends (decimalOf 7 w ++ l) (at + length l) v n
+more-ends : (l : List ℕ) (w at v : ℕ) (n : Cursor) → w ≤ 9999999 → moreText w at l ≡ Number v n
+    → Ends (decimalOf 7 w ++ l) (at + length l) v n
 unfolding moreText
 more-ends [] w at v n h e = absurd (bad-not e)
 more-ends (c ∷ l) w at v n h e = more-step c l w at v n h (λ w′ h′ e′. more-ends l w′ (at + 1) v n h′ e′) (eqb c 10) refl e
@@ -133,7 +143,8 @@ module _ (k at n : ℕ) (t : List ℕ) (l : n ≤ 9999999) where
   read-by ih false e =
       let ten : 10 ≤ n = ltb-false n 10 e in
       let q : n / 10 * 10 + n % 10 ≡ n = omega arith in
-      let p : at + length (decimalOf (suc k) (n / 10)) + 1 ≡ at + length (decimalOf (suc k) (n / 10) ++ ((48 + n % 10) ∷ [])) = omega (arith, length-append (decimalOf (suc k) (n / 10)) ((48 + n % 10) ∷ [])) in
+      let p : at + length (decimalOf (suc k) (n / 10)) + 1 ≡ at + length (decimalOf (suc k) (n / 10) ++ ((48 + n % 10) ∷ [])) =
+      omega (arith, length-append (decimalOf (suc k) (n / 10)) ((48 + n % 10) ∷ [])) in
       rw (more-digits (suc k) n ten)
       (ap (λ (m : List ℕ). numberOf at m) (append-assoc (decimalOf (suc k) (n / 10)) ((48 + n % 10) ∷ []) t)
       ∙ ih ((48 + n % 10) ∷ t)
@@ -141,11 +152,13 @@ module _ (k at n : ℕ) (t : List ℕ) (l : n ≤ 9999999) where
       ∙ ap (λ (m : ℕ). moreText m (at + length (decimalOf (suc k) (n / 10)) + 1) t) q
       ∙ ap (λ (m : ℕ). moreText n m t) p)
 
-read-all : (k at n : ℕ) (t : List ℕ) → n < 10 ^ suc k → n ≤ 9999999 → numberOf at (decimalOf (suc k) n ++ t) ≡ moreText n (at + length (decimalOf (suc k) n)) t
+read-all : (k at n : ℕ) (t : List ℕ) → n < 10 ^ suc k → n ≤ 9999999
+    → numberOf at (decimalOf (suc k) n ++ t) ≡ moreText n (at + length (decimalOf (suc k) n)) t
 read-all zero at n t h l = rw (one-digit zero n (omega arith)) (read-one at n t (omega arith))
 read-all (suc k) at n t h l = read-by k at n t l (λ u. read-all k at (n / 10) u (tenth k n h) (omega arith)) (ltb n 10) refl
 
-pub number-read : (at n : ℕ) (t : List ℕ) → n ≤ 9999999 → numberOf at (decimalOf 7 n ++ (10 ∷ t)) ≡ Number n (record { at = at + length (decimalOf 7 n) + 1 })
+pub number-read : (at n : ℕ) (t : List ℕ) → n ≤ 9999999
+    → numberOf at (decimalOf 7 n ++ (10 ∷ t)) ≡ Number n (record { at = at + length (decimalOf 7 n) + 1 })
 unfolding moreText
 number-read at n t h = read-all 6 at n (10 ∷ t) (omega arith) h
 
@@ -185,12 +198,14 @@ within s at a rest h e =
     omega arith
 
 module _ (s : List ℕ) (at : ℕ) (key : List ℕ) (max v : ℕ) where
-  pub line-read : (rest : List ℕ) → at ≤ length s → drop at s ≡ line key v ++ rest → v ≤ max → v ≤ 9999999 → lineOf s at key max ≡ Number v (record { at = at + length (line key v) })
+  pub line-read : (rest : List ℕ) → at ≤ length s → drop at s ≡ line key v ++ rest → v ≤ max → v ≤ 9999999
+      → lineOf s at key max ≡ Number v (record { at = at + length (line key v) })
   unfolding lineOf atMost line
   line-read rest h e m l =
       let e′ : drop at s ≡ key ++ (decimalOf 7 v ++ (10 ∷ rest)) = e ∙ regroup key (decimalOf 7 v) rest in
       let st : startsWith key (drop at s) ≡ true = ap (λ (u : List ℕ). startsWith key u) e′ ∙ starts-text key _ in
-      let nm : numberOf (at + length key) (drop (at + length key) s) ≡ Number v (record { at = at + length key + length (decimalOf 7 v) + 1 }) =
+      let nm : numberOf (at + length key) (drop (at + length key) s)
+      ≡ Number v (record { at = at + length key + length (decimalOf 7 v) + 1 }) =
       ap (λ (u : List ℕ). numberOf (at + length key) u) (after s at key _ e′) ∙ number-read (at + length key) v rest l in
       let p : at + length key + length (decimalOf 7 v) + 1 ≡ at + length (line key v) = omega (arith, line-length key v) in
       simp (le-ltb (length s) at h, st, nm, le-leb v max m) (ap (λ (k : ℕ). Number v (record { at = k })) p)
@@ -204,7 +219,8 @@ module _ (s : List ℕ) (at : ℕ) (key : List ℕ) (max v : ℕ) where
     pub from : at ≤ length s
     pub upto : n .at ≤ length s
 
-  at-most-by : (w : ℕ) (m n : Cursor) (b : Bool) → leb w max ≡ b → cond b (Number w m) Bad ≡ Number v n → (Number w m ≡ Number v n) × (v ≤ max)
+  at-most-by : (w : ℕ) (m n : Cursor) (b : Bool) → leb w max ≡ b → cond b (Number w m) Bad ≡ Number v n → (Number w m ≡ Number v n)
+      × (v ≤ max)
   at-most-by w m n true q e = let same : w ≡ v = cc in (e, omega (arith, leb-true w max q))
   at-most-by w m n false q e = absurd (bad-not e)
 
@@ -226,9 +242,20 @@ module _ (s : List ℕ) (at : ℕ) (key : List ℕ) (max v : ℕ) where
       let r = number-ends (drop (at + length key) s) (at + length key) v n (m .0) in
       let from : at ≤ length s = ltb-false (length s) at (a .0) in
       let whole : drop at s ≡ key ++ (decimalOf 7 v ++ (10 ∷ [])) ++ r .rest =
-      text-starts key (drop at s) (b .0) ∙ ap (λ (l : List ℕ). key ++ l) (drop-drop (length key) at s ∙ r .is) ∙ sym (regroup key (decimalOf 7 v) (r .rest)) in
-      let len : length (drop (at + length key) s) ≡ length (decimalOf 7 v) + (length (r .rest) + 1) = ap length (r .is) ∙ length-append (decimalOf 7 v) (10 ∷ r .rest) ∙ omega arith in
+      text-starts key (drop at s) (b .0) ∙ ap (λ (l : List ℕ). key ++ l) (drop-drop (length key) at s ∙ r .is)
+      ∙ sym (regroup key (decimalOf 7 v) (r .rest)) in
+      let len : length (drop (at + length key) s) ≡ length (decimalOf 7 v) + (length (r .rest) + 1) = ap length (r .is)
+      ∙ length-append (decimalOf 7 v) (10 ∷ r .rest) ∙ omega arith in
       let past : n .at ≡ at + length (line key v) = omega (arith, r .past, len, line-length key v) in
-      let all : length s - at ≡ length (line key v) + length (r .rest) = sym (length-drop at s) ∙ ap length whole ∙ length-append (line key v) (r .rest) in
+      let all : length s - at ≡ length (line key v) + length (r .rest) = sym (length-drop at s) ∙ ap length whole
+      ∙ length-append (line key v) (r .rest) in
       let rest : drop (n .at) s ≡ r .rest = ap (λ (k : ℕ). drop k s) past ∙ after s at (line key v) (r .rest) whole in
-      record { is = whole ∙ ap (λ (l : List ℕ). line key v ++ l) (sym rest); past = past; most = m .1; small = r .small; from = from; upto = omega arith }
+      record {
+        is = whole ∙ ap (λ (l : List ℕ). line key v ++ l) (sym rest);
+        past = past;
+        most = m .1;
+        small = r .small;
+        from = from;
+        upto =
+            omega arith;
+      }

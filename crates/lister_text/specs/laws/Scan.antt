@@ -55,7 +55,9 @@ module _ (s : List ℕ) (at : ℕ) where
   pub here : at < length s → drop at s ≡ getD s at 0 ∷ drop (at + 1) s
   here h = rw (add-one, drop-cons s at 0)
 
-  pub starts-here : (key : List ℕ) (i : ℕ) → at < length s → i < length key → startsWith (drop i key) (drop at s) ≡ cond (eqb (getD s at 0) (getD key i 0)) (startsWith (drop (i + 1) key) (drop (at + 1) s)) false
+  pub starts-here : (key : List ℕ) (i : ℕ) → at < length s → i < length key
+      → startsWith (drop i key) (drop at s) ≡ cond (eqb (getD s at 0) (getD key i 0)) (startsWith (drop (i + 1) key) (drop (at + 1) s))
+      false
   unfolding startsWith
   starts-here key i h k = rw (add-one, drop-cons s at 0 h, add-one, drop-cons key i 0 k)
 

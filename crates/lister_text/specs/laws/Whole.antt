@@ -12,7 +12,7 @@ use lib.Seq.{sets, length-sets, sets-eq, take-at}
 use Rattle.lister_text.specs.declared.Head.{Head}
 use Rattle.lister_text.specs.declared.Parsed.{Parsed}
 use Rattle.lister_text.specs.declared.Parsed.the-variants.{Read, Refused}
-use Rattle.lister_text.specs.Text.{Place, Input, pointsText, headText, headIs, text, Valid}
+use Rattle.lister_text.specs.Text.{LampText, Input, pointsText, headText, headIs, text, Valid}
 use Rattle.lister_text.specs.Text.{PointCols, pointCols, pointsOf, frontOf, Fits, putPoints, Reads, Parsing, xOf, yOf, whOf}
 use Rattle.lister_text.specs.laws.Form.{headOfText, pointsOk, withPoints, parsedOf, filledBy}
 use Rattle.lister_text.specs.laws.Points.{Found, points-read, points-end}
@@ -20,7 +20,8 @@ use Rattle.lister_text.specs.laws.OneInput.{text-one}
 use Rattle.lister_text.specs.laws.Heads.{refused-not, read-inj, head-read, head-ends}
 
 -- each text of the form is read, as what it is the text of
-pub accepts : (i : Input) → Valid i → (parsedOf (text i) ≡ Read (headIs i)) × Found (length (i .points)) (text i) (headIs i .next .at) (i .points)
+pub accepts : (i : Input) → Valid i → (parsedOf (text i) ≡ Read (headIs i))
+    × Found (length (i .points)) (text i) (headIs i .next .at) (i .points)
 unfolding parsedOf
 accepts i v =
     let s = text i in
@@ -72,7 +73,8 @@ only s h e =
       nodeSize = h .«node_size»;
       points = pt .ps;
     } in
-    let headed : ℕ → List ℕ → List ℕ = headText (h .«min_zoom») (h .«max_zoom») (h .«min_points») (h .radius) (h .extent) (h .«node_size») in
+    let headed : ℕ → List ℕ → List ℕ = headText (h .«min_zoom») (h .«max_zoom») (h .«min_points») (h .radius) (h .extent)
+    (h .«node_size») in
     let all : s ≡ text i = hd .is ∙ ap (headed (h .count)) (pt .is) ∙ ap (λ (k : ℕ). headed k (pointsText (pt .ps))) (sym (pt .count)) in
     let v : Valid i =
     record {
@@ -122,7 +124,7 @@ pub record Wide (c : PointCols) : Type 0 where
   pub y : length (c .ys) ≡ 1152
   pub energy : length (c .energies) ≡ 1152
 
-front : {A : Type 0} (f : Place → A) (ps : List Place) (n : ℕ) (d d′ : List A) → d′ ≡ sets d 0 (map f ps)
+front : {A : Type 0} (f : LampText → A) (ps : List LampText) (n : ℕ) (d d′ : List A) → d′ ≡ sets d 0 (map f ps)
     → n ≡ length ps → n ≤ length d′ → take n d′ ≡ map f ps
 front f ps n d d′ e k h =
     let long : length (map f ps) ≡ n = length-map ps f ∙ sym k in

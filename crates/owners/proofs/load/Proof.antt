@@ -1,8 +1,9 @@
--- `owners::load` meets its contract: what `supercluster::load` leaves, lent a front of `near`, and what `build_owners::fill` leaves then, are
+-- `owners::load` meets its contract: what `supercluster::load` leaves, lent a front of `near`, and what `build_owners::fill` leaves then,
+-- are
 -- the build and its owner column; and they have one owner for every lamp. Assumes nothing.
-use mathlib.Core.Path.{_≡_, sym, ap, _∙_, subst}
+use mathlib.Core.Path.{_≡_, sym}
 use mathlib.Core.List.{List, _++_}
-use Prim.Native.Nat.{ℕ, _*_, _<_, _≤_, min}
+use Prim.Native.Nat.{ℕ, _*_, _<_, _≤_}
 use native.Mathlib.Omega.{arith}
 use lib.ListN.{length, drop}
 use lib.Seq.{length-take-le}
@@ -10,16 +11,16 @@ use denote.Ref.{now}
 use borrow.Author.Needs.{needs}
 use Rattle.build_tables.specs.Options.{tableCount}
 use Rattle.build_tables.specs.Rows.{Cols, cols, rows}
-use Rattle.build_tables.specs.laws.Roomy.{Roomy}
+use Rattle.build_tables.specs.laws.Roomy.{Roomy, frontCols}
 use Rattle.supercluster.specs.declared.LoadReply.the-variants.{Done}
-use Rattle.supercluster.specs.Build.{BuildColumns, buildColumns, Outcome, outcome, loadNumber}
+use Rattle.supercluster.specs.Build.{BuildColumns, buildColumns, outcome, loadNumber}
 use Rattle.supercluster.specs.Lent.{givenAll}
+use Rattle.supercluster.specs.laws.Load.{number-done}
 use Rattle.law_builds.specs.Given.{Given, givenBuild}
 use Rattle.law_lamps.specs.Owner.{owner}
 use Rattle.build_owners.specs.laws.Climbs.{Climbable}
-use Rattle.build_owners.specs.laws.Fronts.{frontOf}
 use Rattle.owners.specs.LoadedWith.{ownedOutcome, loadedWith}
-use Rattle.owners.specs.laws.Keeping.{zero-done, refused-told, fill-ready, done-told}
+use Rattle.owners.specs.laws.Keeping.{refused-told, fill-ready, done-told}
 use Rattle.owners.specs.laws.KeptProved.{loaded-owners}
 use Rattle.owners.proofs.load.Statement.{statement}
 use Rattle.owners.proofs.load.Tie as tie
@@ -43,7 +44,9 @@ old s = let a = s .args in givenAll (a .x) (a .y) (a .seen) (a .id) (a .parent) 
 
 -- the columns as it left them, and the front of `near`
 abbrev table : tie.After-load → Cols
-table w = cols (w .load .last .1 .1 .1 .1 .0) (w .load .last .1 .1 .1 .1 .1 .0) (w .load .last .1 .1 .1 .1 .1 .1 .0) (w .load .last .1 .1 .1 .1 .1 .1 .1 .0) (w .load .last .1 .1 .1 .1 .1 .1 .1 .1 .0) (w .load .last .1 .1 .1 .1 .1 .1 .1 .1 .1 .0) (w .load .last .1 .1 .1 .1 .1 .1 .1 .1 .1 .1 .0)
+table w = cols (w .load .last .1 .1 .1 .1 .0) (w .load .last .1 .1 .1 .1 .1 .0) (w .load .last .1 .1 .1 .1 .1 .1 .0)
+    (w .load .last .1 .1 .1 .1 .1 .1 .1 .0) (w .load .last .1 .1 .1 .1 .1 .1 .1 .1 .0) (w .load .last .1 .1 .1 .1 .1 .1 .1 .1 .1 .0)
+    (w .load .last .1 .1 .1 .1 .1 .1 .1 .1 .1 .1 .0)
 
 abbrev front : tie.After-load → List ℕ
 front w = (w .load .last .1 .1 .1 .1 .1 .1 .1 .1 .1 .1 .1 .1 .1 .0)
@@ -51,14 +54,18 @@ front w = (w .load .last .1 .1 .1 .1 .1 .1 .1 .1 .1 .1 .1 .1 .1 .0)
 -- what it leaves where it refuses
 refused : (w : tie.After-load) → 0 < loadNumber (w .load .result .reply)
     → let s = start-of w in let a = s .args in
-    ownedOutcome (outcome (w .load .result) (buildColumns (table w) (w .load .last .1 .1 .1 .1 .1 .1 .1 .1 .1 .1 .1 .0) (w .load .last .1 .1 .1 .1 .1 .1 .1 .1 .1 .1 .1 .1 .0) (front w ++ drop (less-of w .less .result) (now (a .near))))) (now (a .owners))
+    ownedOutcome (outcome (w .load .result)
+    (buildColumns (table w) (w .load .last .1 .1 .1 .1 .1 .1 .1 .1 .1 .1 .1 .0) (w .load .last .1 .1 .1 .1 .1 .1 .1 .1 .1 .1 .1 .1 .0)
+    (front w ++ drop (less-of w .less .result) (now (a .near))))) (now (a .owners))
     ≡ loadedWith (a .o) (now (a .xs)) (now (a .ys)) (now (a .energies)) (old s) (now (a .owners))
 refused w h =
     let s = start-of w in
     let a = s .args in
     let m = less-of w .less in
-    refused-told (a .o) (now (a .xs)) (now (a .ys)) (now (a .energies)) (old s) (now (a .owners)) (m .result) (m .ensures) (w .load .result) (table w)
-    (w .load .last .1 .1 .1 .1 .1 .1 .1 .1 .1 .1 .1 .0) (w .load .last .1 .1 .1 .1 .1 .1 .1 .1 .1 .1 .1 .1 .0) (front w) (w .load .ensures) h
+    refused-told (a .o) (now (a .xs)) (now (a .ys)) (now (a .energies)) (old s) (now (a .owners)) (m .result) (m .ensures) (w .load .result)
+    (table w)
+    (w .load .last .1 .1 .1 .1 .1 .1 .1 .1 .1 .1 .1 .0) (w .load .last .1 .1 .1 .1 .1 .1 .1 .1 .1 .1 .1 .1 .0) (front w)
+    (w .load .ensures) h
 
 -- ---- where it refuses nothing
 
@@ -69,21 +76,26 @@ abbrev load-of : tie.Else1 → tie.After-load
 load-of e = search
 
 done : (e : tie.Else1) → load-of e .load .result .reply ≡ Done
-done e = let n : tie.After-number = search in zero-done (load-of e .load .result .reply) (omega (arith, n .number .ensures, e .if1 .left))
+done e = let n : tie.After-number = search in number-done (load-of e .load .result .reply) (omega (arith, n .number .ensures, e .if1 .left))
 
-filling : (e : tie.Else1) → let w = load-of e in let s = start-of w in let q = w .load .result .state in let k = tableCount (q .options) * q .count in
-    Roomy k (table w) × Climbable q (rows (frontOf k (table w)))
+filling : (e : tie.Else1) → let w = load-of e in let s = start-of w in let q = w .load .result .state in let k =
+    tableCount (q .options) * q .count in
+    Roomy k (table w) × Climbable q (rows (frontCols k (table w)))
     × (q .count ≤ length (front w ++ drop (less-of w .less .result) (now (s .args .near)))) × (k ≤ length (now (s .args .owners)))
 filling e =
     let w = load-of e in
     let s = start-of w in
     let a = s .args in
     let m = less-of w .less in
-    fill-ready (a .o) (now (a .xs)) (now (a .ys)) (now (a .energies)) (old s) (now (a .owners)) (m .result) (m .ensures) (w .load .result) (table w)
-    (w .load .last .1 .1 .1 .1 .1 .1 .1 .1 .1 .1 .1 .0) (w .load .last .1 .1 .1 .1 .1 .1 .1 .1 .1 .1 .1 .1 .0) (front w) (w .load .ensures) (done e)
+    fill-ready (a .o) (now (a .xs)) (now (a .ys)) (now (a .energies)) (old s) (now (a .owners)) (m .result) (m .ensures) (w .load .result)
+    (table w)
+    (w .load .last .1 .1 .1 .1 .1 .1 .1 .1 .1 .1 .1 .0) (w .load .last .1 .1 .1 .1 .1 .1 .1 .1 .1 .1 .1 .1 .0) (front w) (w .load .ensures)
+    (done e)
 
 filled : (f : tie.After-fill) → let w = load-of (else-of f) in let s = start-of w in let a = s .args in
-    ownedOutcome (outcome (w .load .result) (buildColumns (table w) (w .load .last .1 .1 .1 .1 .1 .1 .1 .1 .1 .1 .1 .0) (w .load .last .1 .1 .1 .1 .1 .1 .1 .1 .1 .1 .1 .1 .0) (f .fill .last .1 .1 .1 .1 .1 .1 .1 .1 .0)))
+    ownedOutcome (outcome (w .load .result)
+    (buildColumns (table w) (w .load .last .1 .1 .1 .1 .1 .1 .1 .1 .1 .1 .1 .0) (w .load .last .1 .1 .1 .1 .1 .1 .1 .1 .1 .1 .1 .1 .0)
+    (f .fill .last .1 .1 .1 .1 .1 .1 .1 .1 .0)))
     (f .fill .last .1 .1 .1 .1 .1 .1 .1 .1 .1 .0)
     ≡ loadedWith (a .o) (now (a .xs)) (now (a .ys)) (now (a .energies)) (old s) (now (a .owners))
 filled f =
@@ -91,8 +103,10 @@ filled f =
     let s = start-of w in
     let a = s .args in
     let m = less-of w .less in
-    done-told (a .o) (now (a .xs)) (now (a .ys)) (now (a .energies)) (old s) (now (a .owners)) (m .result) (m .ensures) (w .load .result) (table w)
-    (w .load .last .1 .1 .1 .1 .1 .1 .1 .1 .1 .1 .1 .0) (w .load .last .1 .1 .1 .1 .1 .1 .1 .1 .1 .1 .1 .1 .0) (front w) (w .load .ensures) (done (else-of f)) (f .fill .last .1 .1 .1 .1 .1 .1 .1 .1 .0)
+    done-told (a .o) (now (a .xs)) (now (a .ys)) (now (a .energies)) (old s) (now (a .owners)) (m .result) (m .ensures) (w .load .result)
+    (table w)
+    (w .load .last .1 .1 .1 .1 .1 .1 .1 .1 .1 .1 .1 .0) (w .load .last .1 .1 .1 .1 .1 .1 .1 .1 .1 .1 .1 .1 .0) (front w) (w .load .ensures)
+    (done (else-of f)) (f .fill .last .1 .1 .1 .1 .1 .1 .1 .1 .0)
     (f .fill .last .1 .1 .1 .1 .1 .1 .1 .1 .1 .0) (f .fill .ensures)
 
 less-requires : tie.Need-less-requires

@@ -1,64 +1,44 @@
--- What `load` leaves, from what `supercluster::load` and `build_owners::fill` leave: the first is lent a front of `near`, the second fills the
+-- What `load` leaves, from what `supercluster::load` and `build_owners::fill` leave: the first is lent a front of `near`, the second fills
+-- the
 -- owners from the fronts of the columns. Assumes nothing.
 use mathlib.Core.Path.{_≡_, refl, sym, ap, ap₂, _∙_, subst}
-use mathlib.Core.Bool.{true, false}
-use mathlib.Core.List.{List, [], _∷_, _++_, map, append-assoc}
+use mathlib.Core.List.{List, _++_, append-assoc}
 use Prim.Native.Nat.{ℕ, zero, suc, _+_, _*_, _<_, _≤_, min}
 use native.Mathlib.Omega.{arith}
-use native.Mathlib.Nat.{le-refl, zero-add, suc-add}
 use borrow.Author.Tests.{leb-true}
-use lib.Dec.{eqb, leb}
 use lib.Ieee.{Float}
 use lib.ListN.{length, take, drop, replicate, length-take, length-append, length-replicate, take-append-drop, replicate-append-replicate}
 use lib.Seq.{length-take-le, drop-append-seam}
 use Rattle.build_tables.specs.declared.Options.{Options}
-use Rattle.build_tables.specs.declared.State.{State}
 use Rattle.build_tables.specs.Options.{tableCount}
 use Rattle.build_tables.specs.Entries.{Table}
 use Rattle.build_tables.specs.Room.{columns, roomOf}
 use Rattle.build_tables.specs.Rows.{Cols, rows}
-use Rattle.build_tables.specs.laws.Rows.{each}
-use Rattle.build_tables.specs.laws.Roomy.{Roomy}
+use Rattle.build_tables.specs.laws.Roomy.{Roomy, frontCols}
 use Rattle.build_tables.specs.laws.Bounds.{options-are}
-use Rattle.build_all_zooms.specs.Zooms.{laidOver, joined}
+use Rattle.build_all_zooms.specs.Zooms.{laidOver}
 use Rattle.supercluster.specs.declared.LoadReply.{LoadReply}
 use Rattle.supercluster.specs.declared.LoadReply.the-variants.{Done, Options as No·Options, Count, Point, Energy, Tables}
 use Rattle.supercluster.specs.declared.Loaded.{Loaded}
 use Rattle.supercluster.specs.Build.{BuildColumns, buildColumns, Outcome, outcome, written, builtState, tablesOf, need, roomIn}
-use Rattle.supercluster.specs.Build.{checkedIn, checked, loadNumber, refusedBuild, byReply, loaded}
-use Rattle.supercluster.specs.laws.Held.{heldBy, built-held}
-use Rattle.supercluster.specs.laws.Load.{accepted, Holds, holds, fronts, rowsIn, replies}
+use Rattle.supercluster.specs.Build.{checkedIn, checked, loadNumber, unlessRefused, refusedBuild, byReply, loaded}
+use Rattle.supercluster.specs.laws.Held.{heldBy}
+use Rattle.supercluster.specs.laws.Load.{accepted, Holds, holds, replies}
 use Rattle.supercluster.specs.laws.Over.{cut-over, over-length}
 use Rattle.supercluster.specs.laws.Ready.{Accepted, need-two}
-use Rattle.supercluster.specs.laws.Right.{tables-room}
-use Rattle.law_builds.specs.Given.{Given, givenBuild, AcceptedBuild, points, tablesOfBuild}
-use Rattle.law_answers.specs.laws.Stored.{stateBy}
+use Rattle.supercluster.specs.laws.Right.{roomy-written}
+use Rattle.law_builds.specs.Given.{givenBuild, AcceptedBuild}
 use Rattle.build_owners.specs.OwnerColumn.{ownerColumn}
 use Rattle.build_owners.specs.laws.Climbs.{Climbable}
-use Rattle.build_owners.specs.laws.ClimbableBuilds.{climbable, rowsBy}
-use Rattle.build_owners.specs.laws.Fronts.{frontOf}
-use Rattle.owners.specs.laws.Fronted.{roomy-after, front-climbable, front-held}
-use Rattle.owners.specs.LoadedWith.{roomWith, OwnedOutcome, ownedOutcome, ownersLeft, loadedWith}
+use Rattle.owners.specs.laws.Fronted.{front-climbable, front-held}
+use Rattle.owners.specs.LoadedWith.{roomWith, ownedOutcome, loadedWith}
 
 -- ---- numbers and replies
 
--- only a build that is not refused has the number 0
-pub zero-done : (r : LoadReply) → loadNumber r ≤ 0 → r ≡ Done
-zero-done Done e = refl
-zero-done No·Options e = absurd (omega (arith, e))
-zero-done Count e = absurd (omega (arith, e))
-zero-done (Point i) e = absurd (omega (arith, e))
-zero-done (Energy i) e = absurd (omega (arith, e))
-zero-done Tables e = absurd (omega (arith, e))
-
 -- a refusal leaves the owners
-left-refused : (r : LoadReply) (column own : List ℕ) → 0 < loadNumber r → ownersLeft r column own ≡ own
-left-refused Done column own h = absurd (omega (arith, h))
-left-refused No·Options column own h = refl
-left-refused Count column own h = refl
-left-refused (Point i) column own h = refl
-left-refused (Energy i) column own h = refl
-left-refused Tables column own h = refl
+left-refused : (n : ℕ) (column own : List ℕ) → 0 < n → unlessRefused n column own ≡ own
+left-refused zero column own h = absurd (omega (arith, h))
+left-refused (suc n) column own h = refl
 
 -- ---- a front of `near`
 
@@ -125,13 +105,7 @@ module _ (o : Options) (xs ys : List Float) (ws : List ℕ) (l : BuildColumns) (
       let h = done-accepted d .1 in
       let k = length-take m (l .near) in
       record {
-        hx = h .hx;
-        hy = h .hy;
-        hs = h .hs;
-        hi = h .hi;
-        hp = h .hp;
-        hn = h .hn;
-        hw = h .hw;
+        table = h .table;
         hd = h .hd;
         hc = h .hc;
         hr = least (need o (length xs)) (length (take m (l .near))) m (length (l .near)) (h .hr) k;
@@ -193,7 +167,8 @@ module _ (o : Options) (xs ys : List Float) (ws : List ℕ) (l : BuildColumns) (
     unfolding loadedWith
     refused-told h =
         let k : 0 < loadNumber reply = subst (λ (r : LoadReply). 0 < loadNumber r) reply-is h in
-        ap₂ ownedOutcome back-told (sym (left-refused reply (ownerColumn (length xs) (tablesOf o xs ys ws)) own k))
+        ap₂ ownedOutcome back-told (sym
+        (left-refused (loadNumber reply) (laidOver (ownerColumn (length xs) (tablesOf o xs ys ws)) own) own k))
 
     -- ---- no refusal
 
@@ -214,22 +189,23 @@ module _ (o : Options) (xs ys : List Float) (ws : List ℕ) (l : BuildColumns) (
       Ready x =
           let s = x .reply .state in
           let k = tableCount (s .options) * s .count in
-          Roomy k (x .columns .table) × Climbable s (rows (frontOf k (x .columns .table))) × (s .count ≤ length (x .columns .near)) × (k ≤ length own)
+          Roomy k (x .columns .table) × Climbable s (rows (frontCols k (x .columns .table))) × (s .count ≤ length (x .columns .near))
+          × (k ≤ length own)
 
       ready-built : Ready (byReply o xs ys ws l Done)
       ready-built =
-          (roomy-after o xs ys ws a l full, front-climbable o xs ys ws a l full, near-some o xs ys ws l, done-accepted done .2)
+          (roomy-written o xs ys ws l a (full .table), front-climbable o xs ys ws a l full, near-some o xs ys ws l, done-accepted done .2)
 
       -- what `build_owners::fill` is asked
       pub fill-ready : let s = q .state in let k = tableCount (s .options) * s .count in
-          Roomy k T × Climbable s (rows (frontOf k T)) × (s .count ≤ length (front ++ drop m (l .near))) × (k ≤ length own)
+          Roomy k T × Climbable s (rows (frontCols k T)) × (s .count ≤ length (front ++ drop m (l .near))) × (k ≤ length own)
       fill-ready = subst Ready (sym built) ready-built
 
       -- what it leaves: the zeros of `near` stay, and the column is the owners'
       abbrev Fills : List ℕ → List ℕ → Outcome → Type 0
       Fills near own′ x =
           let s = x .reply .state in
-          let R = rows (frontOf (tableCount (s .options) * s .count) (x .columns .table)) in
+          let R = rows (frontCols (tableCount (s .options) * s .count) (x .columns .table)) in
           (near ≡ laidOver (replicate (s .count) 0) (x .columns .near)) × (own′ ≡ laidOver (ownerColumn (s .count) (heldBy s R)) own)
 
       pub done-told : (near own′ : List ℕ) → Fills near own′ (left (front ++ drop m (l .near)))
@@ -240,5 +216,5 @@ module _ (o : Options) (xs ys : List Float) (ws : List ℕ) (l : BuildColumns) (
           let e : near ≡ front ++ drop m (l .near) = g .0 ∙ near-zeros o xs ys ws l ∙ sym (ap (λ (x : Outcome). x .columns .near) built) in
           let c : own′ ≡ laidOver (ownerColumn (length xs) (tablesOf o xs ys ws)) own =
           g .1 ∙ ap (λ (t : List Table). laidOver (ownerColumn (length xs) t) own) (front-held o xs ys ws a l full) in
-          ap₂ ownedOutcome (ap left e ∙ back-told)
-          (c ∙ sym (ap (λ (r : LoadReply). ownersLeft r (ownerColumn (length xs) (tablesOf o xs ys ws)) own) done))
+          let filled = laidOver (ownerColumn (length xs) (tablesOf o xs ys ws)) own in
+          ap₂ ownedOutcome (ap left e ∙ back-told) (c ∙ sym (ap (λ (r : LoadReply). unlessRefused (loadNumber r) filled own) done))

@@ -3,38 +3,33 @@ use mathlib.Core.Path.{_≡_, refl, sym, ap, _∙_, subst}
 use mathlib.Core.Bool.{true}
 use mathlib.Core.List.{List}
 use Prim.Native.Nat.{ℕ, suc, _+_, _-_, _*_, _<_, _≤_, min}
-use native.Mathlib.Nat.{le-trans}
 use native.Mathlib.Omega.{arith}
 use borrow.Author.Tests.{lt-ltb, le-leb}
-use lib.Dec.{leb}
 use lib.ListN.{length, getD}
-use Rattle.build_tables.specs.declared.State.{State}
 use Rattle.build_tables.specs.Options.{tableCount, zoomUsed}
-use Rattle.build_tables.specs.Sound.{stateOk}
 use Rattle.build_tables.specs.State.{lenOf}
 use Rattle.build_tables.specs.laws.Bounds.{options-are}
 use Rattle.build_tables.specs.laws.Sound.{used-between}
 use Rattle.build_all_zooms.specs.Zooms.{laidOver, zoomsOf}
 use Rattle.supercluster.specs.declared.LoadReply.{LoadReply}
 use Rattle.supercluster.specs.declared.LoadReply.the-variants.{Done}
-use Rattle.supercluster.specs.Build.{BuildColumns, Outcome, need, checkedIn, byReply}
-use Rattle.supercluster.specs.laws.Load.{Holds, replies}
+use Rattle.supercluster.specs.Build.{BuildColumns, Outcome, need, checkedIn, loadNumber, unlessRefused, byReply}
+use Rattle.supercluster.specs.laws.Load.{replies}
 use Rattle.supercluster.specs.laws.Over.{over-length}
 use Rattle.supercluster.specs.laws.Right.{tables-count}
-use Rattle.law_builds.specs.Given.{Given, givenBuild, AcceptedBuild, points, minZ, maxZ, tablesOfBuild}
+use Rattle.law_builds.specs.Given.{Given, AcceptedBuild, points, minZ, maxZ, tablesOfBuild}
 use Rattle.law_lamps.specs.Owner.{owner}
 use Rattle.law_lamps.specs.laws.Owners.{owner-in}
 use Rattle.law_answers.specs.Stored.{columnsOf}
 use Rattle.law_answers.specs.laws.Stored.{stateBy, long-is, fits, sound-in}
-use Rattle.build_owners.specs.OwnerColumn.{ownerIn, ownerColumn}
+use Rattle.build_owners.specs.OwnerColumn.{ownerColumn}
 use Rattle.build_owners.specs.laws.ClimbableBuilds.{owner-kept}
 use Rattle.build_owners.specs.laws.Fills.{column-at, column-long}
-use Rattle.ask_owner.specs.declared.OwnerReply.{OwnerReply}
 use Rattle.ask_owner.specs.declared.OwnerReply.the-variants.{Place}
 use Rattle.ask_owner.specs.Asked.{ownersReach, ownerSpot, ownerWithin, ownerAsked}
-use Rattle.owners.specs.Owners.{Between, Owners}
+use Rattle.owners.specs.Owners.{Owners}
 use Rattle.owners.specs.KeptOwners.{KeptOwners}
-use Rattle.owners.specs.LoadedWith.{roomWith, OwnedOutcome, loadedWith, ownersLeft}
+use Rattle.owners.specs.LoadedWith.{roomWith, OwnedOutcome, loadedWith}
 use Rattle.owners.specs.laws.Keeping.{done-accepted, done-full}
 use Rattle.owners.specs.laws.Proved.{owners}
 
@@ -63,7 +58,10 @@ module _ (G : Given) (a : AcceptedBuild G) (own : List ℕ) (r : need (G .option
   reached : ownersReach (stateBy G) (length (laidOver (ownerColumn (points G) (tablesOfBuild G)) own)) ≡ true
   reached =
       let n = kept-long in
-      rw (sound-in G a (length kept) (omega (arith, fits G a, r, n)), le-leb (need (G .options) (points G)) (length kept) (omega (arith, r, n))) refl
+      rw (
+        sound-in G a (length kept) (omega (arith, fits G a, r, n)),
+        le-leb (need (G .options) (points G)) (length kept) (omega (arith, r, n)),
+      ) refl
 
   pub kept-owners : KeptOwners (stateBy G) (laidOver (ownerColumn (points G) (tablesOfBuild G)) own) (owner G)
   unfolding ownerAsked
@@ -76,7 +74,8 @@ module _ (G : Given) (a : AcceptedBuild G) (own : List ℕ) (r : need (G .option
           let u = used-between (G .options) zoom low in
           let p = owner-in G a z (u .0) (u .1) l h in
           let q = long-is G a z (u .0) (u .1) in
-          let w : ownerWithin (owner G z l) (lenOf (stateBy G) z) ≡ Place (owner G z l) = rw (lt-ltb (owner G z l) (lenOf (stateBy G) z) (omega (arith, p, q))) refl in
+          let w : ownerWithin (owner G z l) (lenOf (stateBy G) z) ≡ Place (owner G z l) =
+          rw (lt-ltb (owner G z l) (lenOf (stateBy G) z) (omega (arith, p, q))) refl in
           rw (reached, lt-ltb l (points G) h) (ap (λ (v : ℕ). ownerWithin v (lenOf (stateBy G) z)) (stored-at z l (u .0) (u .1) h) ∙ w)
 
 -- so of any outcome that meets the contract of `load`, where it is no refusal
@@ -95,7 +94,8 @@ loaded-owners G l own x e d =
     let b : x .build ≡ byReply o (G .xs) (G .ys) (G .energies) l Done =
     ap (λ (y : OwnedOutcome). y .build) e ∙ ap (byReply o (G .xs) (G .ys) (G .energies) l) c in
     let w : x .owners ≡ laidOver (ownerColumn (points G) (tablesOfBuild G)) own =
-    ap (λ (y : OwnedOutcome). y .owners) e ∙ ap (λ (y : LoadReply). ownersLeft y (ownerColumn (points G) (tablesOfBuild G)) own) c in (
+    ap (λ (y : OwnedOutcome). y .owners) e
+    ∙ ap (λ (y : LoadReply). unlessRefused (loadNumber y) (laidOver (ownerColumn (points G) (tablesOfBuild G)) own) own) c in (
       subst (λ (y : Outcome). Owners (y .reply .state) (columnsOf (y .columns)) (G .energies) (owner G)) (sym b) (owners G (h .0) l f),
       subst (λ (y : Outcome). KeptOwners (y .reply .state) (x .owners) (owner G)) (sym b)
           (subst (λ (y : List ℕ). KeptOwners (stateBy G) y (owner G)) (sym w) (kept-owners G (h .0) own (h .2))),

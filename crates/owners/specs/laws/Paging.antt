@@ -41,7 +41,8 @@ joined-from size lo (suc n) l h =
     let e : lo + suc n ≡ suc lo + n = omega arith in
     let d : suc lo * size ≡ lo * size + size = suc-mul lo size in
     ap (λ (q : List ℕ). pageOf size lo l ++ q)
-    (joined-from size (suc lo) n l (subst (λ (m : ℕ). length l ≤ m * size) e h) ∙ ap (λ (m : ℕ). drop m l) d ∙ sym (drop-drop size (lo * size) l))
+    (joined-from size (suc lo) n l (subst (λ (m : ℕ). length l ≤ m * size) e h) ∙ ap (λ (m : ℕ). drop m l) d
+    ∙ sym (drop-drop size (lo * size) l))
     ∙ take-append-drop size (drop (lo * size) l)
 
 -- enough pages put together are the whole list
@@ -66,7 +67,8 @@ none-on x size k l h =
 pub one-page : (x size n : ℕ) (l : List ℕ) → length l ≤ n * size → count x l ≡ 1 → (k : ℕ) × (k < n) × OnPage x (λ i. pageOf size i l) k
 one-page x size zero [] h e = absurd (omega arith)
 one-page x size zero (y ∷ l) h e = absurd (omega arith)
-one-page x size (suc n) l h e = ⊎-elim first (later (λ d m. one-page x size n (drop size l) d m)) (either (count x (take size l)) (count x (drop size l)) (sym (count-split x size l) ∙ e))
+one-page x size (suc n) l h e = ⊎-elim first (later (λ d m. one-page x size n (drop size l) d m))
+    (either (count x (take size l)) (count x (drop size l)) (sym (count-split x size l) ∙ e))
   where
     either : (a b : ℕ) → a + b ≡ 1 → ((a ≡ 1) × (b ≡ 0)) ⊎ ((a ≡ 0) × (b ≡ 1))
     either zero b h = inr (refl, omega arith)
@@ -79,14 +81,16 @@ one-page x size (suc n) l h e = ⊎-elim first (later (λ d m. one-page x size n
         others zero v = absurd (v refl)
         others (suc m) v = ap (count x) (page-next size m l) ∙ none-on x size m (drop size l) (w .1)
 
-    later : (length (drop size l) ≤ n * size → count x (drop size l) ≡ 1 → (k : ℕ) × (k < n) × OnPage x (λ i. pageOf size i (drop size l)) k)
+    later : (length (drop size l) ≤ n * size → count x (drop size l) ≡ 1 → (k : ℕ) × (k < n)
+        × OnPage x (λ i. pageOf size i (drop size l)) k)
         → ((count x (take size l) ≡ 0) × (count x (drop size l) ≡ 1)) → (k : ℕ) × (k < suc n) × OnPage x (λ i. pageOf size i l) k
     later rec w = from (rec few (w .1))
       where
         few : length (drop size l) ≤ n * size
         few = let a = length-drop size l in let b = suc-mul n size in omega arith
 
-        from : ((k : ℕ) × (k < n) × OnPage x (λ i. pageOf size i (drop size l)) k) → (k : ℕ) × (k < suc n) × OnPage x (λ i. pageOf size i l) k
+        from : ((k : ℕ) × (k < n) × OnPage x (λ i. pageOf size i (drop size l)) k) → (k : ℕ) × (k < suc n)
+            × OnPage x (λ i. pageOf size i l) k
         from (k, m, o) = (suc k, omega arith, record { here = ap (count x) (page-next size k l) ∙ o .here; nowhere-else = others })
           where
             others : (i : ℕ) → (i ≡ suc k → ⊥) → count x (pageOf size i l) ≡ 0

@@ -19,7 +19,8 @@ same-length-2 : tie.Need-same-length-2
 same-length-2 c = search needs
 
 returns : tie.Need-returns
-returns c = builds-none _ _ _ _ _ _ _ _ (c .before .before .before .before .before .before .build .ensures .0) (sym (c .before .is-done .ensures) ∙ not-true _ (c .if1 .taken))
+returns c = builds-none _ _ _ _ _ _ _ _ (c .before .before .before .before .before .before .build .ensures .0)
+    (sym (c .before .is-done .ensures) ∙ not-true _ (c .if1 .taken))
 
 same-places-requires : tie.Need-same-places-requires
 same-places-requires c κs = search needs
@@ -31,7 +32,10 @@ same-length-4 : tie.Need-same-length-4
 same-length-4 c = search needs
 
 returns-2 : tie.Need-returns-2
-returns-2 c = builds-other _ _ _ _ _ _ _ _ (c .before .before .before .before .before .before .before .before .before .build .ensures .0) (sym (c .before .before .before .before .is-done .ensures) ∙ not-false _ (c .before .before .before .if1 .left)) _ _ (c .before .before .before .before .before .before .before .before .before .build .ensures .1) (sym (c .before .same-places .ensures) ∙ not-true _ (c .if2 .taken))
+returns-2 c = builds-other _ _ _ _ _ _ _ _ (c .before .before .before .before .before .before .before .before .before .build .ensures .0)
+    (sym (c .before .before .before .before .is-done .ensures) ∙ not-false _ (c .before .before .before .if1 .left)) _ _
+    (c .before .before .before .before .before .before .before .before .before .build .ensures .1)
+    (sym (c .before .same-places .ensures) ∙ not-true _ (c .if2 .taken))
 
 same-floats-requires : tie.Need-same-floats-requires
 same-floats-requires c κs = search needs
@@ -45,7 +49,9 @@ same-length-6 c = search needs
 returns-3 : tie.Need-returns-3
 returns-3 c =
     let s = c .before .before .before .before .before .before .before .before .before .before .before in
-    builds-ids _ _ _ _ _ _ _ _ (s .build .ensures .0) (sym (c .before .before .before .before .before .before .is-done .ensures) ∙ not-false _ (c .before .before .before .before .before .if1 .left)) _ _ (s .build .ensures .1) (sym (c .before .before .before .same-places .ensures) ∙ not-false _ (c .before .before .if2 .left)) _ (c .same-floats .ensures)
+    builds-ids _ _ _ _ _ _ _ _ (s .build .ensures .0) (sym (c .before .before .before .before .before .before .is-done .ensures)
+    ∙ not-false _ (c .before .before .before .before .before .if1 .left)) _ _ (s .build .ensures .1)
+    (sym (c .before .before .before .same-places .ensures) ∙ not-false _ (c .before .before .if2 .left)) _ (c .same-floats .ensures)
 
 pub builds-spec : {M : Type 1} → statement M
 builds-spec =

@@ -16,7 +16,8 @@ same-length : tie.Need-same-length
 same-length c = search needs
 
 returns : tie.Need-returns
-returns c = lists-none _ _ _ _ _ _ _ _ _ (c .before .before .before .before .ask .ensures .0) (sym (c .before .is-found .ensures) ∙ not-true _ (c .if1 .taken))
+returns c = lists-none _ _ _ _ _ _ _ _ _ (c .before .before .before .before .ask .ensures .0)
+    (sym (c .before .is-found .ensures) ∙ not-true _ (c .if1 .taken))
 
 same-places-requires : tie.Need-same-places-requires
 same-places-requires c κs = search needs
@@ -25,7 +26,9 @@ same-length-2 : tie.Need-same-length-2
 same-length-2 c = search needs
 
 returns-2 : tie.Need-returns-2
-returns-2 c = lists-some _ _ _ _ _ _ _ _ _ (c .before .before .before .before .before .before .ask .ensures .0) (sym (c .before .before .before .is-found .ensures) ∙ not-false _ (c .before .before .if1 .left)) _ (c .before .before .before .before .before .before .ask .ensures .1) _ (c .same-places .ensures)
+returns-2 c = lists-some _ _ _ _ _ _ _ _ _ (c .before .before .before .before .before .before .ask .ensures .0)
+    (sym (c .before .before .before .is-found .ensures) ∙ not-false _ (c .before .before .if1 .left)) _
+    (c .before .before .before .before .before .before .ask .ensures .1) _ (c .same-places .ensures)
 
 pub lists-spec : {M : Type 1} → statement M
 lists-spec =

@@ -17,10 +17,21 @@ float-of-requires-4 : tie.Need-float-of-requires-4
 float-of-requires-4 c κs = search needs
 
 returns : tie.Need-returns
-returns c = simp (eq-eqb _ _ (c .before .if1 .taken), c .float-of4 .ensures, c .before .before .float-of3 .ensures, c .before .before .before .float-of2 .ensures, c .before .before .before .before .float-of .ensures)
+returns c = simp (
+  eq-eqb _ _ (c .before .if1 .taken),
+  c .float-of4 .ensures,
+  c .before .before .float-of3 .ensures,
+  c .before .before .before .float-of2 .ensures,
+  c .before .before .before .before .float-of .ensures,
+)
 
 returns-2 : tie.Need-returns-2
-returns-2 c = simp (ne-eqb _ _ (c .if1 .left), c .before .float-of3 .ensures, c .before .before .float-of2 .ensures, c .before .before .before .float-of .ensures)
+returns-2 c = simp (
+  ne-eqb _ _ (c .if1 .left),
+  c .before .float-of3 .ensures,
+  c .before .before .float-of2 .ensures,
+  c .before .before .before .float-of .ensures,
+)
 
 pub query-of-spec : {M : Type 1} → statement M
 query-of-spec =

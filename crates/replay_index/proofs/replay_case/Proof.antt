@@ -24,7 +24,8 @@ slice-aggregate-replay-build-2 : tie.Need-slice-aggregate-replay-build-2
 slice-aggregate-replay-build-2 c = search needs
 
 replay-build-requires : tie.Need-replay-build-requires
-replay-build-requires c κs = subst (countIs 1024) (c .before .before .before .n .given .1) (c .before .before .before .before .before .next-count .ensures)
+replay-build-requires c κs = subst (countIs 1024) (c .before .before .before .n .given .1)
+    (c .before .before .before .before .before .next-count .ensures)
 
 enum-told-2 : tie.Need-enum-told-2
 enum-told-2 c = search needs

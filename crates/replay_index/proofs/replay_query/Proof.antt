@@ -63,7 +63,11 @@ slice-aggregate-walks : tie.Need-slice-aggregate-walks
 slice-aggregate-walks c = search needs
 
 walks-requires : tie.Need-walks-requires
-walks-requires c κs = omega (arith, few (c .before .before .before .before .before .before .before .before .before), c .before .before .before .before .before .before .before .before .read-places .kept)
+walks-requires c κs = omega (
+  arith,
+  few (c .before .before .before .before .before .before .before .before .before),
+  c .before .before .before .before .before .before .before .before .read-places .kept,
+)
 
 returns-5 : tie.Need-returns-5
 returns-5 c = search needs

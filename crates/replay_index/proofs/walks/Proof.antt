@@ -9,7 +9,8 @@ use Rattle.replay_index.proofs.walks.Statement.{statement}
 use Rattle.replay_index.proofs.walks.Tie as tie
 
 abbrev Inv-loop : tie.InvT-loop
-Inv-loop q node-size n ids coords m want step₀ i₀ step i = (i ≤ m) × (walkedSlots (afterStep q node-size n coords) ids want (m - i) i step ≡ walksTo q node-size n ids coords m want)
+Inv-loop q node-size n ids coords m want step₀ i₀ step i = (i ≤ m)
+    × (walkedSlots (afterStep q node-size n coords) ids want (m - i) i step ≡ walksTo q node-size n ids coords m want)
 
 abbrev μ-loop : tie.MeasureT-loop
 μ-loop q node-size n ids coords m want step₀ i₀ step i = m - i
@@ -24,7 +25,8 @@ slot-of-requires : tie.Need-slot-of-requires Inv-loop μ-loop
 slot-of-requires c κs = tt
 
 returns : tie.Need-returns Inv-loop μ-loop
-returns c = sym (walk-none _ _ _ _ _ _ _ (c .before .slot-of .ensures) (c .before .before .loop-test .taken) (c .if1 .taken)) ∙ c .before .before .before .loop .inv .1
+returns c = sym (walk-none _ _ _ _ _ _ _ (c .before .slot-of .ensures) (c .before .before .loop-test .taken) (c .if1 .taken))
+    ∙ c .before .before .before .loop .inv .1
 
 mul-if2 : tie.Need-mul-if2 Inv-loop μ-loop
 mul-if2 c = omega arith
@@ -39,7 +41,9 @@ shared-slice-read-if2-2 : tie.Need-shared-slice-read-if2-2 Inv-loop μ-loop
 shared-slice-read-if2-2 c = omega arith
 
 returns-2 : tie.Need-returns-2 Inv-loop μ-loop
-returns-2 c = sym (walk-other _ _ _ _ _ _ _ (c .before .before .before .before .slot-of .ensures) (c .before .before .before .before .before .loop-test .taken) (c .before .before .before .if1 .left) (c .if2 .taken)) ∙ c .before .before .before .before .before .before .loop .inv .1
+returns-2 c = sym (walk-other _ _ _ _ _ _ _ (c .before .before .before .before .slot-of .ensures)
+    (c .before .before .before .before .before .loop-test .taken) (c .before .before .before .if1 .left) (c .if2 .taken))
+    ∙ c .before .before .before .before .before .before .loop .inv .1
 
 after-requires : tie.Need-after-requires Inv-loop μ-loop
 after-requires c κs = tt
@@ -51,7 +55,13 @@ loop-less : tie.Need-loop-less Inv-loop μ-loop
 loop-less c = omega arith
 
 loop-again : tie.Need-loop-again Inv-loop μ-loop
-loop-again c = (omega arith, rw (c .after .ensures) (sym (walk-more _ _ _ _ _ _ _ (c .before .before .before .before .before .slot-of .ensures) (c .before .before .before .before .before .before .loop-test .taken) (c .before .before .before .before .if1 .left) (c .before .if2 .left)) ∙ c .before .before .before .before .before .before .before .loop .inv .1))
+loop-again c = (
+  omega arith,
+  rw (c .after .ensures)
+      (sym (walk-more _ _ _ _ _ _ _ (c .before .before .before .before .before .slot-of .ensures)
+      (c .before .before .before .before .before .before .loop-test .taken) (c .before .before .before .before .if1 .left)
+      (c .before .if2 .left)) ∙ c .before .before .before .before .before .before .before .loop .inv .1),
+)
 
 is-over-requires : tie.Need-is-over-requires Inv-loop μ-loop
 is-over-requires c κs = tt

@@ -17,7 +17,8 @@ same-reply-requires : tie.Need-same-reply-requires
 same-reply-requires c κs = search needs
 
 returns : tie.Need-returns
-returns c = sum-told _ _ _ _ (c .same-reply .ensures) _ _ (c .before .before .before .tally .ensures) (c .before .before .number .ensures) (c .before .value .ensures)
+returns c = sum-told _ _ _ _ (c .same-reply .ensures) _ _ (c .before .before .before .tally .ensures) (c .before .before .number .ensures)
+    (c .before .value .ensures)
 
 pub adds-up-spec : {M : Type 1} → statement M
 adds-up-spec =

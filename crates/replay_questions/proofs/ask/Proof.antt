@@ -34,28 +34,32 @@ same-length c = search needs
 
 returns : tie.Need-returns
 unfolding askedOf
-returns c = let h = c .before .before .list-box .ensures in asks _ _ _ _ _ _ _ (c .before .before .before .before .before .q .given .1) (h .0) (h .1)
+returns c = let h = c .before .before .list-box .ensures in asks _ _ _ _ _ _ _ (c .before .before .before .before .before .q .given .1)
+    (h .0) (h .1)
 
 same-length-2 : tie.Need-same-length-2
 same-length-2 c = search needs
 
 returns-2 : tie.Need-returns-2
 unfolding askedOf
-returns-2 c = let h = c .before .before .list-ring .ensures in asks _ _ _ _ _ _ _ (c .before .before .before .before .before .q2 .given .1) (h .0) (h .1)
+returns-2 c = let h = c .before .before .list-ring .ensures in asks _ _ _ _ _ _ _ (c .before .before .before .before .before .q2 .given .1)
+    (h .0) (h .1)
 
 same-length-3 : tie.Need-same-length-3
 same-length-3 c = search needs
 
 returns-3 : tie.Need-returns-3
 unfolding askedOf
-returns-3 c = let h = c .before .before .children .ensures in asks _ _ _ _ _ _ _ (c .before .before .before .before .before .q3 .given .1) (h .0) (h .1)
+returns-3 c = let h = c .before .before .children .ensures in asks _ _ _ _ _ _ _ (c .before .before .before .before .before .q3 .given .1)
+    (h .0) (h .1)
 
 same-length-4 : tie.Need-same-length-4
 same-length-4 c = search needs
 
 returns-4 : tie.Need-returns-4
 unfolding askedOf
-returns-4 c = let h = c .before .before .leaves .ensures in asks _ _ _ _ _ _ _ (c .before .before .before .before .before .q4 .given .1) (h .0) (h .1)
+returns-4 c = let h = c .before .before .leaves .ensures in asks _ _ _ _ _ _ _ (c .before .before .before .before .before .q4 .given .1)
+    (h .0) (h .1)
 
 pub ask-spec : {M : Type 1} → statement M
 ask-spec =

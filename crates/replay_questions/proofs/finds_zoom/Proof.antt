@@ -21,7 +21,8 @@ same-reply-requires : tie.Need-same-reply-requires
 same-reply-requires c κs = search needs
 
 returns : tie.Need-returns
-returns c = zoom-told _ _ _ _ (c .same-reply .ensures) _ _ (c .before .before .before .before .expansion-zoom .ensures) (c .before .before .before .number .ensures) (c .before .wide .ensures ∙ c .before .before .carried .ensures)
+returns c = zoom-told _ _ _ _ (c .same-reply .ensures) _ _ (c .before .before .before .before .expansion-zoom .ensures)
+    (c .before .before .before .number .ensures) (c .before .wide .ensures ∙ c .before .before .carried .ensures)
 
 pub finds-zoom-spec : {M : Type 1} → statement M
 finds-zoom-spec =

@@ -31,7 +31,14 @@ returns-2 : tie.Need-returns-2
 returns-2 c = search needs
 
 cast-read-options : tie.Need-cast-read-options
-cast-read-options c = record { fits = omega (arith, subst (countIs 255) (c .before .before .before .before .before .min-zoom .given .1) (c .before .before .before .before .before .before .before .count-of .ensures)) }
+cast-read-options c = record {
+  fits =
+      omega (
+        arith,
+        subst (countIs 255) (c .before .before .before .before .before .min-zoom .given .1)
+            (c .before .before .before .before .before .before .before .count-of .ensures),
+      );
+}
 
 read-options-requires : tie.Need-read-options-requires
 read-options-requires c κs = search needs

@@ -54,7 +54,8 @@ returns-3 c = search needs
 
 array-share-prefix-x : tie.Need-array-share-prefix-x
 array-share-prefix-x c =
-    let t = c .before .before .before .before .before .before .before .before .before .before .before .before .before .before .before .before in
+    let t =
+    c .before .before .before .before .before .before .before .before .before .before .before .before .before .before .before .before in
     let s = c .before .before .before .before .before .before .before .before .before .before .before .before .before in
     omega (arith, subst (countIs _) (s .a .given .1) (t .next-floats .ensures), t .next-floats .kept)
 
@@ -64,13 +65,23 @@ slice-aggregate-replay-ids c = sym (length-take-le _ _ (array-share-prefix-x (c 
 array-share-prefix-y : tie.Need-array-share-prefix-y
 array-share-prefix-y c =
     let s = c .before .before .before .before .before .before .before .before .before .before .before in
-    omega (arith, subst (countIs _) (c .before .before .before .before .before .before .before .before .b .given .1) (s .next-floats2 .ensures), s .next-floats2 .kept)
+    omega (
+      arith,
+      subst (countIs _) (c .before .before .before .before .before .before .before .before .b .given .1)
+          (s .next-floats2 .ensures),
+      s .next-floats2 .kept,
+    )
 
 slice-aggregate-replay-ids-2 : tie.Need-slice-aggregate-replay-ids-2
 slice-aggregate-replay-ids-2 c = sym (length-take-le _ _ (array-share-prefix-y (c .before)))
 
 array-share-prefix-seen : tie.Need-array-share-prefix-seen
-array-share-prefix-seen c = omega (arith, subst (countIs _) (c .before .before .before .c .given .1) (c .before .before .before .before .before .before .next-bytes .ensures), c .before .before .before .before .before .before .next-bytes .kept)
+array-share-prefix-seen c = omega (
+  arith,
+  subst (countIs _) (c .before .before .before .c .given .1)
+      (c .before .before .before .before .before .before .next-bytes .ensures),
+  c .before .before .before .before .before .before .next-bytes .kept,
+)
 
 slice-aggregate-replay-ids-3 : tie.Need-slice-aggregate-replay-ids-3
 slice-aggregate-replay-ids-3 c = sym (length-take-le _ _ (array-share-prefix-seen (c .before)))

@@ -54,7 +54,8 @@ returns-3 c = search needs
 
 array-share-prefix-id : tie.Need-array-share-prefix-id
 array-share-prefix-id c =
-    let t = c .before .before .before .before .before .before .before .before .before .before .before .before .before .before .before .before in
+    let t =
+    c .before .before .before .before .before .before .before .before .before .before .before .before .before .before .before .before in
     let s = c .before .before .before .before .before .before .before .before .before .before .before .before .before in
     omega (arith, subst (countIs _) (s .a .given .1) (t .next-places .ensures), t .next-places .kept)
 
@@ -64,13 +65,23 @@ slice-aggregate-replay-index c = sym (length-take-le _ _ (array-share-prefix-id 
 array-share-prefix-parent : tie.Need-array-share-prefix-parent
 array-share-prefix-parent c =
     let s = c .before .before .before .before .before .before .before .before .before .before .before in
-    omega (arith, subst (countIs _) (c .before .before .before .before .before .before .before .before .b .given .1) (s .next-places2 .ensures), s .next-places2 .kept)
+    omega (
+      arith,
+      subst (countIs _) (c .before .before .before .before .before .before .before .before .b .given .1)
+          (s .next-places2 .ensures),
+      s .next-places2 .kept,
+    )
 
 slice-aggregate-replay-index-2 : tie.Need-slice-aggregate-replay-index-2
 slice-aggregate-replay-index-2 c = sym (length-take-le _ _ (array-share-prefix-parent (c .before)))
 
 array-share-prefix-num : tie.Need-array-share-prefix-num
-array-share-prefix-num c = omega (arith, subst (countIs _) (c .before .before .before .c .given .1) (c .before .before .before .before .before .before .next-places3 .ensures), c .before .before .before .before .before .before .next-places3 .kept)
+array-share-prefix-num c = omega (
+  arith,
+  subst (countIs _) (c .before .before .before .c .given .1)
+      (c .before .before .before .before .before .before .next-places3 .ensures),
+  c .before .before .before .before .before .before .next-places3 .kept,
+)
 
 slice-aggregate-replay-index-3 : tie.Need-slice-aggregate-replay-index-3
 slice-aggregate-replay-index-3 c = sym (length-take-le _ _ (array-share-prefix-num (c .before)))

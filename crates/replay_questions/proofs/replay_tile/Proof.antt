@@ -55,8 +55,13 @@ returns-4 c = search needs
 
 replay-tiled-requires : tie.Need-replay-tiled-requires
 replay-tiled-requires c κs =
-    let k = c .before .before .before .before .before .before .before .before .before .before .before in
-    (subst (countIs 64) (c .before .before .before .before .before .before .before .before .before .room .given .1) (k .next-count .ensures), subst (countIs 64) (c .before .before .before .before .before .room-x .given .1) (c .before .before .before .before .before .before .before .next-count2 .ensures), subst (countIs 64) (c .before .room-y .given .1) (c .before .before .before .next-count3 .ensures))
+    let k = c .before .before .before .before .before .before .before .before .before .before .before in (
+      subst (countIs 64) (c .before .before .before .before .before .before .before .before .before .room .given .1)
+          (k .next-count .ensures),
+      subst (countIs 64) (c .before .before .before .before .before .room-x .given .1)
+          (c .before .before .before .before .before .before .before .next-count2 .ensures),
+      subst (countIs 64) (c .before .room-y .given .1) (c .before .before .before .next-count3 .ensures),
+    )
 
 returns-5 : tie.Need-returns-5
 returns-5 c = search needs

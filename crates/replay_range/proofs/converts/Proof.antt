@@ -16,7 +16,11 @@ agree-requires-2 c κs = search needs
 
 returns : tie.Need-returns
 unfolding convertsTo
-returns c = simp (sym (c .before .before .before .convert .ensures), sym (c .before .before .agree .ensures) ∙ c .before .if1 .taken, c .agree2 .ensures)
+returns c = simp (
+  sym (c .before .before .before .convert .ensures),
+  sym (c .before .before .agree .ensures) ∙ c .before .if1 .taken,
+  c .agree2 .ensures,
+)
 
 returns-2 : tie.Need-returns-2
 unfolding convertsTo

@@ -14,7 +14,12 @@ is-nan-requires-2 : tie.Need-is-nan-requires-2
 is-nan-requires-2 c κs = search needs
 
 returns-2 : tie.Need-returns-2
-returns-2 c = simp (c .is-nan2 .ensures, c .before .before .before .if1 .left, sym (c .before .before .is-nan .ensures) ∙ c .before .if2 .taken)
+returns-2 c = simp (
+  c .is-nan2 .ensures,
+  c .before .before .before .if1 .left,
+  sym (c .before .before .is-nan .ensures)
+      ∙ c .before .if2 .taken,
+)
 
 returns-3 : tie.Need-returns-3
 returns-3 c = simp (c .before .before .if1 .left, sym (c .before .is-nan .ensures) ∙ c .if2 .left)

@@ -24,7 +24,8 @@ same-length : tie.Need-same-length
 same-length c = search needs
 
 returns-2 : tie.Need-returns-2
-returns-2 c = let a = c .before .before .before .before .before .before in subst (countIs _) (a .n .given .1) (a .before .before .next-count .ensures)
+returns-2 c = let a = c .before .before .before .before .before .before in
+    subst (countIs _) (a .n .given .1) (a .before .before .next-count .ensures)
 
 same-length-2 : tie.Need-same-length-2
 same-length-2 c = search needs

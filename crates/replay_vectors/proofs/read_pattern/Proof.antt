@@ -45,7 +45,8 @@ line-of c = turn c .before .before .args .line .now
 abbrev at-of : tie.After-known-told Inv-loop μ-loop → ℕ
 at-of c = turn c .before .before .args .at
 
-digit : (c : tie.After-known-told Inv-loop μ-loop) → digitIs (getD (line-of c) (at-of c + turn c .loop .i) 0) (Value (c .before .d .given .0 .0))
+digit : (c : tie.After-known-told Inv-loop μ-loop)
+    → digitIs (getD (line-of c) (at-of c + turn c .loop .i) 0) (Value (c .before .d .given .0 .0))
 digit c = subst (digitIs _) (c .before .d .given .1) (c .before .before .before .hex-digit .ensures)
 
 fits : (c : tie.After-known-told Inv-loop μ-loop) → turn c .loop .bits * 16 + c .before .d .given .0 .0 < 18446744073709551616

@@ -38,7 +38,8 @@ shared-slice-read-if2-2 c = omega arith
 
 returns-2 : tie.Need-returns-2 Inv-loop μ-loop
 unfolding samePlaces
-returns-2 c = sym (columns-fail _ _ _ _ (c .before .before .before .before .before .if1 .left) (c .before .before .before .loop-test .taken) (ne-eqb _ _ (c .if2 .taken)))
+returns-2 c = sym (columns-fail _ _ _ _ (c .before .before .before .before .before .if1 .left) (c .before .before .before .loop-test .taken)
+    (ne-eqb _ _ (c .if2 .taken)))
 
 add-i : tie.Need-add-i Inv-loop μ-loop
 add-i c = omega arith
@@ -47,11 +48,18 @@ loop-less : tie.Need-loop-less Inv-loop μ-loop
 loop-less c = omega arith
 
 loop-again : tie.Need-loop-again Inv-loop μ-loop
-loop-again c = (omega arith, upto-more (placeAt (c .before .before .before .before .before .before .args .want .now) (c .before .before .before .before .before .before .args .got .now)) _ (c .before .before .before .before .loop .inv .1) (eq-eqb _ _ (c .if2 .left)))
+loop-again c = (
+  omega arith,
+  upto-more
+      (placeAt (c .before .before .before .before .before .before .args .want .now)
+      (c .before .before .before .before .before .before .args .got .now)) _ (c .before .before .before .before .loop .inv .1)
+      (eq-eqb _ _ (c .if2 .left)),
+)
 
 returns-3 : tie.Need-returns-3 Inv-loop μ-loop
 unfolding samePlaces
-returns-3 c = sym (columns-all _ _ _ _ (c .before .before .if1 .left) (c .loop-test .left) (c .before .loop .inv .0) (c .before .loop .inv .1))
+returns-3 c = sym (columns-all _ _ _ _ (c .before .before .if1 .left) (c .loop-test .left) (c .before .loop .inv .0)
+    (c .before .loop .inv .1))
 
 pub same-places-spec : {M : Type 1} → statement M
 same-places-spec =

@@ -21,13 +21,21 @@ element-copy-out-if1 : tie.Need-element-copy-out-if1
 element-copy-out-if1 c = search needs
 
 returns-2 : tie.Need-returns-2
-returns-2 c = (subst (patternIs _ _) (c .before .before .before .bits .given .1) (c .before .before .before .before .before .read-pattern .ensures), c .if1 .taken)
+returns-2 c = (
+  subst (patternIs _ _) (c .before .before .before .bits .given .1)
+      (c .before .before .before .before .before .read-pattern .ensures),
+  c .if1 .taken,
+)
 
 element-copy-out-if2 : tie.Need-element-copy-out-if2
 element-copy-out-if2 c = search needs
 
 returns-3 : tie.Need-returns-3
-returns-3 c = (subst (patternIs _ _) (c .before .before .before .before .before .bits .given .1) (c .before .before .before .before .before .before .before .read-pattern .ensures), c .if2 .taken)
+returns-3 c = (
+  subst (patternIs _ _) (c .before .before .before .before .before .bits .given .1)
+      (c .before .before .before .before .before .before .before .read-pattern .ensures),
+  c .if2 .taken,
+)
 
 returns-4 : tie.Need-returns-4
 returns-4 c = search needs

@@ -46,10 +46,23 @@ abbrev start-of : tie.After-fill → tie.Start
 start-of w = asked (w .before)
 
 abbrev filled : tie.After-fill → Cols
-filled c = let w = c .fill in (cols (w .last .1 .1 .1 .1 .0) (w .last .1 .1 .1 .1 .1 .0) (w .last .1 .1 .1 .1 .1 .1 .0) (w .last .1 .1 .1 .1 .1 .1 .1 .0) (w .last .1 .1 .1 .1 .1 .1 .1 .1 .0) (w .last .1 .1 .1 .1 .1 .1 .1 .1 .1 .0) (w .last .1 .1 .1 .1 .1 .1 .1 .1 .1 .1 .0))
+filled c = let w = c .fill in (cols (w .last .1 .1 .1 .1 .0) (w .last .1 .1 .1 .1 .1 .0) (w .last .1 .1 .1 .1 .1 .1 .0)
+    (w .last .1 .1 .1 .1 .1 .1 .1 .0) (w .last .1 .1 .1 .1 .1 .1 .1 .1 .0) (w .last .1 .1 .1 .1 .1 .1 .1 .1 .1 .0)
+    (w .last .1 .1 .1 .1 .1 .1 .1 .1 .1 .1 .0))
 
 kept-fill : (c : tie.After-fill) → Kept (columns (start-of c)) (filled c)
-kept-fill c = let w = c .fill in (record { kx = w .kept .1 .1 .1 .1 .0; ky = w .kept .1 .1 .1 .1 .1 .0; ks = w .kept .1 .1 .1 .1 .1 .1 .0; ki = w .kept .1 .1 .1 .1 .1 .1 .1 .0; kp = w .kept .1 .1 .1 .1 .1 .1 .1 .1 .0; kn = w .kept .1 .1 .1 .1 .1 .1 .1 .1 .1 .0; kw = w .kept .1 .1 .1 .1 .1 .1 .1 .1 .1 .1 .0 })
+kept-fill c = let w = c .fill in
+    (record {
+      kx = w .kept .1 .1 .1 .1 .0;
+      ky = w .kept .1 .1 .1 .1 .1 .0;
+      ks = w .kept .1 .1 .1 .1 .1 .1 .0;
+      ki =
+          w .kept .1 .1 .1 .1 .1 .1 .1 .0;
+      kp = w .kept .1 .1 .1 .1 .1 .1 .1 .1 .0;
+      kn = w .kept .1 .1 .1 .1 .1 .1 .1 .1 .1 .0;
+      kw =
+          w .kept .1 .1 .1 .1 .1 .1 .1 .1 .1 .1 .0;
+    })
 
 even : (w : tie.After-fill) → Even (filled w)
 even w = even-kept (columns (start-of w)) (filled w) (kept-fill w) (start-of w .pre .0)
@@ -70,7 +83,8 @@ abbrev fill-of : tie.After-index-part → tie.After-fill
 fill-of i = indexing (i .before)
 
 ids-put : (i : tie.After-index-part) → let w = fill-of i in let s = start-of w in
-    i .index-part .last .1 .1 .0 ≡ putAt 0 (count s) (indexOfTable (s .args .o .«node_size») (part 0 (count s) (rows (filled w))) .ids) (s .args .ids .now)
+    i .index-part .last .1 .1 .0 ≡ putAt 0 (count s) (indexOfTable (s .args .o .«node_size») (part 0 (count s) (rows (filled w))) .ids)
+    (s .args .ids .now)
 ids-put i =
     let w = fill-of i in
     let s = start-of w in
@@ -78,7 +92,8 @@ ids-put i =
     (i .index-part .ensures .0)
 
 co-put : (i : tie.After-index-part) → let w = fill-of i in let s = start-of w in
-    i .index-part .last .1 .1 .1 .0 ≡ putAt 0 (count s * 2) (indexOfTable (s .args .o .«node_size») (part 0 (count s) (rows (filled w))) .co) (s .args .coords .now)
+    i .index-part .last .1 .1 .1 .0 ≡ putAt 0 (count s * 2)
+    (indexOfTable (s .args .o .«node_size») (part 0 (count s) (rows (filled w))) .co) (s .args .coords .now)
 co-put i =
     let w = fill-of i in
     let s = start-of w in
@@ -95,7 +110,9 @@ first : (w : tie.After-first-state) → let s = start-of (fill-of (index-of w)) 
 first w = w .first-state .ensures
 
 abbrev zooms-of : tie.After-slice-known30 → tie.After-run-zooms
-zooms-of c = c .before .before .before .before .before .before .before .before .before .before .before .before .before .before .before .before .before .before .before .before .before .before .before .before
+zooms-of c =
+    c .before .before .before .before .before .before .before .before .before .before .before .before .before .before
+    .before .before .before .before .before .before .before .before .before .before
 
 abbrev zooming : tie.After-run-zooms-arg10 → tie.After-first-state
 zooming c = c .before .before .before .before .before .before .before .before .before .before
@@ -104,13 +121,25 @@ abbrev state-of : tie.After-run-zooms → tie.After-first-state
 state-of z = zooming (z .before)
 
 abbrev after : tie.After-run-zooms → Cols
-after c = let w = c .run-zooms in (cols (w .last .0) (w .last .1 .0) (w .last .1 .1 .0) (w .last .1 .1 .1 .0) (w .last .1 .1 .1 .1 .0) (w .last .1 .1 .1 .1 .1 .0) (w .last .1 .1 .1 .1 .1 .1 .0))
+after c = let w = c .run-zooms in
+    (cols (w .last .0) (w .last .1 .0) (w .last .1 .1 .0) (w .last .1 .1 .1 .0) (w .last .1 .1 .1 .1 .0) (w .last .1 .1 .1 .1 .1 .0)
+    (w .last .1 .1 .1 .1 .1 .1 .0))
 
 kept-by : (c : tie.After-run-zooms) → Kept (columns (start-of (fill-of (index-of (state-of c))))) (after c)
 kept-by c =
     let f = fill-of (index-of (state-of c)) in
     let w = c .run-zooms in
-    let k : Kept (filled f) (after c) = (record { kx = w .kept .0; ky = w .kept .1 .0; ks = w .kept .1 .1 .0; ki = w .kept .1 .1 .1 .0; kp = w .kept .1 .1 .1 .1 .0; kn = w .kept .1 .1 .1 .1 .1 .0; kw = w .kept .1 .1 .1 .1 .1 .1 .0 }) in
+    let k : Kept (filled f) (after c) =
+    (record {
+      kx = w .kept .0;
+      ky = w .kept .1 .0;
+      ks = w .kept .1 .1 .0;
+      ki = w .kept .1 .1 .1 .0;
+      kp = w .kept .1 .1 .1 .1 .0;
+      kn =
+          w .kept .1 .1 .1 .1 .1 .0;
+      kw = w .kept .1 .1 .1 .1 .1 .1 .0;
+    }) in
     kept-then (columns (start-of f)) (filled f) (after c) k (kept-fill f)
 
 fill-requires : tie.Need-fill-requires
@@ -128,7 +157,8 @@ index-part-requires c κs =
       (accepted s .some, accepted s .few, omega arith, bounds s .size-from, bounds s .size-to),
       (
         (even w .ey, omega (arith, long w, r), omega (arith, p .3, r), omega (arith, p .4, r)),
-        first-inside (a .o) (a .xs .now) (a .ys .now) (a .energies .now) (accepted s) (filled w) (rows (columns s)) (even w .ey) (w .fill .ensures),
+        first-inside (a .o) (a .xs .now) (a .ys .now) (a .energies .now) (accepted s) (filled w) (rows (columns s)) (even w .ey)
+            (w .fill .ensures),
       ),
     )
 
@@ -155,8 +185,10 @@ run-zooms-requires c κs =
       even w,
       omega (arith, p .5),
       subst (λ (v : State). v .options .«min_zoom» ≤ v .options .«max_zoom» + 1) (sym (first e)) (omega (arith, bounds s .zooms)),
-      ready-at (a .o) (a .xs .now) (a .ys .now) (a .energies .now) (accepted s) (rows (filled w)) (rows (columns s)) (i .index-part .last .1 .1 .0) (a .ids .now) (i .index-part .last .1 .1 .1 .0) (a .coords .now) (w .fill .ensures)
-          (filled-long w) (p .3) (p .4) (i .index-part .kept .1 .1 .0) (i .index-part .kept .1 .1 .1 .0) (ids-put i) (co-put i) (e .first-state .result) (length (filled w .x)) (first e) (long w),
+      ready-at (a .o) (a .xs .now) (a .ys .now) (a .energies .now) (accepted s) (rows (filled w)) (rows (columns s))
+          (i .index-part .last .1 .1 .0) (a .ids .now) (i .index-part .last .1 .1 .1 .0) (a .coords .now) (w .fill .ensures)
+          (filled-long w) (p .3) (p .4) (i .index-part .kept .1 .1 .0) (i .index-part .kept .1 .1 .1 .0) (ids-put i) (co-put i)
+          (e .first-state .result) (length (filled w .x)) (first e) (long w),
       subst (λ (v : State). set (v .starts) (v .options .«max_zoom» + 1) 0 ≡ v .starts) (sym (first e)) (set-set (replicate 32 0) Z 0 0),
       subst (λ (v : State). set (v .lens) (v .options .«max_zoom» + 1) n ≡ v .lens) (sym (first e)) (set-set (replicate 32 0) Z n n),
     )
@@ -206,8 +238,10 @@ returns c =
     let q = z .run-zooms .last in
     let k = c .before .before .clear in
     let cleared = k .ensures ∙ ap (λ (k : ℕ). replicate k 0) (z .run-zooms .kept .1 .1 .1 .1 .1 .1 .1 .1 .1 .0 ∙ p .5) in
-    made-at (a .o) (a .xs .now) (a .ys .now) (a .energies .now) (accepted s) (rows (filled w)) (rows (columns s)) (i .index-part .last .1 .1 .0) (a .ids .now) (i .index-part .last .1 .1 .1 .0) (a .coords .now) (w .fill .ensures)
-    (filled-long w) (p .3) (p .4) (i .index-part .kept .1 .1 .0) (i .index-part .kept .1 .1 .1 .0) (ids-put i) (co-put i) (e .first-state .result) (z .run-zooms .result)
+    made-at (a .o) (a .xs .now) (a .ys .now) (a .energies .now) (accepted s) (rows (filled w)) (rows (columns s))
+    (i .index-part .last .1 .1 .0) (a .ids .now) (i .index-part .last .1 .1 .1 .0) (a .coords .now) (w .fill .ensures)
+    (filled-long w) (p .3) (p .4) (i .index-part .kept .1 .1 .0) (i .index-part .kept .1 .1 .1 .0) (ids-put i) (co-put i)
+    (e .first-state .result) (z .run-zooms .result)
     (rows (after z)) (q .1 .1 .1 .1 .1 .1 .1 .0) (q .1 .1 .1 .1 .1 .1 .1 .1 .0) (k .last .0) (first e) (z .run-zooms .ensures) cleared
 
 pub build-in-spec : {M : Type 1} → statement M

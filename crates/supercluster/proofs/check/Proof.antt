@@ -108,7 +108,8 @@ need-small o n e h =
     le-trans (mul-le-mul t h) (lit≤ tt)
 
 -- how many entries the tables need
-need-is : (t : tie.After-table-count) → t .table-count .result * length (of-light (t .before) .args .xs .now) ≡ needed (of-light (t .before))
+need-is : (t : tie.After-table-count) → t .table-count .result * length (of-light (t .before) .args .xs .now)
+    ≡ needed (of-light (t .before))
 need-is t = ap (λ (k : ℕ). k * length (of-light (t .before) .args .xs .now)) (t .table-count .ensures)
 
 is-in-bounds-requires : tie.Need-is-in-bounds-requires
@@ -117,7 +118,8 @@ is-in-bounds-requires c κs = search needs
 returns : tie.Need-returns
 returns c =
     let s = c .before .before .before .before .before in
-    options-out (optionsOk (s .args .o)) (triple s) (found s) (weight s) (enough s) (sym (c .before .is-in-bounds .ensures) ∙ not-true _ (c .if1 .taken))
+    options-out (optionsOk (s .args .o)) (triple s) (found s) (weight s) (enough s)
+    (sym (c .before .is-in-bounds .ensures) ∙ not-true _ (c .if1 .taken))
 
 returns-2 : tie.Need-returns-2
 returns-2 c =
@@ -198,7 +200,8 @@ returns-8 c =
     let g = c .before .before in
     let e = counted (inside g) in
     let s = of-light g in
-    tables-out (optionsOk (s .args .o)) (triple s) (found s) (weight s) (enough s) (options-in (bounded e)) (triple-in e) (none-out (inside g))
+    tables-out (optionsOk (s .args .o)) (triple s) (found s) (weight s) (enough s) (options-in (bounded e)) (triple-in e)
+    (none-out (inside g))
     (none-over g) (lt-leb _ _ (subst (λ (k : ℕ). s .args .room < k) (need-is (c .before)) (c .if6 .taken)))
 
 returns-9 : tie.Need-returns-9

@@ -19,7 +19,8 @@ use Rattle.supercluster.proofs.fill.Tie as tie
 abbrev Inv-loop : tie.InvT-loop
 Inv-loop c xs ys energies x₀ y₀ seen₀ id₀ parent₀ num₀ energy₀ i₀ x y seen id parent num energy i =
     (i ≤ length xs) × Even (cols x y seen id parent num energy) × (length x ≡ length x₀) ×
-    (rows (cols x y seen id parent num energy) ≡ take i (lamps c xs ys energies) ++ drop i (rows (cols x₀ y₀ seen₀ id₀ parent₀ num₀ energy₀)))
+    (rows (cols x y seen id parent num energy) ≡ take i (lamps c xs ys energies)
+    ++ drop i (rows (cols x₀ y₀ seen₀ id₀ parent₀ num₀ energy₀)))
 
 abbrev μ-loop : tie.MeasureT-loop
 μ-loop c xs ys energies x₀ y₀ seen₀ id₀ parent₀ num₀ energy₀ i₀ x y seen id parent num energy i = length xs - i
@@ -82,7 +83,8 @@ shared-slice-read-t25 : tie.Need-shared-slice-read-t25 Inv-loop μ-loop
 shared-slice-read-t25 c = let i = c .before .before .before .before in omega (arith, i .loop-test .taken, start-of (i .before) .pre .4)
 
 put-entry-requires : tie.Need-put-entry-requires Inv-loop μ-loop
-put-entry-requires c κs = let t = lending c in let l = t .before .loop in (l .inv .1, omega (arith, t .loop-test .taken, start-of (t .before) .pre .2, l .inv .2))
+put-entry-requires c κs = let t = lending c in let l = t .before .loop in
+    (l .inv .1, omega (arith, t .loop-test .taken, start-of (t .before) .pre .2, l .inv .2))
 
 add-place : tie.Need-add-place Inv-loop μ-loop
 add-place c = omega (arith, few (test-of c))
@@ -100,16 +102,28 @@ loop-again c =
     let a = s .args in
     let i = t .loop-test .taken in
     let w = putting c .put-entry in
-    let new : Cols = (cols (w .last .0) (w .last .1 .0) (w .last .1 .1 .0) (w .last .1 .1 .1 .0) (w .last .1 .1 .1 .1 .0) (w .last .1 .1 .1 .1 .1 .0) (w .last .1 .1 .1 .1 .1 .1 .0)) in
-    let k : Kept (here h) new = (record { kx = w .kept .0; ky = w .kept .1 .0; ks = w .kept .1 .1 .0; ki = w .kept .1 .1 .1 .0; kp = w .kept .1 .1 .1 .1 .0; kn = w .kept .1 .1 .1 .1 .1 .0; kw = w .kept .1 .1 .1 .1 .1 .1 .0 }) in
+    let new : Cols = (cols (w .last .0) (w .last .1 .0) (w .last .1 .1 .0) (w .last .1 .1 .1 .0) (w .last .1 .1 .1 .1 .0)
+    (w .last .1 .1 .1 .1 .1 .0) (w .last .1 .1 .1 .1 .1 .1 .0)) in
+    let k : Kept (here h) new = (record {
+      kx = w .kept .0;
+      ky = w .kept .1 .0;
+      ks = w .kept .1 .1 .0;
+      ki = w .kept .1 .1 .1 .0;
+      kp =
+          w .kept .1 .1 .1 .1 .0;
+      kn = w .kept .1 .1 .1 .1 .1 .0;
+      kw = w .kept .1 .1 .1 .1 .1 .1 .0;
+    }) in
     let e = getD (a .energies .now) (l .place) 0 in
-    let q = lamps-at (a .c) (a .xs .now) (a .ys .now) (a .energies .now) (s .pre .1) (l .place) i ∙ ap (λ (p : Point). lamp p e (l .place)) (sym (v .convert .ensures)) in (
+    let q = lamps-at (a .c) (a .xs .now) (a .ys .now) (a .energies .now) (s .pre .1) (l .place) i
+    ∙ ap (λ (p : Point). lamp p e (l .place)) (sym (v .convert .ensures)) in (
       omega (arith, i),
       even-kept (here h) new k (l .inv .1),
       k .kx ∙ l .inv .2,
       fill-step none (lamps (a .c) (a .xs .now) (a .ys .now) (a .energies .now)) (rows (columns s)) (rows (here h)) (rows new) (l .place)
           (lamp (v .convert .result) e (l .place)) (w .ensures) (l .inv .3)
-          (omega (arith, i, lamps-length (a .c) (a .xs .now) (a .ys .now) (a .energies .now) (s .pre .1))) (omega (arith, i, rows-length (columns s), s .pre .2)) q,
+          (omega (arith, i, lamps-length (a .c) (a .xs .now) (a .ys .now) (a .energies .now) (s .pre .1)))
+          (omega (arith, i, rows-length (columns s), s .pre .2)) q,
     )
 
 same-length : tie.Need-same-length Inv-loop μ-loop
@@ -139,7 +153,8 @@ returns c =
     let l = h .loop in
     let s = start-of h in
     let a = s .args in
-    fill-end (lamps (a .c) (a .xs .now) (a .ys .now) (a .energies .now)) (rows (columns s)) (rows (here h)) (l .place) (length (a .xs .now)) (l .inv .3)
+    fill-end (lamps (a .c) (a .xs .now) (a .ys .now) (a .energies .now)) (rows (columns s)) (rows (here h)) (l .place) (length (a .xs .now))
+    (l .inv .3)
     (lamps-length (a .c) (a .xs .now) (a .ys .now) (a .energies .now) (s .pre .1)) (c .loop-test .left) (l .inv .0)
 
 pub fill-spec : {M : Type 1} → statement M

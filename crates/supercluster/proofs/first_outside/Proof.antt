@@ -20,7 +20,8 @@ use Rattle.supercluster.proofs.first_outside.Tie as tie
 
 abbrev Inv-loop : tie.InvT-loop
 Inv-loop c xs ys i₀ i =
-    (i ≤ length xs) × (firstOutside (pxs (convertedAll c xs ys)) (pys (convertedAll c xs ys)) 0 ≡ firstOutside (pxs (convertedAll c (drop i xs) (drop i ys))) (pys (convertedAll c (drop i xs) (drop i ys))) i)
+    (i ≤ length xs) × (firstOutside (pxs (convertedAll c xs ys)) (pys (convertedAll c xs ys)) 0
+    ≡ firstOutside (pxs (convertedAll c (drop i xs) (drop i ys))) (pys (convertedAll c (drop i xs) (drop i ys))) i)
 
 abbrev μ-loop : tie.MeasureT-loop
 μ-loop c xs ys i₀ i = length xs - i
@@ -30,7 +31,8 @@ start-of l = l .before .before .before
 
 -- the point i, converted
 abbrev point-of : tie.At-loop Inv-loop μ-loop → Point
-point-of l = let a = start-of l .args in converted (a .c) (record { x = getD (now (a .xs)) (l .loop .i) nan; y = getD (now (a .ys)) (l .loop .i) nan })
+point-of l = let a = start-of l .args in
+    converted (a .c) (record { x = getD (now (a .xs)) (l .loop .i) nan; y = getD (now (a .ys)) (l .loop .i) nan })
 
 abbrev loop-of : tie.After-convert Inv-loop μ-loop → tie.At-loop Inv-loop μ-loop
 loop-of w = w .before .before .before .before
@@ -61,15 +63,18 @@ returns c =
     let w = c .before .before in
     let l = loop-of w in
     let a = start-of l .args in
-    let out : in01 (point-of l .x) ≡ false = ap (λ (p : Point). in01 (p .x)) (sym (w .convert .ensures)) ∙ sym (c .before .in-unit .ensures) ∙ not-true _ (c .if1 .taken) in
-    outside-here (a .c) (now (a .xs)) (now (a .ys)) (l .loop .i) (w .before .before .before .loop-test .taken) (start-of l .pre) (ap (λ (b : Bool). b && in01 (point-of l .y)) out) ∙ sym (l .loop .inv .1)
+    let out : in01 (point-of l .x) ≡ false = ap (λ (p : Point). in01 (p .x)) (sym (w .convert .ensures)) ∙ sym (c .before .in-unit .ensures)
+    ∙ not-true _ (c .if1 .taken) in
+    outside-here (a .c) (now (a .xs)) (now (a .ys)) (l .loop .i) (w .before .before .before .loop-test .taken) (start-of l .pre)
+    (ap (λ (b : Bool). b && in01 (point-of l .y)) out) ∙ sym (l .loop .inv .1)
 
 in-unit-requires-2 : tie.Need-in-unit-requires-2 Inv-loop μ-loop
 in-unit-requires-2 c κs = search needs
 
 -- the first test was passed
 first-in : (e : tie.Else1 Inv-loop μ-loop) → in01 (point-of (loop-of (e .before .before)) .x) ≡ true
-first-in e = ap (λ (p : Point). in01 (p .x)) (sym (e .before .before .convert .ensures)) ∙ sym (e .before .in-unit .ensures) ∙ not-false _ (e .if1 .left)
+first-in e = ap (λ (p : Point). in01 (p .x)) (sym (e .before .before .convert .ensures)) ∙ sym (e .before .in-unit .ensures)
+    ∙ not-false _ (e .if1 .left)
 
 returns-2 : tie.Need-returns-2 Inv-loop μ-loop
 returns-2 c =
@@ -77,11 +82,14 @@ returns-2 c =
     let w = e .before .before in
     let l = loop-of w in
     let a = start-of l .args in
-    let out : in01 (point-of l .y) ≡ false = ap (λ (p : Point). in01 (p .y)) (sym (w .convert .ensures)) ∙ sym (c .before .in-unit2 .ensures) ∙ not-true _ (c .if2 .taken) in
-    outside-here (a .c) (now (a .xs)) (now (a .ys)) (l .loop .i) (w .before .before .before .loop-test .taken) (start-of l .pre) (ap (λ (b : Bool). b && in01 (point-of l .y)) (first-in e) ∙ out) ∙ sym (l .loop .inv .1)
+    let out : in01 (point-of l .y) ≡ false = ap (λ (p : Point). in01 (p .y)) (sym (w .convert .ensures))
+    ∙ sym (c .before .in-unit2 .ensures) ∙ not-true _ (c .if2 .taken) in
+    outside-here (a .c) (now (a .xs)) (now (a .ys)) (l .loop .i) (w .before .before .before .loop-test .taken) (start-of l .pre)
+    (ap (λ (b : Bool). b && in01 (point-of l .y)) (first-in e) ∙ out) ∙ sym (l .loop .inv .1)
 
 add-i : tie.Need-add-i Inv-loop μ-loop
-add-i c = let w = c .before .before .before .before in omega (arith, w .before .before .before .loop-test .taken, start-of (loop-of w) .good)
+add-i c = let w = c .before .before .before .before in
+    omega (arith, w .before .before .before .loop-test .taken, start-of (loop-of w) .good)
 
 loop-less : tie.Need-loop-less Inv-loop μ-loop
 loop-less c = let w = c .before .before .before .before in omega (arith, w .before .before .before .loop-test .taken)
@@ -93,8 +101,12 @@ loop-again c =
     let l = loop-of w in
     let a = start-of l .args in
     let h = w .before .before .before .loop-test .taken in
-    let inn : in01 (point-of l .y) ≡ true = ap (λ (p : Point). in01 (p .y)) (sym (w .convert .ensures)) ∙ sym (c .before .in-unit2 .ensures) ∙ not-false _ (c .if2 .left) in
-    (omega (arith, h), l .loop .inv .1 ∙ outside-step (a .c) (now (a .xs)) (now (a .ys)) (l .loop .i) h (start-of l .pre) (ap (λ (b : Bool). b && in01 (point-of l .y)) (first-in e) ∙ inn))
+    let inn : in01 (point-of l .y) ≡ true = ap (λ (p : Point). in01 (p .y)) (sym (w .convert .ensures)) ∙ sym (c .before .in-unit2 .ensures)
+    ∙ not-false _ (c .if2 .left) in (
+      omega (arith, h),
+      l .loop .inv .1 ∙ outside-step (a .c) (now (a .xs)) (now (a .ys)) (l .loop .i) h (start-of l .pre)
+          (ap (λ (b : Bool). b && in01 (point-of l .y)) (first-in e) ∙ inn),
+    )
 
 returns-3 : tie.Need-returns-3 Inv-loop μ-loop
 returns-3 c =

@@ -40,8 +40,11 @@ loop-less c = omega (arith, c .before .before .loop-test .taken)
 loop-again : tie.Need-loop-again Inv-loop μ-loop
 loop-again c =
     let i = c .before .before in
-    let l = i .before .loop in
-    (omega (arith, i .loop-test .taken), l .inv .1 ∙ over-step (i .before .before .args .energies .now) (l .i) (i .loop-test .taken) (c .if1 .left))
+    let l = i .before .loop in (
+      omega (arith, i .loop-test .taken),
+      l .inv .1 ∙ over-step (i .before .before .args .energies .now) (l .i) (i .loop-test .taken)
+          (c .if1 .left),
+    )
 
 returns-2 : tie.Need-returns-2 Inv-loop μ-loop
 returns-2 c = let l = c .before .loop in sym (l .inv .1 ∙ over-end (c .before .before .args .energies .now) (l .i) (c .loop-test .left))

@@ -19,7 +19,8 @@ old s = let a = s .args in (givenAll (a .x) (a .y) (a .seen) (a .id) (a .parent)
 abbrev start-of : tie.After-check → tie.Start
 start-of k = k .before .before .before .before .before .before .before .before .before .before .before .before .before .before .before
 
-reply : (k : tie.After-check) → let a = start-of k .args in k .check .result ≡ checked (a .o) (a .xs .now) (a .ys .now) (a .energies .now) (old (start-of k))
+reply : (k : tie.After-check) → let a = start-of k .args in k .check .result ≡ checked (a .o) (a .xs .now) (a .ys .now) (a .energies .now)
+    (old (start-of k))
 reply k =
     let s = start-of k in
     let a = s .args in
@@ -83,7 +84,9 @@ refused-requires-5 c κs = search needs
 
 -- the call that builds, as its results stand
 abbrev build-of : tie.After-slice-known20 → tie.After-build-all
-build-of c = c .before .before .before .before .before .before .before .before .before .before .before .before .before .before .before .before .before .before .before .before
+build-of c =
+    c .before .before .before .before .before .before .before .before .before .before .before .before .before .before
+    .before .before .before .before .before .before
 
 same-length : tie.Need-same-length
 same-length c = build-of c .build-all .kept .1 .1 .1 .1 .0
@@ -125,8 +128,11 @@ returns c =
     let w = b .build-all in
     let l = w .last .1 .1 .1 .1 in
     let l′ = l .1 .1 .1 .1 .1 .1 in
-    let c′ : BuildColumns = buildColumns (cols (l .0) (l .1 .0) (l .1 .1 .0) (l .1 .1 .1 .0) (l .1 .1 .1 .1 .0) (l .1 .1 .1 .1 .1 .0) (l′ .0)) (l′ .1 .0) (l′ .1 .1 .0) (l′ .1 .1 .1 .0) in
-    tables-told (a .o) (a .xs .now) (a .ys .now) (a .energies .now) (old s) (k .check .result) (w .result) c′ (reply k) (e .enum-told .given .1)
+    let c′ : BuildColumns = buildColumns
+    (cols (l .0) (l .1 .0) (l .1 .1 .0) (l .1 .1 .1 .0) (l .1 .1 .1 .1 .0) (l .1 .1 .1 .1 .1 .0) (l′ .0)) (l′ .1 .0) (l′ .1 .1 .0)
+    (l′ .1 .1 .1 .0) in
+    tables-told (a .o) (a .xs .now) (a .ys .now) (a .energies .now) (old s) (k .check .result) (w .result) c′ (reply k)
+    (e .enum-told .given .1)
     (w .ensures .0) (w .ensures .1)
 
 returns-2 : tie.Need-returns-2
@@ -135,7 +141,8 @@ returns-2 c =
     let s = start-of k in
     let a = s .args in
     let w = c .refused in
-    refusal-told (a .o) (a .xs .now) (a .ys .now) (a .energies .now) (old s) (k .check .result) No·Options (w .result) (reply k) (c .before .enum-told2 .given .1) refl
+    refusal-told (a .o) (a .xs .now) (a .ys .now) (a .energies .now) (old s) (k .check .result) No·Options (w .result) (reply k)
+    (c .before .enum-told2 .given .1) refl
     (w .ensures .0) (w .ensures .1)
 
 returns-3 : tie.Need-returns-3
@@ -144,7 +151,8 @@ returns-3 c =
     let s = start-of k in
     let a = s .args in
     let w = c .refused2 in
-    refusal-told (a .o) (a .xs .now) (a .ys .now) (a .energies .now) (old s) (k .check .result) Count (w .result) (reply k) (c .before .enum-told3 .given .1) refl
+    refusal-told (a .o) (a .xs .now) (a .ys .now) (a .energies .now) (old s) (k .check .result) Count (w .result) (reply k)
+    (c .before .enum-told3 .given .1) refl
     (w .ensures .0) (w .ensures .1)
 
 returns-4 : tie.Need-returns-4
@@ -153,7 +161,8 @@ returns-4 c =
     let s = start-of k in
     let a = s .args in
     let w = c .refused3 in
-    refusal-told (a .o) (a .xs .now) (a .ys .now) (a .energies .now) (old s) (k .check .result) (Point (c .before .before .i .given .0 .0)) (w .result) (reply k) (c .before .before .i .given .1) refl
+    refusal-told (a .o) (a .xs .now) (a .ys .now) (a .energies .now) (old s) (k .check .result) (Point (c .before .before .i .given .0 .0))
+    (w .result) (reply k) (c .before .before .i .given .1) refl
     (w .ensures .0) (w .ensures .1)
 
 returns-5 : tie.Need-returns-5
@@ -162,7 +171,8 @@ returns-5 c =
     let s = start-of k in
     let a = s .args in
     let w = c .refused4 in
-    refusal-told (a .o) (a .xs .now) (a .ys .now) (a .energies .now) (old s) (k .check .result) (Energy (c .before .before .i2 .given .0 .0)) (w .result) (reply k) (c .before .before .i2 .given .1) refl
+    refusal-told (a .o) (a .xs .now) (a .ys .now) (a .energies .now) (old s) (k .check .result)
+    (Energy (c .before .before .i2 .given .0 .0)) (w .result) (reply k) (c .before .before .i2 .given .1) refl
     (w .ensures .0) (w .ensures .1)
 
 returns-6 : tie.Need-returns-6
@@ -171,7 +181,8 @@ returns-6 c =
     let s = start-of k in
     let a = s .args in
     let w = c .refused5 in
-    refusal-told (a .o) (a .xs .now) (a .ys .now) (a .energies .now) (old s) (k .check .result) Tables (w .result) (reply k) (c .before .enum-told4 .given .1) refl
+    refusal-told (a .o) (a .xs .now) (a .ys .now) (a .energies .now) (old s) (k .check .result) Tables (w .result) (reply k)
+    (c .before .enum-told4 .given .1) refl
     (w .ensures .0) (w .ensures .1)
 
 pub load-spec : {M : Type 1} → statement M

@@ -43,7 +43,8 @@ finest-length (p ∷ ps) ws i = ap suc (finest-length ps ws (suc i))
 abbrev pub pointAt : List Point → ℕ → Point
 pointAt ps k = record { x = getD (pxs ps) k nan; y = getD (pys ps) k nan }
 
-finest-at : (ps : List Point) (ws : List ℕ) (i k : ℕ) → k < length ps → entry (finest ps ws i) k ≡ lamp (pointAt ps k) (getD ws (i + k) 0) (i + k)
+finest-at : (ps : List Point) (ws : List ℕ) (i k : ℕ) → k < length ps
+    → entry (finest ps ws i) k ≡ lamp (pointAt ps k) (getD ws (i + k) 0) (i + k)
 unfolding finest
 finest-at [] ws i k h = absurd (omega arith)
 finest-at (p ∷ ps) ws i zero h = rw (add-zero i)
@@ -73,7 +74,8 @@ module _ (c : CoordinateSystem) (xs ys : List Float) (ws : List ℕ) (e : length
   pub lamps-length : length (lamps c xs ys ws) ≡ length xs
   lamps-length = finest-length (convertedAll c xs ys) ws 0 ∙ converted-length c xs ys e
 
-  pub lamps-at : (k : ℕ) → k < length xs → entry (lamps c xs ys ws) k ≡ lamp (converted c (record { x = getD xs k nan; y = getD ys k nan })) (getD ws k 0) k
+  pub lamps-at : (k : ℕ) → k < length xs → entry (lamps c xs ys ws) k ≡ lamp (converted c (record { x = getD xs k nan; y = getD ys k nan }))
+      (getD ws k 0) k
   lamps-at k h =
       let q : 0 + k ≡ k = omega arith in
       finest-at (convertedAll c xs ys) ws 0 k (omega (arith, converted-length c xs ys e))
@@ -111,16 +113,19 @@ finest-total [] ws i = refl
 finest-total (p ∷ ps) ws i = let r = finest-total ps ws (suc i) in omega (arith, r)
 
 -- energies of at most B each
-pub finest-watts : (B : ℕ) (ps : List Point) (ws : List ℕ) (i : ℕ) → ((k : ℕ) → getD ws k 0 ≤ B) → sumOf energyOf (finest ps ws i) ≤ length ps * B
+pub finest-watts : (B : ℕ) (ps : List Point) (ws : List ℕ) (i : ℕ) → ((k : ℕ) → getD ws k 0 ≤ B)
+    → sumOf energyOf (finest ps ws i) ≤ length ps * B
 unfolding finest sumOf
 finest-watts B [] ws i f = omega arith
 finest-watts B (p ∷ ps) ws i f = let r = finest-watts B ps ws (suc i) f in omega (arith, r, f i, suc-mul (length ps) B)
 
 -- ---- the first energy that is too large, from i on
 
-pub over-step : (ws : List ℕ) (i : ℕ) → i < length ws → getD ws i 0 ≤ mostEnergy → firstOver (drop i ws) i ≡ firstOver (drop (i + 1) ws) (i + 1)
+pub over-step : (ws : List ℕ) (i : ℕ) → i < length ws → getD ws i 0 ≤ mostEnergy
+    → firstOver (drop i ws) i ≡ firstOver (drop (i + 1) ws) (i + 1)
 unfolding firstOver
-over-step ws i h l = rw (add-one i) (ap (λ (q : List ℕ). firstOver q i) (drop-cons ws i 0 h) ∙ rw (le-leb (getD ws i 0) mostEnergy l, firstOver))
+over-step ws i h l = rw (add-one i) (ap (λ (q : List ℕ). firstOver q i) (drop-cons ws i 0 h)
+    ∙ rw (le-leb (getD ws i 0) mostEnergy l, firstOver))
 
 pub over-here : (ws : List ℕ) (i : ℕ) → i < length ws → mostEnergy < getD ws i 0 → At i ≡ firstOver (drop i ws) i
 unfolding firstOver
@@ -131,7 +136,8 @@ unfolding firstOver
 over-end ws i h = ap (λ (q : List ℕ). firstOver q i) (drop-of-length-le ws {i = i} h)
 
 -- where there is none, every energy is small enough
-none-by : (w : ℕ) (ws : List ℕ) (i : ℕ) → ((k j : ℕ) → firstOver ws j ≡ Nothing → getD ws k 0 ≤ mostEnergy) → (b : Bool) → leb w mostEnergy ≡ b → firstOver (w ∷ ws) i ≡ Nothing → (k : ℕ) → getD (w ∷ ws) k 0 ≤ mostEnergy
+none-by : (w : ℕ) (ws : List ℕ) (i : ℕ) → ((k j : ℕ) → firstOver ws j ≡ Nothing → getD ws k 0 ≤ mostEnergy) → (b : Bool)
+    → leb w mostEnergy ≡ b → firstOver (w ∷ ws) i ≡ Nothing → (k : ℕ) → getD (w ∷ ws) k 0 ≤ mostEnergy
 unfolding firstOver
 none-by w ws i r true q e zero = leb-true w mostEnergy q
 none-by w ws i r true q e (suc k) = r k (suc i) (rw (q, firstOver) at e)
@@ -147,27 +153,35 @@ module _ (c : CoordinateSystem) (xs ys : List Float) (i : ℕ) where
   abbrev left : List Point
   left = convertedAll c (drop i xs) (drop i ys)
 
-  left-cons : i < length xs → length ys ≡ length xs → left ≡ converted c (record { x = getD xs i nan; y = getD ys i nan }) ∷ convertedAll c (drop (suc i) xs) (drop (suc i) ys)
+  left-cons : i < length xs → length ys ≡ length xs → left ≡ converted c (record { x = getD xs i nan; y = getD ys i nan }) ∷ convertedAll c
+      (drop (suc i) xs) (drop (suc i) ys)
   unfolding convertedAll
   left-cons h e = rw (drop-cons xs i nan h, drop-cons ys i nan (omega arith))
 
   -- the point i is inside: the rest is looked at
-  pub outside-step : i < length xs → length ys ≡ length xs → (in01 (converted c (record { x = getD xs i nan; y = getD ys i nan }) .x) && in01 (converted c (record { x = getD xs i nan; y = getD ys i nan }) .y)) ≡ true
+  pub outside-step : i < length xs → length ys ≡ length xs
+      → (in01 (converted c (record { x = getD xs i nan; y = getD ys i nan }) .x)
+      && in01 (converted c (record { x = getD xs i nan; y = getD ys i nan }) .y)) ≡ true
       → firstOutside (pxs (convertedAll c (drop i xs) (drop i ys))) (pys (convertedAll c (drop i xs) (drop i ys))) i
-      ≡ firstOutside (pxs (convertedAll c (drop (i + 1) xs) (drop (i + 1) ys))) (pys (convertedAll c (drop (i + 1) xs) (drop (i + 1) ys))) (i + 1)
+      ≡ firstOutside (pxs (convertedAll c (drop (i + 1) xs) (drop (i + 1) ys))) (pys (convertedAll c (drop (i + 1) xs) (drop (i + 1) ys)))
+      (i + 1)
   unfolding firstOutside
   outside-step h e q = rw (add-one i) (ap (λ (l : List Point). firstOutside (pxs l) (pys l) i) (left-cons h e) ∙ rw (q, firstOutside))
 
   -- or it is the first outside
-  pub outside-here : i < length xs → length ys ≡ length xs → (in01 (converted c (record { x = getD xs i nan; y = getD ys i nan }) .x) && in01 (converted c (record { x = getD xs i nan; y = getD ys i nan }) .y)) ≡ false
+  pub outside-here : i < length xs → length ys ≡ length xs
+      → (in01 (converted c (record { x = getD xs i nan; y = getD ys i nan }) .x)
+      && in01 (converted c (record { x = getD xs i nan; y = getD ys i nan }) .y)) ≡ false
       → At i ≡ firstOutside (pxs (convertedAll c (drop i xs) (drop i ys))) (pys (convertedAll c (drop i xs) (drop i ys))) i
   unfolding firstOutside
   outside-here h e q = sym (ap (λ (l : List Point). firstOutside (pxs l) (pys l) i) (left-cons h e) ∙ rw (q, firstOutside))
 
   -- or there is none left
-  pub outside-end : length xs ≤ i → firstOutside (pxs (convertedAll c (drop i xs) (drop i ys))) (pys (convertedAll c (drop i xs) (drop i ys))) i ≡ Nothing
+  pub outside-end : length xs ≤ i
+      → firstOutside (pxs (convertedAll c (drop i xs) (drop i ys))) (pys (convertedAll c (drop i xs) (drop i ys))) i ≡ Nothing
   unfolding firstOutside convertedAll
-  outside-end h = ap (λ (l : List Float). firstOutside (pxs (convertedAll c l (drop i ys))) (pys (convertedAll c l (drop i ys))) i) (drop-of-length-le xs {i = i} h)
+  outside-end h = ap (λ (l : List Float). firstOutside (pxs (convertedAll c l (drop i ys))) (pys (convertedAll c l (drop i ys))) i)
+      (drop-of-length-le xs {i = i} h)
 
 -- ---- zeros
 
@@ -182,4 +196,5 @@ clear-step R a i h b =
 pub clear-end : (R a : List ℕ) (i : ℕ) → a ≡ replicate i 0 ++ drop i R → i ≤ length R → length R ≤ i → a ≡ replicate (length R) 0
 clear-end R a i h p q =
     let e : i ≡ length R = omega arith in
-    h ∙ ap (λ (l : List ℕ). replicate i 0 ++ l) (drop-of-length-le R {i = i} q) ∙ append-nil (replicate i 0) ∙ ap (λ (j : ℕ). replicate j 0) e
+    h ∙ ap (λ (l : List ℕ). replicate i 0 ++ l) (drop-of-length-le R {i = i} q) ∙ append-nil (replicate i 0)
+    ∙ ap (λ (j : ℕ). replicate j 0) e

@@ -46,7 +46,8 @@ pub record Accepted (o : Options) (xs ys : List Float) (ws : List ℕ) : Type 0 
   pub light : (k : ℕ) → getD ws k 0 ≤ mostEnergy
 
 -- what a build leaves of columns that just hold it
-pub record Made (o : Options) (xs ys : List Float) (ws : List ℕ) (s : State) (r r′ : Table) (ids ids′ : List ℕ) (co co′ : List Float) (near′ : List ℕ) : Type 0 where
+pub record Made (o : Options) (xs ys : List Float) (ws : List ℕ) (s : State) (r r′ : Table) (ids ids′ : List ℕ) (co co′ : List Float)
+    (near′ : List ℕ) : Type 0 where
   pub of-state : s ≡ builtState o (length xs) (tablesOf o xs ys ws)
   pub of-rows : r′ ≡ laidOver (joined (tablesOf o xs ys ws)) r
   pub of-ids : ids′ ≡ laidOver (joinedIds (o .«node_size») (tablesOf o xs ys ws)) ids
@@ -89,7 +90,17 @@ need-two o n h =
 pub able : (o : Options) (xs ys : List Float) (ws : List ℕ) → Accepted o xs ys ws → Able (zoomPlan o (length xs))
 able o xs ys ws a =
     let z = options-are o (a .options) in
-    record { some = a .some; few = a .few; size-from = z .size-from; size-to = z .size-to; radius-from = z .radius-from; radius-to = z .radius-to; extent-from = z .extent-from; extent-to = z .extent-to }
+    record {
+      some = a .some;
+      few = a .few;
+      size-from = z .size-from;
+      size-to = z .size-to;
+      radius-from = z .radius-from;
+      radius-to =
+          z .radius-to;
+      extent-from = z .extent-from;
+      extent-to = z .extent-to;
+    }
 
 module _ (o : Options) (xs ys : List Float) (ws : List ℕ) (a : Accepted o xs ys ws) where
   F-long : length (lamps (o .«coordinate_system») xs ys ws) ≡ length xs
@@ -102,7 +113,8 @@ module _ (o : Options) (xs ys : List Float) (ws : List ℕ) (a : Accepted o xs y
   F-body = all-map (Next 0) Body (λ e q. q .0) (lamps (o .«coordinate_system») xs ys ws) (F-fine 0 (omega arith))
 
   -- the first part of rows that begin with the finest table
-  first-part : (t R : Table) → t ≡ laidOver (lamps (o .«coordinate_system») xs ys ws) R → part 0 (length xs) t ≡ lamps (o .«coordinate_system») xs ys ws
+  first-part : (t R : Table) → t ≡ laidOver (lamps (o .«coordinate_system») xs ys ws) R
+      → part 0 (length xs) t ≡ lamps (o .«coordinate_system») xs ys ws
   first-part t R e =
       ap (take (length xs)) e ∙ ap (λ (k : ℕ). take k (laidOver (lamps (o .«coordinate_system») xs ys ws) R)) (sym F-long)
       ∙ take-append-seam (lamps (o .«coordinate_system») xs ys ws) (drop (length (lamps (o .«coordinate_system») xs ys ws)) R)
@@ -113,7 +125,8 @@ module _ (o : Options) (xs ys : List Float) (ws : List ℕ) (a : Accepted o xs y
   first-inside c R h e =
       subst (λ (q : List Float). Inside q (part 0 (length xs) (c .y))) (sym (xs-part 0 (length xs) c))
       (subst (λ (q : List Float). Inside (xsOf (part 0 (length xs) (rows c))) q) (sym (ys-part 0 (length xs) c h))
-      (subst (λ (q : Table). Inside (xsOf q) (ysOf q)) (sym (first-part (rows c) R e)) (table-inside (lamps (o .«coordinate_system») xs ys ws) F-body)))
+      (subst (λ (q : Table). Inside (xsOf q) (ysOf q)) (sym (first-part (rows c) R e))
+      (table-inside (lamps (o .«coordinate_system») xs ys ws) F-body)))
 
   -- and its energies add up to at most 2^60
   F-watts : sumOf energyOf (lamps (o .«coordinate_system») xs ys ws) ≤ 2 ^ 60
@@ -144,10 +157,12 @@ module _ (o : Options) (xs ys : List Float) (ws : List ℕ) (a : Accepted o xs y
     cur-body = rw fp F-body
 
     ids-len : length (indexOfTable (o .«node_size») (part 0 (length xs) t) .ids) ≡ length xs
-    ids-len = slots-ids (o .«node_size») (part 0 (length xs) t) (options-are o (a .options) .size-from) (options-are o (a .options) .size-to) cur-some cur-most cur-body ∙ cur-long
+    ids-len = slots-ids (o .«node_size») (part 0 (length xs) t) (options-are o (a .options) .size-from)
+        (options-are o (a .options) .size-to) cur-some cur-most cur-body ∙ cur-long
 
     co-len : length (indexOfTable (o .«node_size») (part 0 (length xs) t) .co) ≡ length xs * 2
-    co-len = slots-co (o .«node_size») (part 0 (length xs) t) (options-are o (a .options) .size-from) (options-are o (a .options) .size-to) cur-some cur-most cur-body ∙ ap (λ (q : ℕ). q * 2) cur-long
+    co-len = slots-co (o .«node_size») (part 0 (length xs) t) (options-are o (a .options) .size-from)
+        (options-are o (a .options) .size-to) cur-some cur-most cur-body ∙ ap (λ (q : ℕ). q * 2) cur-long
 
     room : 0 + length xs + zoomsOf o * length xs ≤ need o (length xs)
     room = let z = options-are o (a .options) in omega (arith, need-some o (length xs) (z .zooms))
@@ -173,11 +188,14 @@ module _ (o : Options) (xs ys : List Float) (ws : List ℕ) (a : Accepted o xs y
           long = lt;
           ids-long = li′ ∙ li;
           co-long = lc′ ∙ lc;
-          ids-at = ap (part 0 (length xs)) ei ∙ part-put 0 (length xs) (indexOfTable (o .«node_size») (part 0 (length xs) t) .ids) ids₀ ids-fit ids-len;
-          co-at = ap (part 0 (length xs * 2)) ec ∙ part-put 0 (length xs * 2) (indexOfTable (o .«node_size») (part 0 (length xs) t) .co) co₀ co-fit co-len;
+          ids-at = ap (part 0 (length xs)) ei
+              ∙ part-put 0 (length xs) (indexOfTable (o .«node_size») (part 0 (length xs) t) .ids) ids₀ ids-fit ids-len;
+          co-at = ap (part 0 (length xs * 2)) ec
+              ∙ part-put 0 (length xs * 2) (indexOfTable (o .«node_size») (part 0 (length xs) t) .co) co₀ co-fit co-len;
         }
 
-    pub ready-at : (s : State) (M : ℕ) → s ≡ firstState o (length xs) → M ≡ need o (length xs) → Running (zoomPlan (s .options) (length xs)) M (zoomsOf (s .options)) 0 (length xs) t ids co
+    pub ready-at : (s : State) (M : ℕ) → s ≡ firstState o (length xs) → M ≡ need o (length xs)
+        → Running (zoomPlan (s .options) (length xs)) M (zoomsOf (s .options)) 0 (length xs) t ids co
     ready-at s M e k =
         subst (λ (v : State). Running (zoomPlan (v .options) (length xs)) M (zoomsOf (v .options)) 0 (length xs) t ids co) (sym e)
         (subst (λ (v : ℕ). Running (zoomPlan o (length xs)) v (zoomsOf o) 0 (length xs) t ids co) (sym k) ready)
@@ -201,16 +219,20 @@ module _ (o : Options) (xs ys : List Float) (ws : List ℕ) (a : Accepted o xs y
       ids-built =
           let I = indexOfTable (o .«node_size») (part 0 (length xs) t) .ids in
           let e : ids ≡ laidOver I ids₀ = ei ∙ ap (λ (k : ℕ). I ++ drop k ids₀) (sym ids-len) in
-          let l : length (joinedIds (o .«node_size») (tablesOf o xs ys ws)) ≡ length (joined (tablesOf o xs ys ws)) = rw (sym runs) (f .ids-long) in
-          f .of-ids ∙ ap (λ (q : List Table). laidOver (joinedIds (o .«node_size») q) ids) runs ∙ ap (laidOver (joinedIds (o .«node_size») (tablesOf o xs ys ws))) e
+          let l : length (joinedIds (o .«node_size») (tablesOf o xs ys ws)) ≡ length (joined (tablesOf o xs ys ws)) =
+          rw (sym runs) (f .ids-long) in
+          f .of-ids ∙ ap (λ (q : List Table). laidOver (joinedIds (o .«node_size») q) ids) runs
+          ∙ ap (laidOver (joinedIds (o .«node_size») (tablesOf o xs ys ws))) e
           ∙ over-over (joinedIds (o .«node_size») (tablesOf o xs ys ws)) I ids₀ (omega (arith, whole-long, l, ids-len))
 
       co-built : co′ ≡ laidOver (joinedCo (o .«node_size») (tablesOf o xs ys ws)) co₀
       co-built =
           let C = indexOfTable (o .«node_size») (part 0 (length xs) t) .co in
           let e : co ≡ laidOver C co₀ = ec ∙ ap (λ (k : ℕ). C ++ drop k co₀) (sym co-len) in
-          let l : length (joinedCo (o .«node_size») (tablesOf o xs ys ws)) ≡ length (joined (tablesOf o xs ys ws)) * 2 = rw (sym runs) (f .co-long) in
-          f .of-co ∙ ap (λ (q : List Table). laidOver (joinedCo (o .«node_size») q) co) runs ∙ ap (laidOver (joinedCo (o .«node_size») (tablesOf o xs ys ws))) e
+          let l : length (joinedCo (o .«node_size») (tablesOf o xs ys ws)) ≡ length (joined (tablesOf o xs ys ws)) * 2 =
+          rw (sym runs) (f .co-long) in
+          f .of-co ∙ ap (λ (q : List Table). laidOver (joinedCo (o .«node_size») q) co) runs
+          ∙ ap (laidOver (joinedCo (o .«node_size») (tablesOf o xs ys ws))) e
           ∙ over-over (joinedCo (o .«node_size») (tablesOf o xs ys ws)) C co₀ (omega (arith, whole-long, l, co-len))
 
       top-is : o .«min_zoom» + zoomsOf o ≡ o .«max_zoom» + 1
@@ -234,8 +256,10 @@ module _ (o : Options) (xs ys : List Float) (ws : List ℕ) (a : Accepted o xs y
       made near′ e = record { of-state = state-built; of-rows = rows-built; of-ids = ids-built; of-co = co-built; of-near = e }
 
     pub made-at : (s s′ : State) (t′ : Table) (ids′ : List ℕ) (co′ : List Float) (near′ : List ℕ) → s ≡ firstState o (length xs)
-        → Finished (zoomPlan (s .options) (length xs)) (zoomsOf (s .options)) s s′ (part 0 (length xs) t) t t′ ids ids′ co co′ → near′ ≡ replicate (length xs + length xs) 0
+        → Finished (zoomPlan (s .options) (length xs)) (zoomsOf (s .options)) s s′ (part 0 (length xs) t) t t′ ids ids′ co co′
+        → near′ ≡ replicate (length xs + length xs) 0
         → Made o xs ys ws s′ R t′ ids₀ ids′ co₀ co′ near′
     made-at s s′ t′ ids′ co′ near′ e f =
         made s′ t′ ids′ co′
-        (subst (λ (v : State). Finished (zoomPlan (v .options) (length xs)) (zoomsOf (v .options)) v s′ (part 0 (length xs) t) t t′ ids ids′ co co′) e f) near′
+        (subst (λ (v : State). Finished (zoomPlan (v .options) (length xs)) (zoomsOf (v .options)) v s′
+        (part 0 (length xs) t) t t′ ids ids′ co co′) e f) near′

@@ -19,7 +19,8 @@ use Rattle.build_tables.proofs.State.is_filled.Tie as tie
 
 abbrev Inv-loop : tie.InvT-loop
 Inv-loop self starts lens cap low left₀ at₀ left at =
-    (left ≤ tableCount (self .options)) × (at + left * 1048576 ≤ tableCount (self .options) * 1048576) × (packed self cap left at ≡ packed self cap (tableCount (self .options)) 0)
+    (left ≤ tableCount (self .options)) × (at + left * 1048576 ≤ tableCount (self .options) * 1048576)
+    × (packed self cap left at ≡ packed self cap (tableCount (self .options)) 0)
 
 abbrev μ-loop : tie.MeasureT-loop
 μ-loop self starts lens cap low left₀ at₀ left at = left
@@ -37,11 +38,13 @@ loop-of e = e .before .before .before .before .before
 finest : (w : Loop) → let s = start-of w .args .self in eqb (lenOf s (s .options .«max_zoom» + 1)) (s .count) ≡ true
 finest w =
     let s = start-of w in
-    eq-eqb _ _ (ap (λ (l : List ℕ). getD l (s .args .self .options .«max_zoom» + 1) 0) (sym (s .pre .1 .1)) ∙ w .before .before .before .if1 .left)
+    eq-eqb _ _ (ap (λ (l : List ℕ). getD l (s .args .self .options .«max_zoom» + 1) 0) (sym (s .pre .1 .1))
+    ∙ w .before .before .before .if1 .left)
 
 -- the whole contract, from the tables' part of it
 whole : (w : Loop) (b : Bool) → let a = start-of w .args in b ≡ packed (a .self) (a .cap) (tableCount (a .self .options)) 0
-    → b ≡ (eqb (lenOf (a .self) (a .self .options .«max_zoom» + 1)) (a .self .count) && packed (a .self) (a .cap) (tableCount (a .self .options)) 0)
+    → b ≡ (eqb (lenOf (a .self) (a .self .options .«max_zoom» + 1)) (a .self .count) && packed (a .self) (a .cap)
+    (tableCount (a .self .options)) 0)
 whole w b e = e ∙ sym (simp (finest w))
 
 -- what is read of the lent arrays is the state's
@@ -57,11 +60,13 @@ tested t =
     ∙ ap (λ (l : List ℕ). isTable (startOf a z) (getD l z 0) (a .count) (w .loop .at)) (s .pre .1 .1)
 
 len-same : (w : Loop) → let s = start-of w .args in
-    getD (now (s .lens)) (s .self .options .«min_zoom» + (w .loop .left - 1)) 0 ≡ lenOf (s .self) (s .self .options .«min_zoom» + (w .loop .left - 1))
+    getD (now (s .lens)) (s .self .options .«min_zoom» + (w .loop .left - 1)) 0
+    ≡ lenOf (s .self) (s .self .options .«min_zoom» + (w .loop .left - 1))
 len-same w = let s = start-of w in ap (λ (l : List ℕ). getD l (s .args .self .options .«min_zoom» + (w .loop .left - 1)) 0) (s .pre .1 .1)
 
 -- the table that was tested is as it should be
-this : (e : tie.Else2 Inv-loop μ-loop) → let s = start-of (loop-of e) .args .self in tableOk s (s .options .«min_zoom» + (loop-of e .loop .left - 1)) (loop-of e .loop .at) ≡ true
+this : (e : tie.Else2 Inv-loop μ-loop) → let s = start-of (loop-of e) .args .self in
+    tableOk s (s .options .«min_zoom» + (loop-of e .loop .left - 1)) (loop-of e .loop .at) ≡ true
 this e = sym (tested (e .before)) ∙ not-false _ (e .if2 .left)
 
 cast-if1 : tie.Need-cast-if1 Inv-loop μ-loop
@@ -148,7 +153,8 @@ loop-again c =
       omega (arith, w .loop .inv),
       omega (arith, t, len-same w, w .loop .inv, start-of w .pre),
       ap (λ (n : ℕ). packed (a .self) (a .cap) (w .loop .left - 1) (w .loop .at + n)) (len-same w)
-          ∙ sym (packed-next (a .self) (a .cap) (w .loop .left) (w .loop .at) (c .before .before .before .before .loop-test .taken) ∙ simp (this c)) ∙ w .loop .inv .2,
+          ∙ sym (packed-next (a .self) (a .cap) (w .loop .left) (w .loop .at) (c .before .before .before .before .loop-test .taken)
+          ∙ simp (this c)) ∙ w .loop .inv .2,
     )
 
 returns-3 : tie.Need-returns-3 Inv-loop μ-loop

@@ -31,7 +31,9 @@ abbrev pub μ-down : tie.MeasureT-down
 μ-down ids coords k left right axis t i j₀ j = j
 
 abbrev pub Inv-loop : tie.InvT-loop
-Inv-loop ids₀ coords₀ k left right axis t i₀ j₀ ids coords i j = Pass (passes (j₀ - i₀) (ltb i₀ j₀) axis t (indexCols ids₀ coords₀) i₀ j₀) axis t left right (length ids₀) (length coords₀) ids coords i j
+Inv-loop ids₀ coords₀ k left right axis t i₀ j₀ ids coords i j =
+    Pass (passes (j₀ - i₀) (ltb i₀ j₀) axis t (indexCols ids₀ coords₀) i₀ j₀) axis t left right (length ids₀)
+    (length coords₀) ids coords i j
 
 abbrev pub μ-loop : tie.MeasureT-loop
 μ-loop ids₀ coords₀ k left right axis t i₀ j₀ ids coords i j = j - i
@@ -71,8 +73,10 @@ placed-is c =
     let a = s .args in
     let one = c .before .before .before .before .before .before .swap-item in
     ⊎-elim
-    (λ w. cols-eq (w .8) (w .9) ∙ placed-then (a .axis) (pivot s) (columns s) (indexCols (one .last .0) (one .last .1 .0)) (indexCols (w .3 .last .0) (w .3 .last .1 .0)) (a .k) (a .left) (a .right) (one .ensures) (w .0 .taken) (w .3 .ensures))
-    (λ w. cols-eq (w .1) (w .2) ∙ placed-else (a .axis) (pivot s) (columns s) (indexCols (one .last .0) (one .last .1 .0)) (a .k) (a .left) (a .right) (one .ensures) (w .0 .left))
+    (λ w. cols-eq (w .8) (w .9) ∙ placed-then (a .axis) (pivot s) (columns s) (indexCols (one .last .0) (one .last .1 .0))
+    (indexCols (w .3 .last .0) (w .3 .last .1 .0)) (a .k) (a .left) (a .right) (one .ensures) (w .0 .taken) (w .3 .ensures))
+    (λ w. cols-eq (w .1) (w .2) ∙ placed-else (a .axis) (pivot s) (columns s) (indexCols (one .last .0) (one .last .1 .0)) (a .k) (a .left)
+    (a .right) (one .ensures) (w .0 .left))
     (c .if1 .came)
 
 pub record Long (s s' : IndexCols) : Type 0 where
@@ -84,8 +88,10 @@ placed-long c =
     let s = j1→start c in
     let a = s .args in
     record {
-      ids-as = ap (λ (s : IndexCols). length (s .ids)) (placed-is c) ∙ length-placed-ids (a .axis) (pivot s) (columns s) (a .k) (a .left) (a .right);
-      co-as = ap (λ (s : IndexCols). length (s .co)) (placed-is c) ∙ length-placed-co (a .axis) (pivot s) (columns s) (a .k) (a .left) (a .right);
+      ids-as = ap (λ (s : IndexCols). length (s .ids)) (placed-is c)
+          ∙ length-placed-ids (a .axis) (pivot s) (columns s) (a .k) (a .left) (a .right);
+      co-as = ap (λ (s : IndexCols). length (s .co)) (placed-is c)
+          ∙ length-placed-co (a .axis) (pivot s) (columns s) (a .k) (a .left) (a .right);
     }
 
 -- ---- a pass, after its exchange
@@ -130,7 +136,8 @@ pub record Turn (i j l r a n m : ℕ) (s s' : IndexCols) : Type 0 where
   pub n'-is : length (s' .ids) ≡ n
   pub m'-is : length (s' .co) ≡ m
 
-pub turn : (c : Swapped) → let s = s→start c in Turn (i-of c) (j-of c) (s .args .left) (s .args .right) (s .args .axis) (length (columns s .ids)) (length (columns s .co)) (passed c) (swapped c)
+pub turn : (c : Swapped) → let s = s→start c in Turn (i-of c) (j-of c) (s .args .left) (s .args .right) (s .args .axis)
+    (length (columns s .ids)) (length (columns s .co)) (passed c) (swapped c)
 turn c =
     let h = s→start c .pre in
     let p = s→loop c .before .loop .inv in
@@ -176,7 +183,8 @@ pub record Step (i j x y l r a n m : ℕ) (s : IndexCols) : Type 0 where
   pub n-is : length (s .ids) ≡ n
   pub m-is : length (s .co) ≡ m
 
-pub step : (c : Met) → let s = s→start (m→s c) in Step (i-of (m→s c)) (j-of (m→s c)) (up-of c) (down-of c) (s .args .left) (s .args .right) (s .args .axis) (length (columns s .ids)) (length (columns s .co)) (met c)
+pub step : (c : Met) → let s = s→start (m→s c) in Step (i-of (m→s c)) (j-of (m→s c)) (up-of c) (down-of c) (s .args .left) (s .args .right)
+    (s .args .axis) (length (columns s .ids)) (length (columns s .co)) (met c)
 step c =
     let h = turn (m→s c) in
     let w = c .before .before .before .before .batch in
@@ -203,20 +211,32 @@ pub record Next (l r i j u d : ℕ) : Type 0 where
   pub moved : d < r
   pub less : d - u < j - i
 
-pub next : {i j x y l r a n m low : ℕ} {s : IndexCols} (u d : ℕ) → Step i j x y l r a n m s → x ≤ u → u ≤ y + 1 → l ≤ low → low ≤ d → d ≤ y → Next l r i j u d
-next u d h xu uy ll ld dy = record { i-from = omega arith; i-to = omega arith; j-from = omega arith; j-to = omega arith; moved = omega arith; less = omega arith }
+pub next : {i j x y l r a n m low : ℕ} {s : IndexCols} (u d : ℕ) → Step i j x y l r a n m s → x ≤ u → u ≤ y + 1 → l ≤ low → low ≤ d → d ≤ y
+    → Next l r i j u d
+next u d h xu uy ll ld dy = record {
+  i-from = omega arith;
+  i-to = omega arith;
+  j-from = omega arith;
+  j-to = omega arith;
+  moved =
+      omega arith;
+  less = omega arith;
+}
 
 pub next-of : (c : tie.Then3 Inv-up μ-up Inv-down μ-down Inv-loop μ-loop)
     → let q = c .before .before .before .before .before .before in
     let s = s→start (m→s q) in
-    Next (s .args .left) (s .args .right) (i-of (m→s q)) (j-of (m→s q)) (c .before .before .before .before .before .up .i) (c .before .before .down .j)
+    Next (s .args .left) (s .args .right) (i-of (m→s q)) (j-of (m→s q)) (c .before .before .before .before .before .up .i)
+    (c .before .before .down .j)
 next-of c =
     let u = c .before .before .before .before .before .up in
     let d = c .before .before .down in
-    next (u .i) (d .j) (step (c .before .before .before .before .before .before)) (u .inv .0 .from) (u .inv .1) (d .inv .1 .from) (d .inv .1 .to) (d .inv .0 .from)
+    next (u .i) (d .j) (step (c .before .before .before .before .before .before)) (u .inv .0 .from) (u .inv .1) (d .inv .1 .from)
+    (d .inv .1 .to) (d .inv .0 .from)
 
 -- two slots up to r are in columns as long as those of a cut
-pub both : {l r k a n m : ℕ} (i j x y : ℕ) → Here k l r a n m → i ≤ r → j ≤ r → x ≡ n → y ≡ m → (i < x) × (j < x) × (2 * i + 1 < y) × (2 * j + 1 < y)
+pub both : {l r k a n m : ℕ} (i j x y : ℕ) → Here k l r a n m → i ≤ r → j ≤ r → x ≡ n → y ≡ m → (i < x) × (j < x) × (2 * i + 1 < y)
+    × (2 * j + 1 < y)
 both i j x y h ir jr xn ym = (omega arith, omega arith, omega arith, omega arith)
 
 -- what all the passes come to
@@ -224,7 +244,8 @@ abbrev pub end-of : Met → Cut
 end-of c =
     let a = s→start (m→s c) .args in
     let z = s→loop (m→s c) .before .before in
-    passes (a .right - a .left) (ltb (a .left) (a .right)) (a .axis) (pivot (s→start (m→s c))) (indexCols (z .if1 .ids) (z .if1 .coords)) (a .left) (a .right)
+    passes (a .right - a .left) (ltb (a .left) (a .right)) (a .axis) (pivot (s→start (m→s c))) (indexCols (z .if1 .ids) (z .if1 .coords))
+    (a .left) (a .right)
 
 pub scanning : (c : Met) → let s = s→start (m→s c) in PassScanning (end-of c) (s .args .axis) (pivot s) (met c) (up-of c) (down-of c)
 scanning c =
@@ -233,24 +254,30 @@ scanning c =
     let h = turn q in
     let p = s→loop q .before .loop .inv in
     c .before .before .before .before .batch .ensures .goes (end-of c)
-    (scanning-cols (end-of c) (s .args .axis) (pivot s) (swapped q) (swapItem (passed q) (i-of q) (j-of q)) (i-of q + 1) (j-of q - 1) (swapped-is q)
-    (scanning-turn (end-of c) (s .args .axis) (pivot s) (passed q) (i-of q) (j-of q) (p .goes) (h .ij) (h .a2) (room-j h) (p .i-stop) (p .j-stop))) where
+    (scanning-cols (end-of c) (s .args .axis) (pivot s) (swapped q) (swapItem (passed q) (i-of q) (j-of q)) (i-of q + 1) (j-of q - 1)
+    (swapped-is q)
+    (scanning-turn (end-of c) (s .args .axis) (pivot s) (passed q) (i-of q) (j-of q) (p .goes) (h .ij) (h .a2) (room-j h) (p .i-stop)
+    (p .j-stop))) where
       room-j : {i j l r a n m : ℕ} {s s' : IndexCols} → Turn i j l r a n m s s' → 2 * j + 1 < length (s .co)
       room-j h = omega arith
 
 -- the scan up has not reached its last stop, and the scan down neither
-pub up-ahead : (c : tie.Else2 Inv-up μ-up Inv-down μ-down Inv-loop μ-loop) → c .before .before .up .i < down-of (c .before .before .before) + 1
+pub up-ahead : (c : tie.Else2 Inv-up μ-up Inv-down μ-down Inv-loop μ-loop) → c .before .before .up .i < down-of (c .before .before .before)
+    + 1
 up-ahead c =
     let q = c .before .before .before in
     let s = s→start (m→s q) in
-    before-stop (s .args .axis) (pivot s) (met q .co) (c .before .before .up .i) (down-of q + 1) (c .before .before .up .inv .1) (not-false _ (c .if2 .left)) (c .before .before .up .inv .2)
+    before-stop (s .args .axis) (pivot s) (met q .co) (c .before .before .up .i) (down-of q + 1) (c .before .before .up .inv .1)
+    (not-false _ (c .if2 .left)) (c .before .before .up .inv .2)
 
-pub down-ahead : (c : tie.Else3 Inv-up μ-up Inv-down μ-down Inv-loop μ-loop) → c .before .before .down .inv .1 .slot < c .before .before .down .j
+pub down-ahead : (c : tie.Else3 Inv-up μ-up Inv-down μ-down Inv-loop μ-loop)
+    → c .before .before .down .inv .1 .slot < c .before .before .down .j
 down-ahead c =
     let q = c .before .before .before .before .before .before in
     let s = s→start (m→s q) in
     let low = c .before .before .down .inv .1 in
-    after-stop (s .args .axis) (pivot s) (met q .co) (c .before .before .down .j) (low .slot) (low .to) (not-false _ (c .if3 .left)) (low .stop)
+    after-stop (s .args .axis) (pivot s) (met q .co) (c .before .before .down .j) (low .slot) (low .to) (not-false _ (c .if3 .left))
+    (low .stop)
 
 -- ---- after the passes
 abbrev pub ap→start : After-loop → Start
@@ -263,9 +290,12 @@ passed-long c =
     record { ids-as = p .ids-long ∙ e .ids-as; co-as = p .co-long ∙ e .co-as }
 
 pub passes-is : (c : After-loop) → let s = ap→start c in let a = s .args in
-    passes (a .right - a .left) (ltb (a .left) (a .right)) (a .axis) (pivot s) (placed-of s) (a .left) (a .right) ≡ cut (indexCols (c .before .loop .ids) (c .before .loop .coords)) (c .before .loop .j)
+    passes (a .right - a .left) (ltb (a .left) (a .right)) (a .axis) (pivot s) (placed-of s) (a .left) (a .right)
+    ≡ cut (indexCols (c .before .loop .ids) (c .before .loop .coords)) (c .before .loop .j)
 passes-is c =
     let s = ap→start c in
     let a = s .args in
-    ap (λ (x : IndexCols). passes (a .right - a .left) (ltb (a .left) (a .right)) (a .axis) (pivot s) x (a .left) (a .right)) (sym (placed-is (c .before .before)))
-    ∙ passing-ends _ (a .axis) (pivot s) (indexCols (c .before .loop .ids) (c .before .loop .coords)) (c .before .loop .i) (c .before .loop .j) (c .before .loop .inv .goes) (c .loop-test .left)
+    ap (λ (x : IndexCols). passes (a .right - a .left) (ltb (a .left) (a .right)) (a .axis) (pivot s) x (a .left) (a .right))
+    (sym (placed-is (c .before .before)))
+    ∙ passing-ends _ (a .axis) (pivot s) (indexCols (c .before .loop .ids) (c .before .loop .coords)) (c .before .loop .i)
+    (c .before .loop .j) (c .before .loop .inv .goes) (c .loop-test .left)

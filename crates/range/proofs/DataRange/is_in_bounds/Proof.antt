@@ -31,7 +31,16 @@ both-requires-3 c κs = search needs
 
 returns : tie.Need-returns
 unfolding inBounds ofBits
-returns c = simp (c .both3 .ensures, c .before .both2 .ensures, c .before .before .both .ensures, c .before .before .before .both-finite3 .ensures, c .before .before .before .before .offset .ensures, c .before .before .before .before .before .scale .ensures, c .before .before .before .before .before .before .both-finite2 .ensures, c .before .before .before .before .before .before .before .both-finite .ensures)
+returns c = simp (
+  c .both3 .ensures,
+  c .before .both2 .ensures,
+  c .before .before .both .ensures,
+  c .before .before .before .both-finite3 .ensures,
+  c .before .before .before .before .offset .ensures,
+  c .before .before .before .before .before .scale .ensures,
+  c .before .before .before .before .before .before .both-finite2 .ensures,
+  c .before .before .before .before .before .before .before .both-finite .ensures,
+)
 
 pub is-in-bounds-spec : {M : Type 1} → statement M
 is-in-bounds-spec =
