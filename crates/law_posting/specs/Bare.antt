@@ -10,7 +10,7 @@ use lib.Ieee.{Float}
 use Rattle.kdsort.specs.Cols.{IndexCols}
 use Rattle.kdbush.specs.Reply.{indexOf}
 use Rattle.build_tables.specs.declared.Entry.{Entry}
-use Rattle.build_tables.specs.Entries.{Table, entry, none, xsOf, ysOf}
+use Rattle.build_tables.specs.Entries.{Table, entry, none}
 use Rattle.build_one_zoom.specs.laws.Bare.{bare, bares}
 use Rattle.build_all_zooms.specs.Zooms.{indexOfTable, joined, joinedIds, joinedCo, starts, lens}
 use Rattle.supercluster.specs.laws.Over.{map-append}

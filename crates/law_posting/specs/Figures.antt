@@ -1,11 +1,10 @@
 -- A sum of which one number is replaced. Assumes nothing.
 use mathlib.Core.Path.{_≡_, refl, sym, ap, _∙_}
 use mathlib.Core.Bool.{Bool, true, false, not}
-use mathlib.Core.Logic.{_⊎_, inl, inr}
 use mathlib.Core.List.{List}
-use Prim.Native.Nat.{ℕ, _+_, _<_, _≤_}
+use Prim.Native.Nat.{ℕ, _+_, _≤_}
 use native.Mathlib.Omega.{arith}
-use borrow.Author.Tests.{ne-eqb, eqb-true, eqb-false}
+use borrow.Author.Tests.{ne-eqb, eqb-false}
 use lib.Dec.{eqb}
 use Rattle.law_groups.specs.Sums.{gate, sum, count}
 use Rattle.law_groups.specs.laws.Sums.{eqb-same, sum-ext, sum-keep, sum-split}

@@ -1,17 +1,14 @@
 -- Two builds that differ in the energy of one lamp: both are accepted, their tables differ in the energies of that lamp's owners alone, and
 -- there by what the figure changes. Assumes nothing.
-use mathlib.Core.Path.{_≡_, refl, sym, ap, ap₂, _∙_, subst}
+use mathlib.Core.Path.{_≡_, refl, sym, ap, _∙_, subst}
 use mathlib.Core.Bool.{Bool, true, false}
 use mathlib.Core.List.{List, [], map}
-use Prim.Native.Nat.{ℕ, suc, _+_, _-_, _^_, _<_, _≤_}
+use Prim.Native.Nat.{ℕ, _+_, _-_, _^_, _<_, _≤_}
 use native.Mathlib.Omega.{arith}
-use native.Mathlib.Nat.{le-trans}
-use borrow.Author.Tests.{eq-eqb, ne-eqb, eqb-true, eqb-false}
+use borrow.Author.Tests.{ne-eqb, eqb-true, eqb-false}
 use lib.Dec.{eqb, lit≤}
 use lib.ListN.{length, getD, set, length-set, length-map, List·getD-map}
 use lib.Seq.{getD-set-same, getD-set-other, ext-getD}
-use lib.Ieee.{Float}
-use Rattle.build_tables.specs.declared.Options.{Options}
 use Rattle.build_tables.specs.Entries.{Table, entry, none, energiesOf}
 use Rattle.build_one_zoom.specs.laws.Bare.{bare, bares}
 use Rattle.supercluster.specs.Build.{mostEnergy}

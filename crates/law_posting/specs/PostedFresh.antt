@@ -1,30 +1,29 @@
 -- A posting to an accepted build (#110): it is taken, and leaves reply, state and all eleven columns as a fresh build with the new figure
 -- does; and two postings to different lamps leave the same in either order. Assumes nothing.
 use mathlib.Core.Path.{_≡_, refl, sym, ap, ap₂, _∙_, subst}
-use mathlib.Core.Bool.{Bool, true, false, _&&_}
-use mathlib.Core.List.{List, [], _∷_, _++_, map}
-use Prim.Native.Nat.{ℕ, zero, suc, _+_, _-_, _^_, _<_, _≤_, min}
+use mathlib.Core.Bool.{Bool, true, _&&_}
+use mathlib.Core.List.{List, [], _++_, map}
+use Prim.Native.Nat.{ℕ, suc, _+_, _-_, _^_, _<_, _≤_, min}
 use native.Mathlib.Omega.{arith}
 use borrow.Author.Tests.{lt-ltb, le-leb, eq-eqb}
 use lib.Dec.{eqb, leb}
-use lib.ListN.{length, getD, set, drop, replicate, length-set, length-map, List·getD-append}
+use lib.ListN.{length, getD, set, drop, replicate, length-set, length-map}
 use lib.Seq.{set-comm}
 use lib.Ieee.{Float}
 use Rattle.kdbush.specs.declared.Outside.{Outside}
-use Rattle.kdbush.specs.declared.Outside.the-variants.{Nothing}
 use Rattle.kdbush.specs.Reply.{pairOk, firstOutside}
 use Rattle.build_tables.specs.declared.Entry.{Entry}
 use Rattle.build_tables.specs.declared.Options.{Options}
 use Rattle.build_tables.specs.declared.State.{State}
 use Rattle.build_tables.specs.Options.{optionsOk, tableCount}
 use Rattle.build_tables.specs.Entries.{Table, entry, energiesOf}
-use Rattle.build_tables.specs.Rows.{Cols, cols}
+use Rattle.build_tables.specs.Rows.{cols}
 use Rattle.build_tables.specs.laws.Bounds.{options-are}
 use Rattle.build_one_zoom.specs.laws.Bare.{bare, bares}
-use Rattle.build_all_zooms.specs.Zooms.{joined, joinedIds, joinedCo, laidOver, starts, lens, zoomsOf}
+use Rattle.build_all_zooms.specs.Zooms.{joined, joinedIds, joinedCo, laidOver, starts, lens}
 use Rattle.supercluster.specs.declared.LoadReply.{LoadReply}
 use Rattle.supercluster.specs.declared.LoadReply.the-variants.{Done}
-use Rattle.supercluster.specs.Build.{BuildColumns, buildColumns, Outcome, outcome, written, builtState, need, mostEnergy, firstOver}
+use Rattle.supercluster.specs.Build.{BuildColumns, buildColumns, outcome, written, need, mostEnergy, firstOver}
 use Rattle.supercluster.specs.Build.{tripleOk}
 use Rattle.supercluster.specs.Build.{ordered, convertedAll, checkedIn, loadNumber, unlessRefused, byReply}
 use Rattle.supercluster.specs.laws.Fill.{all-light}
@@ -37,17 +36,19 @@ use Rattle.law_builds.specs.Came.{tableOfZoom}
 use Rattle.law_lamps.specs.Owner.{owner}
 use Rattle.law_lamps.specs.laws.Owners.{owner-first, first-long}
 use Rattle.law_lamps.specs.laws.Carries.{lamp-energy}
+use Rattle.law_answers.specs.Stored.{columnsOf}
 use Rattle.law_answers.specs.laws.Stored.{stateBy, fits, sound-in}
 use Rattle.build_owners.specs.OwnerColumn.{ownerColumn}
-use Rattle.ask_owner.specs.Asked.{ownersReach, ownerSpot}
-use Rattle.posting.specs.declared.PostReply.{PostReply}
+use Rattle.ask_owner.specs.Asked.{ownersReach}
 use Rattle.posting.specs.declared.PostReply.the-variants.{Done as Taken}
 use Rattle.posting.specs.Post.{ownerBy, figureOf, replaced, mendable, mended, allMend, postAsked, Posted, posting, posted}
 use Rattle.owners.specs.LoadedWith.{roomWith, OwnedOutcome, ownedOutcome, loadedWith}
-use Rattle.owners.specs.laws.Keeping.{done-accepted, done-full}
-use Rattle.owners.specs.laws.KeptProved.{kept-long, stored-at}
+use Rattle.owners.specs.laws.Keeping.{done-accepted}
+use Rattle.owners.specs.Owners.{Owners}
+use Rattle.owners.specs.KeptOwners.{KeptOwners}
+use Rattle.owners.specs.laws.KeptProved.{kept-long, stored-at, loaded-owners}
 use Rattle.law_posting.specs.Bare.{column-bare, ids-bare, co-bare, starts-bare, lens-bare, owners-bare}
-use Rattle.law_posting.specs.OneFigure.{withFigure, by-bare, accepted-too, light, owner-place, owner-has, owner-after, owner-fits}
+use Rattle.law_posting.specs.OneFigure.{withFigure, by-bare, light, owner-place, owner-has, owner-after, owner-fits}
 use Rattle.law_posting.specs.OneFigure.{energies-after, energy-at}
 use Rattle.law_posting.specs.Tables.{MendedTable, Mended, all-mended, mendable-column, mended-column, finest-reads}
 
@@ -318,3 +319,14 @@ posts-commute o xs ys ws l own done i j v w hi hj hv hw n =
         let d : loadedWith o xs ys (set ws i v) l own .build .reply .reply ≡ Done =
         ap (λ (y : OwnedOutcome). y .build .reply .reply) (sym a) ∙ done in
         ap (λ (y : OwnedOutcome). after y j w) a ∙ posted-fresh o xs ys (set ws i v) l own d j w hj hw .1
+
+-- so of what a posting leaves demand 3 holds as of every accepted build, and the owner column has each lamp's owner
+pub posted-owners : (o : Options) (xs ys : List Float) (ws : List ℕ) (l : BuildColumns) (own : List ℕ)
+    → loadedWith o xs ys ws l own .build .reply .reply ≡ Done → (lamp figure : ℕ) → lamp < length xs → figure ≤ mostEnergy
+    → let x = after (loadedWith o xs ys ws l own) lamp figure in
+    (own : ℕ → ℕ → ℕ) × Owners (x .build .reply .state) (columnsOf (x .build .columns)) (set ws lamp figure) own
+    × KeptOwners (x .build .reply .state) (x .owners) own
+posted-owners o xs ys ws l own done lamp figure h f =
+    let K = withFigure (givenBuild o xs ys ws) lamp figure in
+    let x = after (loadedWith o xs ys ws l own) lamp figure in
+    let g = loaded-owners K l own x (posted-fresh o xs ys ws l own done lamp figure h f .1) done in (owner K, g .0, g .1)

@@ -3,12 +3,11 @@
 -- Assumes nothing.
 use mathlib.Core.Path.{_≡_, refl, sym, ap, ap₂, _∙_, subst}
 use mathlib.Core.Bool.{Bool, true, _&&_}
-use mathlib.Core.List.{List, [], _∷_, _++_, map, append-assoc}
-use Prim.Native.Nat.{ℕ, zero, suc, _+_, _-_, _^_, _<_, _≤_}
+use mathlib.Core.List.{List, [], _∷_, _++_, append-assoc}
+use Prim.Native.Nat.{ℕ, suc, _+_, _-_, _^_, _<_, _≤_}
 use native.Mathlib.Omega.{arith}
 use native.Mathlib.Nat.{zero-add, suc-add}
 use borrow.Author.Tests.{lt-ltb, le-leb}
-use lib.Dec.{ltb}
 use lib.ListN.{length, getD, set, length-set, length-map, length-append, List·getD-append}
 use lib.Seq.{getD-append-add, set-append-left}
 use Rattle.build_tables.specs.declared.State.{State}
@@ -17,7 +16,7 @@ use Rattle.build_tables.specs.Entries.{Table, energiesOf}
 use Rattle.build_all_zooms.specs.Zooms.{joined}
 use Rattle.supercluster.specs.laws.Held.{LaidOut}
 use Rattle.supercluster.specs.laws.Over.{map-append}
-use Rattle.posting.specs.Post.{ownerBy, sumSpot, replaced, takes, mends, mendable, mendedAt, mended}
+use Rattle.posting.specs.Post.{ownerBy, sumSpot, replaced, mends, mendable, mendedAt, mended}
 
 -- what stands in the first of the tables
 pub finest-reads : (s : State) (ts : List Table) (A R : List ℕ) (top : ℕ)

@@ -1,5 +1,4 @@
 -- `posting::mends` meets its contract: each test is one of the definition's, in its order. Assumes nothing.
-use mathlib.Core.Path.{_≡_}
 use Prim.Native.Nat.{_+_, _<_}
 use native.Mathlib.Omega.{arith}
 use lib.ListN.{length}

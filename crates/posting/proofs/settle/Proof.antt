@@ -1,7 +1,6 @@
 -- `posting::settle` meets its contract: each return is a case of the definition, and the lamp's own place lies in the finest table. Assumes
 -- nothing.
 use mathlib.Core.Path.{_≡_, ap₂, sym, _∙_}
-use mathlib.Core.Bool.{true}
 use Prim.Native.Nat.{ℕ, _+_, _<_}
 use native.Mathlib.Omega.{arith}
 use lib.ListN.{length, getD}

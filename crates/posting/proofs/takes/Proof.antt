@@ -1,10 +1,7 @@
 -- `posting::takes` meets its contract: each test is one of the definition's, in its order. Assumes nothing.
-use mathlib.Core.Path.{_∙_, sym, ap}
-use mathlib.Core.Bool.{Bool, _&&_}
 use Prim.Native.Nat.{_-_}
 use borrow.Author.Needs.{needs}
 use borrow.Author.Tests.{lt-leb, le-leb}
-use lib.Dec.{ltb}
 use Rattle.posting.specs.laws.Mends.{fits-by}
 use Rattle.posting.proofs.takes.Statement.{statement}
 use Rattle.posting.proofs.takes.Tie as tie

@@ -16,7 +16,7 @@ use Rattle.build_tables.specs.Options.{optionsOk, tableCount}
 use Rattle.build_tables.specs.State.{startOf, lenOf}
 use Rattle.build_tables.specs.Sound.{tableOk, packed, stateOk}
 use Rattle.build_tables.specs.laws.Sound.{Stands, table-is, stands}
-use Rattle.ask_owner.specs.Asked.{ownersReach, ownerSpot}
+use Rattle.ask_owner.specs.Asked.{ownersReach}
 use Rattle.ask_owner.specs.laws.Reach.{Spotted, spotted-at}
 use Rattle.posting.specs.Post.{ownerBy, sumSpot, takes, replaced, mends, mendable, mendedAt, mended}
 
