@@ -18,8 +18,10 @@
 
    The machine. 64-bit only. The library has no variables of its own, takes no lock and no memory but the stack: at most RV_STACK_TALLY
    bytes for a tally, RV_STACK_LEAVES for leaves, RV_STACK for any other call (measured on x86-64). So any number of threads may ask one
-   map at the same time; while rv_load writes it, no other may. Link with -lm: the box of a longitude build needs fmod. Floats are IEEE
-   754's, rounded to nearest; a program that changes how they are rounded, or has tiny numbers flushed to 0, gets other answers. */
+   map at the same time; while rv_load or rv_post writes it, no other may. The box of a longitude build needs fmod, hence -lm:
+   `rt check exports && tools/native-lib exports`, then `cc -I include YOUR.c target/native/libexports.a -lm`. Floats
+   are IEEE 754's, rounded to nearest; a program that changes how they are rounded, or has tiny numbers flushed to 0, gets other
+   answers. */
 #ifndef REACHVOLEM_H
 #define REACHVOLEM_H
 
@@ -176,11 +178,11 @@ uint8_t supercluster_zoom_used(
 
 /* Builds the tables of N points, xs_len of them: xs and ys in the coordinates of the options, energies in watt-hours. With need =
    (max_zoom - min_zoom + 2) * N, each of the eleven columns from x to owners has at least need entries, coords twice as many. Written
-   are the tables in x, y, seen, id, parent, num, energy, the finest first, their indexes in ids and coords, 0 in the first 2N of near,
-   in the first need of owners each lamp's owner, N places a table, the finest first, and in starts and lens, by zoom, where each table
-   starts and how long it is; what lies behind stays. Carried is 0. Refused in this order, and then nothing but carried is written: 1 an
-   option, 2 N is not from 1 to 1,048,576 or ys or energies has not N, 3 a converted coordinate is not from 0 to 1, 15 an energy above
-   2^40 (3 and 15 carry the first such point, from 0), 4 a column is too short. */
+   are the tables in x, y, seen, id, parent, num, energy, the finest first, their indexes in ids and coords, 0 in the first 2N of
+   near, in the first need of owners each lamp's owner, N places a table, the finest first, and in starts and lens, by zoom, where
+   each table starts and how long it is; what lies behind stays. Carried is 0. Refused in this order, and then nothing but carried is
+   written: 1 an option, 2 N is not from 1 to 1,048,576 or ys or energies has not N, 3 a converted coordinate is not from 0 to 1, 15
+   an energy above 2^40 (3 and 15 carry the first such point, from 0), 4 a column is too short. */
 uint32_t supercluster_load(
     uint8_t min_zoom,
     uint8_t max_zoom,
@@ -251,8 +253,8 @@ uint32_t supercluster_box(
     uint32_t *out, size_t out_len,
     size_t *carried);
 
-/* The same within so many tests, the allowance, which the two halves of a box that crosses the date line share. Beside what was found,
-   tested is how many slots were tested, and stopped whether a test was left. Written and refused as for supercluster_box, but
+/* The same within so many tests, the allowance, which the two halves of a box that crosses the date line share. Beside what was
+   found, tested is how many slots were tested, and stopped whether a test was left. Written and refused as for supercluster_box, but
    10 and 11 in the walk look only at the tests made. 0 and 10 leave tested and stopped as they come out; the other refusals 0 and
    false. */
 uint32_t supercluster_box_effort(
@@ -533,6 +535,37 @@ uint32_t supercluster_owner(
     uint8_t zoom,
     size_t *place);
 
+/* Replaces the figure of one lamp, in watt-hours, without a new build. energy and owners are the columns that a build leaves. Written
+   are the lamp's own energy in the finest table and, in each other table, the energy of the entry that owns the lamp; all else stays,
+   so that the columns are as a build with the new figure leaves them. Refused in this order, and then nothing is written: 11 by the
+   state, or owners has fewer than (max_zoom - min_zoom + 2) * N entries, 16 lamp is not below N, 15 figure is above 2^40, 11 an
+   owner's place is past its table, in the finest table any but the lamp itself, or its energy is below the lamp's figure so far or
+   would pass 64 bits. */
+uint32_t supercluster_post(
+    uint8_t min_zoom,
+    uint8_t max_zoom,
+    uint8_t min_points,
+    double radius,
+    double extent,
+    size_t node_size,
+    bool cartesian,
+    double min_x,
+    double min_y,
+    double max_x,
+    double max_y,
+    bool offset_given,
+    double offset,
+    bool scale_given,
+    double scale,
+    bool longitude_strips_only,
+    uint32_t count,
+    const uint32_t starts[32],
+    const uint32_t lens[32],
+    uint64_t *energy, size_t energy_len,
+    const uint32_t *owners, size_t owners_len,
+    uint32_t lamp,
+    uint64_t figure);
+
 /* The entry at a place of the table of a zoom, as a box or a tile lists it: its x and y in the tables' numbers from 0 to 1
    (supercluster_denormalize gives them back), the last zoom that marked it (255: none), its id, the id of the cluster that took it
    in (4,294,967,295: none), how many lamps it has, and their watt-hours. Refused in this order, and then nothing is written: 11 by
@@ -621,7 +654,7 @@ typedef struct rv_options {
 } rv_options;
 
 /* The tables of a build and their state. Set it to zeros, then the options and the columns (rv_lend), then call rv_load, which sets count,
-   starts and lens. Who changes an option or a column later has to build again. */
+   starts and lens. Who changes an option or a column later, other than by rv_post, has to build again. */
 typedef struct rv_map {
     rv_options options;
     uint32_t count;      /* points of the build; 0: none yet, and each question is refused 11 */
@@ -672,7 +705,7 @@ static inline const char *rv_words(uint32_t number) {
     case RV_BOX_REFUSED: return "a number of the box, ring or search is not finite or not in bounds";
     case RV_NO_ROOM: return "there are more items than the output has room for";
     case RV_SPOILED: return "the tables and their state do not fit together";
-    case RV_ENERGY_REFUSED: return "a point brings more than 2^40 watt-hours";
+    case RV_ENERGY_REFUSED: return "a point brings, or a lamp is posted, more than 2^40 watt-hours";
     case RV_NO_LAMP: return "there is no such lamp";
     default: return "no number of a reply";
     }
@@ -801,6 +834,14 @@ static inline uint32_t rv_entry(const rv_map *map, uint8_t zoom, uint32_t place,
    whole state; who reads many owners of a map that was built may read map->owners[(max_zoom + 1 - zoom) * count + lamp]. */
 static inline uint32_t rv_owner(const rv_map *map, uint32_t lamp, uint8_t zoom, size_t *place) {
     return supercluster_owner(RV_STATE_(map), map->owners, map->room, lamp, zoom, place);
+}
+
+/* supercluster_post: replaces a lamp's figure, in watt-hours, in map->energy: the lamp's own in the finest table, and in each other table
+   that of its owner. Then all columns are as rv_load with the new figure leaves them. Nothing is carried. A refusal leaves the map as it
+   was: 11 by the state or where room is less than rv_entries_needed, 16 where count or more is asked for, 15 where figure is above 2^40,
+   11 where an owner or its energy does not fit, as in no map that only rv_load and rv_post have written. */
+static inline uint32_t rv_post(rv_map *map, uint32_t lamp, uint64_t figure) {
+    return supercluster_post(RV_STATE_(map), map->energy, map->room, map->owners, map->room, lamp, figure);
 }
 
 /* supercluster_zoom_used: the zoom in whose table box, ring and tile list places, and in whose table an owner has its place. */

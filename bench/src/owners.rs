@@ -2,17 +2,20 @@
 //! one for each table, which are made before; how long that takes stands in a line of its own, beside all owners of all zooms as the
 //! column has them. All owners of a zoom stand beside the climb of all lamps at once, as the package made it before there was the
 //! column.
+//!
+//! Last stands a new figure of one lamp, posted to a build, beside a new load with all the figures that were posted. Both have to leave
+//! the same energies.
 
 use crate::{
     clock::timed,
-    points::SHAPES,
+    points::{Points, SHAPES},
     port,
     questions::FINEST,
-    rounds::{measured, Found, Side},
-    table::Times,
+    rounds::{measured, median, Found, Side},
+    table::{growth_head, growth_line, Times},
     Size,
 };
-use options::USUAL;
+use options::{MOST_ENERGY, USUAL};
 use reachvolem::{lent::PARENT_UNSET, Supercluster};
 use splitmix::Splitmix;
 use std::collections::HashMap;
@@ -21,26 +24,77 @@ use std::collections::HashMap;
 const ZOOMS: [u8; 3] = [16, 8, 0];
 const LAMPS: usize = 100_000;
 
+/// How many rounds there are at most beside new loads.
+const LOADS: usize = 3;
+
 /// The sides beside the port.
 const ONE: Times = Times(&["a climb by maps"]);
 const ALL: Times = Times(&["a climb of all lamps"]);
 
-/// Both tables for each build; or what differed.
+/// Both tables for each build, and one of posts for each shape; or what differed.
 pub fn run(size: &Size) -> Result<(), String> {
+    let counts: Vec<usize> = size.loads.iter().map(|[count, _]| *count).collect();
     for shape in SHAPES {
+        let mut took = Vec::new();
         for [count, rounds] in size.loads {
             println!();
             println!("owners in a build of {count} points, {}", shape.name());
-            let lamps = port::loaded(&shape.points(*count));
+            let points = shape.points(*count);
+            let lamps = port::loaded(&points);
             println!();
             ONE.head("lamps");
             one_by_one(&lamps, LAMPS / size.fewer, *rounds)?;
             println!();
             ALL.head("lamps");
             all_at_once(&lamps, *rounds)?;
+            took.push(posts(lamps, points, LAMPS / size.fewer, *rounds.min(&LOADS))?);
         }
+        println!();
+        growth_head(&format!("a new figure, {}", shape.name()), &counts);
+        growth_line("a post", took.iter().map(|[post, _]| *post));
+        growth_line("a new load", took.iter().map(|[_, load]| *load));
     }
     Ok(())
+}
+
+/// The nanoseconds of one post, of figures to lamps by chance, and of a new load with all of these.
+fn posts(
+    mut lamps: Supercluster,
+    mut points: Points,
+    most: usize,
+    rounds: usize,
+) -> Result<[f64; 2], String> {
+    let mut source = Splitmix(6);
+    let mut below = |bound: u64| source.below(bound);
+    let count = u64::from(lamps.count());
+    let readings: Vec<(u32, u64)> =
+        (0..most).map(|_| (below(count) as u32, below(MOST_ENERGY + 1))).collect();
+    for (lamp, figure) in &readings {
+        points.energies[*lamp as usize] = *figure;
+    }
+    let post_all = |lamps: &mut Supercluster| {
+        readings.iter().for_each(|(lamp, figure)| lamps.post(*lamp, *figure).expect("posted"));
+    };
+    let mut sides = [
+        Side::new("posts", || {
+            let ((), nanoseconds) = timed(|| post_all(&mut lamps));
+            (energies(&lamps), nanoseconds)
+        }),
+        Side::new("a new load", || {
+            let (lamps, nanoseconds) = timed(|| port::loaded(&points));
+            (energies(&lamps), nanoseconds)
+        }),
+    ];
+    let times = measured(rounds, &mut sides).map_err(|why| format!("posts: {why}"))?.times;
+    let [posts, load] = [0, 1].map(|side| median(&times[side]) as f64);
+    Ok([posts / most as f64, load])
+}
+
+/// The energies of all tables.
+fn energies(lamps: &Supercluster) -> Found {
+    let column = lamps.columns().energy;
+    let order = mixed(column.iter().copied());
+    Found { count: column.len(), members: 0, order: Some(order) }
 }
 
 /// One lamp after the other, by chance, at each of the zooms.
@@ -101,10 +155,13 @@ fn summed(lamps: &[u32], ask: impl Fn(u32) -> usize) -> (Found, u64) {
 /// The owners of all lamps, and how long they took.
 fn listed(ask: impl FnOnce() -> Vec<u32>) -> (Found, u64) {
     let (owners, nanoseconds) = timed(ask);
-    let order = owners.iter().fold(0_u64, |mix, place| {
-        (mix.rotate_left(5) ^ u64::from(*place)).wrapping_mul(0x9e37_79b9_7f4a_7c15)
-    });
+    let order = mixed(owners.iter().map(|place| u64::from(*place)));
     (Found { count: owners.len(), members: 0, order: Some(order) }, nanoseconds)
+}
+
+/// One word of several, in their order.
+fn mixed(words: impl Iterator<Item = u64>) -> u64 {
+    words.fold(0, |mix, word| (mix.rotate_left(5) ^ word).wrapping_mul(0x9e37_79b9_7f4a_7c15))
 }
 
 /// The tables of a build, and for each of them where an id stands in it.

@@ -9,6 +9,8 @@
 
 enum { LAMPS = 300, ROOM = 2 * LAMPS };
 
+static double given_x[LAMPS], given_y[LAMPS];
+static uint64_t given_energy[LAMPS];
 static uint32_t out[ROOM];
 static size_t carried;
 static long checks;
@@ -31,8 +33,6 @@ static uint64_t next_number(void) {
 
 /* A plan from 1000 to 3000, both ways; the offset and the scale are derived. */
 static rv_map plan(void) {
-    static double xs[LAMPS], ys[LAMPS];
-    static uint64_t energies[LAMPS];
     rv_map map;
     size_t entries;
     memset(&map, 0, sizeof map);
@@ -46,14 +46,14 @@ static rv_map plan(void) {
     map.options.min_x = map.options.min_y = 1000;
     map.options.max_x = map.options.max_y = 3000;
     for (size_t i = 0; i < LAMPS; i++) {
-        xs[i] = 1000 + (double)(next_number() % 2001);
-        ys[i] = 1000 + (double)(next_number() % 2001);
-        energies[i] = next_number() % 1000;
+        given_x[i] = 1000 + (double)(next_number() % 2001);
+        given_y[i] = 1000 + (double)(next_number() % 2001);
+        given_energy[i] = next_number() % 1000;
     }
     entries = rv_entries_needed(&map.options, LAMPS);
     hold(entries == 7 * LAMPS, "rv_entries_needed is (max_zoom - min_zoom + 2) * n");
     rv_lend(&map, malloc(rv_bytes_needed(entries)), entries);
-    hold(rv_load(&map, xs, ys, energies, LAMPS, &carried) == 0 && map.count == LAMPS, "rv_load");
+    hold(rv_load(&map, given_x, given_y, given_energy, LAMPS, &carried) == 0 && map.count == LAMPS, "rv_load");
     return map;
 }
 
@@ -260,6 +260,145 @@ static void owners_lent(rv_options options) {
     free(before);
 }
 
+/* The same lamps with these energies, in memory that is painted before, so that two builds can be compared byte by byte. */
+static rv_map with_energies(rv_options options, const uint64_t *energies) {
+    size_t bytes = rv_bytes_needed(7 * LAMPS);
+    void *memory = malloc(bytes);
+    rv_map map;
+    if (memory == NULL)
+        exit(2);
+    memset(memory, 0xA5, bytes);
+    memset(&map, 0, sizeof map);
+    map.options = options;
+    rv_lend(&map, memory, 7 * LAMPS);
+    hold(rv_load(&map, given_x, given_y, energies, LAMPS, &carried) == 0, "rv_load");
+    return map;
+}
+
+/* Whether two builds agree in all columns, what lies behind the tables too, and in their states. */
+static bool same(const rv_map *one, const rv_map *other) {
+    return one->count == other->count && memcmp(one->starts, other->starts, sizeof one->starts) == 0 &&
+        memcmp(one->lens, other->lens, sizeof one->lens) == 0 && memcmp(one->x, other->x, rv_bytes_needed(7 * LAMPS)) == 0;
+}
+
+/* After each of many postings the columns are those of a build with the new figures. */
+static void posts(rv_options options) {
+    static uint64_t energies[LAMPS];
+    rv_map map = with_energies(options, given_energy);
+    memcpy(energies, given_energy, sizeof energies);
+    for (size_t i = 0; i < 100; i++) {
+        uint32_t lamp = (uint32_t)(i < 50 ? next_number() % LAMPS : i % 5);
+        uint64_t figure = i % 7 == 0 ? 0 : i % 7 == 1 ? 1ull << 40 : next_number() % 1000;
+        rv_map fresh;
+        hold(rv_post(&map, lamp, figure) == 0, "rv_post");
+        energies[lamp] = figure;
+        fresh = with_energies(options, energies);
+        hold(same(&map, &fresh), "a posting leaves what a build with the new figure does");
+        free(fresh.x);
+    }
+    free(map.x);
+}
+
+/* Only the energies of the lamp's owners change, each by as much as the figure does; and two postings may come in either order. */
+static void posts_apart(rv_options options) {
+    for (uint32_t lamp = 0; lamp < LAMPS; lamp += 7) {
+        uint32_t other = (lamp + 1 + (uint32_t)next_number() % (LAMPS - 1)) % LAMPS;
+        uint64_t figure = next_number() % 1000, others = next_number() % 1000;
+        rv_map map = with_energies(options, given_energy), turned = with_energies(options, given_energy);
+        hold(rv_post(&map, lamp, figure) == 0, "rv_post");
+        for (uint8_t zoom = 1; zoom <= 7; zoom++)
+            for (uint32_t p = 0; p < map.lens[zoom]; p++) {
+                uint64_t before = turned.energy[turned.starts[zoom] + p], after = map.energy[map.starts[zoom] + p];
+                hold(after == (*kept(&map, zoom, lamp) == p ? before - given_energy[lamp] + figure : before), "an energy after a posting");
+            }
+        hold(rv_post(&map, other, others) == 0, "the other lamp after this one");
+        hold(rv_post(&turned, other, others) == 0 && rv_post(&turned, lamp, figure) == 0, "and before it");
+        hold(same(&map, &turned), "two postings give the same in either order");
+        free(map.x);
+        free(turned.x);
+    }
+}
+
+/* A posting that is refused with this number, and leaves the map and every byte of its columns. */
+static void refuses(rv_map *map, uint32_t lamp, uint64_t figure, uint32_t number, const char *what) {
+    size_t bytes = rv_bytes_needed(7 * LAMPS);
+    unsigned char *before = (unsigned char *)malloc(bytes);
+    rv_map as_it_was = *map;
+    if (before == NULL)
+        exit(2);
+    memcpy(before, map->x, bytes);
+    hold(rv_post(map, lamp, figure) == number, what);
+    hold(memcmp(before, map->x, bytes) == 0 && memcmp(map, &as_it_was, sizeof *map) == 0, "a refused posting writes nothing");
+    free(before);
+}
+
+/* rv_post with columns of other lengths. */
+static uint32_t post_with(rv_map *map, size_t energy_len, size_t owners_len, uint32_t lamp, uint64_t figure) {
+    const rv_options *o = &map->options;
+    return supercluster_post(
+        o->min_zoom, o->max_zoom, o->min_points, o->radius, o->extent, o->node_size, o->cartesian, o->min_x, o->min_y, o->max_x, o->max_y,
+        o->offset_given, o->offset, o->scale_given, o->scale, o->longitude_strips_only, map->count, map->starts, map->lens, map->energy,
+        energy_len, map->owners, owners_len, lamp, figure);
+}
+
+/* Refused by the state, the lamp and the figure, in this order. */
+static void refused_posts(rv_options options) {
+    const uint64_t too_much = (1ull << 40) + 1;
+    rv_map map = with_energies(options, given_energy), fresh = with_energies(options, given_energy);
+    size_t end = map.starts[1] + map.lens[1];
+    refuses(&map, LAMPS, 5, RV_NO_LAMP, "past the lamps: 16");
+    refuses(&map, UINT32_MAX, 5, RV_NO_LAMP, "far past the lamps: 16");
+    refuses(&map, LAMPS, too_much, RV_NO_LAMP, "16 comes before 15");
+    refuses(&map, 0, too_much, RV_ENERGY_REFUSED, "2^40 + 1: 15");
+    refuses(&map, LAMPS - 1, UINT64_MAX, RV_ENERGY_REFUSED, "the largest number: 15");
+    map.lens[6] += 1;
+    refuses(&map, LAMPS, too_much, RV_SPOILED, "a spoiled state comes first: 11");
+    map.lens[6] -= 1;
+    map.room -= 1;
+    refuses(&map, LAMPS, too_much, RV_SPOILED, "owners one too short: 11");
+    refuses(&map, 0, given_energy[0], RV_SPOILED, "whatever is posted");
+    map.room += 1;
+    hold(post_with(&map, end - 1, 7 * LAMPS, 0, 5) == RV_SPOILED, "energies that end before the last table does: 11");
+    hold(post_with(&map, end, 7 * LAMPS - 1, 0, 5) == RV_SPOILED, "owners one too short, energies long enough: 11");
+    hold(same(&map, &fresh), "and nothing written");
+    hold(post_with(&map, end, 7 * LAMPS, 0, given_energy[0]) == 0, "both just long enough");
+    hold(same(&map, &fresh), "the figure that a lamp has changes nothing");
+    free(map.x);
+    free(fresh.x);
+}
+
+/* Refused by an owner or its energy, once the lamp and the figure are taken; the others of the lamp are not written either. */
+static void refused_by_owners(rv_options options) {
+    rv_map map = with_energies(options, given_energy), fresh = with_energies(options, given_energy);
+    uint32_t *one = kept(&map, 3, 5), *own = kept(&map, 7, 5), honest = *one;
+    uint64_t *sum = &map.energy[map.starts[1] + *kept(&map, 1, 5)], whole;
+    hold(rv_post(&map, 5, 10) == 0, "rv_post");
+    whole = *sum;
+    *one = map.lens[3];
+    refuses(&map, 5, 11, RV_SPOILED, "an owner past its table: 11");
+    refuses(&map, 5, (1ull << 40) + 1, RV_ENERGY_REFUSED, "15 comes before it");
+    *one = UINT32_MAX;
+    refuses(&map, 5, 11, RV_SPOILED, "far past its table: 11");
+    *one = honest;
+    *own = 6;
+    refuses(&map, 5, 11, RV_SPOILED, "another lamp in the finest table: 11");
+    refuses(&map, LAMPS, 11, RV_NO_LAMP, "16 comes before it");
+    *own = 5;
+    *sum = 9;
+    refuses(&map, 5, 11, RV_SPOILED, "an energy below the lamp's old figure: 11");
+    refuses(&map, 5, 0, RV_SPOILED, "whatever the new one is");
+    *sum = 10;
+    hold(rv_post(&map, 5, 11) == 0 && *sum == 11, "one that is just as large");
+    *sum = UINT64_MAX;
+    refuses(&map, 5, 12, RV_SPOILED, "an energy that would pass 64 bits: 11");
+    hold(rv_post(&map, 5, 11) == 0 && *sum == UINT64_MAX, "the largest that there is");
+    hold(rv_post(&map, 5, 0) == 0 && *sum == UINT64_MAX - 11, "a smaller one");
+    *sum = whole - 10;
+    hold(rv_post(&map, 5, given_energy[5]) == 0 && same(&map, &fresh), "mended again, and posted back: what was built");
+    free(map.x);
+    free(fresh.x);
+}
+
 static void ranges(const rv_options *o) {
     for (int v = 0; v <= 4000; v += 125) {
         hold(rv_normalize(o, v) == (v - 1000.0) / 2000.0, "rv_normalize");
@@ -317,6 +456,7 @@ static void words_and_refusals(rv_map map) {
     memset(&empty, 0, sizeof empty);
     hold(rv_box(&empty, 0, 0, 0, 1, 1, out, ROOM, &carried) == RV_SPOILED, "a map of zeros: 11");
     hold(rv_owner(&empty, 0, 0, &carried) == RV_SPOILED && carried == 0, "a map of zeros: 11");
+    hold(rv_post(&empty, 0, 0) == RV_SPOILED, "a map of zeros: 11");
     hold(rv_load(&empty, NULL, NULL, NULL, 0, &carried) == RV_OPTIONS_REFUSED, "a map of zeros: 1");
     hold(rv_load(&map, NULL, NULL, NULL, 0, &carried) == RV_COUNT_REFUSED, "no points: 2");
     hold(rv_load(&map, far_away, far_away, none, 1, &carried) == RV_POINT_REFUSED && carried == 0, "outside the plan: 3");
@@ -335,6 +475,10 @@ int main(void) {
     owners_lent(map.options);
     ranges(&map.options);
     indexes();
+    posts(map.options);
+    posts_apart(map.options);
+    refused_posts(map.options);
+    refused_by_owners(map.options);
     words_and_refusals(map);
     free(map.x);
     printf("short names in C: %ld checks, %ld wrong\n", checks, wrong);

@@ -39,6 +39,7 @@ static void expansion(void) { number = rv_expansion_zoom(&map, deepest, &carried
 static void tile(void) { number = rv_tile(&map, 0, 0, 0, out, px, py, ROOM, &carried); }
 static void tally(void) { number = rv_tally(&map, 0, 0, 0, &carried); }
 static void owner(void) { number = rv_owner(&map, CHAIN - 1, 0, &carried); }
+static void post(void) { number = rv_post(&map, CHAIN - 1, 1); }
 
 static void effort(void) {
     size_t tested;
@@ -108,6 +109,7 @@ static void a_million(void) {
     measure("tally", tally, RV_STACK_TALLY);
     measure("entry", entry, RV_STACK);
     measure("owner", owner, RV_STACK);
+    measure("post", post, RV_STACK);
     measure("index_build", build, RV_STACK);
     measure("index_range", range, RV_STACK);
     measure("index_within", within, RV_STACK);
@@ -142,6 +144,7 @@ static void a_chain(void) {
     measure("tile", tile, RV_STACK);
     measure("tally", tally, RV_STACK_TALLY);
     measure("owner", owner, RV_STACK);
+    measure("post", post, RV_STACK);
     free(map.x);
 }
 

@@ -172,6 +172,39 @@ static void owners(const rv_map *map) {
     row("the column of owners", "0,1,2,3,0,0,1,1,0,0,0,0");
 }
 
+/* The energies of all tables, the finest first. */
+static void say_energies(const rv_map *map) {
+    for (uint8_t zoom = 3; zoom-- > 0; say(zoom ? "; " : ""))
+        for (uint32_t place = 0; place < map->lens[zoom]; place++)
+            say(place ? ",%llu" : "%llu", (unsigned long long)map->energy[map->starts[zoom] + place]);
+}
+
+/* A posting, and the energies that it leaves. */
+static void post(rv_map *map, uint32_t lamp, uint64_t figure, const char *asked, const char *page) {
+    if (!answered(rv_post(map, lamp, figure)))
+        say("; ");
+    say_energies(map);
+    row(asked, page);
+}
+
+static void posts(void) {
+    const uint64_t most = (uint64_t)1 << 40;
+    uint32_t number;
+    rv_map map = four_lamps(worked_options(), &number);
+    answered(number);
+    post(&map, 1, 25, "post 25 to lamp 1: the energies of table 2; 1; 0", "10,25,30,40; 35,70; 105");
+    owners(&map);
+    post(&map, 4, 25, "post 25 to lamp 4", "refused 16; 10,25,30,40; 35,70; 105");
+    post(&map, 1, most + 1, "post 2^40 + 1 to lamp 1", "refused 15; 10,25,30,40; 35,70; 105");
+    post(&map, 4, most + 1, "post 2^40 + 1 to lamp 4", "refused 16; 10,25,30,40; 35,70; 105");
+    post(&map, 3, most, "post 2^40 to lamp 3", "10,25,30,1099511627776; 35,1099511627806; 1099511627841");
+    post(&map, 1, 20, "post 20 to lamp 1", "10,20,30,1099511627776; 30,1099511627806; 1099511627836");
+    post(&map, 3, 40, "post 40 to lamp 3: what was built", "10,20,30,40; 30,70; 100");
+    post(&map, 1, 20, "post 20 to lamp 1 once more", "10,20,30,40; 30,70; 100");
+    tables(&map);
+    free(map.x);
+}
+
 static void ids_and_walks(const rv_map *map) {
     say("origin %u, table %u; origin %u, table %u", rv_origin_of(map, 70), rv_table_of(map, 70), rv_origin_of(map, 5),
         rv_table_of(map, 5));
@@ -348,6 +381,7 @@ int main(void) {
     answered(number);
     tables(&map);
     owners(&map);
+    posts();
     ids_and_walks(&map);
     refused_walks(&map);
     tile_and_box(&map);

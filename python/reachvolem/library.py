@@ -51,8 +51,8 @@ def plain(name: str, **given: Any) -> Callable[[Any], Any]:
 class Call:
     """A C name with some of its arguments fixed. It is called with the others by name, and answers the number and what it carries.
 
-    A slice is given as a ctypes array, which has its length. `carried` is filled in here: what stands under that name, or for a step
-    of the cursor under `slot` or `next`.
+    A slice is given as a ctypes array, which has its length. What is carried is filled in here: what stands under the last name, if it is
+    one that is written, such as `carried`, or for a step of the cursor `slot` or `next`. Where there is none, 0 is carried.
     """
 
     def __init__(self, name: str, **fixed: Any) -> None:
@@ -60,7 +60,8 @@ class Call:
         self._arguments: List[Any] = []
         self._holes: Dict[str, Tuple[int, bool]] = {}
         _, declared = names.NAMES[name]
-        self._carried = declared[-1][0]
+        last, kind = declared[-1]
+        self._carried = last if kind.startswith("&mut ") else None
         for argument, kind in declared:
             is_slice = names.is_slice(kind)
             self._holes[argument] = len(self._arguments), is_slice
@@ -77,7 +78,8 @@ class Call:
     def __call__(self, **given: Any) -> Tuple[int, int]:
         arguments = self._arguments.copy()
         carried = ctypes.c_size_t(0)
-        given[self._carried] = carried
+        if self._carried is not None:
+            given[self._carried] = carried
         self._fill(arguments, given)
         return self._function(*arguments), carried.value
 
@@ -144,3 +146,13 @@ def whole(word: str, number: int, what: str) -> int:
     except OverflowError:
         most = (1 << 8 * ctypes.sizeof(names.WORDS[word])) - 1
         raise ValueError(f"{what} is {number}: it must be from 0 to {most:,}") from None
+
+
+def exact(word: str, number: Any, what: str) -> int:
+    """A number by which something is written, if it is whole and fits its word: `whole` would take 12.5 as 12."""
+    try:
+        if number != int(number):
+            raise ValueError
+    except (TypeError, ValueError, OverflowError):
+        raise ValueError(f"{what} is {number!r}: it must be a whole number") from None
+    return whole(word, number, what)

@@ -23,7 +23,7 @@ MEANINGS = {
     10: ("no room", "there are more items than the output takes"),
     11: ("spoiled", "the state and the columns do not fit together"),
     12: ("text", "the text is not of the lister's form"),
-    15: ("energy", f"a lamp brings more than {MOST_ENERGY:,} watt-hours (2^40)"),
+    15: ("energy", f"a lamp brings, or is posted, more than {MOST_ENERGY:,} watt-hours (2^40)"),
     16: ("lamp", "there is no such lamp: they are counted from 0"),
 }
 

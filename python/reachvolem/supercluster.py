@@ -1,10 +1,10 @@
-"""The clusters of lamps for every zoom: the build, and the questions to it. All answers are the proved library's."""
+"""The clusters of lamps for every zoom: the build, the questions to it, and postings. All answers are the proved library's."""
 from __future__ import annotations
 
 import ctypes
 from typing import Any, Dict, Iterator, List, NamedTuple, Optional, Sequence, Tuple
 
-from .library import Call, Lent, column, room, whole
+from .library import Call, Lent, column, exact, room, whole
 from .mercator import latitude, longitude
 from .options import Options
 from .refusals import MOST_ENERGY, MOST_LAMPS, Refused
@@ -75,6 +75,12 @@ class Supercluster:
     ([0, 1, 2, 3], [3])
     >>> list(lamps.owners(1)), lamps.owner(3, 1)
     ([0, 0, 1, 1], 1)
+
+    A logger that comes back late has a corrected figure for lamp 1:
+
+    >>> lamps.post(1, 25)
+    >>> [[entry.energy for entry in lamps.table(zoom)] for zoom in lamps.zooms]
+    [[10, 25, 30, 40], [35, 70], [105]]
     """
 
     def __init__(self, options: Options, xs: Any, ys: Any, energies: Any) -> None:
@@ -293,8 +299,11 @@ class Supercluster:
         words = {"lamp": whole("u32", lamp, "lamp"), "zoom": whole("u8", zoom, "zoom")}
         number, place = self._call("supercluster_owner", *OWNER_COLUMN)(**words)
         if number:
-            raise Refused(number, place, f"there is no lamp {lamp}: the last one is {self.count - 1}" if number == 16 else None)
+            raise Refused(number, place, self._no_lamp(lamp) if number == 16 else None)
         return place
+
+    def _no_lamp(self, lamp: int) -> str:
+        return f"there is no lamp {lamp}: the last one is {self.count - 1}"
 
     def tally(self, z: int, x: int, y: int) -> int:
         """The lamps of the entries whose centre the tile (z, x, y) holds; those of all tiles of a zoom come to N. Refused 7."""
@@ -302,3 +311,22 @@ class Supercluster:
         if number:
             raise Refused(number, lamps)
         return lamps
+
+    # ---- postings
+
+    def post(self, lamp: int, wh: int) -> None:
+        """Replaces the energy of a lamp by these watt-hours, in the finest table and in each other table in that of its owner.
+
+        All tables are then those of a build with the new figure. Refused 16 where there is no such lamp, 15 where the figure is above
+        2^40; then nothing is changed. Columns that were read before (`table_column`) have the new energies, an Entry that was read before
+        keeps the old one. No other thread may ask or post meanwhile.
+        """
+        words = {"lamp": exact("u32", lamp, "lamp"), "figure": exact("u64", wh, "wh")}
+        number, carried = self._call("supercluster_post", "energy", *OWNER_COLUMN)(**words)
+        if number:
+            raise Refused(number, carried, self._why_no_post(number, **words))
+
+    def _why_no_post(self, number: int, lamp: int, figure: int) -> Optional[str]:
+        if number == 15:
+            return f"lamp {lamp} is posted {figure:,} watt-hours: at most {MOST_ENERGY:,} (2^40) are allowed"
+        return self._no_lamp(lamp) if number == 16 else None

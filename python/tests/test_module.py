@@ -1,4 +1,4 @@
-"""The module's own part: refusals, owners, buffers, rooms that grow, the index, the range, and where the library is found."""
+"""The module's own part: refusals, owners, postings, buffers, rooms that grow, the index, the range, and where the library is found."""
 import array
 import ctypes
 import math
@@ -13,7 +13,7 @@ import tempfile
 import unittest
 
 from reachvolem import DataRange, Index, Refused, Supercluster, lamps_check, library, longitude
-from reachvolem.library import Call, column, room
+from reachvolem.library import Call, column, exact, room
 from reachvolem.refusals import MEANINGS
 from reachvolem.supercluster import INDEX_COLUMNS, TABLE_COLUMNS
 
@@ -84,6 +84,9 @@ class Refusals(unittest.TestCase):
         self.refused(9, 0, "radius is below 0", lambda: build.ring(1, 0.5, 0.5, -1.0))
         self.refused(16, 0, "refused 16 (lamp): there is no lamp 4: the last one is 3", lambda: build.owner(4, 1))
         self.refused(16, 0, "there is no lamp 4294967295", lambda: build.owner(2**32 - 1, 255))
+        self.refused(16, 0, "refused 16 (lamp): there is no lamp 4: the last one is 3", lambda: build.post(4, 2**64 - 1))
+        self.refused(15, 0, "(energy): lamp 3 is posted 1,099,511,627,777 watt-hours: at most 1,099,511,627,776 (2^40) are allowed",
+                     lambda: build.post(3, 2**40 + 1))
         for call in (lambda: build.get_leaves(2**32), lambda: build.get_leaves(5, limit=-1), lambda: build.ring(256, 0, 0, 0),
                      lambda: build.owner(2**32, 0), lambda: build.owner(-1, 0), lambda: build.owner(0, 256), lambda: build.owners(256)):
             self.assertRaises(ValueError, call)
@@ -198,6 +201,156 @@ class Owners(unittest.TestCase):
         self.assertEqual([ask(owners=owners, lens=lens, lamp=lamp, zoom=2) for lamp in (0, 4)], [(11, 0)] * 2)
         self.assertEqual(ask(owners=owners, count=5, lamp=4, zoom=2), (11, 0))
         self.assertEqual(ask(owners=owners, max_zoom=31, lamp=4, zoom=2), (11, 0))
+
+
+class Posts(unittest.TestCase):
+    """A figure replaced: the tables are those of a fresh build; and what is refused changes nothing."""
+
+    def setUp(self):
+        chance = random.Random(110)
+        self.xs, self.ys = ([chance.random() ** 2 for _ in range(300)] for _ in "xy")
+        self.energies = [chance.randrange(1000) for _ in range(300)]
+        self.chance = chance
+
+    def built(self, changes, energies):
+        return Supercluster(options(**changes), self.xs, self.ys, energies)
+
+    def left(self, build):
+        """All columns, what lies behind the tables too, and the state."""
+        columns = {name: bytes(lent.view) for name, lent in build._columns.items()}
+        return columns, list(build._starts), list(build._lens)
+
+    def energies_of(self, build):
+        return {zoom: build.table_column(zoom, "energy").tolist() for zoom in build.zooms}
+
+    def test_what_a_fresh_build_has(self):
+        for changes in (dict(max_zoom=6), dict(min_zoom=2, max_zoom=5, min_points=4), dict(max_zoom=0, radius=0.0), dict(max_zoom=30)):
+            energies = list(self.energies)
+            build = self.built(changes, energies)
+            for figure in (0, 2**40, 1, 500, 2**40, 0, 777):
+                lamp = self.chance.randrange(300)
+                build.post(lamp, figure)
+                energies[lamp] = figure
+                fresh = self.built(changes, energies)
+                self.assertEqual([build.table(zoom) for zoom in build.zooms], [fresh.table(zoom) for zoom in fresh.zooms])
+                self.assertEqual(self.left(build), self.left(fresh))
+
+    def test_only_the_owners_energies_change(self):
+        build = self.built(dict(max_zoom=6), self.energies)
+        for lamp in range(0, 300, 11):
+            before, old, figure = self.energies_of(build), build.entry(7, lamp).energy, self.chance.randrange(1000)
+            rest = {name: column for name, column in self.left(build)[0].items() if name != "energy"}
+            build.post(lamp, figure)
+            for zoom in build.zooms:
+                before[zoom][build.owner(lamp, zoom)] += figure - old
+            self.assertEqual(self.energies_of(build), before)
+            self.assertEqual({name: column for name, column in self.left(build)[0].items() if name != "energy"}, rest)
+
+    def test_in_either_order(self):
+        for _ in range(20):
+            first, second = self.chance.sample(range(300), 2)
+            one, other = ((lamp, self.chance.randrange(1000)) for lamp in (first, second))
+            builds = [self.built(dict(max_zoom=6), self.energies) for _ in range(2)]
+            for build, postings in zip(builds, ((one, other), (other, one))):
+                for lamp, figure in postings:
+                    build.post(lamp, figure)
+            self.assertEqual(*map(self.left, builds))
+
+    def test_the_last_of_two_counts_and_the_old_figure_gives_the_build_back(self):
+        build = self.built(dict(max_zoom=6), self.energies)
+        before = self.left(build)
+        for figure in (2**40, 0, self.energies[7]):
+            build.post(7, figure)
+        self.assertEqual(self.left(build), before)
+
+    def test_where_it_is_seen(self):
+        """By a column that was read before, and by each question that answers entries; an entry that was read before keeps its own."""
+        build = worked()
+        column, entry = build.table_column(1, "energy"), build.entry(1, 0)
+        build.post(1, 25)
+        self.assertEqual((column.tolist(), entry.energy, build.entry(1, 0).energy), ([35, 70], 30, 35))
+        self.assertEqual([entry.energy for entry in build.get_clusters((0, 0, 1, 1), 2)], [10, 25, 30, 40])
+        self.assertEqual([entry.energy for entry in build.get_children(5)], [35, 70])
+        self.assertEqual([item.entry.energy for item in build.get_tile(0, 0, 0)], [105])
+
+    def test_refusals_change_nothing(self):
+        build = self.built(dict(max_zoom=6), self.energies)
+        before = self.left(build)
+        for number, lamp, figure in ((16, 300, 0), (16, 2**32 - 1, 2**64 - 1), (15, 0, 2**40 + 1), (15, 299, 2**64 - 1)):
+            with self.assertRaises(Refused) as caught:
+                build.post(lamp, figure)
+            self.assertEqual((caught.exception.number, caught.exception.carried), (number, 0))
+            self.assertEqual(self.left(build), before)
+        build.post(299, 2**40)
+
+    def test_numbers_that_are_none(self):
+        build = worked()
+        before = self.left(build)
+        for lamp, figure, said in (
+            (1.5, 0, "lamp is 1.5: it must be a whole number"), ("1", 0, "lamp is '1': it must be a whole number"),
+            (None, 0, "lamp is None: it must be a whole number"), (-1, 0, "lamp is -1: it must be from 0 to 4,294,967,295"),
+            (2**32, 0, "lamp is 4294967296: it must be from 0 to 4,294,967,295"), (1, 12.5, "wh is 12.5: it must be a whole number"),
+            (1, "25", "wh is '25': it must be a whole number"), (1, None, "wh is None: it must be a whole number"),
+            (1, math.nan, "wh is nan: it must be a whole number"), (1, math.inf, "wh is inf: it must be a whole number"),
+            (1, [25], "wh is [25]: it must be a whole number"), (1, -1, "wh is -1: it must be from 0 to 18,446,744,073,709,551,615"),
+            (1, 2**64, "wh is 18446744073709551616: it must be from 0 to 18,446,744,073,709,551,615"),
+        ):
+            with self.assertRaises(ValueError) as caught:
+                build.post(lamp, figure)
+            self.assertEqual((str(caught.exception), self.left(build)), (said, before))
+        self.assertRaises(TypeError, build.post, 1)
+        self.assertEqual([exact("u32", number, "") for number in (3, 3.0, True)], [3, 3, 1])
+
+    @unittest.skipIf(numpy is None, "numpy is not installed")
+    def test_numbers_of_numpy(self):
+        build = worked()
+        build.post(numpy.int64(1), numpy.uint64(25))
+        self.assertEqual(self.energies_of(build), {2: [10, 25, 30, 40], 1: [35, 70], 0: [105]})
+        self.assertRaisesRegex(ValueError, "it must be a whole number", build.post, 1, numpy.float64(12.5))
+
+    def test_spoiled_is_refused_11(self):
+        """By columns that a caller writes to or lends by hand, which the module does not: nothing is written then."""
+        honest = worked()
+        state = dict(honest._words, count=4, starts=honest._starts, lens=honest._lens)
+        page, owners = [10, 20, 30, 40, 30, 70, 100], list(honest._columns["owners"].view)
+
+        def post(lamp, figure, energies=page, places=owners, **changes):
+            energy, kept = (ctypes.c_uint64 * len(energies))(*energies), (ctypes.c_uint32 * len(places))(*places)
+            reply = Call("supercluster_post", **{**state, **changes})(energy=energy, owners=kept, lamp=lamp, figure=figure)
+            self.assertEqual(list(kept), list(places))
+            if reply[0]:
+                self.assertEqual(list(energy), list(energies))
+            return reply + (list(energy),)
+
+        def spoiled(at, place):
+            return owners[:at] + [place] + owners[at + 1:]
+
+        lens = (ctypes.c_uint32 * 32)(*state["lens"])
+        lens[1] += 1
+        self.assertEqual(post(1, 25), (0, 0, [10, 25, 30, 40, 35, 70, 105]))
+        self.assertEqual(post(1, 25, page + [7, 7], owners + [7]), (0, 0, [10, 25, 30, 40, 35, 70, 105, 7, 7]))
+        for lamp, figure in ((1, 25), (4, 25), (1, 2**40 + 1)):
+            for changes in (dict(lens=lens), dict(count=5), dict(max_zoom=31), dict(energies=page[:6]), dict(energies=[]),
+                            dict(places=owners[:11]), dict(places=[])):
+                self.assertEqual(post(lamp, figure, **changes)[:2], (11, 0), (lamp, figure, changes))
+        for at, place in ((1, 0), (1, 2), (1, 4), (5, 2), (9, 1), (9, 2**32 - 1)):
+            places = spoiled(at, place)
+            self.assertEqual([post(lamp, figure, places=places)[0] for lamp, figure in ((1, 25), (4, 2**40 + 1), (1, 2**40 + 1), (0, 25))],
+                             [11, 16, 15, 0])
+        for at in (4, 6):
+            for energy, figure, number in ((19, 0, 11), (19, 25, 11), (20, 25, 0), (2**64 - 1, 20, 0), (2**64 - 1, 21, 11),
+                                           (2**64 - 6, 25, 0)):
+                energies = page[:at] + [energy] + page[at + 1:]
+                found = post(1, figure, energies)
+                self.assertEqual((found[0], found[2][at]), (number, energy if number else energy - 20 + figure))
+
+    def test_spoiled_by_the_module(self):
+        build = worked()
+        build._columns["owners"].array[5] = 2
+        before = self.left(build)
+        with self.assertRaisesRegex(Refused, "refused 11 .spoiled.: the state and the columns do not fit together"):
+            build.post(1, 25)
+        self.assertEqual(self.left(build), before)
 
 
 class Buffers(unittest.TestCase):

@@ -93,3 +93,18 @@ class Worked(unittest.TestCase):
             self.assertEqual([above.owners(zoom).tolist(), [above.owner(lamp, zoom) for lamp in range(4)]], [page[1]] * 2)
         self.refused(16, self.build.owner, 4, 0)
         self.assertEqual([self.build.zoom_used(zoom) for zoom in (0, 1, 2, 9)], [0, 1, 2, 2])
+
+    def energies(self):
+        return [self.build.table_column(zoom, "energy").tolist() for zoom in (2, 1, 0)]
+
+    def test_posting(self):
+        posted = [[10, 25, 30, 40], [35, 70], [105]]
+        self.assertIsNone(self.build.post(1, 25))
+        self.assertEqual(self.energies(), posted)
+        for number, lamp, figure in ((16, 4, 25), (15, 1, 2**40 + 1), (16, 4, 2**40 + 1)):
+            self.refused(number, self.build.post, lamp, figure)
+            self.assertEqual(self.energies(), posted)
+        for _ in range(2):
+            self.build.post(1, 20)
+            self.test_tables_are_the_lines_of_the_page()
+        self.test_owners()

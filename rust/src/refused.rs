@@ -45,7 +45,7 @@ pub enum Refused {
     Spoiled,
     /// 15: a lamp brings more than 2^40 watt-hours.
     Energy {
-        /// The first such lamp, counted from 0.
+        /// The first such lamp, counted from 0; of [`post`](crate::Supercluster::post) the one that it is given.
         at: usize,
     },
     /// 16: the build has no lamp of this number: it is not below their count.
@@ -97,7 +97,7 @@ impl Refused {
         }
     }
 
-    /// What it carries: the first such lamp, how many items there are, or 0.
+    /// What it carries: the first such lamp or the one posted to, how many items there are, or 0.
     pub fn carried(&self) -> usize {
         match *self {
             Refused::Point { at } | Refused::Energy { at } => at,

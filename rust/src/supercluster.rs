@@ -5,8 +5,8 @@ use crate::{
     Entry, Found, LeafPages, Options, Refused, Tables, TileItem,
 };
 
-/// Lamps in clusters for every zoom. Every question may be asked at any time and from several threads; nothing changes after
-/// [`load`](Supercluster::load).
+/// Lamps in clusters for every zoom. Every question may be asked at any time and from several threads; after
+/// [`load`](Supercluster::load) nothing changes but energies, by [`post`](Supercluster::post).
 ///
 /// ```
 /// use reachvolem::{CoordinateSystem, DataRange, Options, Supercluster};
@@ -135,6 +135,27 @@ impl Supercluster {
     fn build(&mut self, given: &Given) -> Result<(), Refused> {
         let State { options, starts, lens, .. } = &mut self.state;
         lent::load(options, given, self.columns.written(), starts, lens).accepted().map(|_| ())
+    }
+
+    /// Replaces the watt-hours of a lamp in every table, without a new build: all is then as if the lamp had been loaded with
+    /// these. A lamp that the build does not have is refused 16, more than 2^40 watt-hours are refused 15, and a refusal changes
+    /// nothing.
+    ///
+    /// ```
+    /// # use reachvolem::{Options, Refused, Supercluster};
+    /// # let mut lamps = Supercluster::load(Options::default(), &[0.0, 0.01], &[0.5; 2], &[7, 9])?;
+    /// lamps.post(1, 20)?;
+    /// assert_eq!((lamps.entry(17, 1)?.energy, lamps.entry(0, 0)?.energy), (20, 27));
+    /// assert_eq!(lamps.post(2, 20), Err(Refused::Lamp));
+    /// # Ok::<(), Refused>(())
+    /// ```
+    pub fn post(&mut self, lamp: u32, energy: u64) -> Result<(), Refused> {
+        let Owned { energy: sums, owners, .. } = &mut self.columns;
+        match lent::post(&self.state, sums, owners, lamp, energy).accepted() {
+            // The reply does not carry the lamp.
+            Err(Refused::Energy { .. }) => Err(Refused::Energy { at: lamp as usize }),
+            told => told.map(|_| ()),
+        }
     }
 
     /// What is known of the build beside its columns, to be kept with them.

@@ -18,8 +18,10 @@
 
    The machine. 64-bit only. The library has no variables of its own, takes no lock and no memory but the stack: at most RV_STACK_TALLY
    bytes for a tally, RV_STACK_LEAVES for leaves, RV_STACK for any other call (measured on x86-64). So any number of threads may ask one
-   map at the same time; while rv_load writes it, no other may. Link with -lm: the box of a longitude build needs fmod. Floats are IEEE
-   754's, rounded to nearest; a program that changes how they are rounded, or has tiny numbers flushed to 0, gets other answers. */
+   map at the same time; while rv_load or rv_post writes it, no other may. The box of a longitude build needs fmod, hence -lm:
+   `rt check exports && tools/native-lib exports`, then `cc -I include YOUR.c target/native/libexports.a -lm`. Floats
+   are IEEE 754's, rounded to nearest; a program that changes how they are rounded, or has tiny numbers flushed to 0, gets other
+   answers. */
 #ifndef REACHVOLEM_H
 #define REACHVOLEM_H
 
@@ -86,7 +88,7 @@ typedef struct rv_options {
 } rv_options;
 
 /* The tables of a build and their state. Set it to zeros, then the options and the columns (rv_lend), then call rv_load, which sets count,
-   starts and lens. Who changes an option or a column later has to build again. */
+   starts and lens. Who changes an option or a column later, other than by rv_post, has to build again. */
 typedef struct rv_map {
     rv_options options;
     uint32_t count;      /* points of the build; 0: none yet, and each question is refused 11 */
@@ -137,7 +139,7 @@ static inline const char *rv_words(uint32_t number) {
     case RV_BOX_REFUSED: return "a number of the box, ring or search is not finite or not in bounds";
     case RV_NO_ROOM: return "there are more items than the output has room for";
     case RV_SPOILED: return "the tables and their state do not fit together";
-    case RV_ENERGY_REFUSED: return "a point brings more than 2^40 watt-hours";
+    case RV_ENERGY_REFUSED: return "a point brings, or a lamp is posted, more than 2^40 watt-hours";
     case RV_NO_LAMP: return "there is no such lamp";
     default: return "no number of a reply";
     }
@@ -266,6 +268,14 @@ static inline uint32_t rv_entry(const rv_map *map, uint8_t zoom, uint32_t place,
    whole state; who reads many owners of a map that was built may read map->owners[(max_zoom + 1 - zoom) * count + lamp]. */
 static inline uint32_t rv_owner(const rv_map *map, uint32_t lamp, uint8_t zoom, size_t *place) {
     return supercluster_owner(RV_STATE_(map), map->owners, map->room, lamp, zoom, place);
+}
+
+/* supercluster_post: replaces a lamp's figure, in watt-hours, in map->energy: the lamp's own in the finest table, and in each other table
+   that of its owner. Then all columns are as rv_load with the new figure leaves them. Nothing is carried. A refusal leaves the map as it
+   was: 11 by the state or where room is less than rv_entries_needed, 16 where count or more is asked for, 15 where figure is above 2^40,
+   11 where an owner or its energy does not fit, as in no map that only rv_load and rv_post have written. */
+static inline uint32_t rv_post(rv_map *map, uint32_t lamp, uint64_t figure) {
+    return supercluster_post(RV_STATE_(map), map->energy, map->room, map->owners, map->room, lamp, figure);
 }
 
 /* supercluster_zoom_used: the zoom in whose table box, ring and tile list places, and in whose table an owner has its place. */

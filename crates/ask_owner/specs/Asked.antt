@@ -23,9 +23,9 @@ ownerCarried (Place p) = p
 ownerCarried Lamp = 0
 ownerCarried Spoiled = 0
 
--- the state is sound, and a column of n places has N for each of its tables
-abbrev pub ownersReach : State → ℕ → Bool
-ownersReach s n = stateOk s n && leb (tableCount (s .options) * s .count) n
+-- the state is sound over columns of `room` entries, and an owner column of n places has N for each of its tables
+abbrev pub ownersReach : State → ℕ → ℕ → Bool
+ownersReach s room n = stateOk s room && leb (tableCount (s .options) * s .count) n
 
 -- where a lamp's owner in the table of zoom z stands in the column: N places a table, the finest first
 abbrev pub ownerSpot : State → ℕ → ℕ → ℕ
@@ -42,4 +42,5 @@ ownerRead s owners lamp z = ownerWithin (getD owners (ownerSpot s lamp z) 0) (le
 -- the question, its refusals in SCOPE's order: the state or a short column (11), no such lamp (16), a place past the table (11)
 unfoldable pub ownerAsked : State → List ℕ → ℕ → ℕ → OwnerReply
 ownerAsked s owners lamp zoom =
-    cond (ownersReach s (length owners)) (cond (ltb lamp (s .count)) (ownerRead s owners lamp (zoomUsed (s .options) zoom)) Lamp) Spoiled
+    cond (ownersReach s (length owners) (length owners))
+    (cond (ltb lamp (s .count)) (ownerRead s owners lamp (zoomUsed (s .options) zoom)) Lamp) Spoiled

@@ -53,18 +53,18 @@ fn index(x: u8) -> usize
     x as usize
 }
 
-// Whether the state is sound, and a column of so many places has N for each of its tables.
-fn reaches(s: State, room: usize) -> bool
-    ensures { λ r. ⌜ r ≡ ownersReach s room ⌝ }
+// Whether the state is sound over columns of so many entries, and an owner column of so many places has N for each of its tables.
+pub fn reaches(s: State, room: usize, owners: usize) -> bool
+    ensures { λ r. ⌜ r ≡ ownersReach s room owners ⌝ }
 {
     if !s.is_sound(room) {
         return false;
     }
-    build_tables::table_count(s.options) * wide(s.count) <= room
+    build_tables::table_count(s.options) * wide(s.count) <= owners
 }
 
 // Where a lamp's owner in the table of zoom z stands in the column.
-fn spot(s: State, lamp: u32, z: usize) -> usize
+pub fn spot(s: State, lamp: u32, z: usize) -> usize
     requires { ⌜ (z ≤ s .options .«max_zoom» + 1) × (ownerSpot s lamp z < 18446744073709551616) ⌝ }
     ensures { λ r. ⌜ r ≡ ownerSpot s lamp z ⌝ }
 {
@@ -87,7 +87,7 @@ fn within(s: State, z: usize, place: usize) -> OwnerReply
 
 // What the column says of a lamp of the build.
 fn read(s: State, owners: &[u32], lamp: u32, zoom: u8) -> OwnerReply
-    requires { ⌜ (ownersReach s (length (now owners)) ≡ true) × (lamp < s .count) ⌝ }
+    requires { ⌜ (ownersReach s (length (now owners)) (length (now owners)) ≡ true) × (lamp < s .count) ⌝ }
     ensures { λ r. ⌜ r ≡ ownerRead s (old owners) lamp (zoomUsed (s .options) zoom) ⌝ }
 {
     let o = s.options;
@@ -98,7 +98,7 @@ fn read(s: State, owners: &[u32], lamp: u32, zoom: u8) -> OwnerReply
 
 // What it says of any number.
 fn find(s: State, owners: &[u32], lamp: u32, zoom: u8) -> OwnerReply
-    requires { ⌜ ownersReach s (length (now owners)) ≡ true ⌝ }
+    requires { ⌜ ownersReach s (length (now owners)) (length (now owners)) ≡ true ⌝ }
     ensures { λ r. ⌜ r ≡ ownerAsked s (old owners) lamp zoom ⌝ }
 {
     if s.count <= lamp {
@@ -111,7 +111,7 @@ fn find(s: State, owners: &[u32], lamp: u32, zoom: u8) -> OwnerReply
 pub fn owner(s: State, owners: &[u32], lamp: u32, zoom: u8) -> OwnerReply
     ensures { λ r. ⌜ r ≡ ownerAsked s (old owners) lamp zoom ⌝ }
 {
-    if !reaches(s, owners.len()) {
+    if !reaches(s, owners.len(), owners.len()) {
         return OwnerReply::Spoiled;
     }
     find(s, owners, lamp, zoom)

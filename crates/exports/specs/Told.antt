@@ -16,6 +16,7 @@ use Rattle.ask_tile_table.specs.Tally.{tallyNumber, tallyValue}
 use Rattle.ask_tile.specs.Asked.{TileOutcome}
 use Rattle.ask_owner.specs.declared.OwnerReply.{OwnerReply}
 use Rattle.ask_owner.specs.Asked.{ownerNumber, ownerCarried}
+use Rattle.posting.specs.Post.{Posted, postNumber}
 
 -- of a question that has no output column
 pub record Said : Type 0 where
@@ -78,3 +79,14 @@ tileTold n k places xs ys = record { number = n; carried = k; places = places; x
 
 abbrev pub tileOf : TileOutcome → TileTold
 tileOf o = tileTold (answerNumber (o .answer)) (answerCarried (o .answer)) (o .places) (o .xs) (o .ys)
+
+-- of a posting: the number, and the energy column
+pub record PostTold : Type 0 where
+  pub number : ℕ
+  pub energy : List ℕ
+
+abbrev pub postTold : ℕ → List ℕ → PostTold
+postTold n energy = record { number = n; energy = energy }
+
+abbrev pub postToldOf : Posted → PostTold
+postToldOf p = postTold (postNumber (p .reply)) (p .energy)

@@ -16,6 +16,7 @@ ghost use Rattle.kdbush.specs.Reply.{buildNumber, buildCarried, built, indexChe
 ghost use Rattle.kdwalk.specs.Reply.{stepNumber, stepCarried, firstStep, afterStep};
 ghost use Rattle.exports.specs.Given.{ranged, givenOptions};
 ghost use Rattle.exports.specs.Told.{said, zoomSaid, tallySaid, ownerSaid, toldC, toldOf, effortTold, effortToldOf, tileTold, tileOf};
+ghost use Rattle.exports.specs.Told.{postTold, postToldOf};
 ghost use Rattle.exports.specs.Laid.{replied, repliedOf, laid, laidOf};
 ghost use Rattle.exports.specs.Read.{entryAsked, lentEntry, readAs, readOf};
 ghost use Rattle.owners.specs.LoadedWith.{loadedWith};
@@ -34,6 +35,7 @@ ghost use Rattle.ask_cluster.specs.Expansion.{zoomOf};
 ghost use Rattle.ask_tile.specs.Asked.{tiled};
 ghost use Rattle.ask_tile.specs.Tallied.{tallied};
 ghost use Rattle.ask_owner.specs.Asked.{ownerAsked};
+ghost use Rattle.posting.specs.Post.{posted};
 
 // The index of N points, xs_len of them, whose coordinates are from 0 to 1. Written are the first N entries of ids (the place of
 // each slot) and the first 2N of coords (its x and y), sorted by node_size (1 to 65,535); what lies behind them stays. Refused in
@@ -431,11 +433,11 @@ fn tell(loaded: Loaded, starts: &mut [u32; 32], lens: &mut [u32; 32], carried: &
 
 // Builds the tables of N points, xs_len of them: xs and ys in the coordinates of the options, energies in watt-hours. With need =
 // (max_zoom - min_zoom + 2) * N, each of the eleven columns from x to owners has at least need entries, coords twice as many. Written
-// are the tables in x, y, seen, id, parent, num, energy, the finest first, their indexes in ids and coords, 0 in the first 2N of near,
-// in the first need of owners each lamp's owner, N places a table, the finest first, and in starts and lens, by zoom, where each table
-// starts and how long it is; what lies behind stays. Carried is 0. Refused in this order, and then nothing but carried is written: 1 an
-// option, 2 N is not from 1 to 1,048,576 or ys or energies has not N, 3 a converted coordinate is not from 0 to 1, 15 an energy above
-// 2^40 (3 and 15 carry the first such point, from 0), 4 a column is too short.
+// are the tables in x, y, seen, id, parent, num, energy, the finest first, their indexes in ids and coords, 0 in the first 2N of
+// near, in the first need of owners each lamp's owner, N places a table, the finest first, and in starts and lens, by zoom, where
+// each table starts and how long it is; what lies behind stays. Carried is 0. Refused in this order, and then nothing but carried is
+// written: 1 an option, 2 N is not from 1 to 1,048,576 or ys or energies has not N, 3 a converted coordinate is not from 0 to 1, 15
+// an energy above 2^40 (3 and 15 carry the first such point, from 0), 4 a column is too short.
 #[no_mangle]
 pub extern "C" fn supercluster_load(
     min_zoom: u8,
@@ -583,8 +585,8 @@ pub extern "C" fn supercluster_box(
     r.number()
 }
 
-// The same within so many tests, the allowance, which the two halves of a box that crosses the date line share. Beside what was found,
-// tested is how many slots were tested, and stopped whether a test was left. Written and refused as for supercluster_box, but
+// The same within so many tests, the allowance, which the two halves of a box that crosses the date line share. Beside what was
+// found, tested is how many slots were tested, and stopped whether a test was left. Written and refused as for supercluster_box, but
 // 10 and 11 in the walk look only at the tests made. 0 and 10 leave tested and stopped as they come out; the other refusals 0 and
 // false.
 #[no_mangle]
@@ -1194,6 +1196,67 @@ pub extern "C" fn supercluster_owner(
     let s = state(o, count, starts, lens);
     let r = ask_owner::owner(s, owners, lamp, zoom);
     *place = r.carried();
+    r.number()
+}
+
+// Replaces the figure of one lamp, in watt-hours, without a new build. energy and owners are the columns that a build leaves. Written
+// are the lamp's own energy in the finest table and, in each other table, the energy of the entry that owns the lamp; all else stays,
+// so that the columns are as a build with the new figure leaves them. Refused in this order, and then nothing is written: 11 by the
+// state, or owners has fewer than (max_zoom - min_zoom + 2) * N entries, 16 lamp is not below N, 15 figure is above 2^40, 11 an
+// owner's place is past its table, in the finest table any but the lamp itself, or its energy is below the lamp's figure so far or
+// would pass 64 bits.
+#[no_mangle]
+pub extern "C" fn supercluster_post(
+    min_zoom: u8,
+    max_zoom: u8,
+    min_points: u8,
+    radius: f64,
+    extent: f64,
+    node_size: usize,
+    cartesian: bool,
+    min_x: f64,
+    min_y: f64,
+    max_x: f64,
+    max_y: f64,
+    offset_given: bool,
+    offset: f64,
+    scale_given: bool,
+    scale: f64,
+    longitude_strips_only: bool,
+    count: u32,
+    starts: &[u32; 32],
+    lens: &[u32; 32],
+    energy: &mut [u64],
+    owners: &[u32],
+    lamp: u32,
+    figure: u64,
+) -> u32
+    ensures { λ r.
+        let o = givenOptions «min_zoom» «max_zoom» «min_points» radius extent «node_size» cartesian «min_x» «min_y» «max_x» «max_y»
+        «offset_given» offset «scale_given» scale «longitude_strips_only» in
+        let s = stateOf o count (old starts) (old lens) in
+        ⌜ postTold r (new energy) ≡ postToldOf (posted s (old energy) (old owners) lamp figure) ⌝ }
+{
+    let o = options(
+        min_zoom,
+        max_zoom,
+        min_points,
+        radius,
+        extent,
+        node_size,
+        cartesian,
+        min_x,
+        min_y,
+        max_x,
+        max_y,
+        offset_given,
+        offset,
+        scale_given,
+        scale,
+        longitude_strips_only,
+    );
+    let s = state(o, count, starts, lens);
+    let r = posting::post(s, energy, owners, lamp, figure);
     r.number()
 }
 

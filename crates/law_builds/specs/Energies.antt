@@ -19,7 +19,7 @@ use Rattle.build_all_zooms.specs.Zooms.{Plan, zoomPlan, indexOfTable, nearIn, z
 use Rattle.supercluster.specs.Build.{convertedAll, lamp, finest, tablesOf}
 
 -- what has no energy is as it was
-field-bare : {A : Type 0} (f : Entry → A) → ((e : Entry) → f (bare e) ≡ f e) → (t : Table) → map f (bares t) ≡ map f t
+pub field-bare : {A : Type 0} (f : Entry → A) → ((e : Entry) → f (bare e) ≡ f e) → (t : Table) → map f (bares t) ≡ map f t
 field-bare f g [] = refl
 field-bare {A} f g (e ∷ t) = ap₂ (λ (a : A) (l : List A). a ∷ l) (g e) (field-bare f g t)
 

@@ -37,6 +37,8 @@ pub use lister_text::coordinate;
 pub use lister_text::options;
 pub use lister_text::parse;
 pub use owners::load;
+pub use posting::PostReply;
+pub use posting::post;
 pub use range::CoordinateSystem;
 pub use range::DataRange;
 pub use range::Point;

@@ -27,7 +27,7 @@ ghost use Rattle.supercluster.specs.laws.Ready.{Accepted, Made, firstSta
 ghost use Rattle.supercluster.specs.laws.Load.{Holds};
 
 // The largest energy of a point, in watt-hours: 2^40.
-const MOST_ENERGY: u64 = 1099511627776;
+pub const MOST_ENERGY: u64 = 1099511627776;
 
 // The reply of a build: refusals 1, 2, 3, 15 and 4, in this order. Two of them carry the first such point.
 pub enum LoadReply {

@@ -22,11 +22,13 @@
 mod calls;
 mod index;
 mod load;
+mod post;
 mod questions;
 mod range;
 
 pub use index::{build, Index, NO_SLOT};
 pub use load::{entries_needed, load, Given, Written};
+pub use post::post;
 pub use questions::{Asked, Columns, EffortReply, Entry, State};
 pub use range::{denormalize, normalize, zoom_used};
 

@@ -41,7 +41,7 @@ pub struct Columns<'a> {
     /// The coordinates of each slot, x and y.
     pub coords: &'a [f64],
     /// The place of each lamp's owner: N of them for each table, the finest first. [`Asked::owner`] is lent this column
-    /// alone, and no other question is lent it.
+    /// alone, [`post`](super::post()) beside that of the energies, and no other question is lent it.
     pub owners: &'a [u32],
 }
 

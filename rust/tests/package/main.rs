@@ -4,6 +4,7 @@ mod index;
 mod lent_tables;
 mod owners;
 mod pages;
+mod posts;
 mod readme;
 mod refusals;
 mod rooms;

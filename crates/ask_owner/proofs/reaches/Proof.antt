@@ -8,7 +8,7 @@ use borrow.Author.Tests.{not-true, not-false}
 use Rattle.build_tables.specs.Options.{tableCount}
 use Rattle.build_tables.specs.Sound.{stateOk}
 use Rattle.build_tables.specs.laws.Sound.{given}
-use Rattle.ask_owner.proofs.Reach.{few}
+use Rattle.ask_owner.specs.laws.Reach.{few}
 use Rattle.ask_owner.proofs.reaches.Statement.{statement}
 use Rattle.ask_owner.proofs.reaches.Tie as tie
 

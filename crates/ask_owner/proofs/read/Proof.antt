@@ -12,7 +12,7 @@ use Rattle.build_tables.specs.Options.{zoomUsed}
 use Rattle.build_tables.specs.State.{lenOf}
 use Rattle.ask_owner.specs.declared.OwnerReply.{OwnerReply}
 use Rattle.ask_owner.specs.Asked.{ownerSpot, ownerWithin, ownerRead}
-use Rattle.ask_owner.proofs.Reach.{Spotted, spotted}
+use Rattle.ask_owner.specs.laws.Reach.{Spotted, spotted}
 use Rattle.ask_owner.proofs.read.Statement.{statement}
 use Rattle.ask_owner.proofs.read.Tie as tie
 
@@ -28,7 +28,7 @@ known i =
     let s = begin i in
     let a = s .args in
     subst (Spotted (a .s) (length (now (a .owners))) (a .lamp)) (sym (used-is i))
-    (spotted (a .s) (length (now (a .owners))) (a .lamp) (a .zoom) (s .pre .0) (s .pre .1))
+    (spotted (a .s) (length (now (a .owners))) (length (now (a .owners))) (a .lamp) (a .zoom) (s .pre .0) (s .pre .1))
 
 zoom-used-requires : tie.Need-zoom-used-requires
 zoom-used-requires c κs = search needs

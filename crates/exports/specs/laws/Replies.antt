@@ -30,7 +30,9 @@ use Rattle.ask_cluster.specs.Expansion.{zoomOf}
 use Rattle.ask_tile.specs.Asked.{tiled}
 use Rattle.ask_tile.specs.Tallied.{tallied}
 use Rattle.ask_owner.specs.Asked.{ownerAsked}
+use Rattle.posting.specs.Post.{posted}
 use Rattle.exports.specs.Told.{Said, zoomSaid, tallySaid, ownerSaid, Told, toldOf, EffortTold, effortToldOf, TileTold, tileOf}
+use Rattle.exports.specs.Told.{PostTold, postToldOf}
 use Rattle.exports.specs.Laid.{Laid, laidOf}
 use Rattle.exports.specs.Read.{entryAsked, ReadAs, readOf}
 
@@ -117,6 +119,11 @@ module _ (s : State) (c : Columns) (z x y : ℕ) where
 pub owner-replies : (s : State) (owners : List ℕ) (lamp zoom : ℕ) (r t : Said) → r ≡ ownerSaid (ownerAsked s owners lamp zoom)
     → t ≡ ownerSaid (ownerAsked s owners lamp zoom) → r ≡ t
 owner-replies s owners lamp zoom r t = same-reply
+
+-- `supercluster_post`
+pub post-replies : (s : State) (energy owners : List ℕ) (lamp figure : ℕ) (r t : PostTold)
+    → r ≡ postToldOf (posted s energy owners lamp figure) → t ≡ postToldOf (posted s energy owners lamp figure) → r ≡ t
+post-replies s energy owners lamp figure r t = same-reply
 
 -- `supercluster_entry`
 pub entry-replies : (s : State) (c : Columns) (zoom place : ℕ) (before : Entry) (r t : ReadAs)

@@ -98,7 +98,7 @@ module _ (G : Given) (a : AcceptedBuild G) where
 
   -- ---- energies: the given one of each lamp
 
-  lamp-energy : (l : ℕ) → l < points G → entry (tableOfZoom G (maxZ G + 1)) l .energy ≡ energyAt G l
+  pub lamp-energy : (l : ℕ) → l < points G → entry (tableOfZoom G (maxZ G + 1)) l .energy ≡ energyAt G l
   lamp-energy l h = ap energyOf (first-same G a l h)
 
   -- an entry's energy is the sum of the given energies over the lamps that it owns

@@ -44,18 +44,18 @@ module _ (G : Given) (a : AcceptedBuild G) (own : List ℕ) (r : need (G .option
   low : minZ G ≤ maxZ G
   low = options-are (G .options) (a .options) .zooms
 
-  kept-long : length (laidOver (ownerColumn (points G) (tablesOfBuild G)) own) ≡ length own
+  pub kept-long : length (laidOver (ownerColumn (points G) (tablesOfBuild G)) own) ≡ length own
   kept-long =
       let n : tableCount (G .options) ≡ length (tablesOfBuild G) = omega (arith, many, low) in
       let e : need (G .options) (points G) ≡ length (tablesOfBuild G) * points G = ap (λ (k : ℕ). k * points G) n in
       over-length (ownerColumn (points G) (tablesOfBuild G)) own (omega (arith, column-long (points G) (tablesOfBuild G), e, r))
 
-  stored-at : (z l : ℕ) → minZ G ≤ z → z ≤ maxZ G + 1 → l < points G
+  pub stored-at : (z l : ℕ) → minZ G ≤ z → z ≤ maxZ G + 1 → l < points G
       → getD (laidOver (ownerColumn (points G) (tablesOfBuild G)) own) (ownerSpot (stateBy G) l z) 0 ≡ owner G z l
   stored-at z l h k w =
       column-at (points G) (tablesOfBuild G) (maxZ G + 1 - z) l own (omega (arith, many, low, h)) w ∙ owner-kept G a z h k l w
 
-  reached : ownersReach (stateBy G) (length (laidOver (ownerColumn (points G) (tablesOfBuild G)) own)) ≡ true
+  reached : let n = length (laidOver (ownerColumn (points G) (tablesOfBuild G)) own) in ownersReach (stateBy G) n n ≡ true
   reached =
       let n = kept-long in
       rw (

@@ -147,6 +147,12 @@ pub none-over : (ws : List ℕ) (i : ℕ) → firstOver ws i ≡ Nothing → (k 
 none-over [] i e k = omega arith
 none-over (w ∷ ws) i e k = none-by w ws i (λ k j q. none-over ws j q k) _ refl e k
 
+-- and where every energy is, there is none
+pub all-light : (ws : List ℕ) (i : ℕ) → ((k : ℕ) → getD ws k 0 ≤ mostEnergy) → firstOver ws i ≡ Nothing
+unfolding firstOver
+all-light [] i h = refl
+all-light (w ∷ ws) i h = rw (le-leb w mostEnergy (h 0), firstOver) (all-light ws (suc i) (λ k. h (suc k)))
+
 -- ---- the first point outside, from i on
 
 module _ (c : CoordinateSystem) (xs ys : List Float) (i : ℕ) where

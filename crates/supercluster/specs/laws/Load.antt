@@ -43,7 +43,7 @@ abbrev pub roomy : ℕ → BuildColumns → Bool
 roomy m l = leb m (roomIn l)
 
 -- every test of a build that is not refused
-done-by : (a b : Bool) (p q : Outside) (r : Bool) → ordered a b p q r ≡ Done → (a ≡ true) × (b ≡ true) × (p ≡ Nothing) × (q ≡ Nothing)
+pub done-by : (a b : Bool) (p q : Outside) (r : Bool) → ordered a b p q r ≡ Done → (a ≡ true) × (b ≡ true) × (p ≡ Nothing) × (q ≡ Nothing)
     × (r ≡ true)
 done-by true true Nothing Nothing true e = (refl, refl, refl, refl, refl)
 done-by true true Nothing Nothing false e = let z : _≡_ {A = ℕ} 0 1 = cc in absurd (omega arith)

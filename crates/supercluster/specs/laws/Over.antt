@@ -22,7 +22,7 @@ over-over T F R h =
     (ap (λ (k : ℕ). drop k (laidOver F R)) q ∙ drop-append-add F (drop (length F) R) (length T - length F)
     ∙ drop-drop (length T - length F) (length F) R ∙ ap (λ (k : ℕ). drop k R) (sym q))
 
-map-append : {B : Type 0} (f : Entry → B) (a b : Table) → map f (a ++ b) ≡ map f a ++ map f b
+pub map-append : {B : Type 0} (f : Entry → B) (a b : Table) → map f (a ++ b) ≡ map f a ++ map f b
 map-append f [] b = refl
 map-append f (e ∷ a) b = ap (λ (l : List _). f e ∷ l) (map-append f a b)
 

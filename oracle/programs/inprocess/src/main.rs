@@ -8,6 +8,7 @@ mod index;
 mod leaves;
 mod owners;
 mod package;
+mod posts;
 mod questions;
 mod tables;
 mod tallies;
@@ -17,7 +18,7 @@ use group_counts as report;
 use std::{env, process::ExitCode};
 
 const USAGE: &str =
-    "usage: inprocess index|tables|questions|overlap|leaves|effort|tallies|owners|package [--full], or questions --spoiled";
+    "usage: inprocess index|tables|questions|overlap|leaves|effort|tallies|owners|posts|package [--full], or questions --spoiled";
 
 /// How many entries stand behind a lent column, out of the callee's reach.
 const GUARD: usize = 2;
@@ -43,6 +44,8 @@ fn main() -> ExitCode {
         ["tallies", "--full"] => tallies::run(Form::Full),
         ["owners"] => owners::run(Form::Short),
         ["owners", "--full"] => owners::run(Form::Full),
+        ["posts"] => posts::run(Form::Short),
+        ["posts", "--full"] => posts::run(Form::Full),
         ["package"] => package::run(Form::Short),
         ["package", "--full"] => package::run(Form::Full),
         _ => {

@@ -19,7 +19,7 @@ impl Reply {
     }
 }
 
-/// SCOPE's refusals of a question, by their numbers. 10 is not among them: it depends on the room alone.
+/// SCOPE's refusals of a question and of a posting, by their numbers. 10 is not among them: it depends on the room alone.
 #[derive(Clone, Copy, Debug, PartialEq, Eq)]
 pub enum Refusal {
     NoTree = 5,
@@ -28,6 +28,7 @@ pub enum Refusal {
     EmptyTile = 8,
     Box = 9,
     Spoiled = 11,
+    Energy = 15,
     Lamp = 16,
 }
 
@@ -35,7 +36,7 @@ impl Refusal {
     /// The refusal with this number.
     pub fn numbered(number: u32) -> Option<Refusal> {
         use Refusal::*;
-        let all = [NoTree, NoCluster, Tile, EmptyTile, Box, Spoiled, Lamp];
+        let all = [NoTree, NoCluster, Tile, EmptyTile, Box, Spoiled, Energy, Lamp];
         all.into_iter().find(|refusal| *refusal as u32 == number)
     }
 }

@@ -1,5 +1,5 @@
-//! An independent reference for the questions to a build, written from the scope: its questions, 'The
-//! index' and 'Numbered replies', and from the requests. It takes any state and any lent columns.
+//! An independent reference for the questions to a build, and for posting a reading to one, written from the scope: its
+//! questions, 'The index' and 'Numbered replies', and from the requests. It takes any state and any lent columns.
 //!
 //! A question is answered whole, as a list and perhaps a refusal behind it; what that leaves in output
 //! columns, and the reply, follow from the list and from the room that there is.
@@ -12,6 +12,7 @@ mod home;
 mod ids;
 mod leaves;
 mod owner;
+mod post;
 mod question;
 mod ring;
 mod search;
@@ -28,6 +29,7 @@ pub use ids::{decoded, encoded};
 pub use leaves::leaves;
 pub use options::ZOOMS;
 pub use owner::{climbed, owner};
+pub use post::post;
 pub use question::{Out, Outcome, Question};
 pub use ring::ring;
 pub use state::State;

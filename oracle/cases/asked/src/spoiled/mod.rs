@@ -9,11 +9,13 @@ mod chance;
 mod entries;
 mod most;
 mod owners;
+mod posts;
 mod slots;
 mod states;
 
 pub use most::states as most;
 pub use owners::owners;
+pub use posts::{posts, Posts, Reading, UNCHANGED};
 
 use crate::{large, lengthen, Build, Form};
 use options::{corners, Options};

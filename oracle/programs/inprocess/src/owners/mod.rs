@@ -49,6 +49,6 @@ fn differs(
 }
 
 /// Lamps that a build of so many does not have.
-fn beyond(count: u32) -> [u32; 5] {
+pub fn beyond(count: u32) -> [u32; 5] {
     [count, count.wrapping_add(1), count.wrapping_mul(2), 1 << 31, u32::MAX]
 }

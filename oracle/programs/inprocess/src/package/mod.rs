@@ -135,6 +135,17 @@ pub fn owner(state: &questions::State, owners: &[u32], lamp: u32, zoom: u8) -> R
     asked.owner(lamp, zoom)
 }
 
+/// A reading posted to a state, the column of the energies and that of the owners.
+pub fn post(
+    state: &questions::State,
+    energy: &mut [u64],
+    owners: &[u32],
+    lamp: u32,
+    figure: u64,
+) -> Reply {
+    lent::post(&as_state(state), energy, owners, lamp, figure)
+}
+
 /// The options as the package has them.
 fn as_options(options: &Options) -> reachvolem::Options {
     reachvolem::Options {

@@ -24,23 +24,30 @@ few s cap e =
 row : (k t n l : ℕ) → k < t → l < n → k * n + l < t * n
 row k t n l h i = let w : suc k * n ≤ t * n = mul-le-mul-right n h in omega (arith, w, suc-mul k n, i)
 
--- what is known of the zoom used: it has a table, and the lamp's spot there lies in the column
+-- what is known of a zoom that has a table: the lamp's spot there lies in the column
 pub record Spotted (s : State) (n lamp z : ℕ) : Type 0 where
   pub top : z ≤ s .options .«max_zoom» + 1
   pub small : z < 32
   pub inside : ownerSpot s lamp z < n
 
-pub spotted : (s : State) (n lamp zoom : ℕ) → ownersReach s n ≡ true → lamp < s .count → Spotted s n lamp (zoomUsed (s .options) zoom)
-spotted s n lamp zoom e l =
+pub spotted-at : (s : State) (room n lamp z : ℕ) → ownersReach s room n ≡ true → lamp < s .count → s .options .«min_zoom» ≤ z
+    → z ≤ s .options .«max_zoom» + 1 → Spotted s n lamp z
+spotted-at s room n lamp z e l lo hi =
     let t = tableCount (s .options) in
-    let a = and-both (stateOk s n) (leb (t * s .count) n) e in
-    let g = given s n (a .0) in
-    let u = used-between (s .options) zoom (g .zooms) in
-    let k = s .options .«max_zoom» + 1 - zoomUsed (s .options) zoom in
-    let h : k < t = omega (arith, u, g .zooms) in
+    let a = and-both (stateOk s room) (leb (t * s .count) n) e in
+    let g = given s room (a .0) in
+    let k = s .options .«max_zoom» + 1 - z in
+    let h : k < t = omega (arith, lo, hi, g .zooms) in
     record {
-      top = u .1;
-      small = omega (arith, u, g .zoom-to);
-      inside =
-          omega (arith, row k t (s .count) lamp h l, leb-true (t * s .count) n (a .1));
+      top = hi;
+      small = omega (arith, hi, g .zoom-to);
+      inside = omega (arith, row k t (s .count) lamp h l, leb-true (t * s .count) n (a .1));
     }
+
+-- so of the zoom used
+pub spotted : (s : State) (room n lamp zoom : ℕ) → ownersReach s room n ≡ true → lamp < s .count
+    → Spotted s n lamp (zoomUsed (s .options) zoom)
+spotted s room n lamp zoom e l =
+    let g = given s room (and-both (stateOk s room) (leb (tableCount (s .options) * s .count) n) e .0) in
+    let u = used-between (s .options) zoom (g .zooms) in
+    spotted-at s room n lamp (zoomUsed (s .options) zoom) e l (u .0) (u .1)
