@@ -1,6 +1,7 @@
 // What every question to a build rests on: its answer, the lent columns and the parts of them that hold one table, where a cluster's id
 // leads, and the ring around an entry, in which its children are. A question looks at the state first (`State::is_sound`); what is asked
 // here of a caller follows from that.
+#![tactic(auto)]
 ghost use Rattle.std.specs.Prelude.{◌≡◌, ◌+◌, ◌*◌, ◌<◌, ◌≤◌, length, set};
 ghost use Rattle.kdwalk.specs.declared.Step.TheVariants.{Done};
 ghost use Rattle.kdwalk.specs.Reply.{next_step};
@@ -22,7 +23,7 @@ use kdpages::{Pages, Turned};
 use kdslots::Query;
 
 // The answer of a question that lists, in SCOPE's words: how many items, or a refusal. `Listed` and `NoRoom` carry the whole length.
-#[derive(Drop)]
+#[derive(Clone, Copy)]
 pub enum Answer {
     Listed(usize),
     NoTree,
@@ -117,7 +118,7 @@ pub fn entry_in(
 }
 
 // Where a cluster's id leads: to the origin in its table, or to a refusal.
-#[derive(Drop)]
+#[derive(Clone, Copy)]
 pub enum Target {
     At { table: usize, origin: usize },
     Spoiled,
@@ -186,7 +187,7 @@ pub fn go_on(s: State, table: usize, id: u32) -> Target
 }
 
 // A table by its part of the columns, and a search in it: around (x, y).
-#[derive(Drop)]
+#[derive(Clone, Copy)]
 pub struct Ring {
     pub start: usize,
     pub len: usize,

@@ -1,5 +1,6 @@
 // Box and ring: the places of a table that a search finds. Nothing is asked of the caller: what SCOPE does not take is refused with its
 // number.
+#![tactic(auto)]
 ghost use Rattle.std.specs.Prelude.{◌≡◌, true, ◌+◌, ◌*◌, ◌≤◌, length};
 ghost use Rattle.lent.specs.Lent.{old, new};
 ghost use Rattle.kdslots.specs.Query.{query_ok};
@@ -21,7 +22,7 @@ use kdbush::SearchReply;
 use kdslots::Query;
 
 // How one search came out: how many places it found, or that a slot names a place past the table.
-#[derive(Drop)]
+#[derive(Clone, Copy)]
 enum Part {
     All(usize),
     Past,

@@ -1,6 +1,7 @@
 // A box as it is searched: the rule for its longitudes, the one or two searches that it comes to, and whether it is one that SCOPE
 // takes. Every question about a box rests on it. Of its four numbers, y grows downwards on a mercator map, so that least_y is the northern
 // edge of a longitude build; on a Cartesian plan it is the least y as given.
+#![tactic(auto)]
 ghost use Rattle.std.specs.Prelude.{◌≡◌};
 ghost use Rattle.ask_box_plan.specs.Rule.{wrapped, wrapped_east, new_west, new_east, box_of, plan_of, box_ok};
 ghost use Rattle.ask_box_plan.specs.laws.Queries.{queries_of};
@@ -9,14 +10,14 @@ use kdslots::Query;
 use range::{CoordinateSystem, Point};
 
 // The edges of a box of longitudes after the rule.
-#[derive(Drop)]
+#[derive(Clone, Copy)]
 struct Edges {
     west: f64,
     east: f64,
 }
 
 // What is searched: the first, and then the second if there are two.
-#[derive(Drop)]
+#[derive(Clone, Copy)]
 pub struct BoxPlan {
     pub first: Query,
     pub second: Query,

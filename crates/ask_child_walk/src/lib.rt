@@ -1,4 +1,5 @@
 // The children of a cluster, one at a time and into a column: what the questions that walk from cluster to cluster rest on.
+#![tactic(auto)]
 ghost use Rattle.std.specs.Prelude.{◌≡◌, ◌+◌, ◌≤◌};
 ghost use Rattle.lent.specs.Lent.{old, new};
 ghost use Rattle.kdslots.specs.laws.All.{AllBelow};
@@ -14,7 +15,7 @@ use kdwalk::Step;
 
 // The next child of a cluster: where the walk stands after it, its place and its entry; or none is left; or a slot that names a place past
 // the table comes before it.
-#[derive(Drop)]
+#[derive(Clone, Copy)]
 pub enum Child {
     At {
         pages: Pages,
@@ -26,7 +27,7 @@ pub enum Child {
 }
 
 // How many children there are, or that a slot names a place past the table.
-#[derive(Drop)]
+#[derive(Clone, Copy)]
 pub enum Kids {
     All(usize),
     Spoiled,

@@ -1,5 +1,6 @@
 // The questions that walk from cluster to cluster: the children of a cluster, the zoom at which it falls apart, and its lamps. Each looks
 // at the state first, then at where the id leads.
+#![tactic(auto)]
 ghost use Rattle.std.specs.Prelude.{◌≡◌, true, ℕ, ◌+◌, ◌-◌, ◌≤◌, length};
 ghost use Rattle.lent.specs.Lent.{old, new};
 ghost use Rattle.ask_base.specs.declared.Target.TheVariants.{At as Target-as-At};
@@ -59,7 +60,7 @@ pub fn children(
 }
 
 // The zoom at which a cluster falls apart, or a refusal.
-#[derive(Drop)]
+#[derive(Clone, Copy)]
 pub enum Expansion {
     At(u8),
     NoTree,
@@ -94,7 +95,7 @@ impl Expansion {
 }
 
 // The children of a cluster, as far as its expansion goes by them: a sole one that is a cluster, with its id; none; or others.
-#[derive(Drop)]
+#[derive(Clone, Copy)]
 enum Fetched {
     Cluster(u32),
     Nobody,
@@ -238,7 +239,7 @@ pub fn expansion_zoom(
 }
 
 // What becomes of a child in a walk over lamps: so many are then skipped; or it is entered; or it is listed.
-#[derive(Drop)]
+#[derive(Clone, Copy)]
 enum Fate {
     Skipped(u32),
     Entered,
@@ -261,7 +262,7 @@ fn fate_of(offset: u32, skipped: u32, num: u32) -> Fate
 }
 
 // A leg of a walk over lamps: how many entries the columns hold, the table that it is in, and which of the lamps are asked for.
-#[derive(Drop)]
+#[derive(Clone, Copy)]
 struct Leg {
     cap: usize,
     table: usize,
@@ -270,14 +271,14 @@ struct Leg {
 }
 
 // How many lamps a walk has skipped, and how many it has listed.
-#[derive(Drop)]
+#[derive(Clone, Copy)]
 struct Sofar {
     skipped: u32,
     listed: usize,
 }
 
 // What a walk into a cluster comes to: so far; or so many were listed when it broke, or when the cluster had no children.
-#[derive(Drop)]
+#[derive(Clone, Copy)]
 enum Walk {
     Went(Sofar),
     Broke(usize),

@@ -2,6 +2,7 @@
 // count, and say how many were made and whether one was left. The tests are those of the definition of the search, each slot of an
 // interval that is not split and each median of one that is; nothing is narrowed away first, since the definition tests what narrowing
 // leaves out.
+#![tactic(auto)]
 ghost use Rattle.std.specs.Prelude.{◌≡◌, true, [], ◌∷◌, ◌+◌, ◌-◌, ◌*◌, ◌^◌, ◌≤◌, ◌<◌, length};
 ghost use Rattle.lent.specs.Lent.{old, new};
 ghost use Rattle.kdsort.specs.Shape.{shape};
@@ -17,7 +18,7 @@ use ask_box_plan::BoxPlan;
 use kdslots::Query;
 
 // How many places were found, how many slots were tested, and whether a test was left.
-#[derive(Drop)]
+#[derive(Clone, Copy)]
 pub struct Effort {
     pub items: usize,
     pub tested: usize,
@@ -26,7 +27,7 @@ pub struct Effort {
 
 // The reply, in SCOPE's words: what was found within the allowance, or a refusal. `NoRoom` is judged on what was found before the stop, and
 // carries it.
-#[derive(Drop)]
+#[derive(Clone, Copy)]
 pub enum EffortReply {
     Found(Effort),
     Box,
@@ -62,7 +63,7 @@ impl EffortReply {
 
 // How far a search came: how many places it found and how many tests it may still make. It is over where a test is due and none is
 // allowed, or where a slot that passes names a place past the table, which spoils it.
-#[derive(Drop)]
+#[derive(Clone, Copy)]
 struct Spent {
     found: usize,
     left: usize,

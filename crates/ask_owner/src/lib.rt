@@ -1,5 +1,6 @@
 // The question 'owner' to a build: the entry that owns a lamp in the table of a zoom, read from the column that the build leaves. Nothing
 // is asked of the caller: what SCOPE does not take is refused with its number.
+#![tactic(auto)]
 ghost use Rattle.std.specs.Prelude.{◌≡◌, true, ◌+◌, ◌<◌, ◌≤◌, length};
 ghost use Rattle.lent.specs.Lent.{old};
 ghost use Rattle.build_tables.specs.Options.{zoom_used};
@@ -9,7 +10,7 @@ ghost use Rattle.ask_owner.specs.Asked.{owner_number, owner_carried, owners_reac
 use build_tables::State;
 
 // The reply, in SCOPE's words: the owner's place in the table of the zoom used, or a refusal.
-#[derive(Drop)]
+#[derive(Clone, Copy)]
 pub enum OwnerReply {
     Place(usize),
     Lamp,

@@ -1,4 +1,5 @@
 // The questions 'tile' and 'tile tally' to a build. Nothing is asked of the caller: what SCOPE does not take is refused with its number.
+#![tactic(auto)]
 ghost use Rattle.std.specs.Prelude.{◌≡◌, true, ◌+◌, ◌<◌};
 ghost use Rattle.lent.specs.Lent.{old, new};
 ghost use Rattle.build_tables.specs.Options.{zoom_used};
@@ -40,7 +41,7 @@ fn some_of(k: usize, room: usize) -> Answer
 }
 
 // Where the table of the zoom used stands in the columns: its start and its length.
-#[derive(Drop)]
+#[derive(Clone, Copy)]
 struct Part {
     start: usize,
     len: usize,

@@ -1,4 +1,5 @@
 // What a tile lists of one table, and its tally. The table and its index stand alone in the lent columns.
+#![tactic(auto)]
 ghost use Rattle.std.specs.Prelude.{◌≡◌, true, false, not, cond, ◌&&◌, [], ◌∷◌, ◌+◌, ◌*◌, ◌/◌, ◌^◌, ◌<◌, ◌≤◌, T, eqb, ltb, length, set};
 ghost use Rattle.std.specs.Float.Ieee.{le, neg};
 ghost use Rattle.lent.specs.Lent.{old, new};
@@ -29,7 +30,7 @@ use range::CoordinateSystem;
 
 // One search of a tile: whether the tile has it, what it asks of the index, and what stands for the tile's x and y in the items that it
 // finds.
-#[derive(Drop)]
+#[derive(Clone, Copy)]
 pub struct TileSearch {
     pub made: bool,
     pub query: Query,
@@ -41,7 +42,7 @@ pub struct TileSearch {
 }
 
 // An entry that is listed: its place in the table, and its place in the tile.
-#[derive(Drop)]
+#[derive(Clone, Copy)]
 pub struct Item {
     pub place: u32,
     pub x: i64,
@@ -49,21 +50,21 @@ pub struct Item {
 }
 
 // How far the listing came: how many items there are, or that an entry cannot be listed.
-#[derive(Drop)]
+#[derive(Clone, Copy)]
 pub enum Ran {
     All(usize),
     Spoiled,
 }
 
 // The entry at a place, if it can be listed.
-#[derive(Drop)]
+#[derive(Clone, Copy)]
 pub enum Named {
     At(Entry),
     Bad,
 }
 
 // The answer of a tally, in SCOPE's words: the sum, or a refusal.
-#[derive(Drop)]
+#[derive(Clone, Copy)]
 pub enum Tally {
     Sum(u64),
     Tile,
@@ -431,7 +432,7 @@ fn add_once(marks: &mut [u8], q: usize, num: u32, sum: u64) -> u64
 }
 
 // The edges of a tile, between which it holds an entry's centre: the first of a pair is in, the second is not.
-#[derive(Drop)]
+#[derive(Clone, Copy)]
 pub struct Home {
     pub west: f64,
     pub east: f64,
@@ -487,7 +488,7 @@ fn weigh(h: Home, e: Entry) -> u32
 
 // A tally on its way: whether everything that was found is tallied, whether the marks could tell what was counted before, how many are
 // listed, and their sum.
-#[derive(Drop)]
+#[derive(Clone, Copy)]
 pub struct Running {
     pub whole: bool,
     pub sure: bool,

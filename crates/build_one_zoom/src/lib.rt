@@ -1,6 +1,7 @@
 // One zoom, `cluster` of the Rust: the entries of a table in order, each passed by, or made a cluster with its unseen neighbours, or
 // copied with them. The table stands in the first `len` rows of the lent columns, and the next one, `done` entries so far, right after
 // it. An entry is read as one record.
+#![tactic(auto)]
 ghost use Rattle.std.specs.Prelude.{◌≡◌, List, ◌++◌, ℕ, ◌+◌, ◌-◌, ◌*◌, ◌^◌, ◌<◌, ◌≤◌, T, length, get_or, take};
 ghost use Rattle.std.specs.Float.Ieee.Scale.{finite};
 ghost use Rattle.kdsort.specs.Cols.{key};
@@ -24,7 +25,7 @@ use kdbush::SearchReply;
 use kdslots::Query;
 
 // The running sums of a cluster: coordinates times nums, and energies.
-#[derive(Drop)]
+#[derive(Clone, Copy)]
 struct Sums {
     x: f64,
     y: f64,
@@ -362,7 +363,7 @@ fn note_two(
 }
 
 // A note, and how many places are answered.
-#[derive(Drop)]
+#[derive(Clone, Copy)]
 struct Note {
     note: u32,
     found: usize,

@@ -1,6 +1,7 @@
 // The owner column of a build: each lamp's owner in each table, as a place of the table, filled from the finest table down. No entry is
 // searched for by its id: each began with a lamp, and the place that owns this lamp in the finer table goes to it.
 // Below the surface: what is asked of the caller `owners::load` has shown.
+#![tactic(auto)]
 ghost use Rattle.std.specs.Prelude.{◌≡◌, ◌⊎◌, ℕ, suc, ◌+◌, ◌-◌, ◌*◌, ◌<◌, ◌≤◌, length, get_or, replicate};
 ghost use Rattle.lent.specs.Lent.{old, new};
 ghost use Rattle.build_tables.specs.Entries.{entry, unset};

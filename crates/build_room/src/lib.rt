@@ -1,4 +1,5 @@
 // How many entries lent columns hold: those of a table, of an index, of a build. Every question and the build look at it first.
+#![tactic(auto)]
 ghost use Rattle.std.specs.Prelude.{◌≡◌, ◌/◌, min};
 ghost use Rattle.lent.specs.Lent.{old};
 ghost use Rattle.build_tables.specs.Room.{index_room, room_by, room_of};

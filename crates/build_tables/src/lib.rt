@@ -1,5 +1,6 @@
 // What a build is given and what it leaves: the options, the state, an entry of a table, the ids of clusters and the radius of a zoom.
 // The tables stand in seven lent columns; an entry is read and written as one record of these seven.
+#![tactic(auto)]
 ghost use Rattle.std.specs.Prelude.{◌≡◌, ◌&&◌, ◌+◌, ◌<◌, ◌≤◌, min, eqb, length, set};
 ghost use Rattle.build_tables.specs.Given.{setting_of, system_of};
 ghost use Rattle.build_tables.specs.Options.{options_ok, zooms_ok, radius_ok, extent_ok, table_count, raised, zoom_used};
@@ -16,7 +17,7 @@ ghost use Rattle.build_tables.specs.Radius.{radius_at};
 use range::{CoordinateSystem, DataRange, Setting};
 
 // What a build goes by.
-#[derive(Drop)]
+#[derive(Clone, Copy)]
 pub struct Options {
     pub min_zoom: u8,
     pub max_zoom: u8,
@@ -30,7 +31,7 @@ pub struct Options {
 }
 
 // A build, as a value: its options, its number of points, and where the table of each zoom starts and how long it is.
-#[derive(Drop)]
+#[derive(Clone, Copy)]
 pub struct State {
     pub options: Options,
     pub count: u32,
@@ -51,7 +52,7 @@ pub const ZOOMS: u32 = 32;
 pub const UNSET: u32 = 4294967295;
 
 // An entry of a table.
-#[derive(Drop)]
+#[derive(Clone, Copy)]
 pub struct Entry {
     pub x: f64,
     pub y: f64,

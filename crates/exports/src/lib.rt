@@ -4,6 +4,7 @@
 // carries nothing; an entry's fields are left one by one. But `supercluster_normalize`, `supercluster_denormalize` and
 // `supercluster_zoom_used` refuse nothing, and answer their value. Proved: each tells what the public function promises, and writes
 // nothing else. Assumed: nothing.
+#![tactic(auto)]
 ghost use Rattle.std.specs.Prelude.{◌≡◌, length};
 ghost use Rattle.kdbush.specs.Reply.{build_number, build_carried, built, index_checked, search_number, search_carried, searched, column_after};
 ghost use Rattle.kdwalk.specs.Reply.{step_number, step_carried, first_step, after_step};
@@ -1159,7 +1160,7 @@ pub extern "C" fn supercluster_post(
 }
 
 // What a zoom and a place lead to: an entry of a table, or a refusal.
-#[derive(Drop)]
+#[derive(Clone, Copy)]
 enum Read {
     At { entry: Entry },
     NoTree,

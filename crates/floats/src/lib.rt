@@ -1,7 +1,9 @@
 // Tests and functions on f64 whose meaning is said in the words of lib.Ieee, and below specs/ the laws of f64 that the other crates rest
 // on.
-ghost use Rattle.std.specs.Prelude.{◌≡◌, ◌^◌, ◌<◌, ◌&&◌, T, is_nan};
-ghost use Rattle.std.specs.Float.Ieee.{le, neg};
+#![tactic(auto)]
+
+ghost use Rattle.std.specs.Prelude.{◌≡◌, ◌^◌, ◌<◌, ◌&&◌, T};
+ghost use Rattle.std.specs.Float.Ieee.{le, neg, is_nan};
 ghost use Rattle.std.specs.Float.Ieee.Scale.{finite};
 ghost use Rattle.floats.specs.Numbers.{zero, pow48, float};
 ghost use Rattle.floats.specs.Unit.{in01};

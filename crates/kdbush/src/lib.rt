@@ -1,5 +1,6 @@
 // The index: a static KD-tree over points, in two lent columns. It is built, and searched by a box (`range`) or a circle (`within`).
 // The names are the Rust's kdbush.rs. Nothing is asked of the caller: what SCOPE does not take is refused with its number.
+#![tactic(auto)]
 ghost use Rattle.std.specs.Prelude.{◌≡◌, [], ◌∷◌, ◌+◌, ◌-◌, ◌*◌, ◌^◌, ◌≤◌, ◌<◌, length};
 ghost use Rattle.lent.specs.Lent.{old, new};
 ghost use Rattle.kdsort.specs.Lent.{lent_index};
@@ -13,7 +14,7 @@ ghost use Rattle.kdbush.specs.Reply.{first_outside, index_checked, built, listed
 use kdslots::Query;
 
 // The reply of a build, in SCOPE's words: done, or a refusal. `Point` carries the first point outside [0,1].
-#[derive(Drop)]
+#[derive(Clone, Copy)]
 pub enum BuildReply {
     Done,
     Options,
@@ -51,7 +52,7 @@ impl BuildReply {
 }
 
 // The reply of a search: how many places it found, or a refusal. `NoRoom` carries the whole length of the answer.
-#[derive(Drop)]
+#[derive(Clone, Copy)]
 pub enum SearchReply {
     Found(usize),
     Box,
@@ -86,14 +87,14 @@ impl SearchReply {
 }
 
 // The first point outside [0,1], if there is one.
-#[derive(Drop)]
+#[derive(Clone, Copy)]
 pub enum Outside {
     At(usize),
     Nothing,
 }
 
 // How far a search came: how many it has answered, or that a slot names a place past the table.
-#[derive(Drop)]
+#[derive(Clone, Copy)]
 enum Found {
     All(usize),
     Spoiled,

@@ -2,6 +2,7 @@
 // afterwards, for every content of the page; what stands in the page, and how far it was read, is left open. Assumes nothing.
 // Below the public surface: a walk that is refused is done, with no number. Its callers have refused 9 and 11 before; a ring around an
 // entry at no finite place, which is refused too, has no slots.
+#![tactic(auto)]
 ghost use Rattle.std.specs.Prelude.{◌≡◌, ◌+◌, ◌-◌, ◌*◌, ◌≤◌, ◌<◌, length};
 ghost use Rattle.lent.specs.Lent.{old, new};
 ghost use Rattle.kdsort.specs.Shape.{shape};
@@ -15,7 +16,7 @@ use kdslots::Query;
 use kdwalk::Step;
 
 // From where a walk goes on: from its start, after a slot, or not at all.
-#[derive(Drop)]
+#[derive(Clone, Copy)]
 pub enum Onward {
     Start,
     After,
@@ -25,7 +26,7 @@ pub enum Onward {
 // Where a walk stands that is read a page at a time: how many slots the page has, how many of them were read, from where it goes on after
 // the page, and the slot that it goes on after, where it goes on after one. The slot stands beside `onward`, not in it, so that each can
 // be moved by itself.
-#[derive(Drop)]
+#[derive(Clone, Copy)]
 pub struct Pages {
     pub len: usize,
     pub at: usize,
@@ -34,7 +35,7 @@ pub struct Pages {
 }
 
 // A step of such a walk, and where it stands afterwards.
-#[derive(Drop)]
+#[derive(Clone, Copy)]
 pub struct Turned {
     pub step: Step,
     pub pages: Pages,

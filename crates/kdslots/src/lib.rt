@@ -1,5 +1,6 @@
 // What is asked of an index, and what is tested at a slot of it: the tests of a search, the interval that a search begins with, and SCOPE's
 // bounds of an index and of a query. Below `kdbush` and `kdwalk`, which search by them: a function may ask something of its caller.
+#![tactic(auto)]
 ghost use Rattle.std.specs.Prelude.{◌≡◌, ◌+◌, ◌*◌, ◌≤◌, ◌<◌, length};
 ghost use Rattle.lent.specs.Lent.{old};
 ghost use Rattle.kdsort.specs.Shape.{shape};
@@ -14,7 +15,7 @@ pub const MOST_POINTS: usize = 1048576;
 pub const MOST_NODE_SIZE: usize = 65535;
 
 // What is asked of an index: the entries of a box, or those around a place.
-#[derive(Drop)]
+#[derive(Clone, Copy)]
 pub enum Query {
     Range {
         min_x: f64,
@@ -30,7 +31,7 @@ pub enum Query {
 }
 
 // The slots from lo up to hi, and the axis that they are split on.
-#[derive(Drop)]
+#[derive(Clone, Copy)]
 pub struct Interval {
     pub lo: usize,
     pub hi: usize,

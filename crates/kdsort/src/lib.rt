@@ -1,6 +1,7 @@
 // The index's build, kdbush.rs without the window block of `select`: the exchange of two slots, the partition, the selection and the sort.
 // A partition makes most of its exchanges in batches, which the Rust does not: they are the same exchanges, in the same order.
 // Slot p has the id ids[p] and the coordinates coords[2 * p] and coords[2 * p + 1]. The axis is 0 for x and 1 for y.
+#![tactic(auto)]
 ghost use Rattle.std.specs.Prelude.{◌≡◌, ◌+◌, ◌-◌, ◌*◌, ◌≤◌, ◌<◌, length};
 ghost use Rattle.lent.specs.Lent.{old, new};
 ghost use Rattle.kdsort.specs.Cols.{swap_item};
@@ -33,7 +34,7 @@ fn swap_item(ids: &mut [u32], coords: &mut [f64], i: usize, j: usize)
 }
 
 // Where the two scans of a pass go on.
-#[derive(Drop)]
+#[derive(Clone, Copy)]
 struct Ends {
     up: usize,
     down: usize,

@@ -1,5 +1,6 @@
 // A walk over the slots that a query answers, one at a time by a cursor: `first` and `after`. No stack, no scratch room.
 // Nothing is asked of the caller: what SCOPE does not take is refused with its number.
+#![tactic(auto)]
 ghost use Rattle.std.specs.Prelude.{◌≡◌, ◌+◌, ◌-◌, ◌*◌, ◌≤◌, ◌<◌, length};
 ghost use Rattle.lent.specs.Lent.{old};
 ghost use Rattle.kdsort.specs.Shape.{shape};
@@ -12,7 +13,7 @@ ghost use Rattle.kdwalk.specs.Reply.{step_number, step_carried, first_step, afte
 use kdslots::Query;
 
 // A step of a walk over the answered slots: the next slot, the end, or a refusal.
-#[derive(Drop)]
+#[derive(Clone, Copy)]
 pub enum Step {
     Slot(usize),
     Done,
@@ -47,7 +48,7 @@ impl Step {
 }
 
 // The next answered slot of an interval.
-#[derive(Drop)]
+#[derive(Clone, Copy)]
 enum Next {
     Slot(usize),
     Done,

@@ -1,5 +1,6 @@
 // An example of a caller's walk, not part of the public surface: a loop over an index's answers by the cursor, through what kdwalk states
 // and nothing else. How many slots a query answers, with no column to write them in. Assumes nothing.
+#![tactic(auto)]
 ghost use Rattle.std.specs.Prelude.{◌≡◌};
 ghost use Rattle.lent.specs.Lent.{old};
 ghost use Rattle.kdwalk_count.specs.Counted.{counted_number, counted_carried, counted_of};
@@ -8,7 +9,7 @@ use kdslots::Query;
 use kdwalk::Step;
 
 // How many slots are answered, or the refusal of the search.
-#[derive(Drop)]
+#[derive(Clone, Copy)]
 pub enum Counted {
     Answers(usize),
     Box,

@@ -1,1 +1,2 @@
 // The groups of one zoom: definitions and laws only, in specs.
+#![tactic(auto)]

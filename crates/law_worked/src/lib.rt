@@ -1,1 +1,2 @@
 // SCOPE's worked lines: definitions and laws only, in specs.
+#![tactic(auto)]

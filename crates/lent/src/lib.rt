@@ -1,1 +1,2 @@
 // How contracts speak of what is lent: definitions only, in specs.
+#![tactic(auto)]

@@ -1,6 +1,7 @@
 // The table lister: reads SCOPE's text from standard input, and writes its answer to standard output, the lines of every table of the build
 // or a refusal. Proved: it never fails. What is written is what `lister_report::report` promises of what was read. Assumed: what io says of
 // reading and writing.
+#![tactic(auto)]
 use libc::{STDIN_FILENO, STDOUT_FILENO};
 
 fn main() {

@@ -1,6 +1,7 @@
 // The text that the table lister reads: SCOPE's lines of options and points, and the line of a point's energy. Proved: a text is accepted
 // with these values if and only if it is the writing of these values, and every other text is refused and leaves the columns as they
 // were. Nothing is asked of the caller. Assumed: nothing.
+#![tactic(auto)]
 ghost use Rattle.std.specs.Prelude.{◌≡◌, ◌<◌, ◌≤◌, drop};
 ghost use Rattle.lent.specs.Lent.{old};
 ghost use Rattle.lister_text.specs.laws.Scan.{starts_with, more_text, number_of, line_of, value_in};
@@ -13,20 +14,20 @@ use build_tables::Options;
 use range::{CoordinateSystem, DataRange, Setting};
 
 // A place in the text.
-#[derive(Drop)]
+#[derive(Clone, Copy)]
 pub struct Cursor {
     pub at: usize,
 }
 
 // A line's number and the place past the line, or no such line.
-#[derive(Drop)]
+#[derive(Clone, Copy)]
 pub enum Value {
     Number { v: u32, next: Cursor },
     Bad,
 }
 
 // The numbers of the first seven lines, and the place past these.
-#[derive(Drop)]
+#[derive(Clone, Copy)]
 pub struct Head {
     pub min_zoom: u8,
     pub max_zoom: u8,
@@ -39,14 +40,14 @@ pub struct Head {
 }
 
 // What a text says, or refusal 12.
-#[derive(Drop)]
+#[derive(Clone, Copy)]
 pub enum Parsed {
     Read(Head),
     Refused,
 }
 
 // The numbers of a point's lines and the place past these, or no such lines.
-#[derive(Drop)]
+#[derive(Clone, Copy)]
 pub enum WrittenPoint {
     Stands {
         x: u32,

@@ -1,5 +1,6 @@
 // Posting a reading: a corrected figure of one lamp replaces the old one in the energy of each of the lamp's owners, without a new build.
 // Nothing is asked of the caller: what SCOPE does not take is refused with its number, before anything is written.
+#![tactic(auto)]
 ghost use Rattle.std.specs.Prelude.{◌≡◌, true, ◌<◌, ◌≤◌, length};
 ghost use Rattle.lent.specs.Lent.{old, new};
 ghost use Rattle.build_tables.specs.Options.{table_count};
@@ -12,7 +13,7 @@ ghost use Rattle.posting.specs.laws.Mends.{Ready};
 use build_tables::State;
 
 // The reply, in SCOPE's words: done, or a refusal.
-#[derive(Drop)]
+#[derive(Clone, Copy)]
 pub enum PostReply {
     Done,
     Lamp,

@@ -1,18 +1,19 @@
 // The range module: what stands between a caller's coordinates and the numbers from 0 to 1 that the tables hold.
 // The names are the Rust's range.rs, with its Option fields and its CoordinateSystem as enums that carry the floats.
+#![tactic(auto)]
 ghost use Rattle.std.specs.Prelude.{◌≡◌, ◌&&◌};
 ghost use Rattle.range.specs.Range.{smaller_of, larger_of, offset_of, scale_of, normalized, denormalized, in_bounds, converted};
 ghost use Rattle.range.specs.Range.{system_in_bounds};
 
 // An offset or a scale: given by the caller, or derived from the range.
-#[derive(Drop)]
+#[derive(Clone, Copy)]
 pub enum Setting {
     Given(f64),
     Derived,
 }
 
 // The range of the incoming data of a Cartesian coordinate system.
-#[derive(Drop)]
+#[derive(Clone, Copy)]
 pub struct DataRange {
     pub min_x: f64,
     pub min_y: f64,
@@ -23,14 +24,14 @@ pub struct DataRange {
 }
 
 // Longitude in degrees with y from 0 to 1 as the caller converted it; or Cartesian with a range.
-#[derive(Drop)]
+#[derive(Clone, Copy)]
 pub enum CoordinateSystem {
     LatLng,
     Cartesian { range: DataRange },
 }
 
 // A place, in the caller's coordinates or in the tables'.
-#[derive(Drop)]
+#[derive(Clone, Copy)]
 pub struct Point {
     pub x: f64,
     pub y: f64,

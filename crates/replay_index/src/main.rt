@@ -6,6 +6,7 @@
 // cursor. n and m go to 1024, k to 64; a case beyond is not of the form. Proved: nothing here reads or writes outside its columns, each
 // comparison is the equation of its definition in specs/, and the score is right. Assumed: what standard input gives is not modelled, so
 // that the loops that read are only proved to be safe.
+#![tactic(auto)]
 ghost use Rattle.std.specs.Prelude.{◌≡◌, ◌*◌, ◌≤◌, length};
 ghost use Rattle.lent.specs.Lent.{old, new};
 ghost use Rattle.replay_vectors.specs.Scores.{ending_is};
@@ -19,7 +20,7 @@ use kdwalk::Step;
 use replay_vectors::{Count, Ending, First, Function, Pattern, Score, Verdict, Word};
 
 // A query, or words that are none.
-#[derive(Drop)]
+#[derive(Clone, Copy)]
 enum Asked {
     Query(Query),
     Bad,

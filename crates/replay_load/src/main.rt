@@ -8,6 +8,7 @@
 // all; a case beyond is not of the form, nor is one with a max_zoom that is past 30 or below min_zoom. Proved: nothing here reads or writes
 // outside its columns, the verdict of a case is the equation `loadsTo` of specs/, and the score is right. Assumed: what standard input
 // gives is not modelled, so that the loops that read are only proved to be safe.
+#![tactic(auto)]
 ghost use Rattle.std.specs.Prelude.{◌≡◌, ◌*◌, ◌≤◌, length};
 ghost use Rattle.replay_vectors.specs.Scores.{ending_is};
 ghost use Rattle.lent.specs.Lent.{old, new};
@@ -23,7 +24,7 @@ use replay_vectors::{Byte, Count, Ending, First, Function, Pattern, Place, Score
 use supercluster::Loaded;
 
 // An entry, or words that are none.
-#[derive(Drop)]
+#[derive(Clone, Copy)]
 enum Given {
     Entry(Entry),
     Bad,

@@ -5,6 +5,7 @@
 // 0 stands for what is derived, and for longitude, and 1 for what is given, and for Cartesian; the last word is 1 where
 // a tile's strips run for longitude only, otherwise 0. Proved: nothing here fails.
 // Assumed: what standard input gives is not modelled, so that the functions that read are only proved to be safe.
+#![tactic(auto)]
 ghost use Rattle.std.specs.Prelude.{◌≡◌, eqb};
 ghost use Rattle.build_tables.specs.Given.{setting_of};
 
@@ -13,21 +14,21 @@ use range::{DataRange, Setting};
 use replay_vectors::{Byte, Count, Pattern};
 
 // An offset or a scale, or words that are none.
-#[derive(Drop)]
+#[derive(Clone, Copy)]
 enum Settled {
     Setting(Setting),
     Bad,
 }
 
 // The range of a case, or words that are none.
-#[derive(Drop)]
+#[derive(Clone, Copy)]
 enum Ranged {
     Range(DataRange),
     Bad,
 }
 
 // The options of a case, or words that are none.
-#[derive(Drop)]
+#[derive(Clone, Copy)]
 pub enum Chosen {
     Options(Options),
     Bad,

@@ -12,6 +12,7 @@
 // Proved: nothing here reads or writes outside its columns, the verdict on a question is the equation of specs/ (`listsTo`, `zoomsTo`,
 // `tilesTo`, `sumsTo`): it agrees if and only if what is stored is what the definition says (specs/Decides). The score is right.
 // Assumed: what standard input gives is not modelled, so that the functions that read are only proved to be safe.
+#![tactic(auto)]
 ghost use Rattle.std.specs.Prelude.{◌≡◌, ◌≤◌, length};
 ghost use Rattle.lent.specs.Lent.{old, new};
 ghost use Rattle.ask_base.specs.Asked.{answer_of, column_of};
@@ -30,7 +31,7 @@ use replay_vectors::{
 };
 
 // A question that lists places, or lamps.
-#[derive(Drop)]
+#[derive(Clone, Copy)]
 enum Listing {
     Box {
         zoom: u8,
@@ -54,28 +55,28 @@ enum Listing {
 }
 
 // Such a question, or words that are none.
-#[derive(Drop)]
+#[derive(Clone, Copy)]
 enum Asked {
     Listing(Listing),
     Bad,
 }
 
 // A reply as it is stored: its number, 0 where nothing is refused, and what it carries.
-#[derive(Drop)]
+#[derive(Clone, Copy)]
 struct Reply {
     number: u32,
     carried: u64,
 }
 
 // A reply, or words that are none.
-#[derive(Drop)]
+#[derive(Clone, Copy)]
 enum Told {
     Reply(Reply),
     Bad,
 }
 
 // A tile.
-#[derive(Drop)]
+#[derive(Clone, Copy)]
 struct Tile {
     z: u8,
     x: u32,
@@ -83,7 +84,7 @@ struct Tile {
 }
 
 // A tile, or words that are none.
-#[derive(Drop)]
+#[derive(Clone, Copy)]
 enum Named {
     Tile(Tile),
     Bad,

@@ -4,6 +4,7 @@
 // A field is 16 lowercase hexadecimal digits, the bits of an f64, so that a line has 170 bytes. Any pattern of a NaN stands for NaN.
 // An offset or a scale may be 16 dashes, for one that is derived from the range.
 // Expected of the range are normalize(v) and denormalize(v), and of longitude/latitude the point (v, v) converted: (longitude, v).
+#![tactic(auto)]
 ghost use Rattle.std.specs.Prelude.{◌≡◌, ◌+◌, ◌≤◌, ◌<◌};
 ghost use Rattle.lent.specs.Lent.{old};
 ghost use Rattle.replay_range.specs.Text.{dashes_is, separator_of, field_is, settled_is, ranged_is, parsed_is};
@@ -14,7 +15,7 @@ use libc::STDIN_FILENO;
 use replay_vectors::{Ending, First, Function, Pattern, Score, Verdict};
 
 // What a field holds: a number, 16 dashes, or neither.
-#[derive(Drop)]
+#[derive(Clone, Copy)]
 enum Field {
     Number(f64),
     Derived,
@@ -22,21 +23,21 @@ enum Field {
 }
 
 // An offset or a scale, or a field that is neither.
-#[derive(Drop)]
+#[derive(Clone, Copy)]
 enum Settled {
     Setting(range::Setting),
     Bad,
 }
 
 // The range that a line begins with, or a line that does not.
-#[derive(Drop)]
+#[derive(Clone, Copy)]
 enum Ranged {
     Range(range::DataRange),
     Bad,
 }
 
 // A vector: what goes in, and what is expected.
-#[derive(Drop)]
+#[derive(Clone, Copy)]
 struct Case {
     range: range::DataRange,
     v: f64,
@@ -46,7 +47,7 @@ struct Case {
 }
 
 // A line's vector, or a line that is not of the form.
-#[derive(Drop)]
+#[derive(Clone, Copy)]
 enum Parsed {
     Case(Case),
     Bad,

@@ -4,6 +4,7 @@
 // once, and names the first that differs. What is written is only proved to be safe. Proved of what is read and compared: a word's number
 // is what its 17 bytes spell, a count is within its limit, two columns are compared to their ends. Assumed: nothing beyond the contracts
 // of `floats`, `kdbush` and `io`. What standard input gives is not modelled: a function that reads it is only proved to be safe.
+#![tactic(auto)]
 ghost use Rattle.std.specs.Prelude.{◌≡◌, ◌+◌, ◌*◌, ◌≤◌, ◌<◌, length};
 ghost use Rattle.std.specs.Float.{binary64};
 ghost use Rattle.std.specs.Float.Ieee.{nan_bits, of_bits};
@@ -18,21 +19,21 @@ use kdbush::BuildReply;
 use libc::{STDIN_FILENO, STDOUT_FILENO};
 
 // The value of a hexadecimal digit, or a byte that is none.
-#[derive(Drop)]
+#[derive(Clone, Copy)]
 enum Digit {
     Value(u64),
     Bad,
 }
 
 // The number that 16 digits write, or bytes that are no 16 digits.
-#[derive(Drop)]
+#[derive(Clone, Copy)]
 pub enum Pattern {
     Bits(u64),
     Bad,
 }
 
 // The next word: one with a space after it, one that ends its line, bytes that are neither, or the end of the input.
-#[derive(Drop)]
+#[derive(Clone, Copy)]
 pub enum Word {
     Inner(u64),
     Last(u64),
@@ -41,28 +42,28 @@ pub enum Word {
 }
 
 // A count within its limit, or a word that is none.
-#[derive(Drop)]
+#[derive(Clone, Copy)]
 pub enum Count {
     Is(usize),
     Bad,
 }
 
 // A place, or a word that is none.
-#[derive(Drop)]
+#[derive(Clone, Copy)]
 pub enum Place {
     Is(u32),
     Bad,
 }
 
 // A byte, or a word that is none.
-#[derive(Drop)]
+#[derive(Clone, Copy)]
 pub enum Byte {
     Is(u8),
     Bad,
 }
 
 // The questions to a build.
-#[derive(Drop)]
+#[derive(Clone, Copy)]
 pub enum Question {
     Box,
     Ring,
@@ -75,7 +76,7 @@ pub enum Question {
 
 // The functions that vectors have answers of: those of `range`, those of `kdbush` and `kdwalk`, that of `supercluster`, that of `report`,
 // and the questions.
-#[derive(Drop)]
+#[derive(Clone, Copy)]
 pub enum Function {
     Normalize,
     Denormalize,
@@ -90,7 +91,7 @@ pub enum Function {
 }
 
 // What became of a case: the answers agree, or this function's is the first that does not; it is not of the form; there is none.
-#[derive(Drop)]
+#[derive(Clone, Copy)]
 pub enum Verdict {
     Agrees,
     Differs(Function),
@@ -99,14 +100,14 @@ pub enum Verdict {
 }
 
 // The case and the function of the first difference, if there is one yet. Cases count from 1.
-#[derive(Drop)]
+#[derive(Clone, Copy)]
 pub enum First {
     Nothing,
     At(u64, Function),
 }
 
 // The cases so far, those that differ, and the first of these.
-#[derive(Drop)]
+#[derive(Clone, Copy)]
 pub struct Score {
     pub cases: u64,
     pub differences: u64,
@@ -114,7 +115,7 @@ pub struct Score {
 }
 
 // How the replay ended: at the end of the input; at a case that is not of the form; with more cases than it takes.
-#[derive(Drop)]
+#[derive(Clone, Copy)]
 pub enum Ending {
     Finished(Score),
     Malformed(u64),

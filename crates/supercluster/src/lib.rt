@@ -1,5 +1,6 @@
 // The public build, `load` of the Rust: the finest table of the converted points, then each zoom from max_zoom down to min_zoom, every
 // table with its index. Nothing is asked of the caller: what SCOPE does not take is refused with its number, and then no column is written.
+#![tactic(auto)]
 ghost use Rattle.std.specs.Prelude.{◌≡◌, map, ◌+◌, ◌*◌, ◌≤◌, leb, length, replicate};
 ghost use Rattle.kdsort.specs.Lent.{lent_index};
 ghost use Rattle.kdbush.specs.Reply.{first_outside};
@@ -24,7 +25,7 @@ use range::{CoordinateSystem, Point};
 pub const MOST_ENERGY: u64 = 1099511627776;
 
 // The reply of a build: refusals 1, 2, 3, 15 and 4, in this order. Two of them carry the first such point.
-#[derive(Drop)]
+#[derive(Clone, Copy)]
 pub enum LoadReply {
     Done,
     Options,
@@ -65,7 +66,7 @@ impl LoadReply {
 }
 
 // The reply of a build, and beside it its state: of no tables, where it is refused.
-#[derive(Drop)]
+#[derive(Clone, Copy)]
 pub struct Loaded {
     pub reply: LoadReply,
     pub state: State,

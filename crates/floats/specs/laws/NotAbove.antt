@@ -1,7 +1,7 @@
 -- 'x is not above y', lt y x ≡ false, as a selection tests it: NaN is above nothing. Off NaN it is <=, and it goes through a third value.
 -- Assumes nothing.
-use Rattle.std.specs.Prelude.{◌≡◌, Bool, true, false, not, T, is_nan, refl, Float}
-use Rattle.std.specs.Float.Ieee.{le, lt, eq}
+use Rattle.std.specs.Prelude.{◌≡◌, Bool, true, false, not, T, refl, Float}
+use Rattle.std.specs.Float.Ieee.{le, lt, eq, is_nan}
 use Rattle.floats.specs.laws.Fraction.{yes_of, no_of, is_true}
 use Rattle.floats.specs.laws.Order.{le-left-number, le-right-number, le-le-trans, lt→le, eq→le, eq→ge, lt_not_le, lt-irreflexive}
 use Rattle.floats.specs.laws.Order.{lt-asymmetric, not-lt→le, eq-reflexive}

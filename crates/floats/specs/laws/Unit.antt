@@ -1,6 +1,6 @@
 -- The values from 0 to 1, `In01`: what the test passes is one, and such a value is finite and no NaN. Assumes nothing.
-use Rattle.std.specs.Prelude.{not, T, is_nan, Float}
-use Rattle.std.specs.Float.Ieee.{le}
+use Rattle.std.specs.Prelude.{not, T, Float}
+use Rattle.std.specs.Float.Ieee.{le, is_nan}
 use Rattle.std.specs.Float.Ieee.Fits.{and_i, and_l, and_r}
 use Rattle.std.specs.Float.Ieee.Scale.{finite}
 use Rattle.floats.specs.Numbers.{zero, one}
