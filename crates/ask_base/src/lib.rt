@@ -7,7 +7,6 @@ ghost use Rattle.kdwalk.specs.declared.Step.TheVariants.{Done};
 ghost use Rattle.kdwalk.specs.Reply.{next_step};
 ghost use Rattle.kdpages.specs.Pages.{tail_of};
 ghost use Rattle.build_tables.specs.Entries.{entry};
-ghost use Rattle.lent.specs.Lent.{old, new};
 ghost use Rattle.build_tables.specs.Rows.{rows};
 ghost use Rattle.build_tables.specs.Lent.{given, lent_cols};
 ghost use Rattle.build_tables.specs.Columns.{part};
@@ -81,7 +80,7 @@ pub fn fit(k: usize, room: usize) -> Answer
 
 // Stores p at k, if the column reaches so far.
 pub fn put_at(out: &mut [u32], k: usize, p: u32)
-    ensures { new out ≡ set (old out) k p }
+    ensures { out.new ≡ set out.old k p }
 {
     if k < out.len() {
         out[k] = p;
@@ -234,8 +233,8 @@ pub fn ring_of(
 // The next slot of a walk over a ring that is read a page at a time.
 pub fn next_in(g: Ring, coords: &[f64], page: &mut [usize], p: Pages) -> Turned
     requires { InRing g coords.now }
-    ensures step_value { result.step ≡ next_step Done (ahead_in g (old coords) (old page) p) }
-    ensures pages_value { let c = old coords in ahead_in g c (new page) result.pages ≡ tail_of (ahead_in g c (old page) p) }
+    ensures step_value { result.step ≡ next_step Done (ahead_in g coords.now page.old p) }
+    ensures pages_value { let c = coords.now in ahead_in g c page.new result.pages ≡ tail_of (ahead_in g c page.old p) }
 {
     let from = 2 * g.start;
     let to = from + 2 * g.len;

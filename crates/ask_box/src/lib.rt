@@ -2,7 +2,6 @@
 // number.
 #![tactic(auto)]
 ghost use Rattle.std.specs.Prelude.{◌≡◌, true, ◌+◌, ◌*◌, ◌≤◌, length};
-ghost use Rattle.lent.specs.Lent.{old, new};
 ghost use Rattle.kdslots.specs.Query.{query_ok};
 ghost use Rattle.kdbush.specs.Run.{sound, whole, filled};
 ghost use Rattle.kdbush.specs.Reply.{found, index_ok};
@@ -51,8 +50,8 @@ fn list_one(
     out: &mut [u32],
 ) -> Part
     requires { index_ok node_size n ids.now coords.now ≡ true }
-    ensures { let l = found q node_size n (old ids) (old coords) in
-        (result ≡ part_of (whole n l) (length l)) × (new out ≡ filled (sound n l) (old out)) }
+    ensures { let l = found q node_size n ids.now coords.now in
+        (result ≡ part_of (whole n l) (length l)) × (out.new ≡ filled (sound n l) out.old) }
 {
     match kdbush::search(q, node_size, n, ids, coords, out) {
         SearchReply::Found(k) => Part::All(k),
@@ -72,8 +71,8 @@ fn list_plan(
     out: &mut [u32],
 ) -> Answer
     requires { index_ok node_size n ids.now coords.now ≡ true }
-    ensures { let a = walked n (planned (queries_of p) node_size n (old ids) (old coords)) in
-        (result ≡ answer_of a (length (old out))) × (new out ≡ column_of a (old out)) }
+    ensures { let a = walked n (planned (queries_of p) node_size n ids.now coords.now) in
+        (result ≡ answer_of a (length out.old)) × (out.new ≡ column_of a out.old) }
 {
     let q = p.first;
     let Part::All(k) = list_one(q, node_size, n, ids, coords, out) else {
@@ -102,8 +101,8 @@ fn list_at(
 ) -> Answer
     requires n_in_bounds { (start + n ≤ length ids.now) × (2 * (start + n) ≤ length coords.now) }
     requires coords_value { index_ok node_size n (part start n ids.now) (part (2 * start) (2 * n) coords.now) ≡ true }
-    ensures { let a = walked n (planned (queries_of p) node_size n (part start n (old ids)) (part (2 * start) (2 * n) (old coords))) in
-        (result ≡ answer_of a (length (old out))) × (new out ≡ column_of a (old out)) }
+    ensures { let a = walked n (planned (queries_of p) node_size n (part start n ids.now) (part (2 * start) (2 * n) coords.now)) in
+        (result ≡ answer_of a (length out.old)) × (out.new ≡ column_of a out.old) }
 {
     let end = start + n;
     let from = 2 * start;
@@ -114,8 +113,8 @@ fn list_at(
 // The same in the table of the zoom used.
 fn list_used(p: BoxPlan, s: State, ids: &[u32], coords: &[f64], zoom: u8, out: &mut [u32]) -> Answer
     requires { state_ok s (index_room ids.now coords.now) ≡ true }
-    ensures { let a = listed_at s (old ids) (old coords) (zoom_used s.options zoom) (queries_of p) in
-        (result ≡ answer_of a (length (old out))) × (new out ≡ column_of a (old out)) }
+    ensures { let a = listed_at s ids.now coords.now (zoom_used s.options zoom) (queries_of p) in
+        (result ≡ answer_of a (length out.old)) × (out.new ≡ column_of a out.old) }
 {
     let o = s.options;
     let z = o.zoom_used(zoom) as usize;
@@ -148,8 +147,8 @@ pub fn list_ring(
     radius: f64,
     out: &mut [u32],
 ) -> Answer
-    ensures { let a = ring_asked s (old ids) (old coords) zoom x y radius in
-        (result ≡ answer_of a (length (old out))) × (new out ≡ column_of a (old out)) }
+    ensures { let a = ring_asked s ids.now coords.now zoom x y radius in
+        (result ≡ answer_of a (length out.old)) × (out.new ≡ column_of a out.old) }
 {
     if !s.is_sound(build_room::index_room(ids, coords)) {
         return Answer::Spoiled;
@@ -183,8 +182,8 @@ pub fn list_box(
     greatest_y: f64,
     out: &mut [u32],
 ) -> Answer
-    ensures { let a = box_asked s (old ids) (old coords) zoom west least_y east greatest_y in
-        (result ≡ answer_of a (length (old out))) × (new out ≡ column_of a (old out)) }
+    ensures { let a = box_asked s ids.now coords.now zoom west least_y east greatest_y in
+        (result ≡ answer_of a (length out.old)) × (out.new ≡ column_of a out.old) }
 {
     if !s.is_sound(build_room::index_room(ids, coords)) {
         return Answer::Spoiled;

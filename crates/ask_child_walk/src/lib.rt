@@ -1,7 +1,6 @@
 // The children of a cluster, one at a time and into a column: what the questions that walk from cluster to cluster rest on.
 #![tactic(auto)]
 ghost use Rattle.std.specs.Prelude.{◌≡◌, ◌+◌, ◌≤◌};
-ghost use Rattle.lent.specs.Lent.{old, new};
 ghost use Rattle.kdslots.specs.laws.All.{AllBelow};
 ghost use Rattle.build_tables.specs.Room.{room_of};
 ghost use Rattle.build_tables.specs.Lent.{given_columns, lent_columns};
@@ -52,7 +51,7 @@ pub fn next_child(
     requires len_bound { let c = given_columns x y seen id parent num energy ids coords in g.start + g.len ≤ room_of c }
     requires all_below { AllBelow g.len (ahead_in g coords.now page.old from) }
     ensures { let c = lent_columns x y seen id parent num energy ids coords in
-        child_in g c.coords (new page) result ≡ next_in g c cid (ahead_in g c.coords (old page) from) }
+        child_in g c.coords page.new result ≡ next_in g c cid (ahead_in g c.coords page.old from) }
 {
     let start = g.start;
     let len = g.len;
@@ -109,7 +108,7 @@ pub fn list_kids(
 ) -> Kids
     requires { let c = given_columns x y seen id parent num energy ids coords in g.start + g.len ≤ room_of c }
     ensures { let c = lent_columns x y seen id parent num energy ids coords in
-        Listed g c cid (old out) result (new out) }
+        Listed g c cid out.old result out.new }
 {
     let start = g.start;
     let n = g.len;

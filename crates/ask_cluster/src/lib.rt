@@ -2,7 +2,6 @@
 // at the state first, then at where the id leads.
 #![tactic(auto)]
 ghost use Rattle.std.specs.Prelude.{◌≡◌, true, ℕ, ◌+◌, ◌-◌, ◌≤◌, length};
-ghost use Rattle.lent.specs.Lent.{old, new};
 ghost use Rattle.ask_base.specs.declared.Target.TheVariants.{At as Target-as-At};
 ghost use Rattle.ask_base.specs.Asked.{answer_of, column_of};
 ghost use Rattle.build_tables.specs.Room.{room_of};
@@ -35,7 +34,7 @@ pub fn children(
     out: &mut [u32],
 ) -> Answer
     ensures { let a = children_of s (lent_columns x y seen id parent num energy ids coords) cid in
-        (result ≡ answer_of a (length (old out))) × (new out ≡ column_of a (old out)) }
+        (result ≡ answer_of a (length out.old)) × (out.new ≡ column_of a out.old) }
 {
     let cap = build_room::room(x, y, seen, id, parent, num, energy, ids, coords);
     match ask_base::find_target(s, cap, cid) {
@@ -297,7 +296,7 @@ fn skip_to(skipped: u32, so: Sofar) -> Walk
 
 // A lamp is listed, unless `count` are.
 fn list_one(count: u32, lamp: u32, so: Sofar, out: &mut [u32]) -> Walk
-    ensures { Does so.listed (old out) result (new out) (list_one count lamp so.skipped) }
+    ensures { Does so.listed out.old result out.new (list_one count lamp so.skipped) }
 {
     if count as usize <= so.listed {
         return Walk::Broke(so.listed);
@@ -330,7 +329,7 @@ fn enter(
     requires reached { Reached s leg.cap leg.table 0 }
     requires cap_bound { leg.cap ≤ room_of (given_columns x y seen id parent num energy ids coords) }
     ensures { let c = lent_columns x y seen id parent num energy ids coords in
-        Opened s c leg.limit leg.offset leg.table e.id so.skipped so.listed (old out) result (new out) }
+        Opened s c leg.limit leg.offset leg.table e.id so.skipped so.listed out.old result out.new }
 {
     let to = ask_base::go_on(s, leg.table, e.id);
     let Target::At { table, origin } = to else {
@@ -369,7 +368,7 @@ fn walk_into(
     requires reached { Reached s leg.cap leg.table origin }
     requires cap_bound { leg.cap ≤ room_of (given_columns x y seen id parent num energy ids coords) }
     ensures { let c = lent_columns x y seen id parent num energy ids coords in
-        Walked s c leg.limit leg.offset cid leg.table origin was.skipped was.listed (old out) result (new out) }
+        Walked s c leg.limit leg.offset cid leg.table origin was.skipped was.listed out.old result out.new }
 {
     let g = ask_base::ring_of(
         s, leg.cap, leg.table, origin, x, y, seen, id, parent, num, energy,
@@ -472,7 +471,7 @@ pub fn leaves(
     out: &mut [u32],
 ) -> Answer
     ensures { let a = leaves_of s (lent_columns x y seen id parent num energy ids coords) cid limit offset in
-        (result ≡ answer_of a (length (old out))) × (new out ≡ column_of a (old out)) }
+        (result ≡ answer_of a (length out.old)) × (out.new ≡ column_of a out.old) }
 {
     let cap = build_room::room(x, y, seen, id, parent, num, energy, ids, coords);
     match ask_base::find_target(s, cap, cid) {

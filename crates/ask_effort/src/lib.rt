@@ -2,7 +2,6 @@
 // and whether a test was left. Nothing is asked of the caller: what SCOPE does not take is refused with its number, as for a box.
 #![tactic(auto)]
 ghost use Rattle.std.specs.Prelude.{◌≡◌, true, ◌+◌, ◌*◌, ◌≤◌, length};
-ghost use Rattle.lent.specs.Lent.{old, new};
 ghost use Rattle.kdbush.specs.Reply.{index_ok};
 ghost use Rattle.build_tables.specs.Options.{zoom_used};
 ghost use Rattle.build_tables.specs.Columns.{part};
@@ -30,8 +29,8 @@ fn effort_at(
 ) -> EffortReply
     requires n_in_bounds { (start + n ≤ length ids.now) × (2 * (start + n) ≤ length coords.now) }
     requires coords_value { index_ok node_size n (part start n ids.now) (part (2 * start) (2 * n) coords.now) ≡ true }
-    ensures { let t = trials (queries_of p) node_size n (part start n (old ids)) (part (2 * start) (2 * n) (old coords)) in
-        (result ≡ answer n t allowance (length (old out))) × (new out ≡ column n t allowance (old out)) }
+    ensures { let t = trials (queries_of p) node_size n (part start n ids.now) (part (2 * start) (2 * n) coords.now) in
+        (result ≡ answer n t allowance (length out.old)) × (out.new ≡ column n t allowance out.old) }
 {
     let end = start + n;
     let from = 2 * start;
@@ -58,8 +57,8 @@ fn effort_used(
     out: &mut [u32],
 ) -> EffortReply
     requires { state_ok s (index_room ids.now coords.now) ≡ true }
-    ensures { let a = sought_at s (old ids) (old coords) (zoom_used s.options zoom) (queries_of p) in
-        (result ≡ effort_reply_of a allowance (length (old out))) × (new out ≡ effort_column_of a allowance (old out)) }
+    ensures { let a = sought_at s ids.now coords.now (zoom_used s.options zoom) (queries_of p) in
+        (result ≡ effort_reply_of a allowance (length out.old)) × (out.new ≡ effort_column_of a allowance out.old) }
 {
     let o = s.options;
     let z = o.zoom_used(zoom) as usize;
@@ -90,8 +89,8 @@ pub fn effort_box(
     allowance: usize,
     out: &mut [u32],
 ) -> EffortReply
-    ensures { let a = effort_asked s (old ids) (old coords) zoom west least_y east greatest_y in
-        (result ≡ effort_reply_of a allowance (length (old out))) × (new out ≡ effort_column_of a allowance (old out)) }
+    ensures { let a = effort_asked s ids.now coords.now zoom west least_y east greatest_y in
+        (result ≡ effort_reply_of a allowance (length out.old)) × (out.new ≡ effort_column_of a allowance out.old) }
 {
     if !s.is_sound(build_room::index_room(ids, coords)) {
         return EffortReply::Spoiled;

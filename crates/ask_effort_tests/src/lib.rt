@@ -4,7 +4,6 @@
 // leaves out.
 #![tactic(auto)]
 ghost use Rattle.std.specs.Prelude.{◌≡◌, true, [], ◌∷◌, ◌+◌, ◌-◌, ◌*◌, ◌^◌, ◌≤◌, ◌<◌, length};
-ghost use Rattle.lent.specs.Lent.{old, new};
 ghost use Rattle.kdsort.specs.Shape.{shape};
 ghost use Rattle.kdslots.specs.Slots.{over, when, scanned, slots};
 ghost use Rattle.kdbush.specs.Reply.{index_ok};
@@ -99,7 +98,7 @@ fn put(
     out: &mut [u32],
 ) -> Spent
     requires { (2 * i + 1 < length coords.now) × (i < length ids.now) × (s.found + s.left < 2 ^ 64) }
-    ensures { went_tests result (new out) ≡ spend n (marks (over q (old coords)) (old ids) (i ∷ [])) s (old out) }
+    ensures { went_tests result out.new ≡ spend n (marks (over q coords.now) ids.now (i ∷ [])) s out.old }
 {
     if s.over {
         return s;
@@ -160,8 +159,8 @@ fn scan(
     out: &mut [u32],
 ) -> Spent
     requires { (2 * hi ≤ length coords.now) × (hi ≤ length ids.now) × (s.found + s.left < 2 ^ 64) }
-    ensures { let t = over q (old coords) in
-        went_tests result (new out) ≡ spend n (marks t (old ids) (scanned (testing t) lo (hi - lo))) s (old out) }
+    ensures { let t = over q coords.now in
+        went_tests result out.new ≡ spend n (marks t ids.now (scanned (testing t) lo (hi - lo))) s out.old }
 {
     let mut k = s;
     let mut i = lo;
@@ -191,8 +190,8 @@ fn part(
     out: &mut [u32],
 ) -> Spent
     requires { (2 * hi ≤ length coords.now) × (hi ≤ length ids.now) × (lo ≤ hi) × (axis < 2) × (s.found + s.left < 2 ^ 64) }
-    ensures { let t = over q (old coords) in
-        went_tests result (new out) ≡ spend n (marks t (old ids) (when go (slots (testing t) axis (shape most lo hi)))) s (old out) }
+    ensures { let t = over q coords.now in
+        went_tests result out.new ≡ spend n (marks t ids.now (when go (slots (testing t) axis (shape most lo hi)))) s out.old }
 {
     if !go {
         return s;
@@ -243,8 +242,8 @@ pub fn search(
     out: &mut [u32],
 ) -> EffortReply
     requires { index_ok node_size n ids.now coords.now ≡ true }
-    ensures { let t = trials (queries_of p) node_size n (old ids) (old coords) in
-        (result ≡ answer n t allowance (length (old out))) × (new out ≡ column n t allowance (old out)) }
+    ensures { let t = trials (queries_of p) node_size n ids.now coords.now in
+        (result ≡ answer n t allowance (length out.old)) × (out.new ≡ column n t allowance out.old) }
 {
     let q = p.first;
     let w = p.second;

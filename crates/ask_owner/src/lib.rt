@@ -2,7 +2,6 @@
 // is asked of the caller: what SCOPE does not take is refused with its number.
 #![tactic(auto)]
 ghost use Rattle.std.specs.Prelude.{◌≡◌, true, ◌+◌, ◌<◌, ◌≤◌, length};
-ghost use Rattle.lent.specs.Lent.{old};
 ghost use Rattle.build_tables.specs.Options.{zoom_used};
 ghost use Rattle.build_tables.specs.State.{len_of};
 ghost use Rattle.ask_owner.specs.Asked.{owner_number, owner_carried, owners_reach, owner_spot, owner_within, owner_read, owner_asked};
@@ -88,7 +87,7 @@ fn within(s: State, z: usize, place: usize) -> OwnerReply
 // What the column says of a lamp of the build.
 fn read(s: State, owners: &[u32], lamp: u32, zoom: u8) -> OwnerReply
     requires { (owners_reach s (length owners.now) (length owners.now) ≡ true) × (lamp < s.count) }
-    ensures { result ≡ owner_read s (old owners) lamp (zoom_used s.options zoom) }
+    ensures { result ≡ owner_read s owners.now lamp (zoom_used s.options zoom) }
 {
     let o = s.options;
     let z = index(o.zoom_used(zoom));
@@ -99,7 +98,7 @@ fn read(s: State, owners: &[u32], lamp: u32, zoom: u8) -> OwnerReply
 // What it says of any number.
 fn find(s: State, owners: &[u32], lamp: u32, zoom: u8) -> OwnerReply
     requires { owners_reach s (length owners.now) (length owners.now) ≡ true }
-    ensures { result ≡ owner_asked s (old owners) lamp zoom }
+    ensures { result ≡ owner_asked s owners.now lamp zoom }
 {
     if s.count <= lamp {
         return OwnerReply::Lamp;
@@ -109,7 +108,7 @@ fn find(s: State, owners: &[u32], lamp: u32, zoom: u8) -> OwnerReply
 
 // The owner of a lamp: its place in the table of the zoom used.
 pub fn owner(s: State, owners: &[u32], lamp: u32, zoom: u8) -> OwnerReply
-    ensures { result ≡ owner_asked s (old owners) lamp zoom }
+    ensures { result ≡ owner_asked s owners.now lamp zoom }
 {
     if !reaches(s, owners.len(), owners.len()) {
         return OwnerReply::Spoiled;

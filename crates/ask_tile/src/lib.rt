@@ -1,7 +1,6 @@
 // The questions 'tile' and 'tile tally' to a build. Nothing is asked of the caller: what SCOPE does not take is refused with its number.
 #![tactic(auto)]
 ghost use Rattle.std.specs.Prelude.{◌≡◌, true, ◌+◌, ◌<◌};
-ghost use Rattle.lent.specs.Lent.{old, new};
 ghost use Rattle.build_tables.specs.Options.{zoom_used};
 ghost use Rattle.build_tables.specs.State.{start_of, len_of, state_of};
 ghost use Rattle.build_tables.specs.Sound.{state_ok};
@@ -83,7 +82,7 @@ fn list_used(
     requires fact { let c = given_columns x y seen id parent num energy ids coords in (state_ok s (room_of c) ≡ true) × IsTile z tx ty }
     requires starts_value { (starts.now ≡ s.starts) × (lens.now ≡ s.lens) }
     ensures { let c = lent_columns x y seen id parent num energy ids coords in
-        left_runs result (new out) (new px) (new py) ≡ run_tile (table_for s c z) 0 (visits_for s c z tx ty) (old out) (old px) (old py) }
+        left_runs result out.new px.new py.new ≡ run_tile (table_for s c z) 0 (visits_for s c z tx ty) out.old px.old py.old }
 {
     let o = s.options;
     let p = part_used(s, starts, lens, z);
@@ -134,9 +133,9 @@ pub fn tile_lent(
     px: &mut [i64],
     py: &mut [i64],
 ) -> Answer
-    ensures { let s = state_of options count (old starts) (old lens) in
+    ensures { let s = state_of options count starts.now lens.now in
         let c = lent_columns x y seen id parent num energy ids coords in
-        tile_outcome result (new places) (new px) (new py) ≡ tiled s c z tx ty (old places) (old px) (old py) }
+        tile_outcome result places.new px.new py.new ≡ tiled s c z tx ty places.old px.old py.old }
 {
     let s = State {
         options,
@@ -201,7 +200,7 @@ pub fn tile(
     py: &mut [i64],
 ) -> Answer
     ensures { let c = lent_columns x y seen id parent num energy ids coords in
-        tile_outcome result (new places) (new px) (new py) ≡ tiled s c z tx ty (old places) (old px) (old py) }
+        tile_outcome result places.new px.new py.new ≡ tiled s c z tx ty places.old px.old py.old }
 {
     let starts = s.starts;
     let lens = s.lens;
@@ -287,7 +286,7 @@ pub fn tally_lent(
     tx: u32,
     ty: u32,
 ) -> Tally
-    ensures { let s = state_of options count (old starts) (old lens) in
+    ensures { let s = state_of options count starts.now lens.now in
         let c = lent_columns x y seen id parent num energy ids coords in
         result ≡ tallied s c z tx ty }
 {

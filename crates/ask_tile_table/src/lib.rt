@@ -2,7 +2,6 @@
 #![tactic(auto)]
 ghost use Rattle.std.specs.Prelude.{◌≡◌, true, false, not, cond, ◌&&◌, [], ◌∷◌, ◌+◌, ◌*◌, ◌/◌, ◌^◌, ◌<◌, ◌≤◌, T, eqb, ltb, length, set};
 ghost use Rattle.std.specs.Float.Ieee.{le, neg};
-ghost use Rattle.lent.specs.Lent.{old, new};
 ghost use Rattle.floats.specs.Numbers.{one, pow31};
 ghost use Rattle.floats.specs.laws.Unit.{In01};
 ghost use Rattle.kdslots.specs.Bounds.{coords_ok};
@@ -287,7 +286,7 @@ fn item_of(g: TileSearch, p: u32, e: Entry) -> Item
 
 // Stores v at k, if the column reaches so far.
 fn put_whole(out: &mut [i64], k: usize, v: i64)
-    ensures { new out ≡ set (old out) k v }
+    ensures { out.new ≡ set out.old k v }
 {
     if k < out.len() {
         out[k] = v;
@@ -296,7 +295,7 @@ fn put_whole(out: &mut [i64], k: usize, v: i64)
 
 // Stores the item i as the k-th in the three columns, as far as they reach.
 fn put_item(i: Item, k: usize, out: &mut [u32], px: &mut [i64], py: &mut [i64])
-    ensures { (new out ≡ set (old out) k i.place) × (new px ≡ set (old px) k i.x) × (new py ≡ set (old py) k i.y) }
+    ensures { (out.new ≡ set out.old k i.place) × (px.new ≡ set px.old k i.x) × (py.new ≡ set py.old k i.y) }
 {
     ask_base::put_at(out, k, i.place);
     put_whole(px, k, i.x);
@@ -324,8 +323,8 @@ fn list_by(
     requires even { Even (given x y seen id parent num energy) }
     requires fact { let n = length x.now in (n ≤ length ids.now) × (at + n < 2 ^ 64) }
     ensures { let c = (lent_cols x y seen id parent num energy).entry in
-        let vs = walked_turns g (length c.x) (old ids) (old coords) in
-        left_runs result (new out) (new px) (new py) ≡ run_tile (rows c) at vs (old out) (old px) (old py) }
+        let vs = walked_turns g (length c.x) ids.now coords.now in
+        left_runs result out.new px.new py.new ≡ run_tile (rows c) at vs out.old px.old py.old }
 {
     if !g.made {
         return Ran::All(at);
@@ -375,8 +374,8 @@ pub fn list(
     requires even { Even (given x y seen id parent num energy) }
     requires fact { let n = length x.now in (coords_ok o.node_size n (length coords.now) ≡ true) × (n ≤ length ids.now) }
     ensures { let t = rows (lent_cols x y seen id parent num energy).entry in
-        let vs = visited o z tx ty t (old ids) (old coords) in
-        left_runs result (new out) (new px) (new py) ≡ run_tile t 0 vs (old out) (old px) (old py) }
+        let vs = visited o z tx ty t ids.now coords.now in
+        left_runs result out.new px.new py.new ≡ run_tile t 0 vs out.old px.old py.old }
 {
     let g = search_here(o, z, tx, ty);
     let Ran::All(a) = list_by(
@@ -410,7 +409,7 @@ fn bit(j: usize) -> u8
 // Whether the mark q is there.
 fn is_marked(marks: &[u8], q: usize) -> bool
     requires { q < 8 * length marks.now }
-    ensures { result ≡ marked_places (old marks) q }
+    ensures { result ≡ marked_places marks.now q }
 {
     let b = bit(q % 8);
     marks[q / 8] / b % 2 == 1
@@ -419,7 +418,7 @@ fn is_marked(marks: &[u8], q: usize) -> bool
 // Adds num to the sum, if the mark q is not there, and sets it.
 fn add_once(marks: &mut [u8], q: usize, num: u32, sum: u64) -> u64
     requires { (q < 8 * length marks.old) × (sum + 4294967295 < 2 ^ 64) }
-    ensures { (result ≡ added num q sum (old marks)) × (new marks ≡ marking_place q (old marks)) × (result ≤ sum + 4294967295) }
+    ensures { (result ≡ added num q sum marks.old) × (marks.new ≡ marking_place q marks.old) × (result ≤ sum + 4294967295) }
 {
     if is_marked(marks, q) {
         return sum;
@@ -538,7 +537,7 @@ fn tally_one(
     requires x_bound { marks_for few (length x.now) ≤ 8 * length marks.old }
     requires count_bound { (r.count < 4194304) × (r.sum ≤ r.count * 4294967295) }
     ensures { let t = rows (lent_cols x y seen id parent num energy).entry in
-        (held_marks_of result (new marks) ≡ counted few (weight_by h) t r.count r.sum (p ∷ []) (old marks))
+        (held_marks_of result marks.new ≡ counted few (weight_by h) t r.count r.sum (p ∷ []) marks.old)
         × (result.count ≤ r.count + 1) × (result.sum ≤ result.count * 4294967295) }
 {
     let Named::At(e) = entry_named(x, y, seen, id, parent, num, energy, p) else {
@@ -590,8 +589,8 @@ fn tally_by(
     requires fact { let n = length x.now in (n ≤ length ids.now) × (marks_for few n ≤ 8 * length marks.old) }
     requires x_bound { (r.count + length x.now ≤ 4194304) × (r.sum ≤ r.count * 4294967295) }
     ensures { let c = (lent_cols x y seen id parent num energy).entry in
-        let ps = places_in (walked_turns g (length c.x) (old ids) (old coords)) in
-        (held_marks_of result (new marks) ≡ counted few (weight_by h) (rows c) r.count r.sum ps (old marks))
+        let ps = places_in (walked_turns g (length c.x) ids.now coords.now) in
+        (held_marks_of result marks.new ≡ counted few (weight_by h) (rows c) r.count r.sum ps marks.old)
         × (result.count ≤ r.count + length c.x) × (result.sum ≤ result.count * 4294967295) }
 {
     let mut a = Running {
@@ -648,7 +647,7 @@ fn add_with(
     requires fact { let n = length x.now in (coords_ok o.node_size n (length coords.now) ≡ true) × (n ≤ length ids.now) }
     requires blank { Blank few (length x.now) marks.old }
     ensures { let t = rows (lent_cols x y seen id parent num energy).entry in
-        let vs = visited o z tx ty t (old ids) (old coords) in
+        let vs = visited o z tx ty t ids.now coords.now in
         ((few && not result.sure) ≡ false → result ≡ running_of (weight_in z tx ty) t vs) }
 {
     let r = Running {
@@ -701,7 +700,7 @@ fn add_all(
     requires even { Even (given x y seen id parent num energy) }
     requires fact { let n = length x.now in (coords_ok o.node_size n (length coords.now) ≡ true) × (n ≤ length ids.now) }
     ensures { let t = rows (lent_cols x y seen id parent num energy).entry in
-        result ≡ running_of (weight_in z tx ty) t (visited o z tx ty t (old ids) (old coords)) }
+        result ≡ running_of (weight_in z tx ty) t (visited o z tx ty t ids.now coords.now) }
 {
     if x.len() <= 131072 {
         let mut some = [0u8; 16384];
@@ -747,7 +746,7 @@ pub fn add_up(
     requires even { Even (given x y seen id parent num energy) }
     requires fact { let n = length x.now in (coords_ok o.node_size n (length coords.now) ≡ true) × (n ≤ length ids.now) }
     ensures { let t = rows (lent_cols x y seen id parent num energy).entry in
-        result ≡ running_of (weight_in z tx ty) t (visited o z tx ty t (old ids) (old coords)) }
+        result ≡ running_of (weight_in z tx ty) t (visited o z tx ty t ids.now coords.now) }
 {
     if is_crowded(z, x.len()) {
         return add_all(

@@ -2,13 +2,12 @@
 // Below the public surface: what is asked of the caller `supercluster::load` has shown.
 #![tactic(auto)]
 ghost use Rattle.std.specs.Prelude.{◌≡◌, suc, ◌+◌, ◌-◌, ◌*◌, ◌^◌, ◌<◌, ◌≤◌, length, set};
-ghost use Rattle.kdsort.specs.Lent.{given_index, lent_index};
+ghost use Rattle.kdsort.specs.Lent.{given_index, lent_index_mut};
 ghost use Rattle.kdslots.specs.laws.All.{All};
 ghost use Rattle.kdbush.specs.laws.Promise.{Promised};
-ghost use Rattle.lent.specs.Lent.{old, new};
 ghost use Rattle.build_tables.specs.Rows.{rows};
 ghost use Rattle.build_tables.specs.laws.Rows.{Even};
-ghost use Rattle.build_tables.specs.Lent.{given, lent_cols};
+ghost use Rattle.build_tables.specs.Lent.{given_mut, lent_cols_mut};
 ghost use Rattle.build_tables.specs.Columns.{part};
 ghost use Rattle.build_one_zoom.specs.Zoom.{num_of, energy_of, cluster};
 ghost use Rattle.build_one_zoom.specs.Scanned.{unseen_of};
@@ -44,7 +43,7 @@ fn zoom_step(
     z: u8,
     n: u32,
 ) -> usize
-    requires { let c = given x y seen id parent num energy in
+    requires { let c = given_mut x y seen id parent num energy in
         let t = part start len (rows c) in
         let i = given_index ids coords in
         Even c × Promised o.node_size len i.ids i.co × Radius r × All Placed t
@@ -52,8 +51,8 @@ fn zoom_step(
         × (unseen_of num_of z t < 2 ^ 32) × (start ≤ 67108864) × (len ≤ n) × (n ≤ 1048576) × (z ≤ 30)
         × Slotted len i.ids i.co t × OwnNote len (near_of o.node_size len i.ids i.co r) i.ids i.co
         × (unseen_of energy_of z t < 2 ^ 64) }
-    ensures { let c = lent_cols x y seen id parent num energy in
-        let near = near_of o.node_size len (old ids) (old coords) r in
+    ensures { let c = lent_cols_mut x y seen id parent num energy in
+        let near = near_of o.node_size len ids.now coords.now r in
         Stepped start len (cluster n o.min_points z near (part start len (rows c.entry))) (rows c.entry) (rows c.exit) result }
 {
     let size = o.node_size;
@@ -92,8 +91,8 @@ pub fn index_part(
     requires fact { let n = length x.now in
         (length y.now ≡ n) × (start + len ≤ n) × (start + len ≤ length ids.old) × ((start + len) * 2 ≤ length coords.old) }
     requires inside { Inside (part start len x.now) (part start len y.now) }
-    ensures { let made = index_of size (part start len (old x)) (part start len (old y)) in
-        let i = lent_index ids coords in
+    ensures { let made = index_of size (part start len x.now) (part start len y.now) in
+        let i = lent_index_mut ids coords in
         (i.exit.ids ≡ put_at start len made.ids i.entry.ids)
         × (i.exit.co ≡ put_at (start * 2) (len * 2) made.co i.entry.co) }
 {
@@ -127,11 +126,11 @@ fn one_zoom(
     z: u8,
     n: u32,
 ) -> usize
-    requires { let c = given x y seen id parent num energy in
+    requires { let c = given_mut x y seen id parent num energy in
         Even c × (n + n ≤ length near.old) × (o.min_zoom ≤ z)
         × Running (zoom_plan o n) (length c.x) (suc (z - o.min_zoom)) start len (rows c) ids.old coords.old }
-    ensures { let c = lent_cols x y seen id parent num energy in
-        let i = lent_index ids coords in
+    ensures { let c = lent_cols_mut x y seen id parent num energy in
+        let i = lent_index_mut ids coords in
         Advanced (zoom_plan o n) z start len result (rows c.entry) (rows c.exit)
         i.entry.ids i.exit.ids i.entry.co i.exit.co }
 {
@@ -177,13 +176,13 @@ pub fn run_zooms(
     s: State,
     n: u32,
 ) -> State
-    requires { let c = given x y seen id parent num energy in
+    requires { let c = given_mut x y seen id parent num energy in
         Even c × (n + n ≤ length near.old) × (s.options.min_zoom ≤ s.options.max_zoom + 1)
         × Running (zoom_plan s.options n) (length c.x) (zooms_of s.options) 0 n (rows c) ids.old coords.old
         × (set s.starts (s.options.max_zoom + 1) 0 ≡ s.starts) × (set s.lens (s.options.max_zoom + 1) n ≡ s.lens) }
-    ensures { let c = lent_cols x y seen id parent num energy in
+    ensures { let c = lent_cols_mut x y seen id parent num energy in
         let t = rows c.entry in
-        let i = lent_index ids coords in
+        let i = lent_index_mut ids coords in
         Finished (zoom_plan s.options n) (zooms_of s.options) s result (part 0 n t) t (rows c.exit)
         i.entry.ids i.exit.ids i.entry.co i.exit.co }
 {

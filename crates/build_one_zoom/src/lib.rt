@@ -8,11 +8,10 @@ ghost use Rattle.kdsort.specs.Cols.{key};
 ghost use Rattle.kdsort.specs.Lent.{given_index, lent_index};
 ghost use Rattle.kdslots.specs.laws.All.{All, AllBelow};
 ghost use Rattle.kdbush.specs.laws.Promise.{Promised};
-ghost use Rattle.lent.specs.Lent.{old, new};
 ghost use Rattle.build_tables.specs.Entries.{Table, entry};
-ghost use Rattle.build_tables.specs.Rows.{rows};
+ghost use Rattle.build_tables.specs.Rows.{cols, rows};
 ghost use Rattle.build_tables.specs.laws.Rows.{Even};
-ghost use Rattle.build_tables.specs.Lent.{given, lent_cols};
+ghost use Rattle.build_tables.specs.Lent.{given, given_mut, lent_cols, lent_cols_mut};
 ghost use Rattle.build_one_zoom.specs.Zoom.{num_of, energy_of, adds, more, more_of, absorb_one, absorb, absorbed};
 ghost use Rattle.build_one_zoom.specs.Zoom.{copy_one, copy_all, made_at, left_at, enough, visit, scan_one, cluster};
 ghost use Rattle.build_one_zoom.specs.Scanned.{Scanned, scan_of, unseen_count, unseen_num, unseen_of};
@@ -46,11 +45,12 @@ fn absorb_one(
     p: u32,
     sums: Sums,
 ) -> Sums
-    requires { let c = given x y seen id parent num energy in
+    requires { let c = cols x.now y.now seen.old id.now parent.old num.now energy.now in
         Even c × (k < length c.x) × (sums.energy + adds energy_of z (entry (rows c) k) < 2 ^ 64) }
-    ensures { let c = lent_cols x y seen id parent num energy in
-        absorbed (rows c.exit) result.x result.y result.energy
-        ≡ absorb_one z p (absorbed (rows c.entry) sums.x sums.y sums.energy) k }
+    ensures { let before = rows (cols x.now y.now seen.old id.now parent.old num.now energy.now) in
+        let after = rows (cols x.now y.now seen.new id.now parent.new num.now energy.now) in
+        absorbed after result.x result.y result.energy
+        ≡ absorb_one z p (absorbed before sums.x sums.y sums.energy) k }
 {
     let e = build_tables::entry_at(x, y, seen, id, parent, num, energy, k);
     if e.seen <= z {
@@ -80,12 +80,13 @@ fn absorb_near(
     p: u32,
     sums: Sums,
 ) -> Sums
-    requires { let c = given x y seen id parent num energy in
+    requires { let c = cols x.now y.now seen.old id.now parent.old num.now energy.now in
         let ns = near.now in
         Even c × AllBelow (length c.x) ns × (sums.energy + more_of energy_of z (rows c) ns < 2 ^ 64) }
-    ensures { let c = lent_cols x y seen id parent num energy in
-        absorbed (rows c.exit) result.x result.y result.energy
-        ≡ absorb z p (absorbed (rows c.entry) sums.x sums.y sums.energy) (old near) }
+    ensures { let before = rows (cols x.now y.now seen.old id.now parent.old num.now energy.now) in
+        let after = rows (cols x.now y.now seen.new id.now parent.new num.now energy.now) in
+        absorbed after result.x result.y result.energy
+        ≡ absorb z p (absorbed before sums.x sums.y sums.energy) near.now }
 {
     let mut s = sums;
     let mut j = 0;
@@ -111,9 +112,9 @@ fn copy_one(
     k: usize,
     z: u8,
 ) -> usize
-    requires { let c = given x y seen id parent num energy in
+    requires { let c = given_mut x y seen id parent num energy in
         Even c × (k < len) × (len + done + unseen_count z (take len (rows c)) ≤ length c.x) }
-    ensures { let c = lent_cols x y seen id parent num energy in
+    ensures { let c = lent_cols_mut x y seen id parent num energy in
         let t = rows c.entry in
         Scanned len done (copy_one z (scan_of len done t) k) t (rows c.exit) result }
 {
@@ -142,11 +143,11 @@ fn copy_near(
     done: usize,
     z: u8,
 ) -> usize
-    requires { let c = given x y seen id parent num energy in
+    requires { let c = given_mut x y seen id parent num energy in
         Even c × AllBelow len near.now × (len + done + unseen_count z (take len (rows c)) ≤ length c.x) }
-    ensures { let c = lent_cols x y seen id parent num energy in
+    ensures { let c = lent_cols_mut x y seen id parent num energy in
         let t = rows c.entry in
-        Scanned len done (copy_all z (scan_of len done t) (old near)) t (rows c.exit) result }
+        Scanned len done (copy_all z (scan_of len done t) near.now) t (rows c.exit) result }
 {
     let mut d = done;
     let mut j = 0;
@@ -184,7 +185,7 @@ fn total_near(
     requires { let c = given x y seen id parent num energy in
         let ns = near.now in
         Even c × AllBelow (length c.x) ns × (own + more z (rows c) ns < 2 ^ 32) }
-    ensures { let c = lent_cols x y seen id parent num energy in result ≡ own + more z (rows c.entry) (old near) }
+    ensures { let c = lent_cols x y seen id parent num energy in result ≡ own + more z (rows c.entry) near.now }
 {
     let mut total = own;
     let mut j = 0;
@@ -214,13 +215,13 @@ fn make_one(
     n: u32,
     total: u32,
 )
-    requires { let c = given x y seen id parent num energy in
+    requires { let c = given_mut x y seen id parent num energy in
         let ns = near.now in
         Even c × AllBelow len ns × (i < len) × (len + done < length c.x) × (len ≤ 1048576) × (n ≤ 1048576) × (z ≤ 30)
         × ((entry (rows c) i).energy + more_of energy_of z (rows c) ns < 2 ^ 64) }
-    ensures { let c = lent_cols x y seen id parent num energy in
+    ensures { let c = lent_cols_mut x y seen id parent num energy in
         let t = rows c.entry in
-        Scanned len done (made_at n z i total (old near) (scan_of len done t)) t (rows c.exit) (done + 1) }
+        Scanned len done (made_at n z i total near.now (scan_of len done t)) t (rows c.exit) (done + 1) }
 {
     let cluster = build_tables::cluster_id(i, z, n);
     let o = build_tables::entry_at(x, y, seen, id, parent, num, energy, i);
@@ -260,11 +261,11 @@ fn leave_one(
     i: usize,
     z: u8,
 ) -> usize
-    requires { let c = given x y seen id parent num energy in
+    requires { let c = given_mut x y seen id parent num energy in
         Even c × AllBelow len near.now × (i < len) × (len + done + 1 + unseen_count z (take len (rows c)) ≤ length c.x) }
-    ensures { let c = lent_cols x y seen id parent num energy in
+    ensures { let c = lent_cols_mut x y seen id parent num energy in
         let t = rows c.entry in
-        Scanned len done (left_at z i (old near) (scan_of len done t)) t (rows c.exit) result }
+        Scanned len done (left_at z i near.now (scan_of len done t)) t (rows c.exit) result }
 {
     let e = build_tables::entry_at(x, y, seen, id, parent, num, energy, i);
     build_tables::put_entry(x, y, seen, id, parent, num, energy, len + done, e);
@@ -298,14 +299,14 @@ fn visit_one(
     n: u32,
     least: u32,
 ) -> usize
-    requires { let c = given x y seen id parent num energy in
+    requires { let c = given_mut x y seen id parent num energy in
         let ns = near.now in
         Even c × AllBelow len ns × (i < len) × (len + done + 1 + unseen_count z (take len (rows c)) ≤ length c.x)
         × (len ≤ 1048576) × (n ≤ 1048576) × (z ≤ 30) × ((entry (rows c) i).num + more z (rows c) ns < 2 ^ 32)
         × ((entry (rows c) i).energy + more_of energy_of z (rows c) ns < 2 ^ 64) }
-    ensures { let c = lent_cols x y seen id parent num energy in
+    ensures { let c = lent_cols_mut x y seen id parent num energy in
         let t = rows c.entry in
-        Scanned len done (visit n least z (old near) i (scan_of len done t)) t (rows c.exit) result }
+        Scanned len done (visit n least z near.now i (scan_of len done t)) t (rows c.exit) result }
 {
     let e = build_tables::entry_at(x, y, seen, id, parent, num, energy, i);
     let own = e.num;
@@ -351,7 +352,7 @@ fn note_two(
 ) -> u32
     requires promised { Promised node_size len ids.now coords.now }
     requires qy_len { length (near_of node_size len ids.now coords.now r qx qy) ≡ 2 }
-    ensures { Tells own result (near_of node_size len (old ids) (old coords) r qx qy) }
+    ensures { Tells own result (near_of node_size len ids.now coords.now r qx qy) }
 {
     let mut two: [u32; 2] = [0; 2];
     match kdbush::within(node_size, len, ids, coords, qx, qy, r, &mut two) {
@@ -394,7 +395,7 @@ fn note_at(ids: &[u32], coords: &[f64], node_size: usize, r: f64, len: usize, s:
 // No notes.
 fn forget(near: &mut [u32], notes: usize, len: usize)
     requires { (notes + len ≤ length near.old) × (notes ≤ 1048576) × (len ≤ 1048576) }
-    ensures { (i : ℕ) → i < len → get_or (new near) (notes + i) 0 ≡ 0 }
+    ensures { (i : ℕ) → i < len → get_or near.new (notes + i) 0 ≡ 0 }
 {
     let mut i = 0;
     while i < len {
@@ -425,7 +426,7 @@ fn note_all(
     requires fact { let i = given_index ids coords in OwnNote len (near_of node_size len i.ids i.co r) i.ids i.co }
     ensures { let i = (lent_index ids coords).entry in
         let around = near_of node_size len i.ids i.co r in
-        ((t : Table) → Slotted len i.ids i.co t → Noted notes len around (new near) t) }
+        ((t : Table) → Slotted len i.ids i.co t → Noted notes len around near.new t) }
 {
     forget(near, notes, len);
     let mut left = 4 * len;
@@ -455,8 +456,8 @@ fn search_near(
 ) -> usize
     requires promised { Promised node_size len ids.now coords.now × Radius r × (len ≤ length near.old) }
     requires t { T (finite qx) × T (finite qy) }
-    ensures { let around = near_of node_size len (old ids) (old coords) r in
-        Answered (around qx qy) (new near) result × Same len (old near) (new near) }
+    ensures { let around = near_of node_size len ids.now coords.now r in
+        Answered (around qx qy) near.new result × Same len near.old near.new }
 {
     match kdbush::within(node_size, len, ids, coords, qx, qy, r, near) {
         SearchReply::Found(k) => k,
@@ -483,8 +484,8 @@ fn neighbours(
     requires promised { Promised node_size len ids.now coords.now × Radius r × (len ≤ length near.old) × (i < len) × (len ≤ 1048576) }
     requires t { T (finite qx) × T (finite qy) }
     requires tells { Tells i note (near_of node_size len ids.now coords.now r qx qy) }
-    ensures { let around = near_of node_size len (old ids) (old coords) r in
-        Answered (around qx qy) (new near) result × Same len (old near) (new near) }
+    ensures { let around = near_of node_size len ids.now coords.now r in
+        Answered (around qx qy) near.new result × Same len near.old near.new }
 {
     if note == 0 {
         return search_near(ids, coords, near, node_size, r, len, qx, qy);
@@ -526,7 +527,7 @@ fn scan_one(
     n: u32,
     least: u32,
 ) -> usize
-    requires { let c = given x y seen id parent num energy in
+    requires { let c = given_mut x y seen id parent num energy in
         let t = take len (rows c) in
         let g = given_index ids coords in
         let around = near_of node_size len g.ids g.co r in
@@ -534,10 +535,10 @@ fn scan_one(
         Even c × Promised node_size len g.ids g.co × Radius r × (n + len ≤ length ns) × (i < len)
         × All Placed t × Noted n len around ns t × (len + done + unseen_count z t ≤ length c.x)
         × (len ≤ n) × (n ≤ 1048576) × (z ≤ 30) × (unseen_num z t < 2 ^ 32) × (unseen_of energy_of z t < 2 ^ 64) }
-    ensures { let c = lent_cols x y seen id parent num energy in
+    ensures { let c = lent_cols_mut x y seen id parent num energy in
         let t = rows c.entry in
-        let around = near_of node_size len (old ids) (old coords) r in
-        Same len (old near) (new near) × Scanned len done (scan_one n least z around (scan_of len done t) i) t (rows c.exit) result }
+        let around = near_of node_size len ids.now coords.now r in
+        Same len near.old near.new × Scanned len done (scan_one n least z around (scan_of len done t) i) t (rows c.exit) result }
 {
     let e = build_tables::entry_at(x, y, seen, id, parent, num, energy, i);
     if e.seen <= z {
@@ -583,16 +584,16 @@ pub fn cluster(
     n: u32,
     least: u32,
 ) -> usize
-    requires { let c = given x y seen id parent num energy in
+    requires { let c = given_mut x y seen id parent num energy in
         let t = take len (rows c) in
         let i = given_index ids coords in
         let around = near_of node_size len i.ids i.co r in
         Even c × Promised node_size len i.ids i.co × Radius r × (n + len ≤ length near.old) × (len + len ≤ length c.x)
         × All Placed t × Slotted len i.ids i.co t × OwnNote len around i.ids i.co
         × (len ≤ n) × (n ≤ 1048576) × (z ≤ 30) × (unseen_num z t < 2 ^ 32) × (unseen_of energy_of z t < 2 ^ 64) }
-    ensures { let c = lent_cols x y seen id parent num energy in
+    ensures { let c = lent_cols_mut x y seen id parent num energy in
         let t = rows c.entry in
-        let around = near_of node_size len (old ids) (old coords) r in
+        let around = near_of node_size len ids.now coords.now r in
         Scanned len 0 (cluster n least z around (take len t)) t (rows c.exit) result }
 {
     note_all(ids, coords, near, node_size, r, len, wide(n));

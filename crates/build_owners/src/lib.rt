@@ -3,7 +3,6 @@
 // Below the surface: what is asked of the caller `owners::load` has shown.
 #![tactic(auto)]
 ghost use Rattle.std.specs.Prelude.{◌≡◌, ◌⊎◌, ℕ, suc, ◌+◌, ◌-◌, ◌*◌, ◌<◌, ◌≤◌, length, get_or, replicate};
-ghost use Rattle.lent.specs.Lent.{old, new};
 ghost use Rattle.build_tables.specs.Entries.{entry, unset};
 ghost use Rattle.build_tables.specs.Rows.{rows};
 ghost use Rattle.build_tables.specs.laws.Rows.{Even};
@@ -39,7 +38,7 @@ fn lead(
 ) -> u32
     requires { let c = given x y seen id parent num energy in Even c × Chain n starts.now (rows c) 32 from }
     ensures { let c = lent_cols x y seen id parent num energy in
-        result ≡ lead_of n (old starts) (rows c.entry) 32 from }
+        result ≡ lead_of n starts.now (rows c.entry) 32 from }
 {
     let mut c = from;
     let mut left = build_tables::ZOOMS;
@@ -72,8 +71,8 @@ fn send(
     requires { let c = given x y seen id parent num energy in
         Even c × Sends n starts.now (rows c) start len own.now (length to.old) }
     ensures { let c = lent_cols x y seen id parent num energy in
-        let at = lead_from n (old starts) (rows c.entry) start in
-        Sent (λ d. get_or (old own) (at d) 0) len (new to) }
+        let at = lead_from n starts.now (rows c.entry) start in
+        Sent (λ d. get_or own.now (at d) 0) len to.new }
 {
     let mut d = 0;
     while d < len {
@@ -114,7 +113,7 @@ fn climb(
     requires { let c = given x y seen id parent num energy in
         Even c × Sits n (rows c) start (length to.now) owners.old at }
     ensures { let c = lent_cols x y seen id parent num energy in
-        Wrote (at + n) n (next_owner n (rows c.entry) start (old to) (old owners) at) (old owners) (new owners) }
+        Wrote (at + n) n (next_owner n (rows c.entry) start to.now owners.old at) owners.old owners.new }
 {
     let count = wide(n);
     let next = at + count;
@@ -131,7 +130,7 @@ fn climb(
 // In the finest table a lamp owns itself.
 fn own_themselves(owners: &mut [u32], n: usize)
     requires { (n ≤ length owners.old) × (n ≤ 1048576) }
-    ensures { Wrote 0 n (λ (l : ℕ). l) (old owners) (new owners) }
+    ensures { Wrote 0 n (λ (l : ℕ). l) owners.old owners.new }
 {
     let mut l = 0;
     while l < n {
@@ -142,7 +141,7 @@ fn own_themselves(owners: &mut [u32], n: usize)
 
 // Zeros.
 fn clear(to: &mut [u32])
-    ensures { new to ≡ replicate (length (old to)) 0 }
+    ensures { to.new ≡ replicate (length to.old) 0 }
 {
     let mut i = 0;
     while i < to.len() {
@@ -171,7 +170,7 @@ fn one_table(
         × (length to.old ≡ s.count) × (at + s.count + s.count ≤ length owners.old)
         × ((l : ℕ) → l < s.count → get_or owners.old (at + l) 0 ≡ finer s (rows c) z l) }
     ensures { let c = lent_cols x y seen id parent num energy in
-        Wrote (at + s.count) s.count (owner_on s (rows c.entry) z) (old owners) (new owners) }
+        Wrote (at + s.count) s.count (owner_on s (rows c.entry) z) owners.old owners.new }
 {
     let n = s.count;
     let starts = s.starts;
@@ -216,8 +215,8 @@ fn fill_in(
         Even c × Climbable s (rows c) × (length to.old ≡ s.count)
         × (table_count s.options * s.count ≤ length owners.old) }
     ensures { let c = lent_cols x y seen id parent num energy in
-        (new to ≡ replicate (length (old to)) 0)
-        × (new owners ≡ laid_over (owner_column s.count (held_by s (rows c.entry))) (old owners)) }
+        (to.new ≡ replicate (length to.old) 0)
+        × (owners.new ≡ laid_over (owner_column s.count (held_by s (rows c.entry))) owners.old) }
 {
     let n = wide(s.count);
     own_themselves(owners, n);
@@ -251,8 +250,8 @@ pub fn fill(
         Roomy m c × Climbable s (rows (front_cols m c)) × (s.count ≤ length near.old) × (m ≤ length owners.old) }
     ensures { let c = lent_cols x y seen id parent num energy in
         let R = rows (front_cols (table_count s.options * s.count) c.entry) in
-        (new near ≡ laid_over (replicate s.count 0) (old near))
-        × (new owners ≡ laid_over (owner_column s.count (held_by s R)) (old owners)) }
+        (near.new ≡ laid_over (replicate s.count 0) near.old)
+        × (owners.new ≡ laid_over (owner_column s.count (held_by s R)) owners.old) }
 {
     let n = wide(s.count);
     let m = build_tables::table_count(s.options) * n;

@@ -1,7 +1,6 @@
 // How many entries lent columns hold: those of a table, of an index, of a build. Every question and the build look at it first.
 #![tactic(auto)]
 ghost use Rattle.std.specs.Prelude.{◌≡◌, ◌/◌, min};
-ghost use Rattle.lent.specs.Lent.{old};
 ghost use Rattle.build_tables.specs.Room.{index_room, room_by, room_of};
 ghost use Rattle.build_tables.specs.Lent.{lent_columns};
 
@@ -17,7 +16,7 @@ pub fn less(a: usize, b: usize) -> usize
 
 // How many entries the columns of the index hold.
 pub fn index_room(ids: &[u32], coords: &[f64]) -> usize
-    ensures { result ≡ index_room (old ids) (old coords) }
+    ensures { result ≡ index_room ids.now coords.now }
 {
     less(ids.len(), coords.len() / 2)
 }

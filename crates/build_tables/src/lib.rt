@@ -9,8 +9,7 @@ ghost use Rattle.build_tables.specs.Sound.{is_table, packed, state_ok};
 ghost use Rattle.build_tables.specs.Entries.{entry};
 ghost use Rattle.build_tables.specs.Rows.{rows};
 ghost use Rattle.build_tables.specs.laws.Rows.{Even};
-ghost use Rattle.lent.specs.Lent.{old};
-ghost use Rattle.build_tables.specs.Lent.{given, lent_cols};
+ghost use Rattle.build_tables.specs.Lent.{given, given_mut, lent_cols, lent_cols_mut};
 ghost use Rattle.build_tables.specs.Ids.{cluster_id, origin_of, table_of};
 ghost use Rattle.build_tables.specs.Radius.{radius_at};
 
@@ -304,8 +303,8 @@ pub fn put_entry(
     i: usize,
     e: Entry,
 )
-    requires { let c = given x y seen id parent num energy in Even c × (i < length c.x) }
-    ensures { let c = lent_cols x y seen id parent num energy in rows c.exit ≡ set (rows c.entry) i e }
+    requires { let c = given_mut x y seen id parent num energy in Even c × (i < length c.x) }
+    ensures { let c = lent_cols_mut x y seen id parent num energy in rows c.exit ≡ set (rows c.entry) i e }
 {
     x[i] = e.x;
     y[i] = e.y;

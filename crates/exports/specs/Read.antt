@@ -1,8 +1,7 @@
 -- An entry as a C caller reads it: what a zoom and a place lead to, and the number and the seven fields that are left. Definitions only.
 use Rattle.std.specs.Prelude.{cond, not, ℕ, leb, Float}
-use Rattle.std.specs.Borrow.{Bor}
+use Rattle.std.specs.Borrow.{MutBor}
 use denote.Triple.Both.{Both}
-use Rattle.lent.specs.Lent.{old, new}
 use Rattle.build_tables.specs.declared.State.{State}
 use Rattle.build_tables.specs.declared.Entry.{Entry}
 use Rattle.build_tables.specs.Entries.{entry}
@@ -28,13 +27,13 @@ fields x y seen id parent num energy = record { x = x; y = y; seen = seen; id = 
 
 -- the entry behind seven references, as a function is called and as it returns
 abbrev pub Field : Type 0 → Type 0
-Field A = Both (Bor A) (Bor A)
+Field A = Both (MutBor A) (MutBor A)
 
 abbrev pub lent_entry : Field Float → Field Float → Field ℕ → Field ℕ → Field ℕ → Field ℕ → Field ℕ → Both Entry Entry
 lent_entry x y seen id parent num energy =
     record {
-      entry = fields (old x) (old y) (old seen) (old id) (old parent) (old num) (old energy);
-      exit = fields (new x) (new y) (new seen) (new id) (new parent) (new num) (new energy);
+      entry = fields x.entry.now y.entry.now seen.entry.now id.entry.now parent.entry.now num.entry.now energy.entry.now;
+      exit = fields x.exit.now y.exit.now seen.exit.now id.exit.now parent.exit.now num.exit.now energy.exit.now;
     }
 
 -- the number, and what the fields are afterwards

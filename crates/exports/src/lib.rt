@@ -14,13 +14,12 @@ ghost use Rattle.exports.specs.Told.{post_told, post_told_of};
 ghost use Rattle.exports.specs.Laid.{replied, replied_of, laid, laid_of};
 ghost use Rattle.exports.specs.Read.{entry_asked, lent_entry, read_as, read_of};
 ghost use Rattle.owners.specs.LoadedWith.{loaded_with};
-ghost use Rattle.supercluster.specs.Lent.{lent_all};
-ghost use Rattle.kdsort.specs.Lent.{lent_index};
+ghost use Rattle.supercluster.specs.Lent.{lent_all_mut};
+ghost use Rattle.kdsort.specs.Lent.{lent_index_mut};
 ghost use Rattle.range.specs.Range.{normalized, denormalized};
 ghost use Rattle.build_tables.specs.State.{state_of};
 ghost use Rattle.build_tables.specs.Options.{zoom_used};
 ghost use Rattle.build_tables.specs.Lent.{lent_columns};
-ghost use Rattle.lent.specs.Lent.{old, new};
 ghost use Rattle.ask_box.specs.Lists.{box_asked, ring_asked};
 ghost use Rattle.ask_effort.specs.Effort.{effort_asked};
 ghost use Rattle.ask_cluster.specs.Children.{children_of};
@@ -49,9 +48,9 @@ pub extern "C" fn kdbush_build(
     coords: &mut [f64],
     carried: &mut usize,
 ) -> u32
-    ensures result_value { let c = lent_index ids coords in result ≡ build_number (index_checked node_size (old xs) (old ys) c.entry) }
-    ensures carried_value { let c = lent_index ids coords in new carried ≡ build_carried (index_checked node_size (old xs) (old ys) c.entry) }
-    ensures c_value { let c = lent_index ids coords in c.exit ≡ built node_size (old xs) (old ys) c.entry }
+    ensures result_value { let c = lent_index_mut ids coords in result ≡ build_number (index_checked node_size xs.now ys.now c.entry) }
+    ensures carried_value { let c = lent_index_mut ids coords in carried.new ≡ build_carried (index_checked node_size xs.now ys.now c.entry) }
+    ensures c_value { let c = lent_index_mut ids coords in c.exit ≡ built node_size xs.now ys.now c.entry }
 {
     let r = kdbush::build(node_size, xs, ys, ids, coords);
     *carried = r.carried();
@@ -76,11 +75,11 @@ pub extern "C" fn kdbush_range(
     carried: &mut usize,
 ) -> u32
     ensures result_value { let q = Query.Range min_x min_y max_x max_y in
-        result ≡ search_number (searched q node_size n (old ids) (old coords) (length (old out))) }
+        result ≡ search_number (searched q node_size n ids.now coords.now (length out.old)) }
     ensures carried_value { let q = Query.Range min_x min_y max_x max_y in
-        new carried ≡ search_carried (searched q node_size n (old ids) (old coords) (length (old out))) }
+        carried.new ≡ search_carried (searched q node_size n ids.now coords.now (length out.old)) }
     ensures out_value { let q = Query.Range min_x min_y max_x max_y in
-        new out ≡ column_after q node_size n (old ids) (old coords) (old out) }
+        out.new ≡ column_after q node_size n ids.now coords.now out.old }
 {
     let r = kdbush::range(node_size, n, ids, coords, min_x, min_y, max_x, max_y, out);
     *carried = r.carried();
@@ -101,10 +100,10 @@ pub extern "C" fn kdbush_within(
     out: &mut [u32],
     carried: &mut usize,
 ) -> u32
-    ensures value { result ≡ search_number (searched (Query.Within qx qy radius) node_size n (old ids) (old coords) (length (old out))) }
+    ensures value { result ≡ search_number (searched (Query.Within qx qy radius) node_size n ids.now coords.now (length out.old)) }
     ensures carried_value { let q = Query.Within qx qy radius in
-        new carried ≡ search_carried (searched q node_size n (old ids) (old coords) (length (old out))) }
-    ensures out_value { new out ≡ column_after (Query.Within qx qy radius) node_size n (old ids) (old coords) (old out) }
+        carried.new ≡ search_carried (searched q node_size n ids.now coords.now (length out.old)) }
+    ensures out_value { out.new ≡ column_after (Query.Within qx qy radius) node_size n ids.now coords.now out.old }
 {
     let r = kdbush::within(node_size, n, ids, coords, qx, qy, radius, out);
     *carried = r.carried();
@@ -126,9 +125,9 @@ pub extern "C" fn kdbush_range_first(
     slot: &mut usize,
 ) -> u32
     ensures result_value { let q = Query.Range min_x min_y max_x max_y in
-        result ≡ step_number (first_step q node_size n (old coords)) }
+        result ≡ step_number (first_step q node_size n coords.now) }
     ensures slot_value { let q = Query.Range min_x min_y max_x max_y in
-        new slot ≡ step_carried (first_step q node_size n (old coords)) }
+        slot.new ≡ step_carried (first_step q node_size n coords.now) }
 {
     let q = Query::Range {
         min_x,
@@ -156,9 +155,9 @@ pub extern "C" fn kdbush_range_after(
     next: &mut usize,
 ) -> u32
     ensures result_value { let q = Query.Range min_x min_y max_x max_y in
-        result ≡ step_number (after_step q node_size n (old coords) slot) }
+        result ≡ step_number (after_step q node_size n coords.now slot) }
     ensures next_value { let q = Query.Range min_x min_y max_x max_y in
-        new next ≡ step_carried (after_step q node_size n (old coords) slot) }
+        next.new ≡ step_carried (after_step q node_size n coords.now slot) }
 {
     let q = Query::Range {
         min_x,
@@ -182,8 +181,8 @@ pub extern "C" fn kdbush_within_first(
     radius: f64,
     slot: &mut usize,
 ) -> u32
-    ensures value { result ≡ step_number (first_step (Query.Within qx qy radius) node_size n (old coords)) }
-    ensures slot_value { new slot ≡ step_carried (first_step (Query.Within qx qy radius) node_size n (old coords)) }
+    ensures value { result ≡ step_number (first_step (Query.Within qx qy radius) node_size n coords.now) }
+    ensures slot_value { slot.new ≡ step_carried (first_step (Query.Within qx qy radius) node_size n coords.now) }
 {
     let s = kdwalk::first(Query::Within { qx, qy, radius }, node_size, n, coords);
     *slot = s.carried();
@@ -202,8 +201,8 @@ pub extern "C" fn kdbush_within_after(
     slot: usize,
     next: &mut usize,
 ) -> u32
-    ensures value { result ≡ step_number (after_step (Query.Within qx qy radius) node_size n (old coords) slot) }
-    ensures next_value { new next ≡ step_carried (after_step (Query.Within qx qy radius) node_size n (old coords) slot) }
+    ensures value { result ≡ step_number (after_step (Query.Within qx qy radius) node_size n coords.now slot) }
+    ensures next_value { next.new ≡ step_carried (after_step (Query.Within qx qy radius) node_size n coords.now slot) }
 {
     let s = kdwalk::after(Query::Within { qx, qy, radius }, node_size, n, coords, slot);
     *next = s.carried();
@@ -385,7 +384,7 @@ pub extern "C" fn supercluster_zoom_used(
 
 // The state of a build.
 fn state(options: Options, count: u32, starts: &[u32; 32], lens: &[u32; 32]) -> State
-    ensures { result ≡ state_of options count (old starts) (old lens) }
+    ensures { result ≡ state_of options count starts.now lens.now }
 {
     State {
         options,
@@ -397,7 +396,7 @@ fn state(options: Options, count: u32, starts: &[u32; 32], lens: &[u32; 32]) -> 
 
 // Writes where the tables of a state start, and how long they are.
 fn store(state: State, starts: &mut [u32; 32], lens: &mut [u32; 32])
-    ensures { (new starts ≡ state.starts) × (new lens ≡ state.lens) }
+    ensures { (starts.new ≡ state.starts) × (lens.new ≡ state.lens) }
 {
     let first = state.starts;
     *starts = first;
@@ -408,7 +407,7 @@ fn store(state: State, starts: &mut [u32; 32], lens: &mut [u32; 32])
 // The reply of a build, as numbers: SCOPE's number is the answer, the rest goes behind pointers. A refusal leaves the two arrays as they
 // were.
 fn tell(loaded: Loaded, starts: &mut [u32; 32], lens: &mut [u32; 32], carried: &mut usize) -> u32
-    ensures { replied result (new carried) (new starts) (new lens) ≡ replied_of loaded (old starts) (old lens) }
+    ensures { replied result carried.new starts.new lens.new ≡ replied_of loaded starts.old lens.old }
 {
     let r = loaded.reply;
     *carried = r.carried();
@@ -465,9 +464,9 @@ pub extern "C" fn supercluster_load(
 ) -> u32
     ensures { let o = given_options min_zoom max_zoom min_points radius extent node_size cartesian min_x min_y max_x max_y
         offset_given offset scale_given scale longitude_strips_only in
-        let l = lent_all x y seen id parent num energy ids coords near in
-        laid (replied result (new carried) (new starts) (new lens)) l.exit (new owners)
-        ≡ laid_of (loaded_with o (old xs) (old ys) (old energies) l.entry (old owners)) (old starts) (old lens) }
+        let l = lent_all_mut x y seen id parent num energy ids coords near in
+        laid (replied result carried.new starts.new lens.new) l.exit owners.new
+        ≡ laid_of (loaded_with o xs.now ys.now energies.now l.entry owners.old) starts.old lens.old }
 {
     let o = options(
         min_zoom,
@@ -531,8 +530,8 @@ pub extern "C" fn supercluster_box(
 ) -> u32
     ensures { let o = given_options min_zoom max_zoom min_points radius extent node_size cartesian min_x min_y max_x max_y
         offset_given offset scale_given scale longitude_strips_only in
-        let s = state_of o count (old starts) (old lens) in
-        told_c result (new carried) (new out) ≡ told_of (box_asked s (old ids) (old coords) zoom west least_y east greatest_y) (old out) }
+        let s = state_of o count starts.now lens.now in
+        told_c result carried.new out.new ≡ told_of (box_asked s ids.now coords.now zoom west least_y east greatest_y) out.old }
 {
     let o = options(
         min_zoom,
@@ -598,9 +597,9 @@ pub extern "C" fn supercluster_box_effort(
 ) -> u32
     ensures { let o = given_options min_zoom max_zoom min_points radius extent node_size cartesian min_x min_y max_x max_y
         offset_given offset scale_given scale longitude_strips_only in
-        let s = state_of o count (old starts) (old lens) in
-        effort_told result (new carried) (new tested) (new stopped) (new out)
-        ≡ effort_told_of (effort_asked s (old ids) (old coords) zoom west least_y east greatest_y) allowance (old out) }
+        let s = state_of o count starts.now lens.now in
+        effort_told result carried.new tested.new stopped.new out.new
+        ≡ effort_told_of (effort_asked s ids.now coords.now zoom west least_y east greatest_y) allowance out.old }
 {
     let o = options(
         min_zoom,
@@ -666,8 +665,8 @@ pub extern "C" fn supercluster_ring(
 ) -> u32
     ensures { let o = given_options min_zoom max_zoom min_points radius extent node_size cartesian min_x min_y max_x max_y
         offset_given offset scale_given scale longitude_strips_only in
-        let s = state_of o count (old starts) (old lens) in
-        told_c result (new carried) (new out) ≡ told_of (ring_asked s (old ids) (old coords) zoom ring_x ring_y ring_radius) (old out) }
+        let s = state_of o count starts.now lens.now in
+        told_c result carried.new out.new ≡ told_of (ring_asked s ids.now coords.now zoom ring_x ring_y ring_radius) out.old }
 {
     let o = options(
         min_zoom,
@@ -733,9 +732,9 @@ pub extern "C" fn supercluster_children(
 ) -> u32
     ensures { let o = given_options min_zoom max_zoom min_points radius extent node_size cartesian min_x min_y max_x max_y
         offset_given offset scale_given scale longitude_strips_only in
-        let s = state_of o count (old starts) (old lens) in
+        let s = state_of o count starts.now lens.now in
         let c = lent_columns x y seen id parent num energy ids coords in
-        told_c result (new carried) (new out) ≡ told_of (children_of s c cid) (old out) }
+        told_c result carried.new out.new ≡ told_of (children_of s c cid) out.old }
 {
     let o = options(
         min_zoom,
@@ -803,9 +802,9 @@ pub extern "C" fn supercluster_leaves(
 ) -> u32
     ensures { let o = given_options min_zoom max_zoom min_points radius extent node_size cartesian min_x min_y max_x max_y
         offset_given offset scale_given scale longitude_strips_only in
-        let s = state_of o count (old starts) (old lens) in
+        let s = state_of o count starts.now lens.now in
         let c = lent_columns x y seen id parent num energy ids coords in
-        told_c result (new carried) (new out) ≡ told_of (leaves_of s c cid limit skip) (old out) }
+        told_c result carried.new out.new ≡ told_of (leaves_of s c cid limit skip) out.old }
 {
     let o = options(
         min_zoom,
@@ -869,9 +868,9 @@ pub extern "C" fn supercluster_expansion_zoom(
 ) -> u32
     ensures { let o = given_options min_zoom max_zoom min_points radius extent node_size cartesian min_x min_y max_x max_y
         offset_given offset scale_given scale longitude_strips_only in
-        let s = state_of o count (old starts) (old lens) in
+        let s = state_of o count starts.now lens.now in
         let c = lent_columns x y seen id parent num energy ids coords in
-        said result (new carried) ≡ zoom_said (zoom_of s c cid) }
+        said result carried.new ≡ zoom_said (zoom_of s c cid) }
 {
     let o = options(
         min_zoom,
@@ -942,10 +941,10 @@ pub extern "C" fn supercluster_tile(
 ) -> u32
     ensures { let o = given_options min_zoom max_zoom min_points radius extent node_size cartesian min_x min_y max_x max_y
         offset_given offset scale_given scale longitude_strips_only in
-        let s = state_of o count (old starts) (old lens) in
+        let s = state_of o count starts.now lens.now in
         let c = lent_columns x y seen id parent num energy ids coords in
-        tile_told result (new carried) (new places) (new px) (new py)
-        ≡ tile_of (tiled s c z tile_x tile_y (old places) (old px) (old py)) }
+        tile_told result carried.new places.new px.new py.new
+        ≡ tile_of (tiled s c z tile_x tile_y places.old px.old py.old) }
 {
     let o = options(
         min_zoom,
@@ -1012,9 +1011,9 @@ pub extern "C" fn supercluster_tally(
 ) -> u32
     ensures { let o = given_options min_zoom max_zoom min_points radius extent node_size cartesian min_x min_y max_x max_y
         offset_given offset scale_given scale longitude_strips_only in
-        let s = state_of o count (old starts) (old lens) in
+        let s = state_of o count starts.now lens.now in
         let c = lent_columns x y seen id parent num energy ids coords in
-        said result (new carried) ≡ tally_said (tallied s c z tile_x tile_y) }
+        said result carried.new ≡ tally_said (tallied s c z tile_x tile_y) }
 {
     let o = options(
         min_zoom,
@@ -1072,8 +1071,8 @@ pub extern "C" fn supercluster_owner(
 ) -> u32
     ensures { let o = given_options min_zoom max_zoom min_points radius extent node_size cartesian min_x min_y max_x max_y
         offset_given offset scale_given scale longitude_strips_only in
-        let s = state_of o count (old starts) (old lens) in
-        said result (new place) ≡ owner_said (owner_asked s (old owners) lamp zoom) }
+        let s = state_of o count starts.now lens.now in
+        said result place.new ≡ owner_said (owner_asked s owners.now lamp zoom) }
 {
     let o = options(
         min_zoom,
@@ -1133,8 +1132,8 @@ pub extern "C" fn supercluster_post(
 ) -> u32
     ensures { let o = given_options min_zoom max_zoom min_points radius extent node_size cartesian min_x min_y max_x max_y
         offset_given offset scale_given scale longitude_strips_only in
-        let s = state_of o count (old starts) (old lens) in
-        post_told result (new energy) ≡ post_told_of (posted s (old energy) (old owners) lamp figure) }
+        let s = state_of o count starts.now lens.now in
+        post_told result energy.new ≡ post_told_of (posted s energy.old owners.now lamp figure) }
 {
     let o = options(
         min_zoom,
@@ -1273,7 +1272,7 @@ pub extern "C" fn supercluster_entry(
 ) -> u32
     ensures { let o = given_options min_zoom max_zoom min_points radius extent node_size cartesian min_x min_y max_x max_y
         offset_given offset scale_given scale longitude_strips_only in
-        let s = state_of o count (old starts) (old lens) in
+        let s = state_of o count starts.now lens.now in
         let c = lent_columns x y seen id parent num energy ids coords in
         let l = lent_entry entry_x entry_y entry_seen entry_id entry_parent entry_num entry_energy in
         read_as result l.exit ≡ read_of (entry_asked s c zoom place) l.entry }

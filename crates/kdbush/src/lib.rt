@@ -2,8 +2,7 @@
 // The names are the Rust's kdbush.rs. Nothing is asked of the caller: what SCOPE does not take is refused with its number.
 #![tactic(auto)]
 ghost use Rattle.std.specs.Prelude.{◌≡◌, [], ◌∷◌, ◌+◌, ◌-◌, ◌*◌, ◌^◌, ◌≤◌, ◌<◌, length};
-ghost use Rattle.lent.specs.Lent.{old, new};
-ghost use Rattle.kdsort.specs.Lent.{lent_index};
+ghost use Rattle.kdsort.specs.Lent.{lent_index_mut};
 ghost use Rattle.kdsort.specs.Shape.{shape};
 ghost use Rattle.kdslots.specs.Slots.{over, when, scanned, slots};
 ghost use Rattle.kdbush.specs.laws.Run.{ran, run};
@@ -117,7 +116,7 @@ fn put(
     out: &mut [u32],
 ) -> Found
     requires { (2 * i + 1 < length coords.now) × (i < length ids.now) × (at + 1 < 2 ^ 64) }
-    ensures { ran result (new out) ≡ run n at (places (old ids) (when ((over q (old coords)).test i) (i ∷ []))) (old out) }
+    ensures { ran result out.new ≡ run n at (places ids.now (when ((over q coords.now).test i) (i ∷ []))) out.old }
 {
     if !kdslots::test_at(q, coords, i) {
         return Found::All(at);
@@ -145,7 +144,7 @@ fn scan(
     out: &mut [u32],
 ) -> Found
     requires { (2 * hi ≤ length coords.now) × (hi ≤ length ids.now) × (at + (hi - lo) < 2 ^ 64) }
-    ensures { ran result (new out) ≡ run n at (places (old ids) (scanned (over q (old coords)) lo (hi - lo))) (old out) }
+    ensures { ran result out.new ≡ run n at (places ids.now (scanned (over q coords.now) lo (hi - lo))) out.old }
 {
     let mut k = at;
     let mut i = lo;
@@ -174,7 +173,7 @@ fn part(
     out: &mut [u32],
 ) -> Found
     requires { (2 * hi ≤ length coords.now) × (hi ≤ length ids.now) × (lo ≤ hi) × (axis < 2) × (at + (hi - lo) < 2 ^ 64) }
-    ensures { ran result (new out) ≡ run n at (places (old ids) (slots (over q (old coords)) axis (shape most lo hi))) (old out) }
+    ensures { ran result out.new ≡ run n at (places ids.now (slots (over q coords.now) axis (shape most lo hi))) out.old }
 {
     if hi - lo <= most {
         return scan(q, ids, coords, n, lo, hi, at, out);
@@ -200,7 +199,7 @@ fn part(
 // The first point outside [0,1] or no number.
 fn first_outside(xs: &[f64], ys: &[f64]) -> Outside
     requires { length ys.now ≡ length xs.now }
-    ensures { result ≡ first_outside (old xs) (old ys) 0 }
+    ensures { result ≡ first_outside xs.now ys.now 0 }
 {
     let mut i = 0;
     while i < xs.len() {
@@ -224,8 +223,8 @@ pub fn build(
     ids: &mut [u32],
     coords: &mut [f64],
 ) -> BuildReply
-    ensures result_value { let c = lent_index ids coords in result ≡ index_checked node_size (old xs) (old ys) c.entry }
-    ensures c_value { let c = lent_index ids coords in c.exit ≡ built node_size (old xs) (old ys) c.entry }
+    ensures result_value { let c = lent_index_mut ids coords in result ≡ index_checked node_size xs.now ys.now c.entry }
+    ensures c_value { let c = lent_index_mut ids coords in c.exit ≡ built node_size xs.now ys.now c.entry }
 {
     if !kdslots::node_size_ok(node_size) {
         return BuildReply::Options;
@@ -261,8 +260,8 @@ pub fn search(
     coords: &[f64],
     out: &mut [u32],
 ) -> SearchReply
-    ensures value { result ≡ listed q node_size n (old ids) (old coords) (length (old out)) }
-    ensures out_value { new out ≡ listed_column q node_size n (old ids) (old coords) (old out) }
+    ensures value { result ≡ listed q node_size n ids.now coords.now (length out.old) }
+    ensures out_value { out.new ≡ listed_column q node_size n ids.now coords.now out.old }
 {
     if !kdslots::coords_ok(node_size, n, coords.len()) {
         return SearchReply::Spoiled;
@@ -289,8 +288,8 @@ fn search_finite(
     coords: &[f64],
     out: &mut [u32],
 ) -> SearchReply
-    ensures value { result ≡ searched q node_size n (old ids) (old coords) (length (old out)) }
-    ensures out_value { new out ≡ column_after q node_size n (old ids) (old coords) (old out) }
+    ensures value { result ≡ searched q node_size n ids.now coords.now (length out.old) }
+    ensures out_value { out.new ≡ column_after q node_size n ids.now coords.now out.old }
 {
     if kdslots::query_ok(q) {
         return search(q, node_size, n, ids, coords, out);
@@ -316,8 +315,8 @@ pub fn range(
     max_y: f64,
     out: &mut [u32],
 ) -> SearchReply
-    ensures value { result ≡ searched (Query.Range min_x min_y max_x max_y) node_size n (old ids) (old coords) (length (old out)) }
-    ensures out_value { new out ≡ column_after (Query.Range min_x min_y max_x max_y) node_size n (old ids) (old coords) (old out) }
+    ensures value { result ≡ searched (Query.Range min_x min_y max_x max_y) node_size n ids.now coords.now (length out.old) }
+    ensures out_value { out.new ≡ column_after (Query.Range min_x min_y max_x max_y) node_size n ids.now coords.now out.old }
 {
     let q = Query::Range {
         min_x,
@@ -339,8 +338,8 @@ pub fn within(
     radius: f64,
     out: &mut [u32],
 ) -> SearchReply
-    ensures value { result ≡ searched (Query.Within qx qy radius) node_size n (old ids) (old coords) (length (old out)) }
-    ensures out_value { new out ≡ column_after (Query.Within qx qy radius) node_size n (old ids) (old coords) (old out) }
+    ensures value { result ≡ searched (Query.Within qx qy radius) node_size n ids.now coords.now (length out.old) }
+    ensures out_value { out.new ≡ column_after (Query.Within qx qy radius) node_size n ids.now coords.now out.old }
 {
     let q = Query::Within { qx, qy, radius };
     search_finite(q, node_size, n, ids, coords, out)

@@ -2,7 +2,6 @@
 // public surface: a function may ask something of its caller. `kdwalk_count` counts the same by the public cursor.
 #![tactic(auto)]
 ghost use Rattle.std.specs.Prelude.{◌≡◌, ◌-◌, ◌*◌, ◌≤◌, ◌<◌, length};
-ghost use Rattle.lent.specs.Lent.{old};
 ghost use Rattle.kdsort.specs.Shape.{shape};
 ghost use Rattle.kdslots.specs.Slots.{over, when, scanned, slots, answers};
 
@@ -11,7 +10,7 @@ use kdslots::Query;
 // How many of the slots from lo up to hi are answered. No test decides where to go on, so that several slots are tested at once.
 fn count_slots(q: Query, coords: &[f64], lo: usize, hi: usize) -> usize
     requires { 2 * hi ≤ length coords.now }
-    ensures { result ≡ length (scanned (over q (old coords)) lo (hi - lo)) }
+    ensures { result ≡ length (scanned (over q coords.now) lo (hi - lo)) }
 {
     let mut k = 0;
     let mut i = lo;
@@ -33,7 +32,7 @@ fn count_part(
     axis: usize,
 ) -> usize
     requires { (2 * hi ≤ length coords.now) × (lo ≤ hi) × (axis < 2) }
-    ensures { result ≡ length (when is_searched (slots (over q (old coords)) axis (shape most lo hi))) }
+    ensures { result ≡ length (when is_searched (slots (over q coords.now) axis (shape most lo hi))) }
 {
     if !is_searched {
         return 0;
@@ -53,7 +52,7 @@ fn count_part(
 // How many slots of an index of n a query answers.
 pub fn count(q: Query, node_size: usize, n: usize, coords: &[f64]) -> usize
     requires { (2 * n ≤ length coords.now) × (node_size ≤ 65535) }
-    ensures { result ≡ length (answers q (old coords) node_size n) }
+    ensures { result ≡ length (answers q coords.now node_size n) }
 {
     let v = kdslots::narrow(q, coords, node_size + 1, n);
     count_part(true, q, coords, node_size + 1, v.lo, v.hi, v.axis)

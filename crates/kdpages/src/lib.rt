@@ -4,7 +4,6 @@
 // entry at no finite place, which is refused too, has no slots.
 #![tactic(auto)]
 ghost use Rattle.std.specs.Prelude.{◌≡◌, ◌+◌, ◌-◌, ◌*◌, ◌≤◌, ◌<◌, length};
-ghost use Rattle.lent.specs.Lent.{old, new};
 ghost use Rattle.kdsort.specs.Shape.{shape};
 ghost use Rattle.kdslots.specs.Slots.{over, when, scanned, slots};
 ghost use Rattle.kdslots.specs.laws.Intervals.{below};
@@ -81,7 +80,7 @@ fn stepped(s: Step) -> Turned
 
 // The next slot of a walk whose page is read, by the cursor.
 fn lone(q: Query, node_size: usize, n: usize, coords: &[f64], from: Onward, last: usize) -> Turned
-    ensures { result ≡ lone_of (onward_of q node_size n (old coords) from last) }
+    ensures { result ≡ lone_of (onward_of q node_size n coords.now from last) }
 {
     match from {
         Onward::Start => stepped(kdwalk::first(q, node_size, n, coords)),
@@ -100,7 +99,7 @@ fn fill_from(
     page: &mut [usize],
 ) -> usize
     requires { 2 * hi ≤ length coords.now }
-    ensures { stored result (new page) ≡ store at (scanned (over q (old coords)) from (hi - from)) (old page) }
+    ensures { stored result page.new ≡ store at (scanned (over q coords.now) from (hi - from)) page.old }
 {
     let mut k = at;
     let mut i = from;
@@ -132,7 +131,7 @@ fn fill_in(
     page: &mut [usize],
 ) -> usize
     requires { (2 * hi ≤ length coords.now) × (lo ≤ hi) × (axis < 2) }
-    ensures { stored result (new page) ≡ store at (slots (over q (old coords)) axis (shape most lo hi)) (old page) }
+    ensures { stored result page.new ≡ store at (slots (over q coords.now) axis (shape most lo hi)) page.old }
 {
     if page.len() <= at {
         return at;
@@ -161,7 +160,7 @@ fn fill_below(
     page: &mut [usize],
 ) -> usize
     requires { (2 * hi ≤ length coords.now) × (lo < hi) × (axis < 2) }
-    ensures { stored result (new page) ≡ store at (below (over q (old coords)) axis most lo hi) (old page) }
+    ensures { stored result page.new ≡ store at (below (over q coords.now) axis most lo hi) page.old }
 {
     let m = lo + (hi - lo - 1) / 2;
     if kdslots::right_at(q, coords, axis, m) {
@@ -184,8 +183,8 @@ fn fill_left(
     page: &mut [usize],
 ) -> usize
     requires { (2 * m + 1 < length coords.now) × (lo ≤ m) × (axis < 2) }
-    ensures { let s = over q (old coords) in
-        stored result (new page) ≡ store at (when (s.left axis m) (slots s (1 - axis) (shape most lo m))) (old page) }
+    ensures { let s = over q coords.now in
+        stored result page.new ≡ store at (when (s.left axis m) (slots s (1 - axis) (shape most lo m))) page.old }
 {
     if kdslots::left_at(q, coords, axis, m) {
         return fill_in(q, coords, most, lo, m, 1 - axis, at, page);
@@ -205,7 +204,7 @@ fn fill_rest(
     page: &mut [usize],
 ) -> usize
     requires { (2 * hi ≤ length coords.now) × (lo ≤ c) × (c < hi) × (axis < 2) }
-    ensures { stored result (new page) ≡ store 0 (rest (over q (old coords)) axis (shape most lo hi) c) (old page) }
+    ensures { stored result page.new ≡ store 0 (rest (over q coords.now) axis (shape most lo hi) c) page.old }
 {
     if hi - lo <= most {
         return fill_from(q, coords, c + 1, hi, 0, page);
@@ -231,7 +230,7 @@ fn fill_page(
     last: usize,
     page: &mut [usize],
 ) -> usize
-    ensures { stored result (new page) ≡ store 0 (onward_of q node_size n (old coords) from last) (old page) }
+    ensures { stored result page.new ≡ store 0 (onward_of q node_size n coords.now from last) page.old }
 {
     if !kdslots::coords_ok(node_size, n, coords.len()) {
         return 0;
@@ -267,9 +266,9 @@ fn turn(
     from: Onward,
     last: usize,
 ) -> Turned
-    ensures step_value { result.step ≡ next_step Step.Done (onward_of q node_size n (old coords) from last) }
-    ensures pages_value { let c = old coords in
-        ahead_of q node_size n c (new page) result.pages ≡ tail_of (onward_of q node_size n c from last) }
+    ensures step_value { result.step ≡ next_step Step.Done (onward_of q node_size n coords.now from last) }
+    ensures pages_value { let c = coords.now in
+        ahead_of q node_size n c page.new result.pages ≡ tail_of (onward_of q node_size n c from last) }
 {
     if let Onward::Nothing = from {
         return stepped(Step::Done);
@@ -315,9 +314,9 @@ pub fn next_slot(
     page: &mut [usize],
     p: Pages,
 ) -> Turned
-    ensures step_value { result.step ≡ next_step Step.Done (ahead_of q node_size n (old coords) (old page) p) }
-    ensures pages_value { let c = old coords in
-        ahead_of q node_size n c (new page) result.pages ≡ tail_of (ahead_of q node_size n c (old page) p) }
+    ensures step_value { result.step ≡ next_step Step.Done (ahead_of q node_size n coords.now page.old p) }
+    ensures pages_value { let c = coords.now in
+        ahead_of q node_size n c page.new result.pages ≡ tail_of (ahead_of q node_size n c page.old p) }
 {
     let at = p.at;
     let onward = p.onward;

@@ -2,7 +2,6 @@
 // bounds of an index and of a query. Below `kdbush` and `kdwalk`, which search by them: a function may ask something of its caller.
 #![tactic(auto)]
 ghost use Rattle.std.specs.Prelude.{◌≡◌, ◌+◌, ◌*◌, ◌≤◌, ◌<◌, length};
-ghost use Rattle.lent.specs.Lent.{old};
 ghost use Rattle.kdsort.specs.Shape.{shape};
 ghost use Rattle.kdslots.specs.Query.{passes_q, query_ok};
 ghost use Rattle.kdslots.specs.Slots.{over, slots};
@@ -60,7 +59,7 @@ fn passes(q: Query, x: f64, y: f64) -> bool
 // Whether the slot i is answered.
 pub fn test_at(q: Query, coords: &[f64], i: usize) -> bool
     requires { 2 * i + 1 < length coords.now }
-    ensures { result ≡ (over q (old coords)).test i }
+    ensures { result ≡ (over q coords.now).test i }
 {
     passes(q, coords[2 * i], coords[2 * i + 1])
 }
@@ -68,7 +67,7 @@ pub fn test_at(q: Query, coords: &[f64], i: usize) -> bool
 // Whether the part left of the median m is searched.
 pub fn left_at(q: Query, coords: &[f64], axis: usize, m: usize) -> bool
     requires { (2 * m + 1 < length coords.now) × (axis < 2) }
-    ensures { result ≡ (over q (old coords)).left axis m }
+    ensures { result ≡ (over q coords.now).left axis m }
 {
     let v = coords[2 * m + axis];
     match q {
@@ -93,7 +92,7 @@ pub fn left_at(q: Query, coords: &[f64], axis: usize, m: usize) -> bool
 // Whether the part right of the median m is searched.
 pub fn right_at(q: Query, coords: &[f64], axis: usize, m: usize) -> bool
     requires { (2 * m + 1 < length coords.now) × (axis < 2) }
-    ensures { result ≡ (over q (old coords)).right axis m }
+    ensures { result ≡ (over q coords.now).right axis m }
 {
     let v = coords[2 * m + axis];
     match q {
@@ -119,7 +118,7 @@ pub fn right_at(q: Query, coords: &[f64], axis: usize, m: usize) -> bool
 // searched, the rest is left out. No median is answered there.
 pub fn narrow(q: Query, coords: &[f64], most: usize, n: usize) -> Interval
     requires { 2 * n ≤ length coords.now }
-    ensures hi_value { let s = over q (old coords) in slots s result.axis (shape most result.lo result.hi) ≡ slots s 0 (shape most 0 n) }
+    ensures hi_value { let s = over q coords.now in slots s result.axis (shape most result.lo result.hi) ≡ slots s 0 (shape most 0 n) }
     ensures lo_le_hi { (result.lo ≤ result.hi) × (result.hi ≤ n) × (result.axis < 2) }
 {
     let mut lo = 0;

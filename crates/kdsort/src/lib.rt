@@ -3,9 +3,8 @@
 // Slot p has the id ids[p] and the coordinates coords[2 * p] and coords[2 * p + 1]. The axis is 0 for x and 1 for y.
 #![tactic(auto)]
 ghost use Rattle.std.specs.Prelude.{◌≡◌, ◌+◌, ◌-◌, ◌*◌, ◌≤◌, ◌<◌, length};
-ghost use Rattle.lent.specs.Lent.{old, new};
 ghost use Rattle.kdsort.specs.Cols.{swap_item};
-ghost use Rattle.kdsort.specs.Lent.{given_index, lent_index};
+ghost use Rattle.kdsort.specs.Lent.{given_index_mut, lent_index_mut};
 ghost use Rattle.kdsort.specs.Shape.{shape};
 ghost use Rattle.kdsort.specs.Select.{cut, parted, selected};
 ghost use Rattle.kdsort.specs.Sort.{sorted, indexed};
@@ -14,9 +13,9 @@ ghost use Rattle.kdsort.specs.laws.Batches.{batch_entry, Ups, Downs, Slots, exch
 
 // Exchanges the slots i and j.
 fn swap_item(ids: &mut [u32], coords: &mut [f64], i: usize, j: usize)
-    requires { let c = given_index ids coords in
+    requires { let c = given_index_mut ids coords in
         (i < length c.ids) × (j < length c.ids) × (2 * i + 1 < length c.co) × (2 * j + 1 < length c.co) }
-    ensures { let c = lent_index ids coords in c.exit ≡ swap_item c.entry i j }
+    ensures { let c = lent_index_mut ids coords in c.exit ≡ swap_item c.entry i j }
 {
     let a = ids[i];
     ids[i] = ids[j];
@@ -51,7 +50,7 @@ fn stops_up(
     t: f64,
 ) -> usize
     requires { (2 * (from + len) ≤ length coords.now) × (len < length found.old) × (axis < 2) }
-    ensures { Ups axis t (old coords) from (from + len) (batch_entry (new found)) result }
+    ensures { Ups axis t coords.now from (from + len) (batch_entry found.new) result }
 {
     let end = from + len;
     let mut n = 0;
@@ -75,7 +74,7 @@ fn stops_down(
     t: f64,
 ) -> usize
     requires { (2 * from + 1 < length coords.now) × (len ≤ from) × (len < length found.old) × (axis < 2) }
-    ensures { Downs axis t (old coords) from (from - len) (batch_entry (new found)) result }
+    ensures { Downs axis t coords.now from (from - len) (batch_entry found.new) result }
 {
     let end = from - len;
     let mut n = 0;
@@ -94,8 +93,8 @@ fn exchange(ids: &mut [u32], coords: &mut [f64], ups: &[usize], downs: &[usize],
     requires { let u = ups.now in
         let d = downs.now in
         (count ≤ length u) × (count ≤ length d) × Slots (batch_entry u) (batch_entry d) count (length ids.old) (length coords.old) }
-    ensures { let c = lent_index ids coords in
-        c.exit ≡ exchanged c.entry (batch_entry (old ups)) (batch_entry (old downs)) count }
+    ensures { let c = lent_index_mut ids coords in
+        c.exit ≡ exchanged c.entry (batch_entry ups.now) (batch_entry downs.now) count }
 {
     let mut k = 0;
     while k < count {
@@ -118,7 +117,7 @@ fn lesser(m: usize, n: usize) -> usize
 // from j down, are written down first and then exchanged in pairs. Answers where the scans go on.
 fn batch(ids: &mut [u32], coords: &mut [f64], i: usize, j: usize, axis: usize, t: f64) -> Ends
     requires { (i ≤ j + 1) × (j < length ids.old) × (2 * j + 1 < length coords.old) × (axis < 2) }
-    ensures { let c = lent_index ids coords in Nearer axis t c.entry c.exit i j result.up result.down }
+    ensures { let c = lent_index_mut ids coords in Nearer axis t c.entry c.exit i j result.up result.down }
 {
     if j < i + 32 {
         return Ends { up: i, down: j };
@@ -146,7 +145,7 @@ fn partition(
     axis: usize,
 ) -> usize
     requires { Here k left right axis (length ids.old) (length coords.old) }
-    ensures result_value { let c = lent_index ids coords in cut c.exit result ≡ parted axis k c.entry left right }
+    ensures result_value { let c = lent_index_mut ids coords in cut c.exit result ≡ parted axis k c.entry left right }
     ensures lower_bound { (left ≤ result) × (result ≤ right) }
 {
     let t = coords[2 * k + axis];
@@ -187,9 +186,9 @@ fn partition(
 // Brings to slot k the coordinate that belongs there among the slots from first to last: what stands left of k is not above it, what stands
 // right not below.
 fn select(ids: &mut [u32], coords: &mut [f64], k: usize, first: usize, last: usize, axis: usize)
-    requires room { Room (given_index ids coords) first last axis }
+    requires room { Room (given_index_mut ids coords) first last axis }
     requires first_le_k { (first ≤ k) × (k ≤ last) × (1 ≤ k) }
-    ensures { let c = lent_index ids coords in c.exit ≡ selected axis k c.entry first last }
+    ensures { let c = lent_index_mut ids coords in c.exit ≡ selected axis k c.entry first last }
 {
     let mut left = first;
     let mut right = last;
@@ -208,7 +207,7 @@ fn select(ids: &mut [u32], coords: &mut [f64], k: usize, first: usize, last: usi
 // side on the other axis.
 fn sort(ids: &mut [u32], coords: &mut [f64], most: usize, lo: usize, hi: usize, axis: usize)
     requires { (lo ≤ hi) × (hi ≤ length ids.old) × (2 * hi ≤ length coords.old) × (axis < 2) × (2 ≤ most) }
-    ensures { let c = lent_index ids coords in c.exit ≡ sorted axis lo hi (shape most lo hi) c.entry }
+    ensures { let c = lent_index_mut ids coords in c.exit ≡ sorted axis lo hi (shape most lo hi) c.entry }
 {
     if hi - lo <= most {
         return;
@@ -224,7 +223,7 @@ pub fn build_index(node_size: usize, xs: &[f64], ys: &[f64], ids: &mut [u32], co
     requires fact { let n = length xs.now in (1 ≤ n) × (n ≤ 1048576) × (length ys.now ≡ n) }
     requires fact_2 { let n = length xs.now in
         (n ≤ length ids.old) × (2 * n ≤ length coords.old) × (1 ≤ node_size) × (node_size ≤ 65535) }
-    ensures { let c = lent_index ids coords in c.exit ≡ indexed node_size (old xs) (old ys) c.entry }
+    ensures { let c = lent_index_mut ids coords in c.exit ≡ indexed node_size xs.now ys.now c.entry }
 {
     let n = xs.len();
     let mut i = 0;

@@ -2,7 +2,6 @@
 // Nothing is asked of the caller: what SCOPE does not take is refused with its number.
 #![tactic(auto)]
 ghost use Rattle.std.specs.Prelude.{◌≡◌, ◌+◌, ◌-◌, ◌*◌, ◌≤◌, ◌<◌, length};
-ghost use Rattle.lent.specs.Lent.{old};
 ghost use Rattle.kdsort.specs.Shape.{shape};
 ghost use Rattle.kdslots.specs.Slots.{over, when, scanned, slots};
 ghost use Rattle.kdslots.specs.laws.Intervals.{below};
@@ -57,7 +56,7 @@ enum Next {
 // The first slot from `from` up to hi that is answered.
 fn first_from(q: Query, coords: &[f64], from: usize, hi: usize) -> Next
     requires { 2 * hi ≤ length coords.now }
-    ensures { result ≡ head_of (scanned (over q (old coords)) from (hi - from)) }
+    ensures { result ≡ head_of (scanned (over q coords.now) from (hi - from)) }
 {
     let mut i = from;
     while i < hi {
@@ -73,7 +72,7 @@ fn first_from(q: Query, coords: &[f64], from: usize, hi: usize) -> Next
 #[cycle(first_below_first_in_first_left)]
 fn first_in(q: Query, coords: &[f64], most: usize, lo: usize, hi: usize, axis: usize) -> Next
     requires { (2 * hi ≤ length coords.now) × (lo ≤ hi) × (axis < 2) }
-    ensures { result ≡ head_of (slots (over q (old coords)) axis (shape most lo hi)) }
+    ensures { result ≡ head_of (slots (over q coords.now) axis (shape most lo hi)) }
 {
     if hi - lo <= most {
         return first_from(q, coords, lo, hi);
@@ -89,7 +88,7 @@ fn first_in(q: Query, coords: &[f64], most: usize, lo: usize, hi: usize, axis: u
 #[cycle(first_below_first_in_first_left)]
 fn first_below(q: Query, coords: &[f64], most: usize, lo: usize, hi: usize, axis: usize) -> Next
     requires { (2 * hi ≤ length coords.now) × (lo < hi) × (axis < 2) }
-    ensures { result ≡ head_of (below (over q (old coords)) axis most lo hi) }
+    ensures { result ≡ head_of (below (over q coords.now) axis most lo hi) }
 {
     let m = lo + (hi - lo - 1) / 2;
     if kdslots::right_at(q, coords, axis, m) {
@@ -104,7 +103,7 @@ fn first_below(q: Query, coords: &[f64], most: usize, lo: usize, hi: usize, axis
 #[cycle(first_below_first_in_first_left)]
 fn first_left(q: Query, coords: &[f64], most: usize, lo: usize, m: usize, axis: usize) -> Next
     requires { (2 * m + 1 < length coords.now) × (lo ≤ m) × (axis < 2) }
-    ensures { let o = over q (old coords) in result ≡ head_of (when (o.left axis m) (slots o (1 - axis) (shape most lo m))) }
+    ensures { let o = over q coords.now in result ≡ head_of (when (o.left axis m) (slots o (1 - axis) (shape most lo m))) }
 {
     if kdslots::left_at(q, coords, axis, m) {
         return first_in(q, coords, most, lo, m, 1 - axis);
@@ -144,7 +143,7 @@ fn next_in(
     c: usize,
 ) -> Next
     requires { (2 * hi ≤ length coords.now) × (lo ≤ c) × (c < hi) × (axis < 2) }
-    ensures { result ≡ head_of (rest (over q (old coords)) axis (shape most lo hi) c) }
+    ensures { result ≡ head_of (rest (over q coords.now) axis (shape most lo hi) c) }
 {
     if hi - lo <= most {
         return first_from(q, coords, c + 1, hi);
@@ -164,7 +163,7 @@ fn next_in(
 
 // The first slot that a query answers.
 pub fn first(q: Query, node_size: usize, n: usize, coords: &[f64]) -> Step
-    ensures { result ≡ first_step q node_size n (old coords) }
+    ensures { result ≡ first_step q node_size n coords.now }
 {
     if !kdslots::coords_ok(node_size, n, coords.len()) {
         return Step::Spoiled;
@@ -181,7 +180,7 @@ pub fn first(q: Query, node_size: usize, n: usize, coords: &[f64]) -> Step
 
 // The slot that a query answers after the slot c.
 pub fn after(q: Query, node_size: usize, n: usize, coords: &[f64], c: usize) -> Step
-    ensures { result ≡ after_step q node_size n (old coords) c }
+    ensures { result ≡ after_step q node_size n coords.now c }
 {
     if !kdslots::coords_ok(node_size, n, coords.len()) {
         return Step::Spoiled;

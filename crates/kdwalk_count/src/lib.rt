@@ -2,7 +2,6 @@
 // and nothing else. How many slots a query answers, with no column to write them in. Assumes nothing.
 #![tactic(auto)]
 ghost use Rattle.std.specs.Prelude.{◌≡◌};
-ghost use Rattle.lent.specs.Lent.{old};
 ghost use Rattle.kdwalk_count.specs.Counted.{counted_number, counted_carried, counted_of};
 
 use kdslots::Query;
@@ -42,7 +41,7 @@ impl Counted {
 
 // How many slots a query answers over any lent coordinates.
 pub fn count(q: Query, node_size: usize, n: usize, coords: &[f64]) -> Counted
-    ensures { result ≡ counted_of q node_size n (old coords) }
+    ensures { result ≡ counted_of q node_size n coords.now }
 {
     let mut k = 0;
     let mut cur = kdwalk::first(q, node_size, n, coords);

@@ -2,7 +2,6 @@
 // Proved: for every text the bytes that SCOPE says, and how many there are. Nothing is asked of the caller. Assumed: nothing.
 #![tactic(auto)]
 ghost use Rattle.std.specs.Prelude.{◌≡◌, [], ◌∷◌, ◌+◌, ◌*◌, ◌<◌, ◌≤◌, length, get_or};
-ghost use Rattle.lent.specs.Lent.{old, new};
 ghost use Rattle.build_tables.specs.Lent.{given, lent_cols};
 ghost use Rattle.build_tables.specs.Columns.{part, held_at};
 ghost use Rattle.build_tables.specs.Rows.{rows};
@@ -16,7 +15,7 @@ ghost use Rattle.lister_report.specs.Lines.{or_dash, bits_of, place_text, centre
 ghost use Rattle.lister_report.specs.Lines.{table_text, tables_text, at_text, refusal_text};
 ghost use Rattle.lister_report.specs.Report.{loaded_by, build_text, lending, Reports};
 ghost use Rattle.lister_report.specs.laws.Put.{Put};
-ghost use Rattle.supercluster.specs.Lent.{lent_all};
+ghost use Rattle.supercluster.specs.Lent.{lent_all_mut};
 ghost use Rattle.supercluster.specs.laws.Held.{held_by};
 ghost use Rattle.lister_report.specs.laws.Held.{Holding};
 
@@ -26,7 +25,7 @@ use lister_text::{Head, Parsed};
 // A byte. The place past it.
 fn put_byte(out: &mut [u8], at: usize, b: u8) -> usize
     requires { at < length out.old }
-    ensures { Put (old out) (new out) at (b ∷ []) 1 result }
+    ensures { Put out.old out.new at (b ∷ []) 1 result }
 {
     out[at] = b;
     at + 1
@@ -35,7 +34,7 @@ fn put_byte(out: &mut [u8], at: usize, b: u8) -> usize
 // The bytes bs at `at`. The place past them.
 fn put_bytes(out: &mut [u8], at: usize, bs: &[u8]) -> usize
     requires { at + length bs.now ≤ length out.old }
-    ensures { let b = old bs in Put (old out) (new out) at b (length b) result }
+    ensures { let b = bs.now in Put out.old out.new at b (length b) result }
 {
     let mut p = at;
     let mut i: usize = 0;
@@ -49,7 +48,7 @@ fn put_bytes(out: &mut [u8], at: usize, bs: &[u8]) -> usize
 // n's decimal digits at `at`, at most `left` of them. The place past them.
 fn put_decimal(out: &mut [u8], at: usize, n: usize, left: usize) -> usize
     requires { at + left ≤ length out.old }
-    ensures { Put (old out) (new out) at (decimal_of left n) left result }
+    ensures { Put out.old out.new at (decimal_of left n) left result }
 {
     if left < 1 {
         return at;
@@ -72,7 +71,7 @@ fn glyph(d: u8) -> u8
 // n's last `left` hexadecimal digits at `at`. The place past them.
 fn put_hex(out: &mut [u8], at: usize, n: u64, left: usize) -> usize
     requires { at + left ≤ length out.old }
-    ensures { Put (old out) (new out) at (hex_of left n) left result }
+    ensures { Put out.old out.new at (hex_of left n) left result }
 {
     if left < 1 {
         return at;
@@ -94,7 +93,7 @@ fn bits(x: f64) -> u64
 // A number, or `-` where it is the one that stands for unset.
 fn put_or_dash(out: &mut [u8], at: usize, n: usize, unset: usize) -> usize
     requires { at + 10 ≤ length out.old }
-    ensures { Put (old out) (new out) at (or_dash unset n) 10 result }
+    ensures { Put out.old out.new at (or_dash unset n) 10 result }
 {
     if n == unset {
         return put_byte(out, at, 45);
@@ -110,7 +109,7 @@ const UNSET: usize = build_tables::UNSET as usize;
 // Zoom and place.
 fn put_place(out: &mut [u8], at: usize, zoom: usize, place: usize) -> usize
     requires { at + 22 ≤ length out.old }
-    ensures { Put (old out) (new out) at (place_text zoom place) 22 result }
+    ensures { Put out.old out.new at (place_text zoom place) 22 result }
 {
     let a = put_decimal(out, at, zoom, 10);
     let b = put_byte(out, a, 32);
@@ -121,7 +120,7 @@ fn put_place(out: &mut [u8], at: usize, zoom: usize, place: usize) -> usize
 // The bits of x and of y.
 fn put_point(out: &mut [u8], at: usize, x: f64, y: f64) -> usize
     requires { at + 34 ≤ length out.old }
-    ensures { Put (old out) (new out) at (centre_text x y) 34 result }
+    ensures { Put out.old out.new at (centre_text x y) 34 result }
 {
     let a = put_hex(out, at, bits(x), 16);
     let b = put_byte(out, a, 32);
@@ -132,7 +131,7 @@ fn put_point(out: &mut [u8], at: usize, x: f64, y: f64) -> usize
 // Seen and id.
 fn put_marks(out: &mut [u8], at: usize, seen: usize, id: usize) -> usize
     requires { at + 22 ≤ length out.old }
-    ensures { Put (old out) (new out) at (marks_text seen id) 22 result }
+    ensures { Put out.old out.new at (marks_text seen id) 22 result }
 {
     let a = put_or_dash(out, at, seen, NEVER);
     let b = put_byte(out, a, 32);
@@ -143,7 +142,7 @@ fn put_marks(out: &mut [u8], at: usize, seen: usize, id: usize) -> usize
 // Parent, num, energy and the line's end.
 fn put_end(out: &mut [u8], at: usize, parent: usize, num: usize, energy: usize) -> usize
     requires { at + 43 ≤ length out.old }
-    ensures { Put (old out) (new out) at (end_text parent num energy) 43 result }
+    ensures { Put out.old out.new at (end_text parent num energy) 43 result }
 {
     let a = put_or_dash(out, at, parent, UNSET);
     let b = put_byte(out, a, 32);
@@ -156,7 +155,7 @@ fn put_end(out: &mut [u8], at: usize, parent: usize, num: usize, energy: usize) 
 // The line of the entry at a place of the table of a zoom, at `at`. The place past it.
 fn put_line(out: &mut [u8], at: usize, zoom: u8, place: usize, e: Entry) -> usize
     requires { at + line_room ≤ length out.old }
-    ensures { Put (old out) (new out) at (line_text zoom place e) line_room result }
+    ensures { Put out.old out.new at (line_text zoom place e) line_room result }
 {
     let a = put_place(out, at, zoom as usize, place);
     let b = put_point(out, a, e.x, e.y);
@@ -182,7 +181,7 @@ fn put_table(
     requires { let c = given x y seen id parent num energy in
         Even c × (start + len ≤ length c.x) × (at + line_room * len ≤ length out.old) }
     ensures { let c = lent_cols x y seen id parent num energy in
-        Put (old out) (new out) at (table_text zoom 0 (part start len (rows c.entry))) (line_room * len) result }
+        Put out.old out.new at (table_text zoom 0 (part start len (rows c.entry))) (line_room * len) result }
 {
     let mut p = at;
     let mut i: usize = 0;
@@ -213,7 +212,7 @@ fn put_held(
         Even c × (z < 32) × (get_or s.starts z 0 + len ≤ length c.x) × (at + line_room * len ≤ length out.old) }
     ensures { let c = lent_cols x y seen id parent num energy in
         let t = held_at s.starts s.lens (rows c.entry) z in
-        Put (old out) (new out) at (table_text z 0 t) (line_room * get_or s.lens z 0) result }
+        Put out.old out.new at (table_text z 0 t) (line_room * get_or s.lens z 0) result }
 {
     let start = s.starts[z as usize] as usize;
     let len = s.lens[z as usize] as usize;
@@ -234,7 +233,7 @@ fn put_tables(
 ) -> usize
     requires { let c = given x y seen id parent num energy in Even c × Holding s (rows c) (length out.old) }
     ensures { let c = lent_cols x y seen id parent num energy in
-        Put (old out) (new out) 0 (tables_text (s.options.max_zoom + 1) (held_by s (rows c.entry))) (length (old out)) result }
+        Put out.old out.new 0 (tables_text (s.options.max_zoom + 1) (held_by s (rows c.entry))) (length out.old) result }
 {
     let o = s.options;
     let low = o.min_zoom;
@@ -250,7 +249,7 @@ fn put_tables(
 // What a refusal carries, at `at`: of 3 the point. The place past it.
 fn put_carried(out: &mut [u8], at: usize, number: u32, carried: usize) -> usize
     requires { at + 24 ≤ length out.old }
-    ensures { Put (old out) (new out) at (at_text number carried) 24 result }
+    ensures { Put out.old out.new at (at_text number carried) 24 result }
 {
     if number == 3 {
         let a = put_bytes(out, at, b" at=");
@@ -262,7 +261,7 @@ fn put_carried(out: &mut [u8], at: usize, number: u32, carried: usize) -> usize
 // The line of a refusal at the start of `out`. How long it is.
 fn put_refusal(out: &mut [u8], number: u32, carried: usize) -> usize
     requires { 43 ≤ length out.old }
-    ensures { Put (old out) (new out) 0 (refusal_text number carried) 43 result }
+    ensures { Put out.old out.new 0 (refusal_text number carried) 43 result }
 {
     let a = put_bytes(out, 0, b"refusal=");
     let b = put_decimal(out, a, number as usize, 10);
@@ -290,8 +289,8 @@ fn report_read(
 ) -> usize
     requires { Fits h.count (given_points xs ys energies) }
     ensures { let p = front_of h.count (lent_points xs ys energies).entry in
-        let l = lent_all x y seen id parent num energy ids coords near in
-        Put (old out) (new out) 0 (build_text (options_of h) p) (length (old out)) result
+        let l = lent_all_mut x y seen id parent num energy ids coords near in
+        Put out.old out.new 0 (build_text (options_of h) p) (length out.old) result
         × (l.exit ≡ (loaded_by (options_of h) p l.entry).columns) }
 {
     let o = lister_text::options(h);
@@ -335,8 +334,8 @@ pub fn report(
     near: &mut [u32; 1152],
     out: &mut [u8; 156672],
 ) -> usize
-    ensures { let l = lent_all x y seen id parent num energy ids coords near in
-        Reports (old text) (lending l.entry (old out)) result (lending l.exit (new out)) }
+    ensures { let l = lent_all_mut x y seen id parent num energy ids coords near in
+        Reports text.now (lending l.entry out.old) result (lending l.exit out.new) }
 {
     let mut px = [0.0f64; 1152];
     let mut py = [0.0f64; 1152];

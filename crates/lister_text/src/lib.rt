@@ -3,12 +3,11 @@
 // were. Nothing is asked of the caller. Assumed: nothing.
 #![tactic(auto)]
 ghost use Rattle.std.specs.Prelude.{◌≡◌, ◌<◌, ◌≤◌, drop};
-ghost use Rattle.lent.specs.Lent.{old};
 ghost use Rattle.lister_text.specs.laws.Scan.{starts_with, more_text, number_of, line_of, value_in};
 ghost use Rattle.lister_text.specs.laws.Form.{head_of_text, count_in, point_of, points_ok, filled_form};
 ghost use Rattle.lister_text.specs.Values.{coord_of, options_of};
 ghost use Rattle.lister_text.specs.Text.{Parsing};
-ghost use Rattle.lister_text.specs.Lent.{lent_points};
+ghost use Rattle.lister_text.specs.Lent.{lent_points_mut};
 
 use build_tables::Options;
 use range::{CoordinateSystem, DataRange, Setting};
@@ -66,7 +65,7 @@ fn wide(x: u8) -> u32
 
 // Whether the key stands at `at`.
 fn starts(s: &[u8], at: usize, key: &[u8]) -> bool
-    ensures { result ≡ starts_with (old key) (drop at (old s)) }
+    ensures { result ≡ starts_with key.now (drop at s.now) }
 {
     let mut i = 0;
     let mut p = at;
@@ -86,7 +85,7 @@ fn starts(s: &[u8], at: usize, key: &[u8]) -> bool
 // The rest of a number whose first digit is read, up to its line's end: no digit after a 0, at most seven digits.
 fn more(s: &[u8], from: usize, first: u32) -> Value
     requires { first < 10 }
-    ensures { result ≡ more_text first from (drop from (old s)) }
+    ensures { result ≡ more_text first from (drop from s.now) }
 {
     let mut at = from;
     let mut v = first;
@@ -118,7 +117,7 @@ fn more(s: &[u8], from: usize, first: u32) -> Value
 
 // A number and its line's end.
 fn number(s: &[u8], at: usize) -> Value
-    ensures { result ≡ number_of at (drop at (old s)) }
+    ensures { result ≡ number_of at (drop at s.now) }
 {
     if s.len() <= at {
         return Value::Bad;
@@ -135,7 +134,7 @@ fn number(s: &[u8], at: usize) -> Value
 
 // The line key=value at the cursor, its value at most max.
 fn line(s: &[u8], from: Cursor, key: &[u8], max: u32) -> Value
-    ensures { (result ≡ line_of (old s) from.at (old key) max) × value_in max result }
+    ensures { (result ≡ line_of s.now from.at key.now max) × value_in max result }
 {
     let at = from.at;
     if s.len() < at {
@@ -158,7 +157,7 @@ fn line(s: &[u8], from: Cursor, key: &[u8], max: u32) -> Value
 
 // The first seven lines.
 fn read_head(s: &[u8]) -> Parsed
-    ensures { (result ≡ head_of_text (old s)) × count_in result }
+    ensures { (result ≡ head_of_text s.now) × count_in result }
 {
     let Value::Number { v: a, next: c1 } = line(s, Cursor { at: 0 }, b"min_zoom=", 255) else {
         return Parsed::Refused;
@@ -195,7 +194,7 @@ fn read_head(s: &[u8]) -> Parsed
 
 // The lines of a point.
 fn read_point(s: &[u8], from: Cursor) -> WrittenPoint
-    ensures { result ≡ point_of (old s) from.at }
+    ensures { result ≡ point_of s.now from.at }
 {
     let Value::Number { v: x, next: c1 } = line(s, from, b"x=", 9999999) else {
         return WrittenPoint::Missing;
@@ -211,7 +210,7 @@ fn read_point(s: &[u8], from: Cursor) -> WrittenPoint
 
 // Whether n points stand at the cursor, and then nothing.
 fn points_ok(s: &[u8], from: Cursor, n: u32) -> bool
-    ensures { result ≡ points_ok n (old s) from.at }
+    ensures { result ≡ points_ok n s.now from.at }
 {
     let mut at = from.at;
     let mut left = n;
@@ -248,7 +247,7 @@ fn fill(
     energies: &mut [u64; 1152],
 )
     requires { n ≤ 1152 }
-    ensures { let c = lent_points xs ys energies in c.exit ≡ filled_form n (old s) from.at 0 c.entry }
+    ensures { let c = lent_points_mut xs ys energies in c.exit ≡ filled_form n s.now from.at 0 c.entry }
 {
     let mut at = from.at;
     let mut left = n;
@@ -273,7 +272,7 @@ pub fn parse(
     ys: &mut [f64; 1152],
     energies: &mut [u64; 1152],
 ) -> Parsed
-    ensures { let c = lent_points xs ys energies in Parsing (old s) c.entry result c.exit }
+    ensures { let c = lent_points_mut xs ys energies in Parsing s.now c.entry result c.exit }
 {
     if 65536 < s.len() {
         return Parsed::Refused;

@@ -3,9 +3,8 @@
 #![tactic(auto)]
 ghost use Rattle.std.specs.Prelude.{◌≡◌, ℕ};
 ghost use Rattle.supercluster.specs.declared.LoadReply.TheVariants.{Done};
-ghost use Rattle.lent.specs.Lent.{old, new};
 ghost use Rattle.supercluster.specs.Build.{outcome};
-ghost use Rattle.supercluster.specs.Lent.{lent_all};
+ghost use Rattle.supercluster.specs.Lent.{lent_all_mut};
 ghost use Rattle.law_answers.specs.Stored.{columns_of};
 ghost use Rattle.owners.specs.LoadedWith.{owned_outcome, loaded_with};
 ghost use Rattle.owners.specs.Owners.{Owners};
@@ -33,10 +32,10 @@ pub fn load(
     near: &mut [u32],
     owners: &mut [u32],
 ) -> Loaded
-    ensures owners_value { let l = lent_all x y seen id parent num energy ids coords near in
-        owned_outcome (outcome result l.exit) (new owners) ≡ loaded_with o (old xs) (old ys) (old energies) l.entry (old owners) }
-    ensures fact { let c = columns_of (lent_all x y seen id parent num energy ids coords near).exit in
-        ((result.reply ≡ Done) → (own : ℕ → ℕ → ℕ) × Owners result.state c (old energies) own × KeptOwners result.state (new owners) own) }
+    ensures owners_value { let l = lent_all_mut x y seen id parent num energy ids coords near in
+        owned_outcome (outcome result l.exit) owners.new ≡ loaded_with o xs.now ys.now energies.now l.entry owners.old }
+    ensures fact { let c = columns_of (lent_all_mut x y seen id parent num energy ids coords near).exit in
+        ((result.reply ≡ Done) → (own : ℕ → ℕ → ℕ) × Owners result.state c energies.now own × KeptOwners result.state owners.new own) }
 {
     let most = build_room::less(near.len(), owners.len());
     let r = supercluster::load(

@@ -2,7 +2,6 @@
 // Nothing is asked of the caller: what SCOPE does not take is refused with its number, before anything is written.
 #![tactic(auto)]
 ghost use Rattle.std.specs.Prelude.{◌≡◌, true, ◌<◌, ◌≤◌, length};
-ghost use Rattle.lent.specs.Lent.{old, new};
 ghost use Rattle.build_tables.specs.Options.{table_count};
 ghost use Rattle.build_tables.specs.laws.Sound.{Stands};
 ghost use Rattle.supercluster.specs.Build.{most_energy};
@@ -44,7 +43,7 @@ fn wide(x: u32) -> usize
 // The place of the lamp's owner in the table of zoom z.
 fn owner_by(s: State, owners: &[u32], lamp: u32, z: usize) -> usize
     requires { Spotted s (length owners.now) lamp z }
-    ensures { result ≡ owner_by s (old owners) lamp z }
+    ensures { result ≡ owner_by s owners.now lamp z }
 {
     let at = ask_owner::spot(s, lamp, z);
     wide(owners[at])
@@ -71,7 +70,7 @@ fn mends(
     z: usize,
 ) -> bool
     requires { Spotted s (length owners.now) lamp z × Stands s (length energy.now) z }
-    ensures { result ≡ mends s (old owners) lamp before figure (old energy) z }
+    ensures { result ≡ mends s owners.now lamp before figure energy.now z }
 {
     let p = owner_by(s, owners, lamp, z);
     if build_tables::len_of(s, z) <= p {
@@ -83,7 +82,7 @@ fn mends(
 // Whether each table can be mended.
 fn all_mend(s: State, energy: &[u64], owners: &[u32], lamp: u32, before: u64, figure: u64) -> bool
     requires { Ready s (length energy.now) (length owners.now) lamp }
-    ensures { result ≡ mendable s (old owners) lamp before figure (old energy) (table_count s.options) }
+    ensures { result ≡ mendable s owners.now lamp before figure energy.now (table_count s.options) }
 {
     let o = s.options;
     let low = o.min_zoom as usize;
@@ -101,7 +100,7 @@ fn all_mend(s: State, energy: &[u64], owners: &[u32], lamp: u32, before: u64, fi
 fn mend(s: State, energy: &mut [u64], owners: &[u32], lamp: u32, before: u64, figure: u64, z: usize)
     requires { Spotted s (length owners.now) lamp z × Stands s (length energy.old) z
         × (mends s owners.now lamp before figure energy.old z ≡ true) }
-    ensures { new energy ≡ mended_at s (old owners) lamp before figure (old energy) z }
+    ensures { energy.new ≡ mended_at s owners.now lamp before figure energy.old z }
 {
     let at = build_tables::start_of(s, z) + owner_by(s, owners, lamp, z);
     energy[at] = energy[at] - before + figure;
@@ -111,7 +110,7 @@ fn mend(s: State, energy: &mut [u64], owners: &[u32], lamp: u32, before: u64, fi
 fn mend_all(s: State, energy: &mut [u64], owners: &[u32], lamp: u32, before: u64, figure: u64)
     requires { Ready s (length energy.old) (length owners.now) lamp
         × (mendable s owners.now lamp before figure energy.old (table_count s.options) ≡ true) }
-    ensures { new energy ≡ mended s (old owners) lamp before figure (old energy) (table_count s.options) }
+    ensures { energy.new ≡ mended s owners.now lamp before figure energy.old (table_count s.options) }
 {
     let o = s.options;
     let low = o.min_zoom as usize;
@@ -125,7 +124,7 @@ fn mend_all(s: State, energy: &mut [u64], owners: &[u32], lamp: u32, before: u64
 // What is replied to a lamp of the build and a figure that is taken.
 fn settle(s: State, energy: &mut [u64], owners: &[u32], lamp: u32, figure: u64) -> PostReply
     requires { Ready s (length energy.old) (length owners.now) lamp × (figure ≤ most_energy) }
-    ensures { posting result (new energy) ≡ posted s (old energy) (old owners) lamp figure }
+    ensures { posting result energy.new ≡ posted s energy.old owners.now lamp figure }
 {
     let o = s.options;
     let top = o.max_zoom as usize + 1;
@@ -142,7 +141,7 @@ fn settle(s: State, energy: &mut [u64], owners: &[u32], lamp: u32, figure: u64) 
 
 // Replaces the figure of a lamp: its own energy in the finest table, and in every other table that of its owner.
 pub fn post(s: State, energy: &mut [u64], owners: &[u32], lamp: u32, figure: u64) -> PostReply
-    ensures { posting result (new energy) ≡ posted s (old energy) (old owners) lamp figure }
+    ensures { posting result energy.new ≡ posted s energy.old owners.now lamp figure }
 {
     if !ask_owner::reaches(s, energy.len(), owners.len()) {
         return PostReply::Spoiled;

@@ -8,7 +8,6 @@
 // that the loops that read are only proved to be safe.
 #![tactic(auto)]
 ghost use Rattle.std.specs.Prelude.{◌≡◌, ◌*◌, ◌≤◌, length};
-ghost use Rattle.lent.specs.Lent.{old, new};
 ghost use Rattle.replay_vectors.specs.Scores.{ending_is};
 ghost use Rattle.kdbush.specs.Reply.{searched, column_after};
 ghost use Rattle.replay_index.specs.Read.{query_read};
@@ -95,7 +94,7 @@ fn builds(
     ids: &mut [u32],
     coords: &mut [f64],
 ) -> bool
-    ensures { result ≡ builds_to node_size (old xs) (old ys) (old want_ids) (old want_coords) (old ids) (old coords) }
+    ensures { result ≡ builds_to node_size xs.now ys.now want_ids.now want_coords.now ids.old coords.old }
 {
     if !replay_vectors::is_done(kdbush::build(node_size, xs, ys, ids, coords)) {
         return false;
@@ -143,8 +142,8 @@ fn ask(
     coords: &[f64],
     out: &mut [u32],
 ) -> SearchReply
-    ensures value { result ≡ searched q node_size n (old ids) (old coords) (length (old out)) }
-    ensures out_value { new out ≡ column_after q node_size n (old ids) (old coords) (old out) }
+    ensures value { result ≡ searched q node_size n ids.now coords.now (length out.old) }
+    ensures out_value { out.new ≡ column_after q node_size n ids.now coords.now out.old }
 {
     match q {
         Query::Range {
@@ -182,7 +181,7 @@ fn lists(
     want: &[u32],
     out: &mut [u32],
 ) -> bool
-    ensures { result ≡ index_lists_to q node_size n (old ids) (old coords) m (old want) (old out) }
+    ensures { result ≡ index_lists_to q node_size n ids.now coords.now m want.now out.old }
 {
     if !is_found(ask(q, node_size, n, ids, coords, out), m) {
         return false;
@@ -225,7 +224,7 @@ fn walks(
     want: &[u32],
 ) -> bool
     requires { m ≤ length want.now }
-    ensures { result ≡ walks_to q node_size n (old ids) (old coords) m (old want) }
+    ensures { result ≡ walks_to q node_size n ids.now coords.now m want.now }
 {
     let mut step = kdwalk::first(q, node_size, n, coords);
     let mut i = 0;

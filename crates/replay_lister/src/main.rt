@@ -4,7 +4,6 @@
 // Proved: a case agrees if and only if its second part is what SCOPE has the lister print for its first. Assumed: what io says of reading
 // and writing.
 #![tactic(auto)]
-ghost use Rattle.lent.specs.Lent.{old};
 ghost use Rattle.replay_lister.specs.Prints.{prints_is};
 ghost use Rattle.replay_vectors.specs.Scores.{ending_is};
 
@@ -13,7 +12,7 @@ use replay_vectors::{Count, Ending, First, Function, Pattern, Score, Verdict, Wo
 
 // Whether what is printed for the text is what is expected.
 fn prints(text: &[u8], want: &[u8]) -> bool
-    ensures { prints_is (old text) (old want) result }
+    ensures { prints_is text.now want.now result }
 {
     let mut x = [0.0f64; 1152];
     let mut y = [0.0f64; 1152];

@@ -11,10 +11,9 @@
 #![tactic(auto)]
 ghost use Rattle.std.specs.Prelude.{◌≡◌, ◌*◌, ◌≤◌, length};
 ghost use Rattle.replay_vectors.specs.Scores.{ending_is};
-ghost use Rattle.lent.specs.Lent.{old, new};
 ghost use Rattle.build_tables.specs.laws.Rows.{Even};
-ghost use Rattle.build_tables.specs.Lent.{given};
-ghost use Rattle.supercluster.specs.Lent.{lent_all};
+ghost use Rattle.build_tables.specs.Lent.{given, given_mut};
+ghost use Rattle.supercluster.specs.Lent.{lent_all, lent_all_mut};
 ghost use Rattle.replay_load.specs.Same.{same_setting, same_range, same_system, same_options, same_state, loads_to, zeros_in};
 
 use build_tables::{Entry, Options, State};
@@ -84,7 +83,7 @@ fn read_entries(
     ids: &mut [u32],
     coords: &mut [f64],
 ) -> bool
-    requires { let c = given x y seen id parent num energy in
+    requires { let c = given_mut x y seen id parent num energy in
         Even c × (m ≤ length c.x) × (m ≤ length ids.old) × (2 * m ≤ length coords.old) }
 {
     let mut good = true;
@@ -121,7 +120,7 @@ fn read_tables(min_zoom: usize, max_zoom: usize, starts: &mut [u32], lens: &mut 
 // Zeros in the first n.
 fn clear(n: usize, near: &mut [u32])
     requires { n ≤ length near.old }
-    ensures { new near ≡ zeros_in n (old near) }
+    ensures { near.new ≡ zeros_in n near.old }
 {
     let mut i = 0;
     while i < n {
@@ -197,7 +196,7 @@ fn same_options(a: Options, b: Options) -> bool
 // Whether the tables of a state start where they are expected to, and are as long, and it has the number of points and the options as
 // given.
 fn same_state(o: Options, n: usize, starts: &[u32], lens: &[u32], s: State) -> bool
-    ensures { result ≡ same_state o n (old starts) (old lens) s }
+    ensures { result ≡ same_state o n starts.now lens.now s }
 {
     let a = s.starts;
     let b = s.lens;
@@ -240,8 +239,8 @@ fn loads(
 ) -> bool
     ensures { let want = lent_all want_x want_y want_seen want_id want_parent want_num want_energy
         want_ids want_coords want_near in
-        let l = lent_all x y seen id parent num energy ids coords near in
-        result ≡ loads_to o (old xs) (old ys) (old energies) (old starts) (old lens) want.entry l.entry }
+        let l = lent_all_mut x y seen id parent num energy ids coords near in
+        result ≡ loads_to o xs.now ys.now energies.now starts.now lens.now want.entry l.entry }
 {
     let built = supercluster::load(
         o, xs, ys, energies, x, y, seen, id, parent, num, energy, ids, coords, near,

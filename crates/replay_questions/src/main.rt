@@ -14,7 +14,6 @@
 // Assumed: what standard input gives is not modelled, so that the functions that read are only proved to be safe.
 #![tactic(auto)]
 ghost use Rattle.std.specs.Prelude.{◌≡◌, ◌≤◌, length};
-ghost use Rattle.lent.specs.Lent.{old, new};
 ghost use Rattle.ask_base.specs.Asked.{answer_of, column_of};
 ghost use Rattle.build_tables.specs.Lent.{lent_columns};
 ghost use Rattle.ask_cluster.specs.Expansion.{zoom_of};
@@ -131,7 +130,7 @@ fn ask(
 ) -> Answer
     ensures { let c = lent_columns x y seen id parent num energy ids coords in
         let a = asked_of q s c in
-        (result ≡ answer_of a (length (old out))) × (new out ≡ column_of a (old out)) }
+        (result ≡ answer_of a (length out.old)) × (out.new ≡ column_of a out.old) }
 {
     match q {
         Listing::Box {
@@ -182,7 +181,7 @@ fn lists(
     out: &mut [u32],
 ) -> bool
     ensures { let c = lent_columns x y seen id parent num energy ids coords in
-        result ≡ lists_to reply (old want) (asked_of q s c) (old out) }
+        result ≡ lists_to reply want.now (asked_of q s c) out.old }
 {
     let a = ask(q, s, x, y, seen, id, parent, num, energy, ids, coords, out);
     same_reply(reply, a.number(), long(a.carried())) & replay_vectors::same_places(want, out)
@@ -243,7 +242,7 @@ fn same_tile(
     px: &[i64],
     py: &[i64],
 ) -> bool
-    ensures { result ≡ same_tile (old want) (old want_x) (old want_y) (old places) (old px) (old py) }
+    ensures { result ≡ same_tile want.now want_x.now want_y.now places.now px.now py.now }
 {
     replay_vectors::same_places(want, places)
         & replay_vectors::same_longs(want_x, px)
@@ -272,8 +271,8 @@ fn lists_tile(
     py: &mut [i64],
 ) -> bool
     ensures { let c = lent_columns x y seen id parent num energy ids coords in
-        let a = tiled s c t.z t.x t.y (old places) (old px) (old py) in
-        result ≡ tiles_to reply (old want) (old want_x) (old want_y) a }
+        let a = tiled s c t.z t.x t.y places.old px.old py.old in
+        result ≡ tiles_to reply want.now want_x.now want_y.now a }
 {
     let a = ask_tile::tile(
         s, x, y, seen, id, parent, num, energy, ids, coords, t.z, t.x, t.y, places, px, py,

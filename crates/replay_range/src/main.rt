@@ -6,7 +6,6 @@
 // Expected of the range are normalize(v) and denormalize(v), and of longitude/latitude the point (v, v) converted: (longitude, v).
 #![tactic(auto)]
 ghost use Rattle.std.specs.Prelude.{◌≡◌, ◌+◌, ◌≤◌, ◌<◌};
-ghost use Rattle.lent.specs.Lent.{old};
 ghost use Rattle.replay_range.specs.Text.{dashes_is, separator_of, field_is, settled_is, ranged_is, parsed_is};
 ghost use Rattle.replay_range.specs.Judge.{converts_to, verdict_of};
 ghost use Rattle.replay_vectors.specs.Scores.{ending_is};
@@ -56,7 +55,7 @@ enum Parsed {
 // Whether the 16 bytes from `at` on are dashes.
 fn dashes(line: &[u8; 170], at: usize) -> bool
     requires { at + 16 ≤ 170 }
-    ensures { dashes_is (old line) at result }
+    ensures { dashes_is line.now at result }
 {
     let mut i = 0;
     while i < 16 {
@@ -78,7 +77,7 @@ fn separator(k: usize) -> u8
 // What the field k of a line holds, with the byte after it.
 fn read_field(line: &[u8; 170], k: usize) -> Field
     requires { k < 10 }
-    ensures { field_is (old line) k result }
+    ensures { field_is line.now k result }
 {
     let at = k * 17;
     if line[at + 16] != separator(k) {
@@ -96,7 +95,7 @@ fn read_field(line: &[u8; 170], k: usize) -> Field
 // The offset or the scale that the field k of a line holds.
 fn read_setting(line: &[u8; 170], k: usize) -> Settled
     requires { k < 10 }
-    ensures { settled_is (old line) k result }
+    ensures { settled_is line.now k result }
 {
     match read_field(line, k) {
         Field::Number(x) => Settled::Setting(range::Setting::Given(x)),
@@ -107,7 +106,7 @@ fn read_setting(line: &[u8; 170], k: usize) -> Settled
 
 // The range that the fields 0 to 5 of a line hold.
 fn read_range(line: &[u8; 170]) -> Ranged
-    ensures { ranged_is (old line) result }
+    ensures { ranged_is line.now result }
 {
     let Field::Number(min_x) = read_field(line, 0) else {
         return Ranged::Bad;
@@ -139,7 +138,7 @@ fn read_range(line: &[u8; 170]) -> Ranged
 
 // The vector of a line.
 fn read_case(line: &[u8; 170]) -> Parsed
-    ensures { parsed_is (old line) result }
+    ensures { parsed_is line.now result }
 {
     let Ranged::Range(range) = read_range(line) else {
         return Parsed::Bad;

@@ -10,7 +10,6 @@ ghost use Rattle.std.specs.Float.{binary64};
 ghost use Rattle.std.specs.Float.Ieee.{nan_bits, of_bits};
 ghost use Rattle.std.specs.Int.{w64};
 ghost use Rattle.std.proofs.Common.{to_z};
-ghost use Rattle.lent.specs.Lent.{old};
 ghost use Rattle.replay_vectors.specs.Words.{digit_is, pattern_is, word_is, count_is, agreeing};
 ghost use Rattle.replay_vectors.specs.Same.{same_places, same_longs, same_floats, done_is};
 ghost use Rattle.replay_vectors.specs.Scores.{earlier_of, first_of, with_agreed, with_differed};
@@ -147,7 +146,7 @@ fn hex_digit(c: u8) -> Digit
 // The number that the 16 digits from `at` on write.
 pub fn read_pattern(line: &[u8], at: usize) -> Pattern
     requires { at + 16 ≤ length line.now }
-    ensures { pattern_is (old line) at result }
+    ensures { pattern_is line.now at result }
 {
     let mut bits: u64 = 0;
     let mut i = 0;
@@ -208,7 +207,7 @@ pub fn agree(a: f64, b: f64) -> bool
 
 // The word that 17 bytes hold.
 fn word_of(text: &[u8; 17]) -> Word
-    ensures { word_is (old text) result }
+    ensures { word_is text.now result }
 {
     let Pattern::Bits(bits) = read_pattern(text, 0) else {
         return Word::Bad;
@@ -412,7 +411,7 @@ pub fn read_numbers(m: usize, column: &mut [u64]) -> bool
 
 // Reads how many floats there are and then these, as many as the column holds at the most.
 pub fn next_floats(column: &mut [f64]) -> Count
-    ensures { count_is (length (old column)) result }
+    ensures { count_is (length column.old) result }
 {
     let Count::Is(n) = next_count(column.len(), false) else {
         return Count::Bad;
@@ -429,7 +428,7 @@ pub fn next_floats(column: &mut [f64]) -> Count
 
 // The same of bytes.
 pub fn next_bytes(column: &mut [u8]) -> Count
-    ensures { count_is (length (old column)) result }
+    ensures { count_is (length column.old) result }
 {
     let Count::Is(n) = next_count(column.len(), false) else {
         return Count::Bad;
@@ -447,7 +446,7 @@ pub fn next_bytes(column: &mut [u8]) -> Count
 
 // The same of places.
 pub fn next_places(column: &mut [u32]) -> Count
-    ensures { count_is (length (old column)) result }
+    ensures { count_is (length column.old) result }
 {
     let Count::Is(n) = next_count(column.len(), false) else {
         return Count::Bad;
@@ -460,7 +459,7 @@ pub fn next_places(column: &mut [u32]) -> Count
 
 // The same of numbers.
 pub fn next_numbers(column: &mut [u64]) -> Count
-    ensures { count_is (length (old column)) result }
+    ensures { count_is (length column.old) result }
 {
     let Count::Is(n) = next_count(column.len(), false) else {
         return Count::Bad;
@@ -473,7 +472,7 @@ pub fn next_numbers(column: &mut [u64]) -> Count
 
 // Whether two columns of places are the same, to their ends.
 pub fn same_places(want: &[u32], got: &[u32]) -> bool
-    ensures { result ≡ same_places (old want) (old got) }
+    ensures { result ≡ same_places want.now got.now }
 {
     if want.len() != got.len() {
         return false;
@@ -490,7 +489,7 @@ pub fn same_places(want: &[u32], got: &[u32]) -> bool
 
 // Whether two columns of bytes are the same, to their ends.
 pub fn same_bytes(want: &[u8], got: &[u8]) -> bool
-    ensures { result ≡ same_places (old want) (old got) }
+    ensures { result ≡ same_places want.now got.now }
 {
     if want.len() != got.len() {
         return false;
@@ -507,7 +506,7 @@ pub fn same_bytes(want: &[u8], got: &[u8]) -> bool
 
 // Whether two columns of numbers are the same, to their ends.
 pub fn same_numbers(want: &[u64], got: &[u64]) -> bool
-    ensures { result ≡ same_places (old want) (old got) }
+    ensures { result ≡ same_places want.now got.now }
 {
     if want.len() != got.len() {
         return false;
@@ -524,7 +523,7 @@ pub fn same_numbers(want: &[u64], got: &[u64]) -> bool
 
 // Whether two columns of numbers with a sign are the same, to their ends.
 pub fn same_longs(want: &[i64], got: &[i64]) -> bool
-    ensures { result ≡ same_longs (old want) (old got) }
+    ensures { result ≡ same_longs want.now got.now }
 {
     if want.len() != got.len() {
         return false;
@@ -541,7 +540,7 @@ pub fn same_longs(want: &[i64], got: &[i64]) -> bool
 
 // Whether two columns of floats agree, to their ends.
 pub fn same_floats(want: &[f64], got: &[f64]) -> bool
-    ensures { result ≡ same_floats (old want) (old got) }
+    ensures { result ≡ same_floats want.now got.now }
 {
     if want.len() != got.len() {
         return false;

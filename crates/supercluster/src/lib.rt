@@ -2,18 +2,17 @@
 // table with its index. Nothing is asked of the caller: what SCOPE does not take is refused with its number, and then no column is written.
 #![tactic(auto)]
 ghost use Rattle.std.specs.Prelude.{◌≡◌, map, ◌+◌, ◌*◌, ◌≤◌, leb, length, replicate};
-ghost use Rattle.kdsort.specs.Lent.{lent_index};
+ghost use Rattle.kdsort.specs.Lent.{lent_index_mut};
 ghost use Rattle.kdbush.specs.Reply.{first_outside};
-ghost use Rattle.lent.specs.Lent.{old, new};
 ghost use Rattle.build_tables.specs.Rows.{rows};
 ghost use Rattle.build_tables.specs.laws.Rows.{Even};
-ghost use Rattle.build_tables.specs.Lent.{given, lent_cols};
+ghost use Rattle.build_tables.specs.Lent.{given_mut, lent_cols_mut};
 ghost use Rattle.build_tables.specs.Options.{options_ok};
 ghost use Rattle.build_tables.specs.State.{new_state};
 ghost use Rattle.build_all_zooms.specs.Zooms.{laid_over};
 ghost use Rattle.supercluster.specs.Build.{converted_all, finest, written, built_state, tables_of, need, first_over, triple_ok};
 ghost use Rattle.supercluster.specs.Build.{ordered, load_number, load_carried, outcome, loaded};
-ghost use Rattle.supercluster.specs.Lent.{given_all, lent_all};
+ghost use Rattle.supercluster.specs.Lent.{given_all_mut, lent_all_mut};
 ghost use Rattle.supercluster.specs.laws.Ready.{Accepted, Made, first_state};
 ghost use Rattle.supercluster.specs.laws.Load.{Holds};
 
@@ -86,11 +85,11 @@ fn fill(
     num: &mut [u32],
     energy: &mut [u64],
 )
-    requires { let t = given x y seen id parent num energy in
+    requires { let t = given_mut x y seen id parent num energy in
         let n = length xs.now in
         Even t × (length ys.now ≡ n) × (n ≤ length t.x) × (n ≤ 1048576) × (length energies.now ≡ n) }
-    ensures { let t = lent_cols x y seen id parent num energy in
-        rows t.exit ≡ laid_over (finest (converted_all c (old xs) (old ys)) (old energies) 0) (rows t.entry) }
+    ensures { let t = lent_cols_mut x y seen id parent num energy in
+        rows t.exit ≡ laid_over (finest (converted_all c xs.now ys.now) energies.now 0) (rows t.entry) }
 {
     let mut place = 0;
     while place < xs.len() {
@@ -114,7 +113,7 @@ fn fill(
 
 // Zeros. What is zero already is not written, so that memory that was lent and never written to is not taken up.
 fn clear(a: &mut [u32])
-    ensures { new a ≡ replicate (length (old a)) 0 }
+    ensures { a.new ≡ replicate (length a.old) 0 }
 {
     let mut i = 0;
     while i < a.len() {
@@ -156,16 +155,16 @@ fn build_in(
     coords: &mut [f64],
     near: &mut [u32],
 ) -> State
-    requires { let t = given x y seen id parent num energy in
+    requires { let t = given_mut x y seen id parent num energy in
         let px = xs.now in
         let n = length px in
         Even t × Accepted o px ys.now energies.now × (length t.x ≡ need o n) × (length ids.old ≡ need o n)
         × (length coords.old ≡ need o n * 2)
         × (length near.old ≡ n + n) }
-    ensures { let t = lent_cols x y seen id parent num energy in
-        let i = lent_index ids coords in
-        Made o (old xs) (old ys) (old energies) result (rows t.entry) (rows t.exit)
-        i.entry.ids i.exit.ids i.entry.co i.exit.co (new near) }
+    ensures { let t = lent_cols_mut x y seen id parent num energy in
+        let i = lent_index_mut ids coords in
+        Made o xs.now ys.now energies.now result (rows t.entry) (rows t.exit)
+        i.entry.ids i.exit.ids i.entry.co i.exit.co near.new }
 {
     let n = xs.len();
     let c = o.coordinate_system;
@@ -197,13 +196,13 @@ fn build_all(
     coords: &mut [f64],
     near: &mut [u32],
 ) -> State
-    requires { let l = given_all x y seen id parent num energy ids coords near in
+    requires { let l = given_all_mut x y seen id parent num energy ids coords near in
         let px = xs.now in
         Accepted o px ys.now energies.now × Holds (need o (length px)) l }
-    ensures { let l = lent_all x y seen id parent num energy ids coords near in
-        let px = old xs in
+    ensures { let l = lent_all_mut x y seen id parent num energy ids coords near in
+        let px = xs.now in
         let n = length px in
-        let ts = tables_of o px (old ys) (old energies) in
+        let ts = tables_of o px ys.now energies.now in
         (result ≡ built_state o n ts) × (l.exit ≡ written o.node_size n ts l.entry) }
 {
     let n = xs.len();
@@ -231,7 +230,7 @@ fn build_all(
 // The first point that is outside [0,1], or no number, once it is converted.
 fn first_outside(c: CoordinateSystem, xs: &[f64], ys: &[f64]) -> Outside
     requires { length ys.now ≡ length xs.now }
-    ensures { let ps = converted_all c (old xs) (old ys) in
+    ensures { let ps = converted_all c xs.now ys.now in
         result ≡ first_outside (map (λ p. p.x) ps) (map (λ p. p.y) ps) 0 }
 {
     let mut i = 0;
@@ -250,7 +249,7 @@ fn first_outside(c: CoordinateSystem, xs: &[f64], ys: &[f64]) -> Outside
 
 // The first energy that is too large: above 2^40.
 fn first_over(energies: &[u64]) -> Outside
-    ensures { result ≡ first_over (old energies) 0 }
+    ensures { result ≡ first_over energies.now 0 }
 {
     let mut i = 0;
     while i < energies.len() {
@@ -264,9 +263,9 @@ fn first_over(energies: &[u64]) -> Outside
 
 // The refusal of a build, if there is one, for columns of these lengths.
 fn check(o: Options, xs: &[f64], ys: &[f64], energies: &[u64], room: usize) -> LoadReply
-    ensures { let px = old xs in
-        let py = old ys in
-        let ws = old energies in
+    ensures { let px = xs.now in
+        let py = ys.now in
+        let ws = energies.now in
         let ps = converted_all o.coordinate_system px py in
         result ≡ ordered (options_ok o) (triple_ok px py ws) (first_outside (map (λ p. p.x) ps) (map (λ p. p.y) ps) 0)
         (first_over ws 0) (leb (need o (length px)) room) }
@@ -325,8 +324,8 @@ pub fn load(
     coords: &mut [f64],
     near: &mut [u32],
 ) -> Loaded
-    ensures { let l = lent_all x y seen id parent num energy ids coords near in
-        outcome result l.exit ≡ loaded o (old xs) (old ys) (old energies) l.entry }
+    ensures { let l = lent_all_mut x y seen id parent num energy ids coords near in
+        outcome result l.exit ≡ loaded o xs.now ys.now energies.now l.entry }
 {
     let room = build_room::room_all(
         x.len(),
