@@ -61,11 +61,15 @@ unfolding rem rest
 rem_is s m e = refl
 
 rem-most : (x : Float) → T (finite x) → T (le (rem binary64 x d360) d360)
+rem-most nan p = elim p [ ]
+rem-most (inf _) p = elim p [ ]
 rem-most (fin false m e) p = rw (rem_is false m e) (rest_le m e)
 rem-most (fin true m e) p = rw (rem_is true m e)
     (le-le-trans _ (fin true 0 (pos 0)) d360 (round-le-zero binary64 (rest m e) (down e * 1) (down1 e)) (unfold le in tt))
 
 rem-least : (x : Float) → T (finite x) → T (le (neg d360) (rem binary64 x d360))
+rem-least nan p = elim p [ ]
+rem-least (inf _) p = elim p [ ]
 rem-least (fin false m e) p = rw (rem_is false m e)
     (le-le-trans (neg d360) zero _ (unfold le neg in tt) (zero-le-round binary64 (rest m e) (down e * 1) (down1 e)))
 rem-least (fin true m e) p =
@@ -73,6 +77,8 @@ rem-least (fin true m e) p =
     (neg-le (round binary64 false (rest m e) (down e * 1)) d360 (rest_le m e)))
 
 rem-nonneg : (x : Float) → T (finite x) → T (le zero x) → T (le zero (rem binary64 x d360))
+rem-nonneg nan p h = elim p [ ]
+rem-nonneg (inf _) p h = elim p [ ]
 rem-nonneg (fin false m e) p h = rw (rem_is false m e) (zero-le-round binary64 (rest m e) (down e * 1) (down1 e))
 rem-nonneg (fin true m e) p h = rw (rem_is true m e)
     (let z : m * up e ≡ 0 = nonneg-mins (fin true m e) tt h in
