@@ -1,0 +1,18 @@
+-- `kdsort::build_index` meets its contract: the loop fills the slots one after the other, and the sort does the rest. Assumes nothing.
+use mathlib.Core.Path.{◌≡◌, refl, ap, ◌∙◌}
+use Prim.Native.Nat.{ℕ, ◌+◌, ◌-◌, ◌≤◌}
+use native.Mathlib.Omega.{arith}
+use lib.ListN.{length, length-set}
+use Rattle.kdsort.specs.Cols.{IndexCols, index_cols}
+use Rattle.kdsort.specs.Shape.{shape}
+use Rattle.kdsort.specs.Sort.{filled_slots, indexed, sorted}
+use Rattle.kdsort.specs.laws.Indexes.{filled_more}
+use Rattle.kdsort.proofs.build_index.Given as goal
+
+abbrev pub invariant-loop-i : goal.invariant-loop-i
+invariant-loop-i l = (l.i ≤ length l.xs) × (length l.ids ≡ length l.initial.ids) × (length l.coords ≡ length l.initial.coords)
+    × (index_cols l.ids l.coords ≡ filled_slots l.i l.xs l.ys (index_cols l.initial.ids l.initial.coords))
+
+abbrev pub decreases-loop-i : goal.decreases-loop-i
+decreases-loop-i l = length l.xs - l.i
+

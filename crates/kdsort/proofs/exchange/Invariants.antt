@@ -1,0 +1,17 @@
+-- `kdsort::exchange` meets its contract: after each turn one pair more is exchanged. Assumes nothing.
+use mathlib.Core.Path.{◌≡◌, refl, ap, ◌∙◌}
+use Prim.Native.Nat.{◌-◌, ◌<◌, ◌≤◌}
+use native.Mathlib.Omega.{arith}
+use lib.ListN.{length}
+use Rattle.kdsort.specs.Cols.{index_cols}
+use Rattle.kdsort.specs.laws.Batches.{batch_entry, exchanged, exchanged-none, exchanged-more}
+use Rattle.kdsort.proofs.exchange.Given as goal
+
+abbrev pub invariant-loop-k : goal.invariant-loop-k
+invariant-loop-k l =
+    (index_cols l.ids l.coords ≡ exchanged (index_cols l.initial.ids l.initial.coords) (batch_entry l.ups) (batch_entry l.downs) l.k) × (l.k ≤ l.count)
+    × (length l.ids ≡ length l.initial.ids) × (length l.coords ≡ length l.initial.coords)
+
+abbrev pub decreases-loop-k : goal.decreases-loop-k
+decreases-loop-k l = l.count - l.k
+

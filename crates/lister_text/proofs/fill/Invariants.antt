@@ -1,0 +1,16 @@
+-- `lister_text::fill` meets its contract: what is left of the points fills the columns from i on. Assumes nothing.
+use mathlib.Core.Path.{◌≡◌, refl, sym, ◌∙◌}
+use Prim.Native.Nat.{◌+◌, ◌≤◌}
+use native.Mathlib.Omega.{arith}
+use borrow.Author.Rules.{rules}
+use Rattle.lister_text.specs.Text.{point_cols}
+use Rattle.lister_text.specs.laws.Form.{filled_form, filled-step, filled-end}
+use Rattle.lister_text.proofs.fill.Given as goal
+
+abbrev pub invariant-loop-left : goal.invariant-loop-left
+invariant-loop-left l =
+    (filled_form l.left l.s l.at l.i (point_cols l.xs l.ys l.energies) ≡ filled_form l.n l.s l.initial.at 0 (point_cols l.initial.xs l.initial.ys l.initial.energies)) × (l.i + l.left ≤ 1152)
+
+abbrev pub decreases-loop-left : goal.decreases-loop-left
+decreases-loop-left l = l.left
+

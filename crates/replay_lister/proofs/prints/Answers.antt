@@ -1,0 +1,15 @@
+-- `replay_lister::prints` meets its contract: what `report` leaves is what is printed, and the comparison of bytes decides. Assumes
+-- nothing.
+use borrow.Author.Rules.{rules}
+use Rattle.lister_report.specs.laws.Replies.{report-counts}
+use Rattle.replay_lister.specs.One.{reported, decides}
+use Rattle.replay_lister.proofs.prints.Goals as goal
+
+pub slice_bounds-out-end : goal.slice_bounds-out-end
+slice_bounds-out-end c = (report-counts _ _ _ _ c.report-k.ensures).0
+
+pub slice_bounds-same_bytes-end : goal.slice_bounds-same_bytes-end
+slice_bounds-same_bytes-end c = (report-counts _ _ _ _ c.report-k.ensures).1
+
+pub returns : goal.returns
+returns c = decides _ _ _ (reported _ _ _ _ c.report-k.ensures) _ c.same_bytes.ensures

@@ -1,0 +1,30 @@
+-- `replay_load::loads` meets its contract: what the build leaves is what `loaded` says, and it is compared as the definition says.
+-- Assumes nothing.
+-- what is compared is what the build came to
+use mathlib.Core.Bool.{Bool}
+use mathlib.Core.List.{List}
+use mathlib.Core.Path.{◌≡◌, ap, ◌∙◌}
+use Prim.Native.Nat.{ℕ}
+use native.Mathlib.Omega.{arith}
+use lib.Dec.{eqb}
+use lib.ListN.{length}
+use lib.Ieee.{Float}
+use Rattle.build_tables.specs.declared.Options.{Options}
+use Rattle.supercluster.specs.Build.{BuildColumns, Outcome, loaded}
+use Rattle.replay_vectors.specs.Chain.{◌and◌}
+use Rattle.replay_load.specs.Same.{agrees_with, loads_to}
+use Rattle.replay_load.proofs.loads.Goals as goal
+
+compared : (o : Options) (xs ys : List Float) (energies starts lens : List ℕ) (want l : BuildColumns) (got : Outcome) (r : Bool)
+    → got ≡ loaded o xs ys energies l → r ≡ agrees_with o (length xs) starts lens want got → r ≡ loads_to o xs ys energies starts lens want l
+unfolding loads_to
+compared o xs ys energies starts lens want l got r e f = f ∙ ap (agrees_with o (length xs) starts lens want) e
+
+pub returns : goal.returns
+unfolding agrees_with
+returns c =
+    compared _ _ _ _ _ _ _ _ _ _ c.load.ensures
+    (ap (λ (k : ℕ). eqb k 0) c.number.ensures and c.same-state.ensures
+    and c.same-floats.ensures and c.same-floats2.ensures and c.same_bytes.ensures
+    and c.same-places.ensures and c.same-places2.ensures and c.same-places3.ensures and c.same_numbers.ensures
+    and c.same-places4.ensures and c.same-floats3.ensures and c.same_places-5.ensures)

@@ -1,0 +1,9 @@
+-- `replay_load::read_tables` is safe, and ends. Assumes nothing.
+use Prim.Native.Nat.{◌+◌, ◌-◌}
+use mathlib.Core.Path.{◌≡◌, refl}
+use lib.ListN.{length}
+use borrow.Author.Rules.{rules}
+use Rattle.replay_load.proofs.read_tables.Goals as goal
+
+pub loop-z-init : goal.loop-z-init
+loop-z-init c = (refl, refl)

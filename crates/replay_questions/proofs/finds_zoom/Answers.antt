@@ -1,0 +1,9 @@
+-- `replay_questions::finds_zoom` meets its contract: what is compared is the expansion zoom. Assumes nothing.
+use mathlib.Core.Path.{◌∙◌}
+use Rattle.replay_questions.proofs.Laws.{zoom-told}
+use borrow.Author.Rules.{rules}
+use Rattle.replay_questions.proofs.finds_zoom.Goals as goal
+
+pub returns : goal.returns
+returns c = zoom-told _ _ _ _ c.same_reply.ensures _ _ c.expansion_zoom-e.ensures
+    c.number.ensures (c.wide.ensures ∙ c.carried.ensures)
