@@ -2,7 +2,11 @@
 // or a refusal. Proved: it never fails. What is written is what `lister_report::report` promises of what was read. Assumed: what io says of
 // reading and writing.
 #![tactic(auto)]
-use libc::{STDIN_FILENO, STDOUT_FILENO};
+
+// Standard input.
+const STDIN_FILENO: i32 = 0;
+// Standard output.
+const STDOUT_FILENO: i32 = 1;
 
 fn main() {
     let mut text = [0u8; 65537];

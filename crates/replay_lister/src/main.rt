@@ -7,8 +7,10 @@
 ghost use Rattle.replay_lister.specs.Prints.{prints_is};
 ghost use Rattle.replay_vectors.specs.Scores.{ending_is};
 
-use libc::STDIN_FILENO;
 use replay_vectors::{Count, Ending, First, Function, Pattern, Score, Verdict, Word};
+
+// Standard input.
+const STDIN_FILENO: i32 = 0;
 
 // Whether what is printed for the text is what is expected.
 fn prints(text: &[u8], want: &[u8]) -> bool

@@ -10,8 +10,10 @@ ghost use Rattle.replay_range.specs.Text.{dashes_is, separator_of, field_is, set
 ghost use Rattle.replay_range.specs.Judge.{converts_to, verdict_of};
 ghost use Rattle.replay_vectors.specs.Scores.{ending_is};
 
-use libc::STDIN_FILENO;
 use replay_vectors::{Ending, First, Function, Pattern, Score, Verdict};
+
+// Standard input.
+const STDIN_FILENO: i32 = 0;
 
 // What a field holds: a number, 16 dashes, or neither.
 #[derive(Clone, Copy)]

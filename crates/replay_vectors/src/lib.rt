@@ -5,6 +5,7 @@
 // is what its 17 bytes spell, a count is within its limit, two columns are compared to their ends. Assumed: nothing beyond the contracts
 // of `floats`, `kdbush` and `io`. What standard input gives is not modelled: a function that reads it is only proved to be safe.
 #![tactic(auto)]
+
 ghost use Rattle.std.specs.Prelude.{◌≡◌, ◌+◌, ◌*◌, ◌≤◌, ◌<◌, length};
 ghost use Rattle.std.specs.Float.{binary64};
 ghost use Rattle.std.specs.Float.Ieee.{nan_bits, of_bits};
@@ -15,7 +16,11 @@ ghost use Rattle.replay_vectors.specs.Same.{same_places, same_longs, same_floats
 ghost use Rattle.replay_vectors.specs.Scores.{earlier_of, first_of, with_agreed, with_differed};
 
 use kdbush::BuildReply;
-use libc::{STDIN_FILENO, STDOUT_FILENO};
+
+// Standard input.
+const STDIN_FILENO: i32 = 0;
+// Standard output.
+const STDOUT_FILENO: i32 = 1;
 
 // The value of a hexadecimal digit, or a byte that is none.
 #[derive(Clone, Copy)]

@@ -12,4 +12,3 @@ invariant-loop-i l = (length l.column ≡ length l.initial.column) × (l.n ≤ l
 
 abbrev pub decreases-loop-i : goal.decreases-loop-i
 decreases-loop-i l = l.n - l.i
-

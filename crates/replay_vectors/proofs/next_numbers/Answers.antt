@@ -8,5 +8,5 @@ pub read_numbers-requires : goal.read_numbers-requires
 read_numbers-requires c = subst (count_is _) c.n-1.given.1 c.next_count.ensures
 
 pub returns-then-read_numbers : goal.returns-then-read_numbers
-returns-then-read_numbers c = 
+returns-then-read_numbers c =
     subst (count_is _) c.n-1.given.1 c.next_count.ensures

@@ -8,5 +8,5 @@ pub read_places-requires : goal.read_places-requires
 read_places-requires c = subst (count_is _) c.n-1.given.1 c.next_count.ensures
 
 pub returns-then-read_places : goal.returns-then-read_places
-returns-then-read_places c = 
+returns-then-read_places c =
     subst (count_is _) c.n-1.given.1 c.next_count.ensures

@@ -11,4 +11,3 @@ invariant-loop-i l = (length l.column ≡ length l.initial.column) × (l.i ≤ l
 
 abbrev pub decreases-loop-i : goal.decreases-loop-i
 decreases-loop-i l = l.m - l.i
-

@@ -18,4 +18,3 @@ invariant-loop-i l = (l.i ≤ 16) × Spelt l.line l.at l.i l.bits
 
 abbrev pub decreases-loop-i : goal.decreases-loop-i
 decreases-loop-i l = 16 - l.i
-

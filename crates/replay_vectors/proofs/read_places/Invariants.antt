@@ -11,4 +11,3 @@ invariant-loop-i l = (length l.places ≡ length l.initial.places) × (l.i ≤ l
 
 abbrev pub decreases-loop-i : goal.decreases-loop-i
 decreases-loop-i l = l.m - l.i
-

@@ -11,4 +11,3 @@ invariant-loop-i l = (length l.xs ≡ length l.initial.xs) × (length l.ys ≡ l
 
 abbrev pub decreases-loop-i : goal.decreases-loop-i
 decreases-loop-i l = l.n - l.i
-

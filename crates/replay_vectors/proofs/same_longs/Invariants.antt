@@ -21,4 +21,3 @@ invariant-loop-i l = (l.i ≤ length l.want) × (upto (long_at l.want l.got) l.i
 
 abbrev pub decreases-loop-i : goal.decreases-loop-i
 decreases-loop-i l = length l.want - l.i
-

@@ -15,4 +15,3 @@ invariant-loop-i l = (l.i ≤ length l.want) × (upto (place_at l.want l.got) l.
 
 abbrev pub decreases-loop-i : goal.decreases-loop-i
 decreases-loop-i l = length l.want - l.i
-
