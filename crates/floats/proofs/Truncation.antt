@@ -4,7 +4,7 @@ use Rattle.std.proofs.Common.{◌≡◌, ℕ, zero, suc, ◌+◌, ◌-◌, ◌*�
 use native.Mathlib.Nat.{mod-le, mod-one, zero-mod}
 use native.Mathlib.Nat.{div-eq_of_lt}
 use lib.Arith.{digits_div}
-use lib.Ieee.{Float, nan, inf, fin, Format, binary64, prec, low, up, down, le, lt, round, neg, sum, add, sub, of_int, to_unsigned, fits}
+use lib.Ieee.{Float, nan, inf, fin, Format, binary64, prec, up, down, le, lt, round, neg, sum, add, sub, of_int, to_unsigned, fits}
 use lib.Ieee.Fits.{down_pos}
 use lib.Ieee.Exact.{HasValue}
 use lib.Ieee.Order.{transfer, le_of_values}

@@ -50,8 +50,8 @@ pub fn power(n: u32) -> f64
 
 // The whole number nearest to x, which is not negative. A half goes up.
 fn round_up(x: f64) -> u64
-    requires t { T (le zero x) }
-    requires t_2 { T (le x pow48) }
+    requires not_negative { T (le zero x) }
+    requires at_most { T (le x pow48) }
     ensures value { result ≡ away_n x }
     ensures upper_bound { result < 2 ^ 49 }
 {

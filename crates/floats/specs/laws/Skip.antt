@@ -1,7 +1,7 @@
 -- Where the rounded square of a rounded difference on one axis exceeds a bound, so does the rounded squared distance of what lies as far
 -- or further on that axis, whatever the other axis is, for any query, infinities and NaN too. By this a search around a place skips a
 -- part. Assumes nothing.
-use Rattle.std.specs.Prelude.{◌≡◌, ℕ, ◌-◌, ◌*◌, Bool, true, false, not, T, nat_lt, Float}
+use Rattle.std.specs.Prelude.{◌≡◌, ℕ, ◌*◌, Bool, true, false, not, T, nat_lt, Float}
 use Rattle.std.proofs.Math.Path.{refl}
 use Rattle.std.proofs.Common.{sym, ap, ◌∙◌, subst, add_comm, mul_comm, arith, ltb-true, ltb-false}
 use Rattle.std.specs.Float.{Format, nan, inf, fin}
