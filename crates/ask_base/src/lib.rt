@@ -2,6 +2,7 @@
 // leads, and the ring around an entry, in which its children are. A question looks at the state first (`State::is_sound`); what is asked
 // here of a caller follows from that.
 #![tactic(auto)]
+
 ghost use Rattle.std.specs.Prelude.{◌≡◌, ◌+◌, ◌*◌, ◌<◌, ◌≤◌, length, set};
 ghost use Rattle.kdwalk.specs.declared.Step.TheVariants.{Done};
 ghost use Rattle.kdwalk.specs.Reply.{next_step};

@@ -1,27 +1,15 @@
 -- `ask_base::find_target` meets its contract: each refusal is one of `target_of`, in its order. Assumes nothing.
--- past the first test the state is sound
 use mathlib.Core.Path.{◌≡◌, sym, ◌∙◌}
 use mathlib.Core.Bool.{true}
 use Prim.Native.Nat.{ℕ, ◌<◌, ◌≤◌}
-use native.Mathlib.Omega.{arith}
-use borrow.Author.Tests.{le-leb, lt-leb, lt-ltb, le-ltb, eq-eqb, ne_eqb, not-true, not-false}
+use borrow.Author.Tests.{le-leb, lt-leb, lt-ltb, le-ltb, eq-eqb, ne_eqb}
 use Rattle.build_tables.specs.declared.State.{State}
 use Rattle.build_tables.specs.State.{len_of}
 use Rattle.build_tables.specs.Sound.{state_ok}
 use Rattle.build_tables.specs.Ids.{origin_of, table_of}
 use Rattle.ask_base.specs.declared.Target.TheVariants.{At}
 use Rattle.ask_base.specs.Ids.{is_built, target_of}
-use borrow.Author.Rules.{rules}
-use Rattle.ask_base.proofs.find_target.Tie as tie
-use Rattle.ask_base.proofs.find_target.Reads as reads
-use Rattle.ask_base.proofs.find_target.Lts as lts
 use Rattle.ask_base.proofs.find_target.Goals as goal
-
-abbrev In-Else1 : Type 0
-In-Else1 = lts.Else1 tie.the-claims reads.Pre reads.Post
-
-sound : (e : In-Else1) → let a = e.args in state_ok a.s a.cap ≡ true
-sound e = sym e.is_sound.ensures ∙ not-false _ e.if-not-is_sound.false
 
 -- past all of them
 at : (s : State) (cap id t o : ℕ) {n : ℕ} → state_ok s cap ≡ true → s.count ≤ id → t ≡ table_of s.count id → o ≡ origin_of s.count id
@@ -32,30 +20,30 @@ at s cap id t o good from et eo built low len h = simp (good, le-ltb _ _ from, s
 
 pub returns-then-not-is_sound : goal.returns-then-not-is_sound
 unfolding target_of
-returns-then-not-is_sound c = simp (sym c.is_sound.ensures ∙ not-true _ c.if-not-is_sound.true)
+returns-then-not-is_sound c = simp (sym c.is_sound.ensures ∙ c.if-not-is_sound.true)
 
 pub returns-then-id-s : goal.returns-then-id-s
 unfolding target_of
-returns-then-id-s c = simp (sound c.before.before.before, lt-ltb _ _ c.if-id-s.true)
+returns-then-id-s c = simp (sym c.is_sound.ensures ∙ c.if-not-is_sound.false, lt-ltb _ _ c.if-id-s.true)
 
 pub returns-then-not-is_built : goal.returns-then-not-is_built
 unfolding target_of
 returns-then-not-is_built c =
     simp (
-      sound c.before.before.before.before.before.before.before,
+      sym c.is_sound.ensures ∙ c.if-not-is_sound.false,
       le-ltb _ _ c.if-id-s.false,
       sym c.table_of-table.ensures,
-      sym c.is_built.ensures ∙ not-true _ c.if-not-is_built.true,
+      sym c.is_built.ensures ∙ c.if-not-is_built.true,
     )
 
 pub returns-then-table-o : goal.returns-then-table-o
 unfolding target_of
 returns-then-table-o c =
     simp (
-      sound c.before.before.before.before.before.before.before.before.before.before,
+      sym c.is_sound.ensures ∙ c.if-not-is_sound.false,
       le-ltb _ _ c.if-id-s.false,
       sym c.table_of-table.ensures,
-      sym c.is_built.ensures ∙ not-false _ c.if-not-is_built.false,
+      sym c.is_built.ensures ∙ c.if-not-is_built.false,
       eq-eqb _ _ c.if-table-o.true,
     )
 
@@ -63,11 +51,11 @@ pub returns-then-len_of-origin : goal.returns-then-len_of-origin
 unfolding target_of
 returns-then-len_of-origin c =
     simp (
-      sound c.before.before.before.before.before.before.before.before.before.before.before.before,
+      sym c.is_sound.ensures ∙ c.if-not-is_sound.false,
       le-ltb _ _ c.if-id-s.false,
       sym c.table_of-table.ensures,
       sym c.origin_of-origin.ensures,
-      sym c.is_built.ensures ∙ not-false _ c.if-not-is_built.false,
+      sym c.is_built.ensures ∙ c.if-not-is_built.false,
       ne_eqb _ _ c.if-table-o.false,
       sym c.len_of.ensures,
       le-leb _ _ c.if-len_of-origin.true,
@@ -75,6 +63,6 @@ returns-then-len_of-origin c =
 
 pub returns : goal.returns
 returns c =
-    at _ _ _ _ _ (sound c.before.before.before.before.before.before.before.before.before.before.before.before) c.if-id-s.false c.table_of-table.ensures
+    at _ _ _ _ _ (sym c.is_sound.ensures ∙ c.if-not-is_sound.false) c.if-id-s.false c.table_of-table.ensures
     c.origin_of-origin.ensures
-    (sym c.is_built.ensures ∙ not-false _ c.if-not-is_built.false) c.if-table-o.false c.len_of.ensures c.if-len_of-origin.false
+    (sym c.is_built.ensures ∙ c.if-not-is_built.false) c.if-table-o.false c.len_of.ensures c.if-len_of-origin.false

@@ -1,9 +1,7 @@
 -- `ask_base::go_on` meets its contract: each refusal is one of `onward`, in its order. Assumes nothing.
 use mathlib.Core.Path.{sym, ◌∙◌}
-use native.Mathlib.Omega.{arith}
-use borrow.Author.Tests.{le-leb, lt-leb, lt-ltb, le-ltb, not-true, not-false}
+use borrow.Author.Tests.{le-leb, lt-leb, lt-ltb, le-ltb}
 use Rattle.ask_base.specs.Ids.{onward}
-use borrow.Author.Rules.{rules}
 use Rattle.ask_base.proofs.go_on.Goals as goal
 
 pub returns-then-id-s : goal.returns-then-id-s
@@ -22,7 +20,7 @@ returns-then-not-is_built c =
       le-ltb _ _ c.if-id-s.false,
       sym c.table_of-next.ensures,
       lt-leb _ _ c.if-next-table.false,
-      sym c.is_built.ensures ∙ not-true _ c.if-not-is_built.true,
+      sym c.is_built.ensures ∙ c.if-not-is_built.true,
     )
 
 pub returns-then-len_of-origin : goal.returns-then-len_of-origin
@@ -33,7 +31,7 @@ returns-then-len_of-origin c =
       sym c.table_of-next.ensures,
       sym c.origin_of-origin.ensures,
       lt-leb _ _ c.if-next-table.false,
-      sym c.is_built.ensures ∙ not-false _ c.if-not-is_built.false,
+      sym c.is_built.ensures ∙ c.if-not-is_built.false,
       sym c.len_of.ensures,
       le-leb _ _ c.if-len_of-origin.true,
     )
@@ -46,7 +44,7 @@ returns c =
       sym c.table_of-next.ensures,
       sym c.origin_of-origin.ensures,
       lt-leb _ _ c.if-next-table.false,
-      sym c.is_built.ensures ∙ not-false _ c.if-not-is_built.false,
+      sym c.is_built.ensures ∙ c.if-not-is_built.false,
       sym c.len_of.ensures,
       lt-leb _ _ c.if-len_of-origin.false,
     )

@@ -1,6 +1,5 @@
 -- `ask_base::is_built` meets its contract: the two tests are those of `isBuilt`. Assumes nothing.
 use borrow.Author.Tests.{le-leb, lt-leb}
-use borrow.Author.Rules.{rules}
 use Rattle.ask_base.proofs.is_built.Goals as goal
 
 pub returns-then-table-o : goal.returns-then-table-o

@@ -9,7 +9,6 @@ use Rattle.kdwalk.specs.Reply.{next_step}
 use Rattle.kdpages.specs.Pages.{ahead_of, tail_of}
 use Rattle.ask_base.specs.laws.Columns.{lent-part}
 use Rattle.ask_base.specs.laws.Around.{query_of}
-use borrow.Author.Rules.{rules}
 use Rattle.ask_base.proofs.next_in.Goals as goal
 
 pub returns : goal.returns
@@ -20,5 +19,5 @@ returns c =
     subst (λ (l : List Float). (r.step ≡ next_step Done (ahead_of (query_of g) g.node_size g.len l a.page.now a.p))
     × (ahead_of (query_of g) g.node_size g.len l c.next_slot.new.page r.pages
     ≡ tail_of (ahead_of (query_of g) g.node_size g.len l a.page.now a.p)))
-    (lent-part (2 * g.start) (2 * g.len) a.coords.now) c.next_slot.ensures) in
+    (lent-part (2 * g.start) (2 * g.len) a.coords.now) (c.next_slot.ensures.step_value, c.next_slot.ensures.pages_value)) in
     record { step_value = h.0; pages_value = h.1 }

@@ -1,7 +1,6 @@
 -- `ask_base::put_at` meets its contract: a store past the end is no change. Assumes nothing.
 use mathlib.Core.Path.{sym}
 use lib.Seq.{set_out}
-use borrow.Author.Rules.{rules}
 use Rattle.ask_base.proofs.put_at.Goals as goal
 
 pub returns-else-k-out : goal.returns-else-k-out

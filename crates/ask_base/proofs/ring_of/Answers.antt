@@ -1,42 +1,30 @@
 -- `ask_base::ring_of` meets its contract: the table stands in the columns, and the origin is an entry of it. Assumes nothing.
-use mathlib.Core.Path.{sym, ap, ◌∙◌}
 use native.Mathlib.Omega.{arith}
 use Rattle.build_tables.specs.laws.Roomy.{roomy-fewer}
-use Rattle.ask_base.specs.laws.Reached.{Near, near}
-use Rattle.ask_base.specs.laws.Around.{ring_of}
-use Rattle.ask_base.proofs.ring_of.Tie as tie
-use Rattle.ask_base.proofs.ring_of.Reads as reads
-use Rattle.ask_base.proofs.ring_of.Lts as lts
+use Rattle.ask_base.specs.laws.Reached.{near}
 use Rattle.ask_base.proofs.ring_of.Goals as goal
 
-abbrev In-After-o : Type 0
-In-After-o = lts.After-o tie.the-claims reads.Pre reads.Post
-
--- what is known where the origin is
-stood : (e : In-After-o) → let a = e.args in Near a.s a.cap a.table a.origin
-stood e = near e.requires.reached
-
 pub start_of-start-requires : goal.start_of-start-requires
-start_of-start-requires c = let n = stood c.before in omega (arith, n.table)
+start_of-start-requires c = let n = near c.requires.reached in omega (arith, n.table)
 
 pub len_of-len-requires : goal.len_of-len-requires
-len_of-len-requires c = let n = stood c.before.before in omega (arith, n.table)
+len_of-len-requires c = let n = near c.requires.reached in omega (arith, n.table)
 
 pub entry_in-e-requires : goal.entry_in-e-requires
 entry_in-e-requires c =
-    let n = stood c.before.before.before in
+    let n = near c.requires.reached in
     let a = c.start_of-start.ensures in
     let b = c.len_of-len.ensures in
     (roomy-fewer _ c.args.cap (omega (arith, n.ends, a, b)) c.requires.roomy, omega (arith, c.requires.reached.inside, b))
 
 pub overflow_sub-table : goal.overflow_sub-table
-overflow_sub-table c = let n = stood c.before.before.before.before in omega (arith, n.some)
+overflow_sub-table c = let n = near c.requires.reached in omega (arith, n.some)
 
 pub overflow_cast-table : goal.overflow_cast-table
-overflow_cast-table c = let n = stood c.before.before.before.before in omega (arith, n.table)
+overflow_cast-table c = let n = near c.requires.reached in omega (arith, n.table)
 
 pub radius_at-radius-requires : goal.radius_at-radius-requires
-radius_at-radius-requires c = let n = stood c.before.before.before.before in omega (arith, n.table)
+radius_at-radius-requires c = let n = near c.requires.reached in omega (arith, n.table)
 
 pub returns : goal.returns
 returns c = cc

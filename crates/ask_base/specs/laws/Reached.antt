@@ -1,7 +1,7 @@
 -- A place that a walk may stand at: an entry of a table above that of min_zoom, of a sound state. Both ways to a cluster lead there, and a
 -- walk that goes on stands in a larger table. Assumes nothing.
 use Rattle.std.specs.Prelude.{Bool, true, false, cond, not, ◌≡◌, refl, ℕ, ◌+◌, ◌<◌, ◌≤◌, leb, ltb, eqb}
-use Rattle.std.proofs.Common.{subst, ◌∙◌, arith, leb-true, leb-false}
+use Rattle.std.proofs.Common.{arith, leb-true, leb-false}
 use Rattle.std.proofs.lemmas.Bool.{eqb-false, not-false}
 use Rattle.kdslots.specs.laws.Bounds.{and_both}
 use Rattle.build_tables.specs.declared.State.{State}
