@@ -13,7 +13,6 @@ use Rattle.kdslots.specs.declared.Query.{Query}
 use Rattle.ask_base.specs.declared.Answer.TheVariants.{Box, Spoiled}
 use Rattle.ask_base.specs.Asked.{refused}
 use Rattle.build_tables.specs.Room.{index_room}
-use Rattle.ask_base.specs.Columns.{ids_at, coords_at}
 use Rattle.ask_box.specs.Lists.{walked, planned, listed_at, asked}
 
 module _ (s : State) (ids : List ℕ) (co : List Float) (zoom : ℕ) where

@@ -1,6 +1,7 @@
 // Box and ring: the places of a table that a search finds. Nothing is asked of the caller: what SCOPE does not take is refused with its
 // number.
 #![tactic(auto)]
+
 ghost use Rattle.std.specs.Prelude.{◌≡◌, true, ◌+◌, ◌*◌, ◌≤◌, length};
 ghost use Rattle.kdslots.specs.Query.{query_ok};
 ghost use Rattle.kdbush.specs.Run.{sound, whole, filled};

@@ -1,7 +1,6 @@
 -- `list_at` meets its contract: what is lent of the columns is the table. Assumes nothing.
 use Prim.Native.Nat.{◌*◌}
 use Rattle.ask_base.specs.laws.Columns.{lent-part}
-use borrow.Author.Rules.{rules}
 use Rattle.ask_box.proofs.list_at.Goals as goal
 
 pub list_plan-requires : goal.list_plan-requires

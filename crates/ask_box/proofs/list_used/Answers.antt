@@ -5,7 +5,6 @@ use Rattle.ask_base.specs.Asked.{Asked, answer_of, column_of}
 use Rattle.ask_box_plan.specs.laws.Queries.{queries_of}
 use Rattle.ask_box.specs.laws.Standing.{used-small, at-used}
 use Rattle.ask_box.proofs.Used.{listed-used}
-use borrow.Author.Rules.{rules}
 use Rattle.ask_box.proofs.list_used.Goals as goal
 
 pub start_of-requires : goal.start_of-requires
