@@ -1,6 +1,7 @@
 // The range module: what stands between a caller's coordinates and the numbers from 0 to 1 that the tables hold.
 // The names are the Rust's range.rs, with its Option fields and its CoordinateSystem as enums that carry the floats.
 #![tactic(auto)]
+
 ghost use Rattle.std.specs.Prelude.{◌≡◌, ◌&&◌};
 ghost use Rattle.range.specs.Range.{smaller_of, larger_of, offset_of, scale_of, normalized, denormalized, in_bounds, converted};
 ghost use Rattle.range.specs.Range.{system_in_bounds};

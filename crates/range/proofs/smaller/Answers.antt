@@ -1,6 +1,5 @@
 -- `range::smaller` meets its contract: the definition rewritten by the tests on the way. Assumes nothing.
 use mathlib.Core.Path.{sym, ◌∙◌}
-use borrow.Author.Rules.{rules}
 use Rattle.range.proofs.smaller.Goals as goal
 
 pub returns-then-is_nan : goal.returns-then-is_nan

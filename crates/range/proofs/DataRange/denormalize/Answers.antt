@@ -1,6 +1,5 @@
 -- `DataRange::denormalize` meets its contract. Assumes nothing.
 use Rattle.range.specs.Range.{denormalized}
-use borrow.Author.Rules.{rules}
 use Rattle.range.proofs.DataRange.denormalize.Goals as goal
 
 pub returns : goal.returns

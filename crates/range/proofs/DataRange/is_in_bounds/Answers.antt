@@ -1,7 +1,6 @@
 -- `DataRange::is_in_bounds` meets its contract: each test is the definition's. Assumes nothing.
 use lib.Ieee.{of_bits}
 use Rattle.range.specs.Range.{in_bounds}
-use borrow.Author.Rules.{rules}
 use Rattle.range.proofs.DataRange.is_in_bounds.Goals as goal
 
 pub returns : goal.returns

@@ -1,6 +1,5 @@
 -- `DataRange::normalize` meets its contract. Assumes nothing.
 use Rattle.range.specs.Range.{normalized}
-use borrow.Author.Rules.{rules}
 use Rattle.range.proofs.DataRange.normalize.Goals as goal
 
 pub returns : goal.returns
