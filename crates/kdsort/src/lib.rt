@@ -2,6 +2,7 @@
 // A partition makes most of its exchanges in batches, which the Rust does not: they are the same exchanges, in the same order.
 // Slot p has the id ids[p] and the coordinates coords[2 * p] and coords[2 * p + 1]. The axis is 0 for x and 1 for y.
 #![tactic(auto)]
+
 ghost use Rattle.std.specs.Prelude.{◌≡◌, ◌+◌, ◌-◌, ◌*◌, ◌≤◌, ◌<◌, length};
 ghost use Rattle.kdsort.specs.Cols.{swap_item};
 ghost use Rattle.kdsort.specs.Lent.{given_index_mut, lent_index_mut};

@@ -1,12 +1,9 @@
 -- `kdsort::build_index` meets its contract: the loop fills the slots one after the other, and the sort does the rest. Assumes nothing.
-use mathlib.Core.Path.{◌≡◌, refl, ap, ◌∙◌}
-use Prim.Native.Nat.{ℕ, ◌+◌, ◌-◌, ◌≤◌}
-use native.Mathlib.Omega.{arith}
-use lib.ListN.{length, length-set}
-use Rattle.kdsort.specs.Cols.{IndexCols, index_cols}
-use Rattle.kdsort.specs.Shape.{shape}
-use Rattle.kdsort.specs.Sort.{filled_slots, indexed, sorted}
-use Rattle.kdsort.specs.laws.Indexes.{filled_more}
+use mathlib.Core.Path.{◌≡◌}
+use Prim.Native.Nat.{◌-◌, ◌≤◌}
+use lib.ListN.{length}
+use Rattle.kdsort.specs.Cols.{index_cols}
+use Rattle.kdsort.specs.Sort.{filled_slots}
 use Rattle.kdsort.proofs.build_index.Given as goal
 
 abbrev pub invariant-loop-i : goal.invariant-loop-i
@@ -15,4 +12,3 @@ invariant-loop-i l = (l.i ≤ length l.xs) × (length l.ids ≡ length l.initial
 
 abbrev pub decreases-loop-i : goal.decreases-loop-i
 decreases-loop-i l = length l.xs - l.i
-

@@ -1,8 +1,7 @@
 -- `kdsort::exchange` meets its contract: after each turn one pair more is exchanged. Assumes nothing.
 use mathlib.Core.Path.{◌≡◌, refl, ap, ◌∙◌}
-use Prim.Native.Nat.{◌-◌, ◌<◌, ◌≤◌}
+use Prim.Native.Nat.{◌<◌}
 use native.Mathlib.Omega.{arith}
-use lib.ListN.{length}
 use Rattle.kdsort.specs.Cols.{index_cols}
 use Rattle.kdsort.specs.laws.Batches.{batch_entry, exchanged, exchanged-none, exchanged-more}
 use Rattle.kdsort.proofs.exchange.Goals as goal

@@ -1,10 +1,9 @@
 -- `kdsort::exchange` meets its contract: after each turn one pair more is exchanged. Assumes nothing.
-use mathlib.Core.Path.{◌≡◌, refl, ap, ◌∙◌}
-use Prim.Native.Nat.{◌-◌, ◌<◌, ◌≤◌}
-use native.Mathlib.Omega.{arith}
+use mathlib.Core.Path.{◌≡◌}
+use Prim.Native.Nat.{◌-◌, ◌≤◌}
 use lib.ListN.{length}
 use Rattle.kdsort.specs.Cols.{index_cols}
-use Rattle.kdsort.specs.laws.Batches.{batch_entry, exchanged, exchanged-none, exchanged-more}
+use Rattle.kdsort.specs.laws.Batches.{batch_entry, exchanged}
 use Rattle.kdsort.proofs.exchange.Given as goal
 
 abbrev pub invariant-loop-k : goal.invariant-loop-k
@@ -14,4 +13,3 @@ invariant-loop-k l =
 
 abbrev pub decreases-loop-k : goal.decreases-loop-k
 decreases-loop-k l = l.count - l.k
-

@@ -27,6 +27,7 @@ abbrev stops : In-After-shared_slice_known → Bool
 stops c =
     let a = c.args in
     not (lt a.t (key a.axis a.coords.now c.loop-p.p))
+
 -- a turn adds one stop at most, and there is room for it
 record More (n d m : ℕ) : Type 0 where
   at-most : d ≤ 1

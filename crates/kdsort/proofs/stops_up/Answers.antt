@@ -1,7 +1,7 @@
 -- `kdsort::stops_up` meets its contract: after each turn the list has the stops among the slots that were looked at. Assumes nothing.
 use mathlib.Core.Path.{◌≡◌, refl, ◌∙◌, subst}
 use mathlib.Core.Bool.{Bool, not}
-use Prim.Native.Nat.{ℕ, ◌+◌, ◌-◌, ◌<◌, ◌≤◌}
+use Prim.Native.Nat.{ℕ, ◌+◌, ◌<◌, ◌≤◌}
 use native.Mathlib.Omega.{arith}
 use mir.Val.{bool_byte}
 use lib.ListN.{length, length-set}
@@ -27,6 +27,7 @@ abbrev stops : In-After-shared_slice_known → Bool
 stops c =
     let a = c.args in
     not (lt (key a.axis a.coords.now c.loop-p.p) a.t)
+
 -- a turn adds one stop at most, and there is room for it
 record More (n d m : ℕ) : Type 0 where
   at-most : d ≤ 1

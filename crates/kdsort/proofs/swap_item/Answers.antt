@@ -1,7 +1,6 @@
 -- `kdsort::swap_item` meets its contract: the two slots' ids and both their coordinates are exchanged together, and nothing else changes.
 -- Assumes nothing.
 -- what is in a column is in it when a number has been written, and when two have been exchanged
-use borrow.Author.Rules.{rules}
 use mathlib.Core.Path.{refl, sym, subst}
 use mathlib.Core.List.{List}
 use Prim.Native.Nat.{ℕ, ◌+◌, ◌*◌, ◌<◌}
