@@ -1,6 +1,7 @@
 // What is asked of an index, and what is tested at a slot of it: the tests of a search, the interval that a search begins with, and SCOPE's
 // bounds of an index and of a query. Below `kdbush` and `kdwalk`, which search by them: a function may ask something of its caller.
 #![tactic(auto)]
+
 ghost use Rattle.std.specs.Prelude.{◌≡◌, ◌+◌, ◌*◌, ◌≤◌, ◌<◌, length};
 ghost use Rattle.kdsort.specs.Shape.{shape};
 ghost use Rattle.kdslots.specs.Query.{passes_q, query_ok};

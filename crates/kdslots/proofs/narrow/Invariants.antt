@@ -1,15 +1,8 @@
 -- `kdslots::narrow` meets its contract: what is left out answers nothing. The measure is the interval's length. Assumes nothing.
-use mathlib.Core.Path.{◌≡◌, refl, sym, ◌∙◌}
-use mathlib.Core.Bool.{true, false}
+use mathlib.Core.Path.{◌≡◌}
 use Prim.Native.Nat.{◌-◌, ◌≤◌, ◌<◌}
-use native.Mathlib.Omega.{arith}
-use borrow.Author.Tests.{not-false}
-use Rattle.kdsort.specs.Shape.{shape, mid}
+use Rattle.kdsort.specs.Shape.{shape}
 use Rattle.kdslots.specs.Slots.{over, slots}
-use Rattle.kdslots.proofs.Narrows.{only-right, only-left, unanswered}
-use Rattle.kdslots.proofs.narrow.Tie as tie
-use Rattle.kdslots.proofs.narrow.Reads as reads
-use Rattle.kdslots.proofs.narrow.Lts as lts
 use Rattle.kdslots.proofs.narrow.Given as goal
 
 abbrev pub invariant-loop-hi : goal.invariant-loop-hi
@@ -18,4 +11,3 @@ invariant-loop-hi l =
 
 abbrev pub decreases-loop-hi : goal.decreases-loop-hi
 decreases-loop-hi l = l.hi - l.lo
-

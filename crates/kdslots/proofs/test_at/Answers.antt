@@ -1,6 +1,5 @@
 -- `kdslots::test_at` meets its contract. Assumes nothing.
 use native.Mathlib.Nat.{add-zero}
-use borrow.Author.Rules.{rules}
 use Rattle.kdslots.proofs.test_at.Goals as goal
 
 pub returns : goal.returns
