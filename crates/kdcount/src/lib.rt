@@ -1,6 +1,7 @@
 // How many slots an index answers a query with, and no list of them: for the notes of a zoom, which go on by that number. Below the
 // public surface: a function may ask something of its caller. `kdwalk_count` counts the same by the public cursor.
 #![tactic(auto)]
+
 ghost use Rattle.std.specs.Prelude.{◌≡◌, ◌-◌, ◌*◌, ◌≤◌, ◌<◌, length};
 ghost use Rattle.kdsort.specs.Shape.{shape};
 ghost use Rattle.kdslots.specs.Slots.{over, when, scanned, slots, answers};

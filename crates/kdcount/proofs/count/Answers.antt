@@ -1,7 +1,6 @@
 -- `kdcount::count` meets its contract: the narrowed interval answers what the whole index answers. Assumes nothing.
 use mathlib.Core.Path.{ap, ◌∙◌}
 use lib.ListN.{length}
-use borrow.Author.Rules.{rules}
 use Rattle.kdcount.proofs.count.Goals as goal
 
 pub returns : goal.returns

@@ -1,15 +1,8 @@
 -- `kdcount::count_slots` meets its contract: what is counted and what is left of the slots are all that are answered. Assumes nothing.
-use mathlib.Core.Path.{◌≡◌, sym, ap, ◌∙◌}
-use mathlib.Core.Bool.{Bool}
+use mathlib.Core.Path.{◌≡◌}
 use Prim.Native.Nat.{◌+◌, ◌-◌}
-use native.Mathlib.Omega.{arith}
-use mir.Val.{bool_byte}
 use lib.ListN.{length}
 use Rattle.kdslots.specs.Slots.{over, scanned}
-use Rattle.kdcount.proofs.Counts.{count-more, count-done, scanned-few}
-use Rattle.kdcount.proofs.count_slots.Tie as tie
-use Rattle.kdcount.proofs.count_slots.Reads as reads
-use Rattle.kdcount.proofs.count_slots.Lts as lts
 use Rattle.kdcount.proofs.count_slots.Given as goal
 
 abbrev pub invariant-loop-i : goal.invariant-loop-i
@@ -17,4 +10,3 @@ invariant-loop-i l = l.k + length (scanned (over l.q l.coords) l.i (l.hi - l.i))
 
 abbrev pub decreases-loop-i : goal.decreases-loop-i
 decreases-loop-i l = l.hi - l.i
-
