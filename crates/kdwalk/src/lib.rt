@@ -1,6 +1,7 @@
 // A walk over the slots that a query answers, one at a time by a cursor: `first` and `after`. No stack, no scratch room.
 // Nothing is asked of the caller: what SCOPE does not take is refused with its number.
 #![tactic(auto)]
+
 ghost use Rattle.std.specs.Prelude.{◌≡◌, ◌+◌, ◌-◌, ◌*◌, ◌≤◌, ◌<◌, length};
 ghost use Rattle.kdsort.specs.Shape.{shape};
 ghost use Rattle.kdslots.specs.Slots.{over, when, scanned, slots};

@@ -1,40 +1,11 @@
 -- `kdwalk::first_in`, `first_below` and `first_left` meet their contracts, as one cycle of calls: the median, the right part, the left
--- part. The measure is three times the interval's length and a little, so that it falls from one function to the next too. Assumes
--- nothing.
-use mathlib.Core.Path.{◌≡◌, sym, ap, ◌∙◌}
-use mathlib.Core.Logic.{⊎_elim}
-use Prim.Native.Nat.{ℕ, ◌+◌, ◌-◌, ◌*◌, ◌<◌}
-use native.Mathlib.Omega.{arith}
-use borrow.Author.Rules.{rules}
+-- part. Assumes nothing.
+use Rattle.std.proofs.Common.{sym, ◌∙◌, ◌+◌, ◌-◌}
 use Rattle.kdsort.specs.Shape.{shape, mid}
-use Rattle.kdwalk.specs.declared.Next.{Next}
 use Rattle.kdslots.specs.Slots.{over, when, slots}
-use Rattle.kdwalk.specs.laws.Cursor.{head_of}
 use Rattle.kdwalk.proofs.Firsts.{first_leaf, first-median, first-parts, picks, falls-to, went-in, not_in}
 use Rattle.kdwalk.proofs.+first_below_first_in_first_left.Goals as goal
-
-abbrev first-below-at : ℕ → In 1 first-below-kinds.ps
-first-below-at t =
-    and 1 first-below-kinds.ps (is 1 first-below-kinds.ps μ-first-below t) first_below.Pre
-
-abbrev first-below-below : ℕ → In 1 first-below-kinds.ps
-first-below-below t =
-    and 1 first-below-kinds.ps (falls 1 first-below-kinds.ps ◌<◌ μ-first-below t) first_below.Pre
-
-abbrev first-in-at : ℕ → In 1 first-in-kinds.ps
-first-in-at t = and 1 first-in-kinds.ps (is 1 first-in-kinds.ps μ-first-in t) first-in.Pre
-
-abbrev first-in-below : ℕ → In 1 first-in-kinds.ps
-first-in-below t =
-    and 1 first-in-kinds.ps (falls 1 first-in-kinds.ps ◌<◌ μ-first-in t) first-in.Pre
-
-abbrev first-left-at : ℕ → In 1 first-left-kinds.ps
-first-left-at t =
-    and 1 first-left-kinds.ps (is 1 first-left-kinds.ps μ-first-left t) first-left.Pre
-
-abbrev first-left-below : ℕ → In 1 first-left-kinds.ps
-first-left-below t =
-    and 1 first-left-kinds.ps (falls 1 first-left-kinds.ps ◌<◌ μ-first-left t) first-left.Pre
+use Rattle.kdwalk.proofs.+first_below_first_in_first_left.Goals.{first_below-then-right_at+in_default, first_below-else-right_at}
 
 pub first_below-returns-in-Slot : goal.first_below-returns-in-Slot
 first_below-returns-in-Slot t c =
@@ -42,10 +13,8 @@ first_below-returns-in-Slot t c =
     let s = over a.q a.coords.now in
     let m = mid a.lo a.hi in
     let l = slots s (1 - a.axis) (shape a.most (m + 1) a.hi) in
-    picks (when (s.right a.axis m) l) (when (s.left a.axis m) (slots s (1 - a.axis) (shape a.most a.lo m)))
-    c.i-1.given.0.0
-    (went-in l (s.right a.axis m) _ (sym c.right_at.ensures ∙ c.if-right_at.true)
-    (sym c.i-1.given.1 ∙ c.first_in.ensures))
+    picks (when (s.right a.axis m) l) (when (s.left a.axis m) (slots s (1 - a.axis) (shape a.most a.lo m))) c.in-Slot.i
+    (went-in l (s.right a.axis m) _ (sym c.right_at.ensures ∙ c.if-right_at.true) c.in-Slot.ensures)
 
 pub first_below-returns : goal.first_below-returns
 first_below-returns t c =
@@ -54,23 +23,22 @@ first_below-returns t c =
     let m = mid a.lo a.hi in
     let l = slots s (1 - a.axis) (shape a.most (m + 1) a.hi) in
     falls-to (when (s.right a.axis m) l) _ c.first_left.result
-    (⊎_elim
-    (λ w. went-in l (s.right a.axis m) _ (sym c.right_at.ensures ∙ w.0.taken) (sym w.3.given.1 ∙ w.1.ensures))
-    (λ w. not_in l (s.right a.axis m) (sym c.right_at.ensures ∙ w.left))
-    c.if-right_at.branch)
+    (elim c.if-right_at.branch [
+      | first_below-then-right_at+in_default w ↦
+          went-in l (s.right a.axis m) _ (sym c.right_at.ensures ∙ w.if-right_at.true) w.in_default.ensures
+      | first_below-else-right_at w ↦ not_in l (s.right a.axis m) (sym c.right_at.ensures ∙ w.if-right_at.false)
+    ])
     c.first_left.ensures
 
 pub first_in-returns-then-hi-lo : goal.first_in-returns-then-hi-lo
 first_in-returns-then-hi-lo t c =
     let a = c.args in
-    first_leaf (over a.q a.coords.now) a.axis a.most a.lo a.hi c.first_from.result c.if-hi-lo.true
-    c.first_from.ensures
+    first_leaf (over a.q a.coords.now) a.axis a.most a.lo a.hi c.first_from.result c.if-hi-lo.true c.first_from.ensures
 
 pub first_in-returns-then-test_at : goal.first_in-returns-then-test_at
 first_in-returns-then-test_at t c =
     let a = c.args in
-    first-median (over a.q a.coords.now) a.axis a.most a.lo a.hi c.if-hi-lo.false
-    (sym c.test_at.ensures ∙ c.if-test_at.true)
+    first-median (over a.q a.coords.now) a.axis a.most a.lo a.hi c.if-hi-lo.false (sym c.test_at.ensures ∙ c.if-test_at.true)
 
 pub first_in-returns : goal.first_in-returns
 first_in-returns t c =

@@ -1,9 +1,5 @@
--- `kdwalk::next_in` meets its contract, by where the slot stands: left of the median, at it, or right of it. The measure is the
--- interval's length. Assumes nothing.
-use mathlib.Core.Path.{◌≡◌, sym, ap, ◌∙◌}
-use Prim.Native.Nat.{ℕ, ◌+◌, ◌-◌, ◌<◌}
-use native.Mathlib.Omega.{arith}
-use borrow.Author.Rules.{rules}
+-- `kdwalk::next_in` meets its contract, by where the slot stands: left of the median, at it, or right of it. Assumes nothing.
+use Rattle.std.proofs.Common.{sym, ap, ◌∙◌, ◌+◌, ◌-◌, ◌<◌, arith}
 use Rattle.kdsort.specs.Shape.{shape, mid}
 use Rattle.kdslots.specs.Slots.{over, when, slots}
 use Rattle.kdwalk.specs.laws.Cursor.{head_of}
@@ -11,17 +7,10 @@ use Rattle.kdwalk.specs.Cursor.{rest}
 use Rattle.kdwalk.proofs.Firsts.{picks, falls-to, rest-leaf, rest-median, rest-right, rest-left}
 use Rattle.kdwalk.proofs.+next_in.Goals as goal
 
-abbrev next-in-at : ℕ → In 1 next-in-kinds.ps
-next-in-at t = and 1 next-in-kinds.ps (is 1 next-in-kinds.ps μ-next-in t) next-in.Pre
-
-abbrev next-in-below : ℕ → In 1 next-in-kinds.ps
-next-in-below t = and 1 next-in-kinds.ps (falls 1 next-in-kinds.ps ◌<◌ μ-next-in t) next-in.Pre
-
 pub returns-then-hi-lo : goal.returns-then-hi-lo
 returns-then-hi-lo t c =
     let a = c.args in
-    c.first_from.ensures ∙ ap head_of
-    (sym (rest-leaf (over a.q a.coords.now) a.axis a.most a.lo a.hi a.c c.if-hi-lo.true))
+    c.first_from.ensures ∙ ap head_of (sym (rest-leaf (over a.q a.coords.now) a.axis a.most a.lo a.hi a.c c.if-hi-lo.true))
 
 pub returns-then-c-m : goal.returns-then-c-m
 returns-then-c-m t c =
@@ -33,8 +22,7 @@ pub returns-then-c-m-2 : goal.returns-then-c-m-2
 returns-then-c-m-2 t c =
     let a = c.args in
     c.first_below.ensures ∙ ap head_of
-    (sym (rest-median (over a.q a.coords.now) a.axis a.most a.lo a.hi c.if-hi-lo.false a.c
-    c.if-c-m-2.true))
+    (sym (rest-median (over a.q a.coords.now) a.axis a.most a.lo a.hi c.if-hi-lo.false a.c c.if-c-m-2.true))
 
 pub returns-in-Slot : goal.returns-in-Slot
 returns-in-Slot t c =
@@ -43,8 +31,7 @@ returns-in-Slot t c =
     let m = mid a.lo a.hi in
     let past : mid a.lo a.hi < a.c = omega (arith, c.if-c-m-2.false, c.if-c-m.false) in
     picks (rest s (1 - a.axis) (shape a.most (m + 1) a.hi) a.c)
-    (when (s.left a.axis m) (slots s (1 - a.axis) (shape a.most a.lo m))) c.i-1.given.0.0
-    (sym c.i-1.given.1 ∙ c.next_in-2.ensures)
+    (when (s.left a.axis m) (slots s (1 - a.axis) (shape a.most a.lo m))) c.in-Slot.i c.in-Slot.ensures
     ∙ ap head_of (sym (rest-right s a.axis a.most a.lo a.hi c.if-hi-lo.false a.c past))
 
 pub returns : goal.returns
@@ -54,6 +41,5 @@ returns t c =
     let m = mid a.lo a.hi in
     let past : mid a.lo a.hi < a.c = omega (arith, c.if-c-m-2.false, c.if-c-m.false) in
     falls-to (rest s (1 - a.axis) (shape a.most (m + 1) a.hi) a.c)
-    (when (s.left a.axis m) (slots s (1 - a.axis) (shape a.most a.lo m))) c.first_left.result
-    (sym c.enum_told-1.given.1 ∙ c.next_in-2.ensures) c.first_left.ensures
+    (when (s.left a.axis m) (slots s (1 - a.axis) (shape a.most a.lo m))) c.first_left.result c.in_default.ensures c.first_left.ensures
     ∙ ap head_of (sym (rest-right s a.axis a.most a.lo a.hi c.if-hi-lo.false a.c past))

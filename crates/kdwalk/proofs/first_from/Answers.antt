@@ -1,10 +1,6 @@
 -- `kdwalk::first_from` meets its contract: nothing before i passes. The measure is what is left of the interval. Assumes nothing.
-use borrow.Author.Rules.{rules}
-use mathlib.Core.Path.{◌≡◌, refl, sym, ap, ◌∙◌}
-use Prim.Native.Nat.{ℕ, ◌+◌, ◌-◌, ◌*◌, ◌^◌, ◌≤◌, ◌<◌}
-use native.Mathlib.Omega.{arith}
-use Rattle.kdslots.specs.Slots.{over, scanned}
-use Rattle.kdwalk.specs.laws.Cursor.{head_of}
+use mathlib.Core.Path.{refl, sym, ◌∙◌}
+use Rattle.kdslots.specs.Slots.{over}
 use Rattle.kdwalk.proofs.Firsts.{here, on, none}
 use Rattle.kdwalk.proofs.first_from.Goals as goal
 

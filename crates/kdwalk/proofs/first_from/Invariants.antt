@@ -1,11 +1,8 @@
 -- `kdwalk::first_from` meets its contract: nothing before i passes. The measure is what is left of the interval. Assumes nothing.
-use borrow.Author.Rules.{rules}
-use mathlib.Core.Path.{◌≡◌, refl, sym, ap, ◌∙◌}
-use Prim.Native.Nat.{ℕ, ◌+◌, ◌-◌, ◌*◌, ◌^◌, ◌≤◌, ◌<◌}
-use native.Mathlib.Omega.{arith}
+use mathlib.Core.Path.{◌≡◌}
+use Prim.Native.Nat.{◌-◌}
 use Rattle.kdslots.specs.Slots.{over, scanned}
 use Rattle.kdwalk.specs.laws.Cursor.{head_of}
-use Rattle.kdwalk.proofs.Firsts.{here, on, none}
 use Rattle.kdwalk.proofs.first_from.Given as goal
 
 abbrev pub invariant-loop-i : goal.invariant-loop-i
@@ -13,4 +10,3 @@ invariant-loop-i l = head_of (scanned (over l.q l.coords) l.from (l.hi - l.from)
 
 abbrev pub decreases-loop-i : goal.decreases-loop-i
 decreases-loop-i l = l.hi - l.i
-

@@ -1,10 +1,9 @@
 -- `kdwalk::leaf_end` meets its contract: the interval that has the slot is halved until it is a leaf. The measure is its length. Assumes
 -- nothing.
-use mathlib.Core.Path.{◌≡◌, refl, sym, ◌∙◌}
-use Prim.Native.Nat.{◌-◌, ◌≤◌, ◌<◌}
+use mathlib.Core.Path.{refl, sym, ◌∙◌}
+use Prim.Native.Nat.{◌<◌}
 use native.Mathlib.Omega.{arith}
-use Rattle.kdsort.specs.Shape.{shape, mid}
-use Rattle.kdwalk.specs.laws.Cursor.{leaf_end}
+use Rattle.kdsort.specs.Shape.{mid}
 use Rattle.kdwalk.proofs.Leaves.{end-leaf, end-median, end-right, end-left}
 use Rattle.kdwalk.proofs.leaf_end.Goals as goal
 

@@ -1,11 +1,9 @@
 -- `kdwalk::leaf_end` meets its contract: the interval that has the slot is halved until it is a leaf. The measure is its length. Assumes
 -- nothing.
-use mathlib.Core.Path.{◌≡◌, refl, sym, ◌∙◌}
+use mathlib.Core.Path.{◌≡◌}
 use Prim.Native.Nat.{◌-◌, ◌≤◌, ◌<◌}
-use native.Mathlib.Omega.{arith}
-use Rattle.kdsort.specs.Shape.{shape, mid}
+use Rattle.kdsort.specs.Shape.{shape}
 use Rattle.kdwalk.specs.laws.Cursor.{leaf_end}
-use Rattle.kdwalk.proofs.Leaves.{end-leaf, end-median, end-right, end-left}
 use Rattle.kdwalk.proofs.leaf_end.Given as goal
 
 abbrev pub invariant-loop-hi : goal.invariant-loop-hi
@@ -13,4 +11,3 @@ invariant-loop-hi l = (l.lo ≤ l.c) × (l.c < l.hi) × (l.hi ≤ l.n) × (leaf_
 
 abbrev pub decreases-loop-hi : goal.decreases-loop-hi
 decreases-loop-hi l = l.hi - l.lo
-

@@ -1,5 +1,5 @@
 -- The first of an answer, of two answers joined; and up to where the slots after one are answered one by one. Assumes nothing.
-use Rattle.std.specs.Prelude.{true, false, ◌≡◌, refl, List, [], ◌∷◌, ◌++◌, ℕ, ◌+◌, ◌-◌, ltb, eqb}
+use Rattle.std.specs.Prelude.{true, false, ◌≡◌, refl, List, [], ◌∷◌, ◌++◌, ℕ, ◌+◌, ltb, eqb}
 use Rattle.kdwalk.specs.declared.Next.{Next}
 use Rattle.kdwalk.specs.declared.Next.TheVariants.{Slot, Done}
 use Rattle.kdsort.specs.Shape.{Shape, leaf, node}
