@@ -1,6 +1,7 @@
 // An example of a caller's walk, not part of the public surface: a loop over an index's answers by the cursor, through what kdwalk states
 // and nothing else. How many slots a query answers, with no column to write them in. Assumes nothing.
 #![tactic(auto)]
+
 ghost use Rattle.std.specs.Prelude.{◌≡◌};
 ghost use Rattle.kdwalk_count.specs.Counted.{counted_number, counted_carried, counted_of};
 
