@@ -1,6 +1,5 @@
 -- `replay_vectors::agree` meets its contract: the definition rewritten by the tests on the way. Assumes nothing.
 use mathlib.Core.Path.{sym, ◌∙◌}
-use borrow.Author.Rules.{rules}
 use Rattle.replay_vectors.proofs.agree.Goals as goal
 
 pub returns-then-a-b : goal.returns-then-a-b

@@ -5,7 +5,6 @@ use Prim.Native.Nat.{ℕ, ◌/◌, ◌%◌}
 use mathlib.Core.Path.{◌≡◌, sym, ◌∙◌}
 use mathlib.Core.Bool.{Bool, true, ◌&&◌, not, and-eq-true_iff}
 use borrow.Author.Tests.{eqb-true, not-true}
-use borrow.Author.Rules.{rules}
 use lib.Ieee.{binary64, nan, top, hid, of_fields, div, of_bits, nan_bits}
 use lib.Dec.{eqb, leb}
 use Rattle.replay_vectors.proofs.float_of.Goals as goal

@@ -1,6 +1,5 @@
 -- `replay_vectors::hex_digit` meets its contract: each range of bytes is that of the digits that the laws say. Assumes nothing.
 use mathlib.Core.Logic.{inl, inr}
-use borrow.Author.Rules.{rules}
 use Rattle.replay_vectors.proofs.Laws.{digit_low, digit-high, digit-none}
 use Rattle.replay_vectors.proofs.hex_digit.Goals as goal
 

@@ -1,10 +1,7 @@
 -- `replay_vectors::next_bytes` is safe, and ends; what is counted is within the column. Assumes nothing.
 use Prim.Native.Nat.{◌-◌, ◌≤◌}
-use native.Mathlib.Omega.{arith}
-use mathlib.Core.Path.{◌≡◌, refl, subst}
+use mathlib.Core.Path.{◌≡◌}
 use lib.ListN.{length}
-use borrow.Author.Rules.{rules}
-use Rattle.replay_vectors.specs.Words.{count_is}
 use Rattle.replay_vectors.proofs.next_bytes.Given as goal
 
 abbrev pub invariant-loop-i : goal.invariant-loop-i

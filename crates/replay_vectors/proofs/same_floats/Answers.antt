@@ -1,14 +1,8 @@
 -- `replay_vectors::same_floats` meets its contract. The loop's invariant: each position passed is the same. Assumes nothing.
-use Prim.Native.Nat.{◌-◌, ◌≤◌}
 use native.Mathlib.Omega.{arith}
-use mathlib.Core.Path.{◌≡◌, refl, sym, ◌∙◌}
-use mathlib.Core.Bool.{true}
-use borrow.Author.Tests.{not-true, not-false}
-use lib.ListN.{length}
-use Rattle.floats.specs.laws.Table.{upto}
+use mathlib.Core.Path.{refl, sym, ◌∙◌}
 use Rattle.replay_vectors.specs.Same.{float_at, same_floats}
 use Rattle.replay_vectors.proofs.Same.{upto-more, columns-none, columns-fail, columns-all}
-use borrow.Author.Rules.{rules}
 use Rattle.replay_vectors.proofs.same_floats.Goals as goal
 
 pub returns-then-want-got : goal.returns-then-want-got
@@ -21,7 +15,7 @@ loop-i-init c = (omega arith, refl)
 pub returns-then-not-agree : goal.returns-then-not-agree
 unfolding same_floats
 returns-then-not-agree c = sym (columns-fail _ _ _ _ c.if-want-got.false
-    c.loop-i-test.true (sym c.agree.ensures ∙ not-true _ c.if-not-agree.true))
+    c.loop-i-test.true (sym c.agree.ensures ∙ c.if-not-agree.true))
 
 pub loop-i-preserved : goal.loop-i-preserved
 loop-i-preserved c = (
@@ -29,7 +23,7 @@ loop-i-preserved c = (
   upto-more
       (float_at c.args.want.now
       c.args.got.now) _
-      c.loop-i.invariant.1 (sym c.agree.ensures ∙ not-false _ c.if-not-agree.false),
+      c.loop-i.invariant.1 (sym c.agree.ensures ∙ c.if-not-agree.false),
 )
 
 pub returns : goal.returns

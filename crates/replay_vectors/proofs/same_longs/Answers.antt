@@ -1,16 +1,15 @@
 -- `replay_vectors::same_longs` meets its contract. The loop's invariant: each position passed is the same. Assumes nothing.
 -- what is compared is the bits of two numbers; those of other numbers differ
-use Prim.Native.Nat.{◌-◌, ◌≤◌, ◌<◌}
+use Prim.Native.Nat.{◌<◌}
 use native.Mathlib.Omega.{arith}
 use mathlib.Core.Path.{◌≡◌, refl, sym, ap, ◌∙◌}
 use mathlib.Core.Bool.{true, false}
 use lib.IntN.{ℤ, pos}
 use lib.Signed.{mag}
-use lib.ListN.{length, get_or}
+use lib.ListN.{get_or}
 use mir.Syntax.{w64}
 use mir.Val.{SFits, of_z, to_z}
 use mir.Facts.{to_z-of_z}
-use Rattle.floats.specs.laws.Table.{upto}
 use Rattle.replay_vectors.specs.Same.{eq_long, long_at, same_longs}
 use Rattle.replay_vectors.specs.Equal.{eq-long, ne-long}
 use Rattle.replay_vectors.proofs.Same.{upto-more, columns-none, columns-fail, columns-all}
@@ -48,7 +47,7 @@ loop-i-preserved c = (
       (bits-same (get_or c.args.want.now c.loop-i.i
       (pos 0))
       (get_or c.args.got.now c.loop-i.i (pos 0))
-      c.t10-1.given c.t13-1.given c.if-want-i.false),
+      (omega arith) (omega arith) c.if-want-i.false),
 )
 
 pub returns : goal.returns

@@ -1,5 +1,4 @@
 -- `Score::differed` meets its contract. Assumes nothing.
-use borrow.Author.Rules.{rules}
 use Rattle.replay_vectors.proofs.Score.differed.Goals as goal
 
 pub returns : goal.returns
