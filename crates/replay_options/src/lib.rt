@@ -6,6 +6,7 @@
 // a tile's strips run for longitude only, otherwise 0. Proved: nothing here fails.
 // Assumed: what standard input gives is not modelled, so that the functions that read are only proved to be safe.
 #![tactic(auto)]
+
 ghost use Rattle.std.specs.Prelude.{◌≡◌, eqb};
 ghost use Rattle.build_tables.specs.Given.{setting_of};
 
