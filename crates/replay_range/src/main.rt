@@ -5,6 +5,7 @@
 // An offset or a scale may be 16 dashes, for one that is derived from the range.
 // Expected of the range are normalize(v) and denormalize(v), and of longitude/latitude the point (v, v) converted: (longitude, v).
 #![tactic(auto)]
+
 ghost use Rattle.std.specs.Prelude.{◌≡◌, ◌+◌, ◌≤◌, ◌<◌};
 ghost use Rattle.replay_range.specs.Text.{dashes_is, separator_of, field_is, settled_is, ranged_is, parsed_is};
 ghost use Rattle.replay_range.specs.Judge.{converts_to, verdict_of};

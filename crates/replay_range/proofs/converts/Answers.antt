@@ -1,6 +1,5 @@
 -- `replay_range::converts` meets its contract: the definition rewritten by the tests on the way. Assumes nothing.
 use mathlib.Core.Path.{sym, ◌∙◌}
-use borrow.Author.Rules.{rules}
 use Rattle.replay_range.specs.Judge.{converts_to}
 use Rattle.replay_range.proofs.converts.Goals as goal
 

@@ -1,10 +1,7 @@
 -- `replay_range::dashes` meets its contract. The loop's invariant: each byte passed is a dash. Assumes nothing.
-use Prim.Native.Nat.{ℕ, ◌+◌, ◌-◌, ◌≤◌, ◌<◌}
 use native.Mathlib.Omega.{arith}
 use native.Mathlib.Nat.{not-suc-le-zero}
-use mathlib.Core.Path.{◌≡◌}
 use borrow.Author.Count.{below_more}
-use lib.ListN.{get_or}
 use Rattle.replay_range.proofs.dashes.Goals as goal
 
 pub loop-i-init : goal.loop-i-init

@@ -1,9 +1,6 @@
 -- `replay_range::dashes` meets its contract. The loop's invariant: each byte passed is a dash. Assumes nothing.
 use Prim.Native.Nat.{ℕ, ◌+◌, ◌-◌, ◌≤◌, ◌<◌}
-use native.Mathlib.Omega.{arith}
-use native.Mathlib.Nat.{not-suc-le-zero}
 use mathlib.Core.Path.{◌≡◌}
-use borrow.Author.Count.{below_more}
 use lib.ListN.{get_or}
 use Rattle.replay_range.proofs.dashes.Given as goal
 
@@ -12,4 +9,3 @@ invariant-loop-i l = (l.i ≤ 16) × ((k : ℕ) → k < l.i → get_or l.line (l
 
 abbrev pub decreases-loop-i : goal.decreases-loop-i
 decreases-loop-i l = 16 - l.i
-
