@@ -1,5 +1,6 @@
 // The questions 'tile' and 'tile tally' to a build. Nothing is asked of the caller: what SCOPE does not take is refused with its number.
 #![tactic(auto)]
+
 ghost use Rattle.std.specs.Prelude.{◌≡◌, true, ◌+◌, ◌<◌};
 ghost use Rattle.build_tables.specs.Options.{zoom_used};
 ghost use Rattle.build_tables.specs.State.{start_of, len_of, state_of};

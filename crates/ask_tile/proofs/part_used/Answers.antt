@@ -4,40 +4,31 @@ use mathlib.Core.List.{List}
 use Prim.Native.Nat.{ℕ}
 use native.Mathlib.Omega.{arith}
 use lib.ListN.{get_or}
-use borrow.Author.Rules.{rules}
-use Rattle.build_tables.specs.Options.{zoom_used}
+use Rattle.build_tables.specs.declared.State.{State}
 use Rattle.build_tables.specs.State.{start_of, len_of}
-use Rattle.ask_tile.proofs.part_used.Tie as tie
-use Rattle.ask_tile.proofs.part_used.Reads as reads
-use Rattle.ask_tile.proofs.part_used.Lts as lts
 use Rattle.ask_tile.proofs.part_used.Goals as goal
 
-abbrev In-After-index : Type 0
-In-After-index = lts.After-index tie.the-claims reads.Pre reads.Post
+start_is : (s : State) (starts : List ℕ) (k u : ℕ) → starts ≡ s.starts → k ≡ u → get_or starts k 0 ≡ start_of s u
+start_is s starts k u p q = ap (λ (l : List ℕ). get_or l k 0) p ∙ ap (start_of s) q
 
-abbrev used : In-After-index → ℕ
-used i = zoom_used i.args.s.options i.args.z
-
-used-is : (i : In-After-index) → i.index-u.result ≡ used i
-used-is i = i.index-u.ensures ∙ i.zoom_used.ensures
-
-start_is : (i : In-After-index) → get_or i.args.starts.now i.index-u.result 0 ≡ start_of i.args.s (used i)
-start_is i = ap (λ (l : List ℕ). get_or l i.index-u.result 0) i.requires.0 ∙ ap (start_of i.args.s) (used-is i)
-
-len_is : (i : In-After-index) → get_or i.args.lens.now i.index-u.result 0 ≡ len_of i.args.s (used i)
-len_is i = ap (λ (l : List ℕ). get_or l i.index-u.result 0) i.requires.1 ∙ ap (len_of i.args.s) (used-is i)
+len_is : (s : State) (lens : List ℕ) (k u : ℕ) → lens ≡ s.lens → k ≡ u → get_or lens k 0 ≡ len_of s u
+len_is s lens k u p q = ap (λ (l : List ℕ). get_or l k 0) p ∙ ap (len_of s) q
 
 pub bounds-starts-u : goal.bounds-starts-u
-bounds-starts-u c = let i : tie.After-index = search in omega (arith, used-is i, (begin i).pre.2)
+bounds-starts-u c = omega (arith, c.index-u.ensures ∙ c.zoom_used.ensures, c.requires.2)
 
 pub overflow_cast-start : goal.overflow_cast-start
-overflow_cast-start c = let i : tie.After-index = search in omega (arith, start_is i, (begin i).pre.3)
+overflow_cast-start c =
+    omega (arith, start_is c.args.s _ _ _ c.requires.0 (c.index-u.ensures ∙ c.zoom_used.ensures), c.requires.3)
 
 pub bounds-lens-u : goal.bounds-lens-u
-bounds-lens-u c = let i : tie.After-index = search in omega (arith, used-is i, (begin i).pre.2)
+bounds-lens-u c = omega (arith, c.index-u.ensures ∙ c.zoom_used.ensures, c.requires.2)
 
 pub overflow_cast-len : goal.overflow_cast-len
-overflow_cast-len c = let i : tie.After-index = search in omega (arith, len_is i, (begin i).pre.3)
+overflow_cast-len c =
+    omega (arith, len_is c.args.s _ _ _ c.requires.1 (c.index-u.ensures ∙ c.zoom_used.ensures), c.requires.3)
 
 pub returns : goal.returns
-returns c = let i : tie.After-index = search in (start_is i, len_is i)
+returns c =
+    let u = c.index-u.ensures ∙ c.zoom_used.ensures in
+    (start_is c.args.s _ _ _ c.requires.0 u, len_is c.args.s _ _ _ c.requires.1 u)

@@ -1,7 +1,6 @@
 -- `ask_tile::some_of` meets its contract: what is not 0 is one more than some number. Assumes nothing.
 use mathlib.Core.Path.{◌≡◌, refl, ◌∙◌}
 use Prim.Native.Nat.{ℕ, zero, suc}
-use borrow.Author.Rules.{rules}
 use Rattle.ask_base.specs.Answers.{fitted}
 use Rattle.ask_tile.specs.Asked.{some_of}
 use Rattle.ask_tile.proofs.some_of.Goals as goal
