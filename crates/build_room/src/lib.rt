@@ -1,5 +1,6 @@
 // How many entries lent columns hold: those of a table, of an index, of a build. Every question and the build look at it first.
 #![tactic(auto)]
+
 ghost use Rattle.std.specs.Prelude.{◌≡◌, ◌/◌, min};
 ghost use Rattle.build_tables.specs.Room.{index_room, room_by, room_of};
 ghost use Rattle.build_tables.specs.Lent.{lent_columns};

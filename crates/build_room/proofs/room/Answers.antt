@@ -1,5 +1,4 @@
 -- `build_room::room` meets its contract: it is `room_by` of the lengths. Assumes nothing.
-use borrow.Author.Rules.{rules}
 use Rattle.build_room.proofs.room.Goals as goal
 
 pub returns : goal.returns

@@ -1,5 +1,4 @@
 -- `build_room::room_all` meets its contract: the least of the lengths, that of the coordinates halved. Assumes nothing.
-use borrow.Author.Rules.{rules}
 use Rattle.build_room.proofs.room_all.Goals as goal
 
 pub returns : goal.returns

@@ -1,5 +1,4 @@
 -- `build_room::room_by` meets its contract: the least of the lengths, two at a time. Assumes nothing.
-use borrow.Author.Rules.{rules}
 use Rattle.build_room.proofs.room_by.Goals as goal
 
 pub returns : goal.returns
