@@ -1,6 +1,6 @@
 -- Reading an entry: the tests on the way to it lead to the refusals of `entryAsked`, in its order, or to the entry; and past them the table
 -- stands in the columns. Assumes nothing.
-use mathlib.Core.Path.{◌≡◌, refl, ap, sym, ◌∙◌}
+use mathlib.Core.Path.{◌≡◌, ap, sym, ◌∙◌}
 use mathlib.Core.Bool.{true, false}
 use Prim.Native.Nat.{ℕ, ◌+◌, ◌<◌, ◌≤◌}
 use native.Mathlib.Omega.{arith}
@@ -19,7 +19,7 @@ use Rattle.ask_base.specs.Columns.{table_at}
 use Rattle.ask_base.specs.laws.Columns.{table-roomy}
 use Rattle.exports.specs.declared.Read.{Read}
 use Rattle.exports.specs.declared.Read.TheVariants.{At, NoTree, NoEntry, Spoiled}
-use Rattle.exports.specs.Read.{entry_asked, ReadAs, read_as, read_of}
+use Rattle.exports.specs.Read.{entry_asked, read_as, read_of}
 
 -- past the tests of the state and the zoom
 pub record Built (s : State) (c : Columns) (z : ℕ) : Type 0 where

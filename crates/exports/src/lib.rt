@@ -5,6 +5,7 @@
 // `supercluster_zoom_used` refuse nothing, and answer their value. Proved: each tells what the public function promises, and writes
 // nothing else. Assumed: nothing.
 #![tactic(auto)]
+
 ghost use Rattle.std.specs.Prelude.{◌≡◌, length};
 ghost use Rattle.kdbush.specs.Reply.{build_number, build_carried, built, index_checked, search_number, search_carried, searched, column_after};
 ghost use Rattle.kdwalk.specs.Reply.{step_number, step_carried, first_step, after_step};
