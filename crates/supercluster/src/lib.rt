@@ -1,6 +1,7 @@
 // The public build, `load` of the Rust: the finest table of the converted points, then each zoom from max_zoom down to min_zoom, every
 // table with its index. Nothing is asked of the caller: what SCOPE does not take is refused with its number, and then no column is written.
 #![tactic(auto)]
+
 ghost use Rattle.std.specs.Prelude.{◌≡◌, map, ◌+◌, ◌*◌, ◌≤◌, leb, length, replicate};
 ghost use Rattle.kdsort.specs.Lent.{lent_index_mut};
 ghost use Rattle.kdbush.specs.Reply.{first_outside};

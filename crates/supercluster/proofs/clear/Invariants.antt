@@ -1,15 +1,8 @@
 -- `supercluster::clear` meets its contract. Assumes nothing.
-use mathlib.Core.Path.{◌≡◌, refl, sym, ap, ◌∙◌}
-use mathlib.Core.Logic.{⊎_elim}
+use mathlib.Core.Path.{◌≡◌}
 use mathlib.Core.List.{◌++◌}
-use Prim.Native.Nat.{◌-◌, ◌<◌, ◌≤◌}
-use native.Mathlib.Omega.{arith}
-use lib.ListN.{length, set, drop, replicate, length-set}
-use lib.Seq.{set-get_or}
-use Rattle.supercluster.specs.laws.Fill.{clear_step, clear-end}
-use borrow.Author.Rules.{rules}
-use Rattle.supercluster.proofs.clear.Reads as reads
-use Rattle.supercluster.proofs.clear.Lts as lts
+use Prim.Native.Nat.{◌-◌, ◌≤◌}
+use lib.ListN.{length, drop, replicate}
 use Rattle.supercluster.proofs.clear.Given as goal
 
 abbrev pub invariant-loop-i : goal.invariant-loop-i
@@ -17,4 +10,3 @@ invariant-loop-i l = (l.i ≤ length l.initial.a) × (length l.a ≡ length l.in
 
 abbrev pub decreases-loop-i : goal.decreases-loop-i
 decreases-loop-i l = length l.initial.a - l.i
-

@@ -1,21 +1,12 @@
 -- `supercluster::fill` meets its contract: at the head of the loop the first rows, up to the place, are the finest table's, and the rest
 -- is as it was. Assumes nothing.
-use mathlib.Core.Path.{◌≡◌, refl, ap, sym, ◌∙◌, subst}
+use mathlib.Core.Path.{◌≡◌}
 use mathlib.Core.List.{◌++◌}
-use Prim.Native.Nat.{ℕ, ◌+◌, ◌-◌, ◌*◌, ◌<◌, ◌≤◌}
-use native.Mathlib.Omega.{arith}
-use lib.ListN.{length, get_or, take, drop}
-use borrow.Author.Rules.{rules}
-use Rattle.range.specs.declared.Point.{Point}
-use Rattle.build_tables.specs.Entries.{Table, none}
-use Rattle.build_tables.specs.Rows.{Cols, cols, rows}
-use Rattle.build_tables.specs.laws.Rows.{Even, Kept, even-kept, kept-even, rows-length}
-use Rattle.build_tables.specs.Lent.{given}
-use Rattle.supercluster.specs.Build.{lamp}
-use Rattle.supercluster.specs.laws.Fill.{lamps, lamps-at, lamps-length, fill_step, fill_end}
-use Rattle.supercluster.proofs.fill.Tie as tie
-use Rattle.supercluster.proofs.fill.Reads as reads
-use Rattle.supercluster.proofs.fill.Lts as lts
+use Prim.Native.Nat.{◌-◌, ◌≤◌}
+use lib.ListN.{length, take, drop}
+use Rattle.build_tables.specs.Rows.{cols, rows}
+use Rattle.build_tables.specs.laws.Rows.{Even}
+use Rattle.supercluster.specs.laws.Fill.{lamps}
 use Rattle.supercluster.proofs.fill.Given as goal
 
 abbrev pub invariant-loop-place : goal.invariant-loop-place
@@ -26,4 +17,3 @@ invariant-loop-place l =
 
 abbrev pub decreases-loop-place : goal.decreases-loop-place
 decreases-loop-place l = length l.xs - l.place
-

@@ -1,12 +1,9 @@
 -- `supercluster::first_over` meets its contract: at the head of the loop every energy before i is small enough, and the first of the rest
 -- is the first of all. Assumes nothing.
-use mathlib.Core.Path.{◌≡◌, refl, ap, sym, ◌∙◌, subst}
-use Prim.Native.Nat.{ℕ, ◌+◌, ◌-◌, ◌*◌, ◌<◌, ◌≤◌}
-use native.Mathlib.Omega.{arith}
+use mathlib.Core.Path.{◌≡◌}
+use Prim.Native.Nat.{◌-◌, ◌≤◌}
 use lib.ListN.{length, drop}
-use borrow.Author.Rules.{rules}
 use Rattle.supercluster.specs.Build.{first_over}
-use Rattle.supercluster.specs.laws.Fill.{over-step, over-here, over-end}
 use Rattle.supercluster.proofs.first_over.Given as goal
 
 abbrev pub invariant-loop-i : goal.invariant-loop-i
@@ -14,4 +11,3 @@ invariant-loop-i l = (l.i ≤ length l.energies) × (first_over l.energies 0 ≡
 
 abbrev pub decreases-loop-i : goal.decreases-loop-i
 decreases-loop-i l = length l.energies - l.i
-

@@ -2,7 +2,7 @@
 -- once each, and has 1 to N entries; and all tables together have no more entries than a lent column has to hold. Assumes nothing.
 use Rattle.std.specs.Prelude.{◌≡◌, refl, List, [], ◌∷◌, length, Float}
 use Rattle.std.proofs.Common.{ap, ◌∙◌, arith, le_trans, add-suc, suc-mul, lit≤, length-append}
-use Prim.Native.Nat.{ℕ, zero, suc, ◌+◌, ◌-◌, ◌*◌, ◌≤◌}
+use Prim.Native.Nat.{ℕ, zero, suc, ◌+◌, ◌*◌, ◌≤◌}
 use Rattle.kdslots.specs.declared.Query.TheVariants.{Within}
 use Rattle.kdslots.specs.laws.All.{All, all_map}
 use Rattle.kdslots.specs.laws.Members.{Distinct}
