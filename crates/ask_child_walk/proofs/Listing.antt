@@ -1,19 +1,14 @@
 -- The loops over the slots of a ring: what one slot says of the next child, and, where children are listed, that those listed and those
 -- ahead are all of them. Assumes nothing.
 use mathlib.Core.Bool.{Bool, true, false}
-use mathlib.Core.Logic.{⊎_elim}
 use mathlib.Core.Path.{◌≡◌, refl, sym, ap, subst, ◌∙◌}
 use mathlib.Core.List.{List, [], ◌∷◌, ◌++◌, append-nil}
 use Prim.Native.Nat.{ℕ, ◌+◌, ◌<◌, ◌≤◌}
 use native.Mathlib.Omega.{arith}
 use lib.ListN.{length, get_or, set, length-append}
 use lib.Seq.{append_snoc}
-use denote.Enum.Declared.{tag_of}
-use types.Run.{OneOf}
-use Rattle.kdwalk.specs.contracts.Step.{the_type}
 use Rattle.kdpages.specs.declared.Pages.{Pages}
-use Rattle.kdwalk.specs.declared.Step.{Step}
-use Rattle.kdwalk.specs.declared.Step.TheVariants.{Slot, Done, Box, Spoiled as Step-as-Spoiled}
+use Rattle.kdwalk.specs.declared.Step.TheVariants.{Slot, Done}
 use Rattle.kdpages.specs.declared.Turned.{Turned}
 use Rattle.kdwalk.specs.Reply.{next_step}
 use Rattle.kdpages.specs.Pages.{tail_of}
@@ -32,13 +27,6 @@ use Rattle.ask_child_walk.specs.laws.Next.{next-none, next_past, next-kid, next-
 
 -- ---- one step of the walk
 
--- a step that is no slot
-no_slot : (cur : Step) → OneOf (1 ∷ 2 ∷ 3 ∷ []) (tag_of the_type cur) → (i : ℕ) → cur ≡ Slot i → ⊥
-no_slot (Slot c) h i e = ⊎_elim (λ k. omega arith) (λ w. ⊎_elim (λ k. omega arith) (λ k. omega arith) w) h
-no_slot Done h i e = let z : ◌≡◌ {A = ℕ} 0 1 = cc in omega arith
-no_slot Box h i e = let z : ◌≡◌ {A = ℕ} 0 1 = cc in omega arith
-no_slot Step-as-Spoiled h i e = let z : ◌≡◌ {A = ℕ} 0 1 = cc in omega arith
-
 -- of the slots l the first is i, which lies in the table and names the place p, and the others are l'
 pub record Met (g : Ring) (c : Columns) (l : List ℕ) (i : ℕ) (l' : List ℕ) (p : ℕ) : Type 0 where
   pub first : l ≡ i ∷ l'
@@ -50,8 +38,8 @@ pub record Met (g : Ring) (c : Columns) (l : List ℕ) (i : ℕ) (l' : List ℕ)
 module _ (g : Ring) (c : Columns) (page : List ℕ) (at : Pages) (t : Turned) (page' : List ℕ)
     (w : (t.step ≡ next_step Done (ahead_in g c.coords page at))
     × (ahead_in g c.coords page' t.pages ≡ tail_of (ahead_in g c.coords page at))) where
-  pub ended : OneOf (1 ∷ 2 ∷ 3 ∷ []) (tag_of the_type t.step) → ahead_in g c.coords page at ≡ []
-  ended h = ring-end g c.coords page at t w.0 (no_slot t.step h)
+  pub ended : ((i : ℕ) → t.step ≡ Slot i → ⊥) → ahead_in g c.coords page at ≡ []
+  ended h = ring-end g c.coords page at t w.0 h
 
   pub met : (i : ℕ) → t.step ≡ Slot i → AllBelow g.len (ahead_in g c.coords page at)
       → Met g c (ahead_in g c.coords page at) i (ahead_in g c.coords page' t.pages) (get_or c.ids (g.start + i) 0)

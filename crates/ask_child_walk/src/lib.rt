@@ -1,5 +1,6 @@
 // The children of a cluster, one at a time and into a column: what the questions that walk from cluster to cluster rest on.
 #![tactic(auto)]
+
 ghost use Rattle.std.specs.Prelude.{◌≡◌, ◌+◌, ◌≤◌};
 ghost use Rattle.kdslots.specs.laws.All.{AllBelow};
 ghost use Rattle.build_tables.specs.Room.{room_of};

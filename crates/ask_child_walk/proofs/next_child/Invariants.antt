@@ -1,20 +1,12 @@
 -- `ask_child_walk::next_child` meets its contract: what it has passed by has no child, so the next child of what is ahead is that of the
 -- whole. The measure is what is ahead. Assumes nothing.
-use mathlib.Core.Path.{◌≡◌, refl, ap, sym, ◌∙◌}
-use mathlib.Core.List.{List}
-use Prim.Native.Nat.{ℕ, ◌+◌, ◌*◌, ◌≤◌}
-use native.Mathlib.Omega.{arith}
-use borrow.Author.Rules.{rules}
-use lib.ListN.{length, get_or}
+use mathlib.Core.Path.{◌≡◌}
+use lib.ListN.{length}
 use Rattle.kdslots.specs.laws.All.{AllBelow}
 use Rattle.build_tables.specs.Rows.{cols}
-use Rattle.ask_base.specs.declared.Ring.{Ring}
-use Rattle.build_tables.specs.Room.{Columns, columns}
-use Rattle.build_tables.specs.laws.Roomy.{each-roomy}
-use Rattle.build_tables.specs.Lent.{given_columns}
+use Rattle.build_tables.specs.Room.{columns}
 use Rattle.ask_base.specs.laws.Around.{ahead_in}
-use Rattle.ask_child_walk.specs.laws.Next.{index-room, next_in}
-use Rattle.ask_child_walk.proofs.Listing.{ended, Met, met, end_none, met-past, met-kid, met-other}
+use Rattle.ask_child_walk.specs.laws.Next.{next_in}
 use Rattle.ask_child_walk.proofs.next_child.Given as goal
 
 abbrev pub invariant-loop-slot : goal.invariant-loop-slot
@@ -25,4 +17,3 @@ invariant-loop-slot l =
 
 abbrev pub decreases-loop-slot : goal.decreases-loop-slot
 decreases-loop-slot l = length (ahead_in l.g l.coords l.page l.at)
-
