@@ -1,6 +1,7 @@
 // A box question with a stated effort: it tests at most as many slots as the caller allows, and replies what it found, how many it tested,
 // and whether a test was left. Nothing is asked of the caller: what SCOPE does not take is refused with its number, as for a box.
 #![tactic(auto)]
+
 ghost use Rattle.std.specs.Prelude.{◌≡◌, true, ◌+◌, ◌*◌, ◌≤◌, length};
 ghost use Rattle.kdbush.specs.Reply.{index_ok};
 ghost use Rattle.build_tables.specs.Options.{zoom_used};

@@ -1,7 +1,6 @@
 -- `effort_at` meets its contract: what is lent of the columns is the table. Assumes nothing.
 use Prim.Native.Nat.{◌*◌}
 use Rattle.ask_base.specs.laws.Columns.{lent-part}
-use borrow.Author.Rules.{rules}
 use Rattle.ask_effort.proofs.effort_at.Goals as goal
 
 pub search-requires : goal.search-requires

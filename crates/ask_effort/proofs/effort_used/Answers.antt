@@ -5,7 +5,6 @@ use Rattle.ask_box_plan.specs.laws.Queries.{queries_of}
 use Rattle.ask_box.specs.laws.Standing.{used-small, at-used}
 use Rattle.ask_effort.specs.Effort.{EffortAsked, effort_reply_of, effort_column_of}
 use Rattle.ask_effort.proofs.Used.{sought-used}
-use borrow.Author.Rules.{rules}
 use Rattle.ask_effort.proofs.effort_used.Goals as goal
 
 pub start_of-requires : goal.start_of-requires

@@ -1,6 +1,6 @@
 -- #102 holds of every state and all columns: `stated-effort`. The tests of the question find what the box without an effort lists
 -- (`unlimited-box`); the rest is said of any tests. Assumes nothing.
-use Rattle.std.specs.Prelude.{◌≡◌, refl, Bool, true, false, cond, not, ◌⊎◌, List, [], ◌++◌, ℕ, ◌*◌, ◌≤◌, ◌<◌, min, leb, ltb, length, Float}
+use Rattle.std.specs.Prelude.{◌≡◌, refl, Bool, true, false, cond, not, ◌⊎◌, List, [], ℕ, ◌*◌, ◌≤◌, ◌<◌, leb, length, Float}
 use Rattle.std.proofs.Common.{sym, ap, ◌∙◌, subst, ⊎_elim, arith, le-ltb, ltb-true, ltb-false}
 use Rattle.range.specs.declared.CoordinateSystem.{CoordinateSystem}
 use Rattle.kdslots.specs.declared.Query.{Query}
@@ -27,7 +27,7 @@ use Rattle.ask_effort_tests.specs.declared.EffortReply.TheVariants.{Found, Box, 
 use Rattle.ask_effort_tests.specs.Trials.{Mark, hits, trials, items}
 use Rattle.ask_effort_tests.specs.Reply.{effort_carried, effort_of, effort_fitted, answer}
 use Rattle.ask_effort_tests.specs.laws.Promise.{not_stopped, given-begin, given-of-all, trials-found, trials-most}
-use Rattle.ask_effort.specs.Effort.{EffortAsked, effort_reply_of, sought_at, effort_asked}
+use Rattle.ask_effort.specs.Effort.{sought_at, effort_asked}
 use Rattle.ask_effort.specs.StatedEffort.{plain, Carries, Stated, StatedEffort}
 
 -- ---- of any tests, in a table of n entries

@@ -16,7 +16,7 @@ use Rattle.build_tables.specs.Sound.{packed, state_ok}
 use Rattle.ask_box_plan.specs.Rule.{half_circle, wrapped, new_west, new_east, plan_of}
 use Rattle.ask_box_plan.specs.laws.Worked.{west, east}
 use Rattle.ask_effort_tests.specs.declared.EffortReply.TheVariants.{Found, Box, NoRoom, Spoiled}
-use Rattle.ask_effort_tests.specs.Trials.{Mark, mark, marks, hits}
+use Rattle.ask_effort_tests.specs.Trials.{mark, marks, hits}
 use Rattle.ask_base.specs.Asked.{refused, told}
 use Rattle.ask_effort.specs.Effort.{EffortAsked, effort_reply_of, effort_column_of, effort_asked}
 
