@@ -1,5 +1,5 @@
 -- What a search leaves: the places that are sound, and the column, 'first items, then old contents'. Definitions only.
-use Rattle.std.specs.Prelude.{Bool, true, false, List, [], ◌∷◌, ◌++◌, map, ℕ, ◌+◌, ltb, length, get_or, take, drop}
+use Rattle.std.specs.Prelude.{Bool, true, false, List, [], ◌∷◌, ◌++◌, map, ℕ, ltb, length, get_or, take, drop}
 
 -- the places of the slots of a list
 unfoldable pub places : List ℕ → List ℕ → List ℕ

@@ -1,6 +1,7 @@
 // The index: a static KD-tree over points, in two lent columns. It is built, and searched by a box (`range`) or a circle (`within`).
 // The names are the Rust's kdbush.rs. Nothing is asked of the caller: what SCOPE does not take is refused with its number.
 #![tactic(auto)]
+
 ghost use Rattle.std.specs.Prelude.{◌≡◌, [], ◌∷◌, ◌+◌, ◌-◌, ◌*◌, ◌^◌, ◌≤◌, ◌<◌, length};
 ghost use Rattle.kdsort.specs.Lent.{lent_index_mut};
 ghost use Rattle.kdsort.specs.Shape.{shape};

@@ -1,12 +1,6 @@
--- `kdbush::first_outside` meets its contract: what is left of the points has the first one outside. The measure is how many are left.
--- Assumes nothing.
-use mathlib.Core.Path.{◌≡◌, refl, sym, ap, ◌∙◌}
-use Prim.Native.Nat.{◌-◌, ◌≤◌}
-use native.Mathlib.Omega.{arith}
-use borrow.Author.Tests.{not-true, not-false}
-use mathlib.Core.List.{List}
-use lib.Ieee.{Float}
-use lib.ListN.{length, drop, drop_of_length-le}
+-- `kdbush::first_outside` meets its contract: what is left of the points has the first one outside. Assumes nothing.
+use Rattle.std.proofs.Common.{sym, ap, ◌∙◌, refl, List, Float, arith, drop}
+use lib.ListN.{drop_of_length-le}
 use Rattle.kdbush.specs.Reply.{first_outside}
 use Rattle.kdslots.specs.laws.Bounds.{both_true, first-false, second-false}
 use Rattle.kdbush.proofs.Replies.{outside-step, outside-here}
@@ -15,34 +9,25 @@ use Rattle.kdbush.proofs.first_outside.Goals as goal
 pub loop-i-init : goal.loop-i-init
 loop-i-init c = (omega arith, refl)
 
-pub in_unit-requires : goal.in_unit-requires
-in_unit-requires c = tt
-
 pub returns-then-not-in_unit : goal.returns-then-not-in_unit
 returns-then-not-in_unit c =
     let a = c.args in
-    outside-here a.xs.now a.ys.now c.loop-i.i c.loop-i-test.true (omega arith)
-    (first-false _ (sym c.in_unit.ensures ∙ not-true _ c.if-not-in_unit.true))
+    outside-here a.xs.now a.ys.now c.loop-i.i c.loop-i-test.true (omega arith) (first-false _ (sym c.if-not-in_unit.ensures))
     ∙ sym c.loop-i.invariant.1
-
-pub in_unit-requires-in-loop-i : goal.in_unit-requires-in-loop-i
-in_unit-requires-in-loop-i c = tt
 
 pub returns-then-not-in_unit-2 : goal.returns-then-not-in_unit-2
 returns-then-not-in_unit-2 c =
     let a = c.args in
     outside-here a.xs.now a.ys.now c.loop-i.i c.loop-i-test.true (omega arith)
-    (second-false (sym c.in_unit.ensures ∙ not-false _ c.if-not-in_unit.false)
-    (sym c.in_unit-in-loop-i.ensures ∙ not-true _ c.if-not-in_unit-2.true))
+    (second-false (sym c.if-not-in_unit.ensures) (sym c.if-not-in_unit-2.ensures))
     ∙ sym c.loop-i.invariant.1
 
 pub loop-i-preserved : goal.loop-i-preserved
 loop-i-preserved c =
     let a = c.args in (
       omega arith,
-      c.loop-i.invariant.1 ∙ outside-step a.xs.now a.ys.now c.loop-i.i c.loop-i-test.true
-          (omega arith) (both_true (sym c.in_unit.ensures ∙ not-false _ c.if-not-in_unit.false)
-          (sym c.in_unit-in-loop-i.ensures ∙ not-false _ c.if-not-in_unit-2.false)),
+      c.loop-i.invariant.1 ∙ outside-step a.xs.now a.ys.now c.loop-i.i c.loop-i-test.true (omega arith)
+          (both_true (sym c.if-not-in_unit.ensures) (sym c.if-not-in_unit-2.ensures)),
     )
 
 pub returns : goal.returns

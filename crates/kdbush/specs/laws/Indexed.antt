@@ -2,7 +2,7 @@
 -- not refused, what it leaves does not depend on what the columns held, and its searches keep the promises; a slot has the coordinates of
 -- the point that it names; and around a point its own place is answered. Assumes nothing.
 use Rattle.std.specs.Prelude.{◌≡◌, List, ℕ, ◌*◌, ◌<◌, ◌≤◌, T, get_or, Float}
-use Rattle.std.proofs.Common.{sym, ◌∙◌, arith, le-leb}
+use Rattle.std.proofs.Common.{◌∙◌, arith, le-leb}
 use Rattle.std.proofs.Math.Path.{subst}
 use Rattle.std.proofs.Math.ListN.{length, length-replicate}
 use Rattle.std.specs.Float.Ieee.{nan}
