@@ -9,6 +9,7 @@
 // outside its columns, the verdict of a case is the equation `loadsTo` of specs/, and the score is right. Assumed: what standard input
 // gives is not modelled, so that the loops that read are only proved to be safe.
 #![tactic(auto)]
+
 ghost use Rattle.std.specs.Prelude.{◌≡◌, ◌*◌, ◌≤◌, length};
 ghost use Rattle.replay_vectors.specs.Scores.{ending_is};
 ghost use Rattle.build_tables.specs.laws.Rows.{Even};

@@ -1,9 +1,8 @@
 -- `replay_load::clear` meets its contract: at the head of the loop the first i are zeros, and the rest is as it was. Assumes nothing.
 use mathlib.Core.Path.{◌≡◌, refl, ap, ◌∙◌}
-use Prim.Native.Nat.{ℕ, ◌-◌, ◌<◌, ◌≤◌}
+use Prim.Native.Nat.{ℕ, ◌<◌}
 use native.Mathlib.Omega.{arith}
 use lib.ListN.{length, length-set}
-use borrow.Author.Rules.{rules}
 use Rattle.supercluster.specs.laws.Fill.{clear_step}
 use Rattle.replay_load.specs.Same.{zeros_in}
 use Rattle.replay_load.proofs.clear.Goals as goal

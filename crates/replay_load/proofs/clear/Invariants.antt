@@ -1,10 +1,7 @@
 -- `replay_load::clear` meets its contract: at the head of the loop the first i are zeros, and the rest is as it was. Assumes nothing.
-use mathlib.Core.Path.{◌≡◌, refl, ap, ◌∙◌}
-use Prim.Native.Nat.{ℕ, ◌-◌, ◌<◌, ◌≤◌}
-use native.Mathlib.Omega.{arith}
-use lib.ListN.{length, length-set}
-use borrow.Author.Rules.{rules}
-use Rattle.supercluster.specs.laws.Fill.{clear_step}
+use mathlib.Core.Path.{◌≡◌}
+use Prim.Native.Nat.{◌-◌, ◌≤◌}
+use lib.ListN.{length}
 use Rattle.replay_load.specs.Same.{zeros_in}
 use Rattle.replay_load.proofs.clear.Given as goal
 
@@ -13,4 +10,3 @@ invariant-loop-i l = (l.i ≤ l.n) × (length l.near ≡ length l.initial.near) 
 
 abbrev pub decreases-loop-i : goal.decreases-loop-i
 decreases-loop-i l = l.n - l.i
-

@@ -5,7 +5,6 @@ use mathlib.Core.Bool.{Bool}
 use mathlib.Core.List.{List}
 use mathlib.Core.Path.{◌≡◌, ap, ◌∙◌}
 use Prim.Native.Nat.{ℕ}
-use native.Mathlib.Omega.{arith}
 use lib.Dec.{eqb}
 use lib.ListN.{length}
 use lib.Ieee.{Float}
@@ -23,8 +22,8 @@ compared o xs ys energies starts lens want l got r e f = f ∙ ap (agrees_with o
 pub returns : goal.returns
 unfolding agrees_with
 returns c =
-    compared _ _ _ _ _ _ _ _ _ _ c.load.ensures
-    (ap (λ (k : ℕ). eqb k 0) c.number.ensures and c.same-state.ensures
-    and c.same-floats.ensures and c.same-floats2.ensures and c.same_bytes.ensures
-    and c.same-places.ensures and c.same-places2.ensures and c.same-places3.ensures and c.same_numbers.ensures
-    and c.same-places4.ensures and c.same-floats3.ensures and c.same_places-5.ensures)
+    compared _ _ _ _ _ _ _ _ _ _ c.load-built.ensures
+    (ap (λ (k : ℕ). eqb k 0) c.number.ensures and c.same_state.ensures
+    and c.same_floats.ensures and c.same_floats-2.ensures and c.same_bytes.ensures
+    and c.same_places.ensures and c.same_places-2.ensures and c.same_places-3.ensures and c.same_numbers.ensures
+    and c.same_places-4.ensures and c.same_floats-3.ensures and c.same_places-5.ensures)

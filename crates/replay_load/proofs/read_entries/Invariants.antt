@@ -1,11 +1,9 @@
 -- `replay_load::read_entries` is safe, and ends: the columns keep their lengths. Assumes nothing.
 use Prim.Native.Nat.{◌-◌, ◌≤◌}
-use native.Mathlib.Omega.{arith}
-use mathlib.Core.Path.{◌≡◌, refl, ◌∙◌}
+use mathlib.Core.Path.{◌≡◌}
 use lib.ListN.{length}
-use borrow.Author.Rules.{rules}
 use Rattle.build_tables.specs.Rows.{cols}
-use Rattle.build_tables.specs.laws.Rows.{Kept, kept_then, even-kept}
+use Rattle.build_tables.specs.laws.Rows.{Kept}
 use Rattle.replay_load.proofs.read_entries.Given as goal
 
 abbrev pub invariant-loop-i : goal.invariant-loop-i
@@ -15,4 +13,3 @@ invariant-loop-i l =
 
 abbrev pub decreases-loop-i : goal.decreases-loop-i
 decreases-loop-i l = l.m - l.i
-

@@ -1,8 +1,5 @@
 -- `replay_load::read_tables` is safe, and ends. Assumes nothing.
-use Prim.Native.Nat.{◌+◌, ◌-◌}
-use mathlib.Core.Path.{◌≡◌, refl}
-use lib.ListN.{length}
-use borrow.Author.Rules.{rules}
+use mathlib.Core.Path.{refl}
 use Rattle.replay_load.proofs.read_tables.Goals as goal
 
 pub loop-z-init : goal.loop-z-init
