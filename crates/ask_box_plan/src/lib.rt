@@ -2,6 +2,7 @@
 // takes. Every question about a box rests on it. Of its four numbers, y grows downwards on a mercator map, so that least_y is the northern
 // edge of a longitude build; on a Cartesian plan it is the least y as given.
 #![tactic(auto)]
+
 ghost use Rattle.std.specs.Prelude.{◌≡◌};
 ghost use Rattle.ask_box_plan.specs.Rule.{wrapped, wrapped_east, new_west, new_east, box_of, plan_of, box_ok};
 ghost use Rattle.ask_box_plan.specs.laws.Queries.{queries_of};

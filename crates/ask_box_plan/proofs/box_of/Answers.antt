@@ -1,5 +1,4 @@
 -- `box_of` meets its contract. Assumes nothing.
-use borrow.Author.Rules.{rules}
 use Rattle.ask_box_plan.proofs.box_of.Goals as goal
 
 pub returns : goal.returns

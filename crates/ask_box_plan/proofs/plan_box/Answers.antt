@@ -2,16 +2,13 @@
 use mathlib.Core.Path.{sym}
 use lib.Ieee.{of_bits, of_int, round, neg}
 use Rattle.ask_box_plan.specs.Rule.{plan_of}
-use borrow.Author.Rules.{rules}
 use Rattle.ask_box_plan.proofs.plan_box.Goals as goal
 
 pub returns-then-r : goal.returns-then-r
 unfolding plan_of of_bits of_int round neg
 returns-then-r c =
-    let a = c.rule-a.ensures in
-    let b = c.rule-b.ensures in
     simp (
-      c.enum_told-1.given.1,
+      c.in-LatLng.is,
       sym c.rule-r.ensures.0,
       sym c.rule-r.ensures.1,
       c.if-r.true,
@@ -25,9 +22,9 @@ returns-then-r c =
 
 pub returns-in-Cartesian : goal.returns-in-Cartesian
 unfolding plan_of
-returns-in-Cartesian c = simp (c.c-1.given.1, c.box_of-q.ensures)
+returns-in-Cartesian c = simp (c.in-Cartesian.is, c.box_of-q.ensures)
 
 pub returns-else-r : goal.returns-else-r
 unfolding plan_of
 returns-else-r c =
-    simp (c.enum_told-1.given.1, sym c.rule-r.ensures.0, sym c.rule-r.ensures.1, c.if-r.false, c.box_of-q-in-LatLng.ensures)
+    simp (c.in-LatLng.is, sym c.rule-r.ensures.0, sym c.rule-r.ensures.1, c.if-r.false, c.box_of-q-in-LatLng.ensures)

@@ -1,7 +1,6 @@
 -- `rule` meets its contract. Assumes nothing.
 use lib.Ieee.{of_bits, of_int, round, neg}
 use Rattle.ask_box_plan.specs.Rule.{new_west, new_east}
-use borrow.Author.Rules.{rules}
 use Rattle.ask_box_plan.proofs.rule.Goals as goal
 
 pub returns-then-east-west : goal.returns-then-east-west

@@ -1,6 +1,5 @@
 -- `wrap_east` meets its contract. Assumes nothing.
 use lib.Ieee.{of_bits, of_int, round}
-use borrow.Author.Rules.{rules}
 use Rattle.ask_box_plan.proofs.wrap_east.Goals as goal
 
 pub returns-then-v : goal.returns-then-v
