@@ -2,6 +2,7 @@
 // searched for by its id: each began with a lamp, and the place that owns this lamp in the finer table goes to it.
 // Below the surface: what is asked of the caller `owners::load` has shown.
 #![tactic(auto)]
+
 ghost use Rattle.std.specs.Prelude.{◌≡◌, ◌⊎◌, ℕ, suc, ◌+◌, ◌-◌, ◌*◌, ◌<◌, ◌≤◌, length, get_or, replicate};
 ghost use Rattle.build_tables.specs.Entries.{entry, unset};
 ghost use Rattle.build_tables.specs.Rows.{rows};

@@ -1,17 +1,8 @@
 -- `build_owners::fill_in` meets its contract: at the head of the loop the owners down to table z are written. Assumes nothing.
-use mathlib.Core.Path.{◌≡◌, refl, sym, ap, ◌∙◌, subst}
-use Prim.Native.Nat.{ℕ, suc, ◌+◌, ◌-◌, ◌*◌, ◌<◌, ◌≤◌}
-use native.Mathlib.Omega.{arith}
-use lib.ListN.{length, get_or, replicate}
-use borrow.Author.Rules.{rules}
-use Rattle.build_tables.specs.Entries.{Table}
-use Rattle.build_tables.specs.Lent.{given}
+use mathlib.Core.Path.{◌≡◌}
+use lib.ListN.{length}
 use Rattle.build_tables.specs.Rows.{cols, rows}
-use Rattle.build_owners.specs.laws.Fills.{Wrote}
-use Rattle.build_owners.specs.laws.AllTables.{reach, Going, going-first, going-room, going-own, going_next, going-last}
-use Rattle.build_owners.proofs.fill_in.Tie as tie
-use Rattle.build_owners.proofs.fill_in.Reads as reads
-use Rattle.build_owners.proofs.fill_in.Lts as lts
+use Rattle.build_owners.specs.laws.AllTables.{Going}
 use Rattle.build_owners.proofs.fill_in.Given as goal
 
 abbrev pub invariant-loop-z : goal.invariant-loop-z
@@ -21,4 +12,3 @@ invariant-loop-z l =
 
 abbrev pub decreases-loop-z : goal.decreases-loop-z
 decreases-loop-z l = l.z
-

@@ -1,12 +1,6 @@
 -- `build_owners::own_themselves` meets its contract: at the head of the loop the first l lamps own themselves. Assumes nothing.
-use mathlib.Core.Path.{◌≡◌, refl, subst}
-use mathlib.Core.List.{List}
-use Prim.Native.Nat.{ℕ, suc, ◌+◌, ◌-◌, ◌*◌, ◌<◌, ◌≤◌}
-use native.Mathlib.Omega.{arith}
-use native.Mathlib.Numerals.{add-one}
-use lib.ListN.{length, get_or, replicate}
-use borrow.Author.Rules.{rules}
-use Rattle.build_owners.specs.laws.Fills.{Wrote, wrote_none, wrote-next}
+use Prim.Native.Nat.{ℕ, ◌-◌, ◌≤◌}
+use Rattle.build_owners.specs.laws.Fills.{Wrote}
 use Rattle.build_owners.proofs.own_themselves.Given as goal
 
 abbrev pub invariant-loop-l : goal.invariant-loop-l
@@ -14,4 +8,3 @@ invariant-loop-l l = (l.l ≤ l.n) × Wrote 0 l.l (λ (k : ℕ). k) l.initial.ow
 
 abbrev pub decreases-loop-l : goal.decreases-loop-l
 decreases-loop-l l = l.n - l.l
-

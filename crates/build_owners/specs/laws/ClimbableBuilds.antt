@@ -1,8 +1,7 @@
 -- Of every accepted build, in columns that hold it: its owner column can be filled from table to table, `climbable`, and each owner that
 -- is kept so is the lamp's owner, `owner-kept`. Assumes nothing.
-use Rattle.std.specs.Prelude.{◌≡◌, ◌⊎◌, Bool, cond, List, [], ◌∷◌, ℕ, suc, ◌+◌, ◌-◌, ◌≤◌, ◌<◌, length, get_or, drop}
-use Rattle.std.proofs.Common.{sym, ap, ap₂, ◌∙◌, subst, inl, inr, ⊎_elim, arith, eq-eqb, ne_eqb, length-append, get_or-take, get_or-drop}
-use Rattle.kdslots.specs.laws.All.{all_get_d}
+use Rattle.std.specs.Prelude.{◌≡◌, ◌⊎◌, List, [], ◌∷◌, ℕ, suc, ◌+◌, ◌-◌, ◌≤◌, ◌<◌, length, get_or, drop}
+use Rattle.std.proofs.Common.{sym, ap, ap₂, ◌∙◌, subst, inl, inr, ⊎_elim, arith, length-append, get_or-take, get_or-drop}
 use Rattle.build_tables.specs.laws.Bounds.{options-are}
 use Rattle.build_tables.specs.declared.Entry.{Entry}
 use Rattle.build_tables.specs.declared.State.{State}
@@ -16,9 +15,9 @@ use Rattle.supercluster.specs.Build.{BuildColumns, written, need}
 use Rattle.supercluster.specs.laws.Held.{LaidOut, built-laid, built-held, built-within}
 use Rattle.supercluster.specs.laws.Load.{Holds, rows_in}
 use Rattle.supercluster.specs.laws.Ready.{need-few}
-use Rattle.supercluster.specs.laws.Right.{Right, tables-right, tables-count, tables-room}
+use Rattle.supercluster.specs.laws.Right.{tables-count, tables-room}
 use Rattle.law_groups.specs.laws.Sums.{below}
-use Rattle.law_builds.specs.Given.{Given, AcceptedBuild, points, min_z, max_z, tables_of_build, energy_in}
+use Rattle.law_builds.specs.Given.{Given, AcceptedBuild, points, min_z, max_z, tables_of_build}
 use Rattle.law_builds.specs.RightAt.{right-at}
 use Rattle.law_builds.specs.Came.{table_of_zoom}
 use Rattle.law_builds.specs.Identities.{id-table-suc}

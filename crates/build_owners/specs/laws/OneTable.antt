@@ -1,13 +1,13 @@
 -- From table z + 1 to table z: what `send` and `climb` are asked holds of a state that is climbable, and what they leave are the owners in
 -- table z. Assumes nothing.
 use Rattle.std.specs.Prelude.{◌≡◌, refl, ◌⊎◌, List, ℕ, suc, ◌+◌, ◌-◌, ◌<◌, ◌≤◌, length, get_or, take, drop}
-use Rattle.std.proofs.Common.{sym, ap, ap₂, ◌∙◌, subst, le_trans, arith, length-drop, get_or-take, get_or-drop, length-take-le}
+use Rattle.std.proofs.Common.{sym, ap, ◌∙◌, subst, le_trans, arith, length-drop, get_or-take, get_or-drop, length-take-le}
 use Rattle.build_tables.specs.declared.State.{State}
 use Rattle.build_tables.specs.Entries.{Table, entry, unset}
 use Rattle.build_tables.specs.State.{start_of, len_of}
 use Rattle.supercluster.specs.laws.Held.{held_by}
-use Rattle.build_owners.specs.OwnerColumn.{place_of, owner_in}
-use Rattle.build_owners.specs.laws.Climbs.{lead_of, Chain, seat_of, owner_on, lead_at, finer, Climbs, Climbable}
+use Rattle.build_owners.specs.OwnerColumn.{owner_in}
+use Rattle.build_owners.specs.laws.Climbs.{seat_of, owner_on, lead_at, finer, Climbs, Climbable}
 use Rattle.build_owners.specs.laws.Fills.{Wrote, wrote_as, lead_from, Sends, Sent, next_owner, Sits}
 
 -- lamps that share an owner share the next
