@@ -3,6 +3,7 @@
 // Below the public surface: a walk that is refused is done, with no number. Its callers have refused 9 and 11 before; a ring around an
 // entry at no finite place, which is refused too, has no slots.
 #![tactic(auto)]
+
 ghost use Rattle.std.specs.Prelude.{◌≡◌, ◌+◌, ◌-◌, ◌*◌, ◌≤◌, ◌<◌, length};
 ghost use Rattle.kdsort.specs.Shape.{shape};
 ghost use Rattle.kdslots.specs.Slots.{over, when, scanned, slots};

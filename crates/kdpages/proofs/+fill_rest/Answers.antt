@@ -1,19 +1,12 @@
--- `kdpages::fill_rest` meets its contract, by where the slot stands: left of the median, at it, or right of it. The measure is the
--- interval's length. Assumes nothing.
-use mathlib.Core.Path.{sym, ap, ◌∙◌}
-use mathlib.Core.List.{List}
-use native.Mathlib.Omega.{arith}
+-- `kdpages::fill_rest` meets its contract, by where the slot stands: left of the median, at it, or right of it. Assumes nothing.
+use Rattle.std.proofs.Common.{sym, ap, ◌∙◌, List, ℕ, ◌+◌, ◌-◌, ◌<◌, arith}
 use Rattle.kdsort.specs.Shape.{shape, mid}
 use Rattle.kdslots.specs.Slots.{over, when, slots}
 use Rattle.kdwalk.specs.Cursor.{rest}
 use Rattle.kdpages.specs.Pages.{store}
 use Rattle.kdwalk.proofs.Firsts.{rest-leaf, rest-median, rest-right, rest-left}
 use Rattle.kdpages.proofs.Stores.{more}
-use Prim.Native.Nat.{ℕ, ◌+◌, ◌-◌, ◌<◌}
 use Rattle.kdpages.proofs.+fill_rest.Goals as goal
-
-pub shape_of-page-then-hi-lo : goal.shape_of-page-then-hi-lo
-shape_of-page-then-hi-lo t c = c.fill_from.auto.page
 
 pub returns-then-hi-lo : goal.returns-then-hi-lo
 returns-then-hi-lo t c =
@@ -21,27 +14,17 @@ returns-then-hi-lo t c =
     c.fill_from.ensures ∙ ap (λ (l : List ℕ). store 0 l a.page.now)
     (sym (rest-leaf (over a.q a.coords.now) a.axis a.most a.lo a.hi a.c c.if-hi-lo.true))
 
-pub shape_of-page-then-c-m : goal.shape_of-page-then-c-m
-shape_of-page-then-c-m t c = c.fill_rest.auto.page-then-c-m
-
 pub returns-then-c-m : goal.returns-then-c-m
 returns-then-c-m t c =
     let a = c.args in
     c.fill_rest.ensures ∙ ap (λ (l : List ℕ). store 0 l a.page.now)
     (sym (rest-left (over a.q a.coords.now) a.axis a.most a.lo a.hi c.if-hi-lo.false a.c c.if-c-m.true))
 
-pub shape_of-page-then-c-m-2 : goal.shape_of-page-then-c-m-2
-shape_of-page-then-c-m-2 t c = c.fill_below.auto.page-then-c-m
-
 pub returns-then-c-m-2 : goal.returns-then-c-m-2
 returns-then-c-m-2 t c =
     let a = c.args in
     c.fill_below.ensures ∙ ap (λ (l : List ℕ). store 0 l a.page.now)
     (sym (rest-median (over a.q a.coords.now) a.axis a.most a.lo a.hi c.if-hi-lo.false a.c c.if-c-m-2.true))
-
-pub shape_of-page : goal.shape_of-page
-shape_of-page t c =
-    c.fill_left.auto.page ∙ c.fill_rest-k.auto.page
 
 pub returns : goal.returns
 returns t c =
@@ -51,6 +34,5 @@ returns t c =
     let past : mid a.lo a.hi < a.c = omega (arith, c.if-c-m-2.false, c.if-c-m.false) in
     c.fill_left.ensures
     ∙ sym (more 0 c.fill_rest-k.result (rest s (1 - a.axis) (shape a.most (m + 1) a.hi) a.c)
-    (when (s.left a.axis m) (slots s (1 - a.axis) (shape a.most a.lo m))) a.page.now
-    c.fill_rest-k.new.page c.fill_rest-k.ensures)
+    (when (s.left a.axis m) (slots s (1 - a.axis) (shape a.most a.lo m))) a.page.now c.fill_rest-k.new.page c.fill_rest-k.ensures)
     ∙ ap (λ (l : List ℕ). store 0 l a.page.now) (sym (rest-right s a.axis a.most a.lo a.hi c.if-hi-lo.false a.c past))

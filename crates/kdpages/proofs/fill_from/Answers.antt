@@ -1,20 +1,12 @@
--- `kdpages::fill_from` meets its contract: what is left of the interval fills what is left of the page. The measure is what is left.
--- Assumes nothing.
-use mathlib.Core.Path.{◌≡◌, refl, sym, ◌∙◌}
-use Prim.Native.Nat.{◌-◌}
-use native.Mathlib.Omega.{arith}
-use borrow.Author.Tests.{not-true, not-false}
-use lib.ListN.{length, length-set}
+-- `kdpages::fill_from` meets its contract: what is left of the interval fills what is left of the page. Assumes nothing.
+use Rattle.std.proofs.Common.{sym, ◌∙◌, refl, ◌-◌}
+use lib.ListN.{length-set}
 use Rattle.kdslots.specs.Slots.{over, scanned}
-use Rattle.kdpages.specs.Pages.{store}
 use Rattle.kdpages.proofs.Stores.{full, scan-skips, scan-stores, scan-over}
 use Rattle.kdpages.proofs.fill_from.Goals as goal
 
 pub loop-i-init : goal.loop-i-init
 loop-i-init c = (refl, refl)
-
-pub shape_of-page-then-page-k : goal.shape_of-page-then-page-k
-shape_of-page-then-page-k c = c.loop-i.invariant.0
 
 pub returns-then-page-k : goal.returns-then-page-k
 returns-then-page-k c =
@@ -26,20 +18,17 @@ pub loop-i-preserved-then-not-test_at : goal.loop-i-preserved-then-not-test_at
 loop-i-preserved-then-not-test_at c =
     let a = c.args in (
       c.loop-i.invariant.0,
-      c.loop-i.invariant.1 ∙ scan-skips (over a.q a.coords.now) c.loop-i.i a.hi c.loop-i.k c.loop-i.page
-          c.loop-i-test.true (sym c.test_at.ensures ∙ not-true _ c.if-not-test_at.true),
+      c.loop-i.invariant.1 ∙ scan-skips (over a.q a.coords.now) c.loop-i.i a.hi c.loop-i.k c.loop-i.page c.loop-i-test.true
+          (sym c.if-not-test_at.ensures),
     )
 
 pub loop-i-preserved : goal.loop-i-preserved
 loop-i-preserved c =
     let a = c.args in (
       length-set c.loop-i.page c.loop-i.k c.loop-i.i ∙ c.loop-i.invariant.0,
-      c.loop-i.invariant.1 ∙ scan-stores (over a.q a.coords.now) c.loop-i.i a.hi c.loop-i.k c.loop-i.page
-          c.loop-i-test.true (sym c.test_at.ensures ∙ not-false _ c.if-not-test_at.false) c.if-page-k.false,
+      c.loop-i.invariant.1 ∙ scan-stores (over a.q a.coords.now) c.loop-i.i a.hi c.loop-i.k c.loop-i.page c.loop-i-test.true
+          (sym c.if-not-test_at.ensures) c.if-page-k.false,
     )
-
-pub shape_of-page : goal.shape_of-page
-shape_of-page c = c.loop-i.invariant.0
 
 pub returns : goal.returns
 returns c =
