@@ -1,6 +1,6 @@
 -- What a search with an allowance replies and leaves in the lent column, by the tests of its definition; and SCOPE's numbers of the reply.
 -- Definitions only.
-use Rattle.std.specs.Prelude.{Bool, false, cond, List, ℕ, min, leb, ltb, length}
+use Rattle.std.specs.Prelude.{false, cond, List, ℕ, min, leb, ltb, length}
 use Rattle.kdbush.specs.Run.{sound, whole, filled}
 use Rattle.ask_effort_tests.specs.declared.Effort.{Effort}
 use Rattle.ask_effort_tests.specs.declared.EffortReply.{EffortReply}

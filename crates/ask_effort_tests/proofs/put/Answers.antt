@@ -1,7 +1,6 @@
 -- `put` meets its contract, by its six ways out. Assumes nothing.
-use borrow.Author.Rules.{rules}
-use borrow.Author.Tests.{not-true, not-false, eq-eqb, ne_eqb, lt-ltb, le-ltb}
-use mathlib.Core.Path.{◌≡◌, refl, sym, ◌∙◌}
+use borrow.Author.Tests.{eq-eqb, ne_eqb, lt-ltb, le-ltb}
+use mathlib.Core.Path.{refl, sym, ◌∙◌}
 use native.Mathlib.Omega.{arith}
 use lib.ListN.{get_or}
 use Rattle.kdslots.specs.Slots.{over}
@@ -23,25 +22,25 @@ pub returns-then-not-test_at : goal.returns-then-not-test_at
 returns-then-not-test_at c =
     let a = c.args in
     put_is (over a.q a.coords.now) a.ids.now a.n a.i a.s a.out.now c.if-s.false (ne_eqb _ _ c.if-s-eq0.false)
-    (sym c.test_at.ensures ∙ not-true _ c.if-not-test_at.true) refl
+    (sym c.test_at.ensures ∙ c.if-not-test_at.true) refl
 
 pub returns-then-n-wide : goal.returns-then-n-wide
 returns-then-n-wide c =
     let a = c.args in
     put_is (over a.q a.coords.now) a.ids.now a.n a.i a.s a.out.now c.if-s.false (ne_eqb _ _ c.if-s-eq0.false)
-    (sym c.test_at.ensures ∙ not-false _ c.if-not-test_at.false)
+    (sym c.test_at.ensures ∙ c.if-not-test_at.false)
     (le-ltb (get_or a.ids.now a.i 0) a.n (omega (arith, c.wide.ensures)))
 
 pub returns-then-at-out : goal.returns-then-at-out
 returns-then-at-out c =
     let a = c.args in
     put_is (over a.q a.coords.now) a.ids.now a.n a.i a.s a.out.now c.if-s.false (ne_eqb _ _ c.if-s-eq0.false)
-    (sym c.test_at.ensures ∙ not-false _ c.if-not-test_at.false)
+    (sym c.test_at.ensures ∙ c.if-not-test_at.false)
     (lt-ltb (get_or a.ids.now a.i 0) a.n (omega (arith, c.wide.ensures)))
 
 pub returns : goal.returns
 returns c =
     let a = c.args in
     put-past (over a.q a.coords.now) a.ids.now a.n a.i a.s a.out.now c.if-s.false (ne_eqb _ _ c.if-s-eq0.false)
-    (sym c.test_at.ensures ∙ not-false _ c.if-not-test_at.false)
+    (sym c.test_at.ensures ∙ c.if-not-test_at.false)
     (lt-ltb (get_or a.ids.now a.i 0) a.n (omega (arith, c.wide.ensures))) c.if-at-out.false

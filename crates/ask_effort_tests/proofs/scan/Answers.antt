@@ -1,13 +1,12 @@
 -- `scan` meets its contract: what is left of the interval gives the rest of the tests. The measure is what is left. Assumes nothing.
-use mathlib.Core.Path.{◌≡◌, refl, sym, ap, ◌∙◌}
+use mathlib.Core.Path.{refl, sym, ◌∙◌}
 use mathlib.Core.List.{[], ◌∷◌}
-use Prim.Native.Nat.{◌+◌, ◌-◌, ◌^◌, ◌<◌}
+use Prim.Native.Nat.{◌-◌}
 use native.Mathlib.Omega.{arith}
-use lib.ListN.{length}
 use Rattle.kdslots.specs.Slots.{over, scanned}
 use Rattle.ask_effort_tests.specs.Tested.{testing}
 use Rattle.ask_effort_tests.specs.Trials.{marks}
-use Rattle.ask_effort_tests.specs.laws.Spend.{spend, spend-sum}
+use Rattle.ask_effort_tests.specs.laws.Spend.{spend-sum}
 use Rattle.ask_effort_tests.proofs.Turns.{over-is, scan-more, scan-done}
 use Rattle.ask_effort_tests.proofs.scan.Goals as goal
 

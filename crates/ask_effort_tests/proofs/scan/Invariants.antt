@@ -1,14 +1,11 @@
 -- `scan` meets its contract: what is left of the interval gives the rest of the tests. The measure is what is left. Assumes nothing.
-use mathlib.Core.Path.{◌≡◌, refl, sym, ap, ◌∙◌}
-use mathlib.Core.List.{[], ◌∷◌}
+use mathlib.Core.Path.{◌≡◌}
 use Prim.Native.Nat.{◌+◌, ◌-◌, ◌^◌, ◌<◌}
-use native.Mathlib.Omega.{arith}
 use lib.ListN.{length}
 use Rattle.kdslots.specs.Slots.{over, scanned}
 use Rattle.ask_effort_tests.specs.Tested.{testing}
 use Rattle.ask_effort_tests.specs.Trials.{marks}
-use Rattle.ask_effort_tests.specs.laws.Spend.{spend, spend-sum}
-use Rattle.ask_effort_tests.proofs.Turns.{over-is, scan-more, scan-done}
+use Rattle.ask_effort_tests.specs.laws.Spend.{spend}
 use Rattle.ask_effort_tests.proofs.scan.Given as goal
 
 abbrev pub invariant-loop-i : goal.invariant-loop-i
@@ -19,4 +16,3 @@ invariant-loop-i l =
 
 abbrev pub decreases-loop-i : goal.decreases-loop-i
 decreases-loop-i l = l.hi - l.i
-

@@ -1,113 +1,90 @@
 -- `search` meets its contract: the second search goes on where the first ended. Assumes nothing.
--- ---- the index
 use mathlib.Core.Path.{◌≡◌, refl, sym, ap, ◌∙◌}
 use mathlib.Core.Bool.{Bool, true, false, cond}
 use mathlib.Core.List.{List, [], ◌∷◌, ◌++◌, append-nil, flat_map}
 use Prim.Native.Nat.{ℕ, ◌≤◌}
 use native.Mathlib.Omega.{arith}
-use borrow.Author.Rules.{rules}
 use borrow.Author.Tests.{leb-true}
 use lib.Dec.{leb}
 use lib.ListN.{length}
 use Rattle.kdslots.specs.Slots.{over, when}
+use lib.Ieee.{Float}
+use Rattle.kdbush.specs.Reply.{index_ok}
+use Rattle.ask_box_plan.specs.declared.BoxPlan.{BoxPlan}
 use Rattle.kdslots.specs.Bounds.{coords_ok}
 use Rattle.kdslots.specs.laws.Bounds.{Searchable, coords-is, and_both}
 use Rattle.ask_box_plan.specs.laws.Queries.{queries_of}
+use Rattle.ask_effort_tests.specs.declared.Spent.{Spent}
 use Rattle.ask_effort_tests.specs.Tested.{tests}
 use Rattle.ask_effort_tests.specs.Trials.{Mark, marks, trials}
 use Rattle.ask_effort_tests.specs.laws.Spend.{fresh, settled_tests, went_tests, spend, spend-then, spend-sum}
 use Rattle.ask_effort_tests.specs.laws.Ended.{ends, left-small}
-use Rattle.ask_effort_tests.proofs.search.Tie as tie
-use Rattle.ask_effort_tests.proofs.search.Reads as reads
-use Rattle.ask_effort_tests.proofs.search.Lts as lts
 use Rattle.ask_effort_tests.proofs.search.Goals as goal
 
-abbrev In-Start : Type 0
-In-Start = lts.Start tie.the-claims reads.Pre reads.Post
+-- an index that may be searched, and the plan
+module _ (p : BoxPlan) (size n : ℕ) (ids : List ℕ) (co : List Float) where
+  bounds : index_ok size n ids co ≡ true → Searchable size n (length co)
+  bounds e = coords-is size n (length co) (and_both (coords_ok size n (length co)) (leb n (length ids)) e).0
 
-abbrev In-After-part : Type 0
-In-After-part = lts.After-part tie.the-claims reads.Pre reads.Post
+  wide_enough : index_ok size n ids co ≡ true → n ≤ length ids
+  wide_enough e = leb-true n (length ids) (and_both (coords_ok size n (length co)) (leb n (length ids)) e).1
 
-abbrev In-After-part2 : Type 0
-In-After-part2 = lts.After-part2 tie.the-claims reads.Pre reads.Post
+  -- the tests of the two searches
+  abbrev firsts : List Mark
+  firsts = marks (over p.first co) ids (tests p.first co size n)
 
-bounds : (k : In-Start) → let a = k.args in Searchable a.node-size a.n (length a.coords.now)
-bounds k =
-    let a = k.args in
-    coords-is a.node-size a.n (length a.coords.now)
-    (and_both (coords_ok a.node-size a.n (length a.coords.now)) (leb a.n (length a.ids.now)) k.requires).0
+  abbrev seconds : List Mark
+  seconds = marks (over p.second co) ids (when p.two (tests p.second co size n))
 
-wide_enough : (k : In-Start) → let a = k.args in a.n ≤ length a.ids.now
-wide_enough k =
-    let a = k.args in
-    leb-true a.n (length a.ids.now)
-    (and_both (coords_ok a.node-size a.n (length a.coords.now)) (leb a.n (length a.ids.now)) k.requires).1
+  -- they are the tests of the plan's queries
+  in-turn : firsts ++ seconds ≡ trials (queries_of p) size n ids co
+  unfolding flat_map marks
+  in-turn = ap (λ (l : List Mark). firsts ++ l) (go p.two)
+    where
+      go : (b : Bool) → marks (over p.second co) ids (when b (tests p.second co size n)) ≡ trials (cond b (p.second ∷ []) []) size n ids co
+      go true = sym (append-nil _)
+      go false = refl
 
-abbrev first-left : In-After-part → List ℕ
-first-left u = u.part-h.new.out
-
-abbrev both_left : In-After-part2 → List ℕ
-both_left v = v.part-r.new.out
-
-abbrev firsts : In-Start → List Mark
-firsts k =
-    let a = k.args in
-    marks (over a.p.first a.coords.now) a.ids.now (tests a.p.first a.coords.now a.node-size a.n)
-
-abbrev seconds : In-Start → List Mark
-seconds k =
-    let a = k.args in
-    marks (over a.p.second a.coords.now) a.ids.now
-    (when a.p.two (tests a.p.second a.coords.now a.node-size a.n))
-
--- they are the tests of the plan's queries
-in-turn : (k : In-Start) → let a = k.args in
-    firsts k ++ seconds k ≡ trials (queries_of a.p) a.node-size a.n a.ids.now a.coords.now
-unfolding flat_map marks
-in-turn k = ap (λ (l : List Mark). firsts k ++ l) (go k.args.p.two)
-  where
-    go : (b : Bool) → let a = k.args in
-        marks (over a.p.second a.coords.now) a.ids.now (when b (tests a.p.second a.coords.now a.node-size a.n))
-        ≡ trials (cond b (a.p.second ∷ []) []) a.node-size a.n a.ids.now a.coords.now
-    go true = sym (append-nil _)
-    go false = refl
-
-left : (v : In-After-part2) → let a = v.args in
-    went_tests v.part-r.result (both_left v)
-    ≡ spend a.n (trials (queries_of a.p) a.node-size a.n a.ids.now a.coords.now) (fresh a.allowance) a.out.now
-left v =
-    let a = v.args in
-    spend-then a.n (firsts v.before.before.before.before.before.before.before.before.before) (seconds v.before.before.before.before.before.before.before.before.before) (fresh a.allowance) v.part-h.result v.part-r.result a.out.now (first-left v.before.before.before.before)
-    (both_left v) v.part-h.ensures v.part-r.ensures
-    ∙ ap (λ (ms : List Mark). spend a.n ms (fresh a.allowance) a.out.now) (in-turn v.before.before.before.before.before.before.before.before.before)
+  -- what both leave, the second where the first ended
+  left : (s h r : Spent) (out o o' : List ℕ) → went_tests h o ≡ spend n firsts s out → went_tests r o' ≡ spend n seconds h o
+      → went_tests r o' ≡ spend n (trials (queries_of p) size n ids co) s out
+  left s h r out o o' e f =
+      spend-then n firsts seconds s h r out o o' e f ∙ ap (λ (ms : List Mark). spend n ms s out) in-turn
 
 pub overflow_add-most : goal.overflow_add-most
-overflow_add-most c = let w = bounds c.before.before.before.before in omega arith
+overflow_add-most c =
+    let a = c.args in
+    let w = bounds a.p a.node_size a.n a.ids.now a.coords.now c.requires in omega arith
 
 pub part-h-requires : goal.part-h-requires
-part-h-requires c = let w = bounds c.before.before.before.before.before in omega (arith, wide_enough c.before.before.before.before.before, c.ranges)
+part-h-requires c =
+    let a = c.args in
+    let w = bounds a.p a.node_size a.n a.ids.now a.coords.now c.requires in
+    let v = wide_enough a.p a.node_size a.n a.ids.now a.coords.now c.requires in omega arith
 
 pub part-r-requires : goal.part-r-requires
 part-r-requires c =
     let a = c.args in
-    let w = bounds c.before.before.before.before.before.before.before.before.before in
-    omega (
-      arith,
-      wide_enough c.before.before.before.before.before.before.before.before.before,
-      c.fits,
-      spend-sum a.n (firsts c.before.before.before.before.before.before.before.before.before) (fresh a.allowance) c.part-h.result a.out.now (first-left c.before.before.before.before) c.part-h.ensures,
-    )
+    let w = bounds a.p a.node_size a.n a.ids.now a.coords.now c.requires in
+    let v = wide_enough a.p a.node_size a.n a.ids.now a.coords.now c.requires in
+    let f = firsts a.p a.node_size a.n a.ids.now a.coords.now in
+    let h = c.part-h in
+    omega (arith, spend-sum a.n f (fresh a.allowance) h.result a.out.now h.new.out h.ensures)
 
 pub settle-requires : goal.settle-requires
 settle-requires c =
     let a = c.args in
-    left-small a.n a.allowance (trials (queries_of a.p) a.node-size a.n a.ids.now a.coords.now) c.part-r.result
-    a.out.now (both_left c.before.before.before) (left c.before.before.before)
+    let h = c.part-h in
+    let r = c.part-r in
+    let e = left a.p a.node_size a.n a.ids.now a.coords.now (fresh a.allowance) h.result r.result a.out.now h.new.out r.new.out h.ensures r.ensures in
+    left-small a.n a.allowance (trials (queries_of a.p) a.node_size a.n a.ids.now a.coords.now) r.result a.out.now r.new.out e
 
 pub returns : goal.returns
 returns c =
     let a = c.args in
-    let room = c.part-r.auto.out ∙ c.part-h.kept.1.1.1.1.1.1.1.1.1.1.0 in
-    let w = ends a.n a.allowance (trials (queries_of a.p) a.node-size a.n a.ids.now a.coords.now) c.part-r.result
-    a.out.now (both_left c.before.before.before.before) (length a.out.now) (left c.before.before.before.before) in
-    (c.settle.ensures ∙ ap (settled_tests c.part-r.result a.allowance) room ∙ w.0, w.1)
+    let h = c.part-h in
+    let r = c.part-r in
+    let e = left a.p a.node_size a.n a.ids.now a.coords.now (fresh a.allowance) h.result r.result a.out.now h.new.out r.new.out h.ensures r.ensures in
+    let w = ends a.n a.allowance (trials (queries_of a.p) a.node_size a.n a.ids.now a.coords.now) r.result a.out.now r.new.out
+    (length a.out.now) e in
+    (c.settle.ensures ∙ ap (settled_tests r.result a.allowance) (r.auto.out ∙ h.auto.out) ∙ w.0, w.1)

@@ -1,7 +1,6 @@
 -- `settle` meets its contract, by its three ways out. Assumes nothing.
-use borrow.Author.Rules.{rules}
 use borrow.Author.Tests.{le-leb, lt-leb}
-use mathlib.Core.Path.{◌≡◌, sym, ◌∙◌}
+use mathlib.Core.Path.{sym, ◌∙◌}
 use Rattle.kdslots.specs.laws.Bounds.{yes, no}
 use Rattle.ask_effort_tests.proofs.settle.Goals as goal
 

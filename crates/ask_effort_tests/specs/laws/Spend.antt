@@ -1,7 +1,7 @@
 -- A search with an allowance, test by test, as the code has it: what it has found, may still test, and leaves in the column. The first say
 -- what the code's own functions do, and then the laws by which it goes from test to test. Assumes nothing.
-use Rattle.std.specs.Prelude.{Bool, true, false, cond, ◌≡◌, refl, List, [], ◌∷◌, ◌++◌, ℕ, suc, ◌+◌, ◌-◌, ◌≤◌, ◌<◌, ltb, eqb, set}
-use Rattle.std.proofs.Common.{sym, ap, ◌∙◌, arith}
+use Rattle.std.specs.Prelude.{Bool, true, false, cond, ◌≡◌, refl, List, [], ◌∷◌, ◌++◌, ℕ, ◌+◌, ◌-◌, ◌≤◌, ltb, eqb, set}
+use Rattle.std.proofs.Common.{ap, ◌∙◌, arith}
 use Rattle.std.proofs.lemmas.Bool.{eqb-false}
 use Rattle.ask_effort_tests.specs.declared.EffortReply.{EffortReply}
 use Rattle.ask_effort_tests.specs.declared.EffortReply.TheVariants.{Spoiled}
