@@ -1,6 +1,7 @@
 // The zooms of a build, one after the other: each marks its table, makes the next one right after it, and has that indexed.
 // Below the public surface: what is asked of the caller `supercluster::load` has shown.
 #![tactic(auto)]
+
 ghost use Rattle.std.specs.Prelude.{◌≡◌, suc, ◌+◌, ◌-◌, ◌*◌, ◌^◌, ◌<◌, ◌≤◌, length, set};
 ghost use Rattle.kdsort.specs.Lent.{given_index, lent_index_mut};
 ghost use Rattle.kdslots.specs.laws.All.{All};

@@ -1,23 +1,14 @@
 -- `build_all_zooms::run_zooms` meets its contract: at the head of the loop the table of zoom z stands indexed, and what is written with
 -- what is left to write is the whole. Assumes nothing.
-use mathlib.Core.Path.{◌≡◌, refl, ap, sym, ◌∙◌, subst}
-use Prim.Native.Nat.{ℕ, suc, ◌+◌, ◌-◌, ◌*◌, ◌^◌, ◌<◌, ◌≤◌}
-use native.Mathlib.Omega.{arith}
-use lib.ListN.{length, drop, take}
-use borrow.Author.Rules.{rules}
-use Rattle.build_tables.specs.declared.State.{State}
+use mathlib.Core.Path.{◌≡◌}
+use Prim.Native.Nat.{◌-◌, ◌≤◌}
+use lib.ListN.{length}
 use Rattle.build_tables.specs.Columns.{part}
-use Rattle.build_tables.specs.Entries.{Table}
-use Rattle.build_tables.specs.Rows.{Cols, cols, rows}
-use Rattle.build_tables.specs.laws.Rows.{Even, Kept, even-kept, kept-even, rows-length}
-use Rattle.build_tables.specs.Lent.{given}
-use Rattle.build_all_zooms.specs.Zooms.{Plan, zoom_plan, zooms_of}
+use Rattle.build_tables.specs.Rows.{cols, rows}
+use Rattle.build_tables.specs.laws.Rows.{Even}
+use Rattle.build_all_zooms.specs.Zooms.{zoom_plan}
 use Rattle.build_all_zooms.specs.laws.Running.{Running}
 use Rattle.build_all_zooms.specs.laws.Progress.{whole_progress, Progress}
-use Rattle.build_all_zooms.specs.laws.Turn.{turn-ready, turn-running, turn-progress, turn-start, turn_end}
-use Rattle.build_all_zooms.proofs.run_zooms.Tie as tie
-use Rattle.build_all_zooms.proofs.run_zooms.Reads as reads
-use Rattle.build_all_zooms.proofs.run_zooms.Lts as lts
 use Rattle.build_all_zooms.proofs.run_zooms.Given as goal
 
 abbrev pub invariant-loop-z : goal.invariant-loop-z
@@ -32,4 +23,3 @@ invariant-loop-z l =
 
 abbrev pub decreases-loop-z : goal.decreases-loop-z
 decreases-loop-z l = l.z
-

@@ -1,5 +1,5 @@
 -- The loop over the zooms: what holds of the columns between two zooms, and what a zoom does to that. Assumes nothing.
-use Rattle.std.specs.Prelude.{◌≡◌, List, [], ◌∷◌, ℕ, suc, ◌+◌, ◌-◌, ◌*◌, ◌^◌, ◌<◌, ◌≤◌, T, length, take, drop, Float}
+use Rattle.std.specs.Prelude.{◌≡◌, List, [], ◌∷◌, ℕ, suc, ◌+◌, ◌*◌, ◌^◌, ◌<◌, ◌≤◌, T, length, take, drop, Float}
 use Rattle.std.proofs.Common.{ap, sym, ◌∙◌, subst, arith, le_trans, add-suc, suc-mul, lit≤}
 use Rattle.std.proofs.Math.ListN.{length-map, get_or-map}
 use Rattle.std.specs.Float.Ieee.{le}

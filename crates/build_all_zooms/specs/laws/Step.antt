@@ -1,5 +1,5 @@
 -- A zoom of a table that stands at `start`: the rows before it stay, and from there on a scan is left. Assumes nothing.
-use Rattle.std.specs.Prelude.{◌≡◌, List, ℕ, ◌-◌, ◌≤◌, length, take, drop, Float}
+use Rattle.std.specs.Prelude.{◌≡◌, ℕ, ◌-◌, ◌≤◌, length, take, drop}
 use Rattle.std.proofs.Common.{ap, sym, ◌∙◌, arith}
 use Rattle.build_tables.specs.Entries.{Table}
 use Rattle.build_tables.specs.Rows.{Cols, rows, each2}
