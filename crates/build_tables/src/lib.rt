@@ -1,6 +1,7 @@
 // What a build is given and what it leaves: the options, the state, an entry of a table, the ids of clusters and the radius of a zoom.
 // The tables stand in seven lent columns; an entry is read and written as one record of these seven.
 #![tactic(auto)]
+
 ghost use Rattle.std.specs.Prelude.{◌≡◌, ◌&&◌, ◌+◌, ◌<◌, ◌≤◌, min, eqb, length, set};
 ghost use Rattle.build_tables.specs.Given.{setting_of, system_of};
 ghost use Rattle.build_tables.specs.Options.{options_ok, zooms_ok, radius_ok, extent_ok, table_count, raised, zoom_used};

@@ -1,7 +1,6 @@
 -- `build_tables::radius_at` meets its contract: the table's power is 2 ^ zoom. Assumes nothing.
 use mathlib.Core.Path.{ap}
 use lib.Ieee.{Float, binary64, mul, div}
-use borrow.Author.Rules.{rules}
 use Rattle.build_tables.specs.Radius.{radius_at}
 use Rattle.build_tables.proofs.radius_at.Goals as goal
 

@@ -1,5 +1,5 @@
 -- An id of a build is at least N, is not the unset parent, and gives its origin and its table back. Assumes nothing.
-use Rattle.std.specs.Prelude.{◌≡◌, ℕ, ◌+◌, ◌-◌, ◌<◌, ◌≤◌}
+use Rattle.std.specs.Prelude.{◌≡◌, ℕ, ◌+◌, ◌<◌, ◌≤◌}
 use Rattle.std.proofs.Common.{arith}
 use Rattle.build_tables.specs.Entries.{unset}
 use Rattle.build_tables.specs.Ids.{cluster_id, origin_of, table_of}

@@ -5,7 +5,6 @@ use Prim.Native.Nat.{ℕ, ◌+◌, ◌<◌, ◌≤◌}
 use native.Mathlib.Omega.{arith}
 use lib.Dec.{ltb}
 use borrow.Author.Tests.{le-ltb, ltb-false}
-use borrow.Author.Rules.{rules}
 use Rattle.build_tables.proofs.Options.zoom_used.Goals as goal
 
 low : (m z w : ℕ) → z ≡ w → z ≤ m → z ≡ cond (ltb (m + 1) w) (m + 1) w

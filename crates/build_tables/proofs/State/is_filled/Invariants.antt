@@ -1,21 +1,8 @@
--- `State::is_filled` meets its contract: past the test of the finest table, what is left to test from a table on is the whole test.
--- Assumes nothing.
-use mathlib.Core.Path.{◌≡◌, sym, ap, ◌∙◌}
-use mathlib.Core.Bool.{Bool, true, ◌&&◌}
-use mathlib.Core.List.{List}
-use Prim.Native.Nat.{ℕ, ◌+◌, ◌-◌, ◌*◌, ◌≤◌}
-use native.Mathlib.Omega.{arith}
-use lib.Dec.{eqb}
-use lib.ListN.{get_or}
-use borrow.Author.Tests.{ne_eqb, eq-eqb, not-true, not-false}
-use borrow.Author.Rules.{rules}
+-- What the loop of `State::is_filled` keeps: what is left to test from a table on is the whole test.
+use mathlib.Core.Path.{◌≡◌}
+use Prim.Native.Nat.{◌+◌, ◌*◌, ◌≤◌}
 use Rattle.build_tables.specs.Options.{table_count}
-use Rattle.build_tables.specs.State.{start_of, len_of}
-use Rattle.build_tables.specs.Sound.{is_table, table_ok, packed}
-use Rattle.build_tables.specs.laws.Sound.{packed-next, packed-last, table_is}
-use Rattle.build_tables.proofs.State.is_filled.Tie as tie
-use Rattle.build_tables.proofs.State.is_filled.Reads as reads
-use Rattle.build_tables.proofs.State.is_filled.Lts as lts
+use Rattle.build_tables.specs.Sound.{packed}
 use Rattle.build_tables.proofs.State.is_filled.Given as goal
 
 abbrev pub invariant-loop-left : goal.invariant-loop-left
@@ -25,4 +12,3 @@ invariant-loop-left l =
 
 abbrev pub decreases-loop-left : goal.decreases-loop-left
 decreases-loop-left l = l.left
-
