@@ -1,6 +1,7 @@
 // The question 'owner' to a build: the entry that owns a lamp in the table of a zoom, read from the column that the build leaves. Nothing
 // is asked of the caller: what SCOPE does not take is refused with its number.
 #![tactic(auto)]
+
 ghost use Rattle.std.specs.Prelude.{◌≡◌, true, ◌+◌, ◌<◌, ◌≤◌, length};
 ghost use Rattle.build_tables.specs.Options.{zoom_used};
 ghost use Rattle.build_tables.specs.State.{len_of};

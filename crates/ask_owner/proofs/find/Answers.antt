@@ -1,5 +1,4 @@
 -- `ask_owner::find` meets its contract: each return is a case of the definition. Assumes nothing.
-use borrow.Author.Rules.{rules}
 use borrow.Author.Tests.{lt-ltb, le-ltb}
 use Rattle.ask_owner.specs.Asked.{owner_asked}
 use Rattle.ask_owner.proofs.find.Goals as goal

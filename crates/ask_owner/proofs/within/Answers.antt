@@ -1,7 +1,6 @@
 -- `ask_owner::within` meets its contract: each return is a case of the definition. Assumes nothing.
 use mathlib.Core.Path.{◌≡◌, sym}
 use Prim.Native.Nat.{ℕ, ◌<◌, ◌≤◌}
-use borrow.Author.Rules.{rules}
 use borrow.Author.Tests.{lt-ltb, le-ltb}
 use Rattle.ask_owner.specs.declared.OwnerReply.TheVariants.{Place, Spoiled}
 use Rattle.ask_owner.specs.Asked.{owner_within}
