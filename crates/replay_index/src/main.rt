@@ -7,6 +7,7 @@
 // comparison is the equation of its definition in specs/, and the score is right. Assumed: what standard input gives is not modelled, so
 // that the loops that read are only proved to be safe.
 #![tactic(auto)]
+
 ghost use Rattle.std.specs.Prelude.{◌≡◌, ◌*◌, ◌≤◌, length};
 ghost use Rattle.replay_vectors.specs.Scores.{ending_is};
 ghost use Rattle.kdbush.specs.Reply.{searched, column_after};

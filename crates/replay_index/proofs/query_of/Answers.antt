@@ -1,6 +1,5 @@
 -- `replay_index::query_of` meets its contract, by what the callee says of each number. Assumes nothing.
 use borrow.Author.Tests.{eq-eqb, ne_eqb}
-use borrow.Author.Rules.{rules}
 use Rattle.replay_index.proofs.query_of.Goals as goal
 
 pub returns-then-kind-eq0 : goal.returns-then-kind-eq0

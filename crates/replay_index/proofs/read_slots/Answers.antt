@@ -1,9 +1,6 @@
 -- `replay_index::read_slots` is safe, and ends. Assumes nothing.
-use Prim.Native.Nat.{◌-◌, ◌≤◌}
 use native.Mathlib.Omega.{arith}
-use mathlib.Core.Path.{◌≡◌, refl}
-use lib.ListN.{length}
-use borrow.Author.Rules.{rules}
+use mathlib.Core.Path.{refl}
 use Rattle.replay_index.proofs.read_slots.Goals as goal
 
 pub loop-i-init : goal.loop-i-init

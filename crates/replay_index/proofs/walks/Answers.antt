@@ -1,20 +1,11 @@
 -- `replay_index::walks` meets its contract. The loop's invariant: what remains of the walk decides the whole. Assumes nothing.
-use Prim.Native.Nat.{◌-◌, ◌≤◌}
 use native.Mathlib.Omega.{arith}
-use mathlib.Core.Path.{◌≡◌, sym, ◌∙◌}
-use Rattle.kdwalk.specs.Reply.{after_step}
-use Rattle.replay_index.specs.Same.{walked_slots, walks_to}
+use mathlib.Core.Path.{sym, ◌∙◌}
 use Rattle.replay_index.proofs.Laws.{walk-starts, walk_none, walk-other, walk_more, walk_ends}
 use Rattle.replay_index.proofs.walks.Goals as goal
 
-pub first-step-requires : goal.first-step-requires
-first-step-requires c = tt
-
 pub loop-i-init : goal.loop-i-init
 loop-i-init c = (omega arith, walk-starts _ _ _ _ _ _ _ _ c.first-step.ensures)
-
-pub slot_of-s-requires : goal.slot_of-s-requires
-slot_of-s-requires c = tt
 
 pub returns-then-ids-s : goal.returns-then-ids-s
 returns-then-ids-s c = sym (walk_none _ _ _ _ _ _ _ c.slot_of-s.ensures c.loop-i-test.true c.if-ids-s.true)
@@ -25,9 +16,6 @@ returns-then-ids-s-2 c = sym (walk-other _ _ _ _ _ _ _ c.slot_of-s.ensures
     c.loop-i-test.true c.if-ids-s.false c.if-ids-s-2.true)
     ∙ c.loop-i.invariant.1
 
-pub after-step-requires : goal.after-step-requires
-after-step-requires c = tt
-
 pub loop-i-preserved : goal.loop-i-preserved
 loop-i-preserved c = (
   omega arith,
@@ -36,9 +24,6 @@ loop-i-preserved c = (
       c.loop-i-test.true c.if-ids-s.false
       c.if-ids-s-2.false) ∙ c.loop-i.invariant.1),
 )
-
-pub is_over-requires : goal.is_over-requires
-is_over-requires c = tt
 
 pub returns : goal.returns
 returns c = c.is_over.ensures ∙ (sym (walk_ends _ _ _ _ _ _ c.loop-i-test.false) ∙ c.loop-i.invariant.1)

@@ -1,10 +1,8 @@
 -- `replay_index::walks` meets its contract. The loop's invariant: what remains of the walk decides the whole. Assumes nothing.
 use Prim.Native.Nat.{◌-◌, ◌≤◌}
-use native.Mathlib.Omega.{arith}
-use mathlib.Core.Path.{◌≡◌, sym, ◌∙◌}
+use mathlib.Core.Path.{◌≡◌}
 use Rattle.kdwalk.specs.Reply.{after_step}
 use Rattle.replay_index.specs.Same.{walked_slots, walks_to}
-use Rattle.replay_index.proofs.Laws.{walk-starts, walk_none, walk-other, walk_more, walk_ends}
 use Rattle.replay_index.proofs.walks.Given as goal
 
 abbrev pub invariant-loop-i : goal.invariant-loop-i
@@ -13,4 +11,3 @@ invariant-loop-i l = (l.i ≤ l.m)
 
 abbrev pub decreases-loop-i : goal.decreases-loop-i
 decreases-loop-i l = l.m - l.i
-
