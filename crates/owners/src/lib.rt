@@ -1,6 +1,7 @@
 // The public build: that of `supercluster`, with the owner column filled beside its tables, and one owner for every lamp as what it
 // ensures: demand 3 in the contract of the code that runs. The statements are in specs/Owners and specs/KeptOwners.
 #![tactic(auto)]
+
 ghost use Rattle.std.specs.Prelude.{◌≡◌, ℕ};
 ghost use Rattle.supercluster.specs.declared.LoadReply.TheVariants.{Done};
 ghost use Rattle.supercluster.specs.Build.{outcome};

@@ -12,9 +12,9 @@ use Rattle.ask_base.specs.Asked.{Asked, told, answer_of, column_of}
 use Rattle.build_tables.specs.Room.{Columns}
 use Rattle.ask_base.specs.Columns.{table_at}
 use Rattle.ask_cluster.specs.Leaves.{leaves_of}
-use Rattle.supercluster.specs.Build.{BuildColumns, Outcome, need}
+use Rattle.supercluster.specs.Build.{BuildColumns, need}
 use Rattle.supercluster.specs.laws.Load.{Holds}
-use Rattle.law_builds.specs.Given.{Given, given_build, AcceptedBuild, points, min_z, max_z, energy_at}
+use Rattle.law_builds.specs.Given.{Given, AcceptedBuild, points, min_z, max_z, energy_at}
 use Rattle.law_builds.specs.Came.{table_of_zoom as built}
 use Rattle.law_builds.specs.Identities.{Known, identities}
 use Rattle.law_lamps.specs.Owner.{owner_up, owner, lamps_of}
