@@ -1,6 +1,5 @@
 -- `build_owners::lead` meets its contract: at the head of the loop the entry with the id c began with the same lamp, come to in so many
--- steps as
--- are left. Assumes nothing.
+-- steps as are left. Assumes nothing.
 use mathlib.Core.Path.{◌≡◌}
 use Prim.Native.Nat.{◌≤◌}
 use Rattle.build_tables.specs.Rows.{cols, rows}
