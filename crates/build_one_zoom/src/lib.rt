@@ -2,6 +2,7 @@
 // copied with them. The table stands in the first `len` rows of the lent columns, and the next one, `done` entries so far, right after
 // it. An entry is read as one record.
 #![tactic(auto)]
+
 ghost use Rattle.std.specs.Prelude.{◌≡◌, List, ◌++◌, ℕ, ◌+◌, ◌-◌, ◌*◌, ◌^◌, ◌<◌, ◌≤◌, T, length, get_or, take};
 ghost use Rattle.std.specs.Float.Ieee.Scale.{finite};
 ghost use Rattle.kdsort.specs.Cols.{key};

@@ -1,19 +1,11 @@
 -- `build_one_zoom::absorb_near` meets its contract: at the head of the loop the columns and the sums so far absorb the remaining neighbours
 -- to what the first ones absorb all to. Assumes nothing.
-use mathlib.Core.Path.{◌≡◌, refl, ap, sym, ◌∙◌, subst}
-use Prim.Native.Nat.{ℕ, ◌+◌, ◌-◌, ◌^◌, ◌<◌}
-use native.Mathlib.Omega.{arith}
-use lib.ListN.{length, get_or, drop}
-use borrow.Author.Rules.{rules}
-use Rattle.kdslots.specs.laws.All.{below_at}
-use Rattle.build_tables.specs.Lent.{given}
-use Rattle.build_tables.specs.Rows.{Cols, cols, rows}
-use Rattle.build_tables.specs.laws.Rows.{Even, with_seen, with_parent, even-seen, even-parent}
-use Rattle.build_one_zoom.specs.Zoom.{energy_of, more_of, Absorbed, absorbed, absorb}
-use Rattle.build_one_zoom.specs.laws.Turns.{more_turn, absorb-front, absorb-end, absorb-fits}
-use Rattle.build_one_zoom.proofs.absorb_near.Tie as tie
-use Rattle.build_one_zoom.proofs.absorb_near.Reads as reads
-use Rattle.build_one_zoom.proofs.absorb_near.Lts as lts
+use mathlib.Core.Path.{◌≡◌}
+use Prim.Native.Nat.{◌+◌, ◌-◌, ◌^◌, ◌<◌}
+use lib.ListN.{length, drop}
+use Rattle.build_tables.specs.Rows.{cols, rows}
+use Rattle.build_tables.specs.laws.Rows.{Even}
+use Rattle.build_one_zoom.specs.Zoom.{energy_of, more_of, absorbed, absorb}
 use Rattle.build_one_zoom.proofs.absorb_near.Given as goal
 
 abbrev pub invariant-loop-j : goal.invariant-loop-j
@@ -25,4 +17,3 @@ invariant-loop-j l =
 
 abbrev pub decreases-loop-j : goal.decreases-loop-j
 decreases-loop-j l = length l.near - l.j
-

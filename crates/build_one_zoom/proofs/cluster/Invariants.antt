@@ -1,28 +1,15 @@
 -- `build_one_zoom::cluster` meets its contract: at the head of the loop what is still to be scanned leads to the definition's scan, there
 -- is room for what it can make, every entry of the table is at a finite place, and the notes are those of the table. Assumes nothing.
-use mathlib.Core.Path.{◌≡◌, refl, ap, sym, ◌∙◌, subst}
-use mathlib.Core.List.{List}
-use Prim.Native.Nat.{ℕ, ◌-◌}
-use native.Mathlib.Omega.{arith}
+use mathlib.Core.Path.{◌≡◌}
+use Prim.Native.Nat.{◌-◌}
 use lib.ListN.{length, take}
-use lib.Ieee.{Float}
-use borrow.Author.Rules.{rules}
 use Rattle.kdslots.specs.laws.All.{All}
-use Rattle.build_tables.specs.Entries.{Table}
-use Rattle.build_tables.specs.Lent.{given}
-use Rattle.build_tables.specs.Rows.{Cols, cols, rows}
-use Rattle.build_tables.specs.laws.Rows.{Even, Kept, even-kept, kept-even, rows-length}
-use Rattle.build_one_zoom.specs.laws.Back.{last_cols, kept_cols}
-use Rattle.build_one_zoom.specs.Zoom.{num_of, energy_of, Scan}
-use Rattle.build_one_zoom.specs.Scanned.{scan_of}
+use Rattle.build_tables.specs.Rows.{cols, rows}
+use Rattle.build_tables.specs.laws.Rows.{Even}
 use Rattle.build_one_zoom.specs.Near.{near_of}
 use Rattle.build_one_zoom.specs.laws.Near.{Placed}
-use Rattle.build_one_zoom.specs.laws.Keeps.{Keeps, kept-all, keep_one}
-use Rattle.build_one_zoom.specs.laws.Notes.{Noted, noted-same, kept-noted}
-use Rattle.build_one_zoom.specs.laws.Scanning.{Scanning, scanning-start, scanning-step, scanning-end}
-use Rattle.build_one_zoom.proofs.cluster.Tie as tie
-use Rattle.build_one_zoom.proofs.cluster.Reads as reads
-use Rattle.build_one_zoom.proofs.cluster.Lts as lts
+use Rattle.build_one_zoom.specs.laws.Notes.{Noted}
+use Rattle.build_one_zoom.specs.laws.Scanning.{Scanning}
 use Rattle.build_one_zoom.proofs.cluster.Given as goal
 
 abbrev pub invariant-loop-i : goal.invariant-loop-i
@@ -35,4 +22,3 @@ invariant-loop-i l =
 
 abbrev pub decreases-loop-i : goal.decreases-loop-i
 decreases-loop-i l = l.len - l.i
-

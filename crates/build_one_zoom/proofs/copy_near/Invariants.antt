@@ -1,19 +1,11 @@
 -- `build_one_zoom::copy_near` meets its contract: at the head of the loop the copies so far and those that remain are the definition's, and
 -- there is room for what can yet be copied. Assumes nothing.
-use mathlib.Core.Path.{◌≡◌, refl, sym, ◌∙◌}
-use Prim.Native.Nat.{ℕ, ◌-◌, ◌<◌}
-use native.Mathlib.Omega.{arith}
-use lib.ListN.{length, get_or}
-use borrow.Author.Rules.{rules}
-use Rattle.kdslots.specs.laws.All.{below_at}
-use Rattle.build_tables.specs.Lent.{given}
-use Rattle.build_tables.specs.Rows.{Cols, cols, rows}
-use Rattle.build_tables.specs.laws.Rows.{Even, Kept, even-kept, kept-even, rows-length}
-use Rattle.build_one_zoom.specs.laws.Back.{last_cols, kept_cols}
-use Rattle.build_one_zoom.specs.laws.Turns.{Copying, copying-start, copying-step, copying-end}
-use Rattle.build_one_zoom.proofs.copy_near.Tie as tie
-use Rattle.build_one_zoom.proofs.copy_near.Reads as reads
-use Rattle.build_one_zoom.proofs.copy_near.Lts as lts
+use mathlib.Core.Path.{◌≡◌}
+use Prim.Native.Nat.{◌-◌}
+use lib.ListN.{length}
+use Rattle.build_tables.specs.Rows.{cols, rows}
+use Rattle.build_tables.specs.laws.Rows.{Even}
+use Rattle.build_one_zoom.specs.laws.Turns.{Copying}
 use Rattle.build_one_zoom.proofs.copy_near.Given as goal
 
 abbrev pub invariant-loop-j : goal.invariant-loop-j
@@ -23,4 +15,3 @@ invariant-loop-j l =
 
 abbrev pub decreases-loop-j : goal.decreases-loop-j
 decreases-loop-j l = length l.near - l.j
-

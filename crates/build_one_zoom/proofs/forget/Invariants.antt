@@ -1,9 +1,7 @@
 -- `build_one_zoom::forget` meets its contract: at the head of the loop the first i notes are zeros. Assumes nothing.
-use mathlib.Core.Path.{◌≡◌, refl, ◌∙◌}
+use mathlib.Core.Path.{◌≡◌}
 use Prim.Native.Nat.{ℕ, ◌+◌, ◌-◌, ◌<◌, ◌≤◌}
-use native.Mathlib.Omega.{arith}
-use lib.ListN.{length, get_or, length-set}
-use Rattle.build_one_zoom.specs.laws.Notes.{cleared_more}
+use lib.ListN.{length, get_or}
 use Rattle.build_one_zoom.proofs.forget.Given as goal
 
 abbrev pub invariant-loop-i : goal.invariant-loop-i
@@ -11,4 +9,3 @@ invariant-loop-i l = (l.i ≤ l.len) × (length l.near ≡ length l.initial.near
 
 abbrev pub decreases-loop-i : goal.decreases-loop-i
 decreases-loop-i l = l.len - l.i
-

@@ -1,18 +1,11 @@
 -- `build_one_zoom::note_all` meets its contract: at the head of the loop every note that there is, is the answer at its entry. Assumes
 -- nothing.
-use mathlib.Core.Path.{◌≡◌, refl, ◌∙◌}
-use mathlib.Core.List.{List}
-use Prim.Native.Nat.{ℕ, ◌+◌, ◌-◌, ◌<◌, ◌≤◌}
-use native.Mathlib.Omega.{arith}
-use lib.ListN.{length, get_or, set, length-set}
-use lib.Ieee.{Float}
-use borrow.Author.Rules.{rules}
+use mathlib.Core.Path.{◌≡◌}
+use Prim.Native.Nat.{◌-◌, ◌≤◌}
+use lib.ListN.{length}
 use Rattle.build_tables.specs.Entries.{Table}
 use Rattle.build_one_zoom.specs.Near.{near_of}
-use Rattle.build_one_zoom.specs.laws.Notes.{Noted, Slotted, owned_in, noted-none, noted-slot}
-use Rattle.build_one_zoom.proofs.note_all.Tie as tie
-use Rattle.build_one_zoom.proofs.note_all.Reads as reads
-use Rattle.build_one_zoom.proofs.note_all.Lts as lts
+use Rattle.build_one_zoom.specs.laws.Notes.{Noted, Slotted}
 use Rattle.build_one_zoom.proofs.note_all.Given as goal
 
 abbrev pub invariant-loop-s : goal.invariant-loop-s
@@ -22,4 +15,3 @@ invariant-loop-s l =
 
 abbrev pub decreases-loop-s : goal.decreases-loop-s
 decreases-loop-s l = l.len - l.s
-

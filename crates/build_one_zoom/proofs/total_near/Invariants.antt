@@ -1,20 +1,10 @@
 -- `build_one_zoom::total_near` meets its contract: at the head of the loop the total so far and what the remaining neighbours add are the
 -- whole total. Assumes nothing.
-use mathlib.Core.Path.{◌≡◌, refl, ap, ◌∙◌}
-use Prim.Native.Nat.{ℕ, ◌+◌, ◌-◌, ◌<◌}
-use native.Mathlib.Omega.{arith}
-use lib.ListN.{length, get_or, drop}
-use borrow.Author.Rules.{rules}
-use Rattle.kdslots.specs.laws.All.{below_at}
-use Rattle.build_tables.specs.declared.Entry.{Entry}
-use Rattle.build_tables.specs.Entries.{Table, entry}
-use Rattle.build_tables.specs.Lent.{given}
+use mathlib.Core.Path.{◌≡◌}
+use Prim.Native.Nat.{◌+◌, ◌-◌}
+use lib.ListN.{length, drop}
 use Rattle.build_tables.specs.Rows.{cols, rows}
-use Rattle.build_one_zoom.specs.Zoom.{num_of, adds, more}
-use Rattle.build_one_zoom.specs.laws.Turns.{more_turn, more-end}
-use Rattle.build_one_zoom.proofs.total_near.Tie as tie
-use Rattle.build_one_zoom.proofs.total_near.Reads as reads
-use Rattle.build_one_zoom.proofs.total_near.Lts as lts
+use Rattle.build_one_zoom.specs.Zoom.{more}
 use Rattle.build_one_zoom.proofs.total_near.Given as goal
 
 abbrev pub invariant-loop-j : goal.invariant-loop-j
@@ -24,4 +14,3 @@ invariant-loop-j l =
 
 abbrev pub decreases-loop-j : goal.decreases-loop-j
 decreases-loop-j l = length l.near - l.j
-

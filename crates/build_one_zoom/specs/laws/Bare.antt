@@ -1,18 +1,18 @@
 -- Energies decide nothing: a zoom of a table without its energies is the zoom of the table, without them. Assumes nothing.
 use Rattle.std.specs.Prelude.{◌≡◌, Bool, true, false, length, set, Float}
 use Rattle.std.proofs.Math.Path.{refl, ap}
-use Rattle.std.proofs.Common.{sym, ap₂, ◌∙◌, ltb-true, ltb-false, arith}
+use Rattle.std.proofs.Common.{sym, ap₂, ◌∙◌, ltb-true, ltb-false}
 use mathlib.Core.List.{List, [], ◌∷◌, ◌++◌, map}
-use Prim.Native.Nat.{ℕ, zero, suc, ◌+◌, ◌<◌}
+use Prim.Native.Nat.{ℕ, zero, suc, ◌<◌}
 use Rattle.std.proofs.Math.ListN.{get_or-map}
 use Rattle.std.proofs.lemmas.List.{length-map}
 use Rattle.build_tables.specs.declared.Entry.{Entry}
 use Rattle.build_tables.specs.Entries.{Table, entry, none, unseen, marked, under}
 use Rattle.build_tables.specs.Ids.{cluster_id}
-use Rattle.build_one_zoom.specs.Zoom.{more_of, more, num_of, Absorbed, absorb_one, absorb, started, centre, Scan, made, made_at, copy_one}
+use Rattle.build_one_zoom.specs.Zoom.{more_of, more, Absorbed, absorb_one, absorb, started, centre, Scan, made, made_at, copy_one}
 use Rattle.build_one_zoom.specs.Zoom.{copy_all}
 use Rattle.build_one_zoom.specs.Zoom.{left_at, enough, visit, mark_at, scan_one, scan_from, cluster}
-use Rattle.build_one_zoom.specs.laws.Steps.{joined_step, absorb_one-yes, absorb_one-no, copied_one, copy_one-yes, copy_one-no, total_of}
+use Rattle.build_one_zoom.specs.laws.Steps.{absorb_one-yes, absorb_one-no, copy_one-yes, copy_one-no, total_of}
 use Rattle.build_one_zoom.specs.laws.Steps.{visit-made}
 use Rattle.build_one_zoom.specs.laws.Steps.{visit-left, scan-seen, scan-visit}
 
