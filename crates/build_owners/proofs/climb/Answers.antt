@@ -10,7 +10,8 @@ entry_at-e-requires c =
     let a = c.args in
     let l = c.loop-l in
     let h : l.l < a.n = omega arith in
-    let k : c.wide-k.result ≡ get_or a.owners.now (a.at + l.l) 0 = c.wide-k.ensures ∙ l.invariant.3.kept (a.at + l.l) (inl (omega arith)) in (
+    let k : c.wide-k.result ≡ get_or a.owners.now (a.at + l.l) 0 = c.wide-k.ensures
+    ∙ l.invariant.3.kept (a.at + l.l) (inl (omega arith)) in (
       c.requires.0,
       omega (arith, k, c.requires.1.inside l.l h, rows-length (given a.x a.y a.seen a.id a.parent a.num a.energy)),
     )
