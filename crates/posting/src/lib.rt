@@ -1,6 +1,7 @@
 // Posting a reading: a corrected figure of one lamp replaces the old one in the energy of each of the lamp's owners, without a new build.
 // Nothing is asked of the caller: what SCOPE does not take is refused with its number, before anything is written.
 #![tactic(auto)]
+
 ghost use Rattle.std.specs.Prelude.{◌≡◌, true, ◌<◌, ◌≤◌, length};
 ghost use Rattle.build_tables.specs.Options.{table_count};
 ghost use Rattle.build_tables.specs.laws.Sound.{Stands};

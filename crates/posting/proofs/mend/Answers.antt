@@ -1,73 +1,73 @@
 -- `posting::mend` meets its contract: the sum stands in the column, has the old figure in it, and fits with the new one. Assumes nothing.
 use mathlib.Core.Path.{◌≡◌, ap, ap₂}
+use mathlib.Core.Bool.{true}
+use mathlib.Core.List.{List}
 use Prim.Native.Nat.{ℕ, ◌+◌, ◌-◌, ◌<◌, ◌≤◌}
 use native.Mathlib.Omega.{arith}
 use lib.ListN.{length, get_or, set}
-use borrow.Author.Rules.{rules}
-use Rattle.posting.specs.Post.{sum_spot}
-use Rattle.posting.specs.laws.Mends.{Takes, mends-takes}
-use Rattle.posting.proofs.mend.Tie as tie
-use Rattle.posting.proofs.mend.Reads as reads
-use Rattle.posting.proofs.mend.Lts as lts
+use Rattle.build_tables.specs.declared.State.{State}
+use Rattle.build_tables.specs.State.{start_of}
+use Rattle.build_tables.specs.laws.Sound.{Stands}
+use Rattle.posting.specs.Post.{owner_by, sum_spot, mends}
+use Rattle.posting.specs.laws.Mends.{mends-takes}
 use Rattle.posting.proofs.mend.Goals as goal
 
-abbrev In-After-owner_by : Type 0
-In-After-owner_by = lts.After-owner_by tie.the-claims reads.Pre reads.Post
+-- where the sum stands, by the start of the table and the owner's place, as they were read
+module _ (s : State) (owners : List ℕ) (lamp z from p : ℕ) (starts : from ≡ start_of s z) (is : p ≡ owner_by s owners lamp z) where
+  at-is : from + p ≡ sum_spot s owners lamp z
+  at-is = ap₂ (λ (i j : ℕ). i + j) starts is
 
-abbrev at : In-After-owner_by → ℕ
-at c = let w : tie.After-start-of = search in w.start-of.result + c.owner_by.result
+  module _ (energy : List ℕ) (before figure : ℕ) (able : mends s owners lamp before figure energy z ≡ true) where
+    inside : Stands s (length energy) z → from + p < length energy
+    inside t = omega (arith, at-is, (mends-takes s owners lamp before figure energy z able).place, t.ends)
 
-at-is : (c : In-After-owner_by) → let a = c.args in at c ≡ sum_spot a.s a.owners.now a.lamp a.z
-at-is c = let w : tie.After-start-of = search in ap₂ (λ (i j : ℕ). i + j) w.start-of.ensures c.owner_by.ensures
+    -- what stands there
+    has : before ≤ get_or energy (from + p) 0
+    has = omega (arith, (mends-takes s owners lamp before figure energy z able).has, ap (λ (i : ℕ). get_or energy i 0) at-is)
 
-known : (c : In-After-owner_by) → let a = c.args in
-    Takes a.s a.owners.now a.lamp a.before a.figure a.energy.now a.z
-known c = mends-takes _ _ _ _ _ _ _ c.requires.2
-
-inside : (c : In-After-owner_by) → at c < length c.args.energy.now
-inside c = omega (arith, at-is c, (known c).place, c.requires.1.ends)
-
--- what stands there
-has : (c : In-After-owner_by) → let a = c.args in a.before ≤ get_or a.energy.now (at c) 0
-has c =
-    let a = c.args in
-    omega (arith, (known c).has, ap (λ (i : ℕ). get_or a.energy.now i 0) (at-is c))
-
-room : (c : In-After-owner_by) → let a = c.args in
-    get_or a.energy.now (at c) 0 - a.before + a.figure < 18446744073709551616
-room c =
-    let a = c.args in
-    omega (arith, (known c).ranges, ap (λ (i : ℕ). get_or a.energy.now i 0) (at-is c))
+    room : get_or energy (from + p) 0 - before + figure < 18446744073709551616
+    room = omega (arith, (mends-takes s owners lamp before figure energy z able).fits, ap (λ (i : ℕ). get_or energy i 0) at-is)
 
 pub start_of-requires : goal.start_of-requires
-start_of-requires c = let s : tie.Start = search in s.pre.0.small
+start_of-requires c = c.requires.0.small
 
 pub owner_by-requires : goal.owner_by-requires
-owner_by-requires c = let s : tie.Start = search in s.pre.0
+owner_by-requires c = c.requires.0
 
 pub overflow_add-at : goal.overflow_add-at
-overflow_add-at c = omega (arith, inside c.before, c.well-formed)
-
-pub offset_bounds-energy-at : goal.offset_bounds-energy-at
-offset_bounds-energy-at c = let w : tie.After-owner-by = search in omega (arith, inside w, (start-of w).good)
+overflow_add-at c =
+    let a = c.args in
+    let i = inside a.s a.owners.now a.lamp a.z c.start_of.result c.owner_by.result c.start_of.ensures c.owner_by.ensures
+    a.energy.now a.before a.figure c.requires.2 c.requires.1 in
+    omega (arith, i)
 
 pub bounds-energy-at : goal.bounds-energy-at
-bounds-energy-at c = let w : tie.After-owner-by = search in inside w
+bounds-energy-at c =
+    let a = c.args in
+    inside a.s a.owners.now a.lamp a.z c.start_of.result c.owner_by.result c.start_of.ensures c.owner_by.ensures
+    a.energy.now a.before a.figure c.requires.2 c.requires.1
 
 pub overflow_sub-energy : goal.overflow_sub-energy
-overflow_sub-energy c = let w : tie.After-owner-by = search in has w
+overflow_sub-energy c =
+    let a = c.args in
+    has a.s a.owners.now a.lamp a.z c.start_of.result c.owner_by.result c.start_of.ensures c.owner_by.ensures
+    a.energy.now a.before a.figure c.requires.2
 
 pub overflow_add-energy : goal.overflow_add-energy
-overflow_add-energy c = let w : tie.After-owner-by = search in omega (arith, room w)
-
-pub offset_bounds-energy-at-2 : goal.offset_bounds-energy-at-2
-offset_bounds-energy-at-2 c = let w : tie.After-owner-by = search in omega (arith, inside w, (start-of w).good)
+overflow_add-energy c =
+    let a = c.args in
+    let r = room a.s a.owners.now a.lamp a.z c.start_of.result c.owner_by.result c.start_of.ensures c.owner_by.ensures
+    a.energy.now a.before a.figure c.requires.2 in
+    omega (arith, r)
 
 pub bounds-energy-at-2 : goal.bounds-energy-at-2
-bounds-energy-at-2 c = let w : tie.After-owner-by = search in inside w
+bounds-energy-at-2 c =
+    let a = c.args in
+    inside a.s a.owners.now a.lamp a.z c.start_of.result c.owner_by.result c.start_of.ensures c.owner_by.ensures
+    a.energy.now a.before a.figure c.requires.2 c.requires.1
 
 pub returns : goal.returns
 returns c =
-    let w : tie.After-owner-by = search in
-    let a = (start-of w).args in
-    ap (λ (i : ℕ). set a.energy.now i (get_or a.energy.now i 0 - a.before + a.figure)) (at-is w)
+    let a = c.args in
+    ap (λ (i : ℕ). set a.energy.now i (get_or a.energy.now i 0 - a.before + a.figure))
+    (at-is a.s a.owners.now a.lamp a.z c.start_of.result c.owner_by.result c.start_of.ensures c.owner_by.ensures)

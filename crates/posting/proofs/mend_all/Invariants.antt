@@ -1,19 +1,8 @@
--- `posting::mend_all` meets its contract: at the head of the loop the tables from z up are mended, and the others still can be. Assumes
--- nothing.
-use mathlib.Core.Path.{◌≡◌, refl, ap, sym, ◌∙◌, subst}
-use mathlib.Core.Bool.{true}
-use Prim.Native.Nat.{ℕ, ◌+◌, ◌-◌, ◌≤◌}
-use native.Mathlib.Omega.{arith}
+-- What the loop of `posting::mend_all` keeps: at its head the tables from z up are mended, and the others still can be.
+use mathlib.Core.Path.{◌≡◌}
+use Prim.Native.Nat.{◌+◌, ◌-◌, ◌≤◌}
 use lib.ListN.{length}
-use borrow.Author.Rules.{rules}
-use Rattle.kdslots.specs.laws.Bounds.{and_both}
-use Rattle.build_tables.specs.Options.{table_count}
-use Rattle.build_tables.specs.laws.Sound.{GivenState, given, Stands}
-use Rattle.posting.specs.Post.{mends, mended_at}
-use Rattle.posting.specs.laws.Mends.{ready-spot, ready-stands, Mending, mending-first, mending-able, mending-next, mending-last}
-use Rattle.posting.proofs.mend_all.Tie as tie
-use Rattle.posting.proofs.mend_all.Reads as reads
-use Rattle.posting.proofs.mend_all.Lts as lts
+use Rattle.posting.specs.laws.Mends.{Mending}
 use Rattle.posting.proofs.mend_all.Given as goal
 
 abbrev pub invariant-loop-z : goal.invariant-loop-z
@@ -23,4 +12,3 @@ invariant-loop-z l =
 
 abbrev pub decreases-loop-z : goal.decreases-loop-z
 decreases-loop-z l = l.z
-
