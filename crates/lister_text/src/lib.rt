@@ -2,6 +2,7 @@
 // with these values if and only if it is the writing of these values, and every other text is refused and leaves the columns as they
 // were. Nothing is asked of the caller. Assumed: nothing.
 #![tactic(auto)]
+
 ghost use Rattle.std.specs.Prelude.{◌≡◌, ◌<◌, ◌≤◌, drop};
 ghost use Rattle.lister_text.specs.laws.Scan.{starts_with, more_text, number_of, line_of, value_in};
 ghost use Rattle.lister_text.specs.laws.Form.{head_of_text, count_in, point_of, points_ok, filled_form};
@@ -82,6 +83,11 @@ fn starts(s: &[u8], at: usize, key: &[u8]) -> bool
     true
 }
 
+// What a number has to be at least, and may be at most, for a digit more: none begins with 0, and none has eight digits.
+const LEAST: u32 = 1;
+
+const MOST: u32 = 999999;
+
 // The rest of a number whose first digit is read, up to its line's end: no digit after a 0, at most seven digits.
 fn more(s: &[u8], from: usize, first: u32) -> Value
     requires { first < 10 }
@@ -104,10 +110,10 @@ fn more(s: &[u8], from: usize, first: u32) -> Value
         if 57 < c {
             return Value::Bad;
         }
-        if v < 1 {
+        if v < LEAST {
             return Value::Bad;
         }
-        if 999999 < v {
+        if MOST < v {
             return Value::Bad;
         }
         v = v * 10 + wide(c - 48);

@@ -1,10 +1,7 @@
 -- `lister_text::fill` meets its contract: what is left of the points fills the columns from i on. Assumes nothing.
-use mathlib.Core.Path.{◌≡◌, refl, sym, ◌∙◌}
-use Prim.Native.Nat.{◌+◌, ◌≤◌}
+use mathlib.Core.Path.{refl, sym, ◌∙◌}
 use native.Mathlib.Omega.{arith}
-use borrow.Author.Rules.{rules}
-use Rattle.lister_text.specs.Text.{point_cols}
-use Rattle.lister_text.specs.laws.Form.{filled_form, filled-step, filled-end}
+use Rattle.lister_text.specs.laws.Form.{filled-step, filled-end}
 use Rattle.lister_text.proofs.fill.Goals as goal
 
 pub loop-left-init : goal.loop-left-init
@@ -15,7 +12,7 @@ read_point-requires c = tt
 
 pub returns-in_default : goal.returns-in_default
 returns-in_default c =
-    sym (filled-step _ _ _ _ _ _ c.loop-left-test.true (sym c.read_point.ensures ∙ c.enum_told-1.given.1)) ∙ c.loop-left.invariant.0
+    sym (filled-step _ _ _ _ _ _ c.loop-left-test.true (sym c.read_point.ensures ∙ c.in_default.is)) ∙ c.loop-left.invariant.0
 
 pub coordinate-requires : goal.coordinate-requires
 coordinate-requires c = tt
@@ -24,12 +21,11 @@ pub coordinate-requires-in-loop-left : goal.coordinate-requires-in-loop-left
 coordinate-requires-in-loop-left c = tt
 
 pub loop-left-preserved : goal.loop-left-preserved
-loop-left-preserved c =
-    (
-      rw (c.coordinate.ensures, c.coordinate-in-loop-left.ensures)
-          (sym (filled-step _ _ _ _ _ _ c.loop-left-test.true (sym c.read_point.ensures ∙ c.x-1.given.1)) ∙ c.loop-left.invariant.0),
-      omega arith,
-    )
+loop-left-preserved c = (
+  rw (c.coordinate.ensures, c.coordinate-in-loop-left.ensures)
+      (sym (filled-step _ _ _ _ _ _ c.loop-left-test.true (sym c.read_point.ensures ∙ c.in-Stands.is)) ∙ c.loop-left.invariant.0),
+  omega arith,
+)
 
 pub returns : goal.returns
 returns c = sym (filled-end _ _ _ _ _ c.loop-left-test.false) ∙ c.loop-left.invariant.0

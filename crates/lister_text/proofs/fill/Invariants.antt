@@ -1,10 +1,8 @@
 -- `lister_text::fill` meets its contract: what is left of the points fills the columns from i on. Assumes nothing.
-use mathlib.Core.Path.{◌≡◌, refl, sym, ◌∙◌}
+use mathlib.Core.Path.{◌≡◌}
 use Prim.Native.Nat.{◌+◌, ◌≤◌}
-use native.Mathlib.Omega.{arith}
-use borrow.Author.Rules.{rules}
 use Rattle.lister_text.specs.Text.{point_cols}
-use Rattle.lister_text.specs.laws.Form.{filled_form, filled-step, filled-end}
+use Rattle.lister_text.specs.laws.Form.{filled_form}
 use Rattle.lister_text.proofs.fill.Given as goal
 
 abbrev pub invariant-loop-left : goal.invariant-loop-left
@@ -13,4 +11,3 @@ invariant-loop-left l =
 
 abbrev pub decreases-loop-left : goal.decreases-loop-left
 decreases-loop-left l = l.left
-

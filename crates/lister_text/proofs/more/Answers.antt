@@ -1,8 +1,6 @@
 -- `lister_text::more` meets its contract: what is left of the number decides. Assumes nothing.
-use Prim.Native.Nat.{◌-◌, ◌≤◌}
-use mathlib.Core.Path.{◌≡◌, refl, sym, ◌∙◌}
+use mathlib.Core.Path.{refl, sym, ◌∙◌}
 use native.Mathlib.Omega.{arith}
-use lib.ListN.{length, drop}
 use borrow.Author.Tests.{eq-eqb, ne_eqb, lt-ltb, le-ltb}
 use Rattle.lister_text.specs.laws.Scan.{more_text, more-here, more-short}
 use Rattle.lister_text.proofs.more.Goals as goal
@@ -27,23 +25,23 @@ returns-then-c-gt57 c =
     sym (more-here c.args.s.now c.loop-at.at c.loop-at.v (omega arith)
     ∙ simp (ne_eqb _ _ c.if-c-eq10.false, le-ltb _ _ c.if-c-lt48.false, lt-ltb _ _ c.if-c-gt57.true)) ∙ c.loop-at.invariant.0
 
-pub returns-then-v-lt1 : goal.returns-then-v-lt1
+pub returns-then-v-lt-LEAST : goal.returns-then-v-lt-LEAST
 unfolding more_text
-returns-then-v-lt1 c =
+returns-then-v-lt-LEAST c =
     sym (more-here c.args.s.now c.loop-at.at c.loop-at.v (omega arith)
-    ∙ simp (ne_eqb _ _ c.if-c-eq10.false, le-ltb _ _ c.if-c-lt48.false, le-ltb _ _ c.if-c-gt57.false, lt-ltb _ _ c.if-v-lt1.true))
+    ∙ simp (ne_eqb _ _ c.if-c-eq10.false, le-ltb _ _ c.if-c-lt48.false, le-ltb _ _ c.if-c-gt57.false, lt-ltb _ _ c.if-v-lt-LEAST.true))
     ∙ c.loop-at.invariant.0
 
-pub returns-then-v-gt999999 : goal.returns-then-v-gt999999
+pub returns-then-v-gt-MOST : goal.returns-then-v-gt-MOST
 unfolding more_text
-returns-then-v-gt999999 c =
+returns-then-v-gt-MOST c =
     sym (more-here c.args.s.now c.loop-at.at c.loop-at.v (omega arith)
     ∙ simp (
       ne_eqb _ _ c.if-c-eq10.false,
       le-ltb _ _ c.if-c-lt48.false,
       le-ltb _ _ c.if-c-gt57.false,
-      le-ltb _ _ c.if-v-lt1.false,
-      lt-ltb _ _ c.if-v-gt999999.true,
+      le-ltb _ _ c.if-v-lt-LEAST.false,
+      lt-ltb _ _ c.if-v-gt-MOST.true,
     )) ∙ c.loop-at.invariant.0
 
 pub wide-requires : goal.wide-requires
@@ -52,13 +50,13 @@ wide-requires c = tt
 pub loop-at-preserved : goal.loop-at-preserved
 unfolding more_text
 loop-at-preserved c = (
-      rw c.wide.ensures (sym (more-here c.args.s.now c.loop-at.at c.loop-at.v (omega arith)
+  rw c.wide.ensures (sym (more-here c.args.s.now c.loop-at.at c.loop-at.v (omega arith)
       ∙ simp (
         ne_eqb _ _ c.if-c-eq10.false,
         le-ltb _ _ c.if-c-lt48.false,
         le-ltb _ _ c.if-c-gt57.false,
-        le-ltb _ _ c.if-v-lt1.false,
-        le-ltb _ _ c.if-v-gt999999.false,
+        le-ltb _ _ c.if-v-lt-LEAST.false,
+        le-ltb _ _ c.if-v-gt-MOST.false,
       )) ∙ c.loop-at.invariant.0),
   omega arith,
 )

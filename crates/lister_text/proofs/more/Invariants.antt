@@ -1,10 +1,8 @@
 -- `lister_text::more` meets its contract: what is left of the number decides. Assumes nothing.
 use Prim.Native.Nat.{◌-◌, ◌≤◌}
-use mathlib.Core.Path.{◌≡◌, refl, sym, ◌∙◌}
-use native.Mathlib.Omega.{arith}
+use mathlib.Core.Path.{◌≡◌}
 use lib.ListN.{length, drop}
-use borrow.Author.Tests.{eq-eqb, ne_eqb, lt-ltb, le-ltb}
-use Rattle.lister_text.specs.laws.Scan.{more_text, more-here, more-short}
+use Rattle.lister_text.specs.laws.Scan.{more_text}
 use Rattle.lister_text.proofs.more.Given as goal
 
 abbrev pub invariant-loop-at : goal.invariant-loop-at
@@ -12,4 +10,3 @@ invariant-loop-at l = (more_text l.v l.at (drop l.at l.s) ≡ more_text l.first 
 
 abbrev pub decreases-loop-at : goal.decreases-loop-at
 decreases-loop-at l = length l.s - l.at
-

@@ -2,7 +2,6 @@
 use mathlib.Core.Path.{sym, ◌∙◌}
 use borrow.Author.Tests.{lt-ltb, le-ltb}
 use Rattle.lister_text.specs.laws.Scan.{number_of, number-here, number_short}
-use borrow.Author.Rules.{rules}
 use Rattle.lister_text.proofs.number.Goals as goal
 
 pub returns-then-s-at : goal.returns-then-s-at

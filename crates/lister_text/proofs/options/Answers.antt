@@ -1,6 +1,5 @@
 -- `lister_text::options` meets its contract: the literals are 0 and 1. Assumes nothing.
 use mathlib.Core.Path.{refl}
-use borrow.Author.Rules.{rules}
 use lib.Ieee.{of_int, of_bits}
 use Rattle.lister_text.proofs.options.Goals as goal
 

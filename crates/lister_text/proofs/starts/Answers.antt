@@ -1,10 +1,8 @@
 -- `lister_text::starts` meets its contract: what is left of the key decides. Assumes nothing.
-use Prim.Native.Nat.{◌-◌}
-use mathlib.Core.Path.{◌≡◌, refl, sym, ◌∙◌}
+use mathlib.Core.Path.{refl, sym, ◌∙◌}
 use native.Mathlib.Omega.{arith}
-use lib.ListN.{length, drop}
 use borrow.Author.Tests.{eq-eqb, ne_eqb}
-use Rattle.lister_text.specs.laws.Scan.{starts_with, starts-here, starts-short, starts-all}
+use Rattle.lister_text.specs.laws.Scan.{starts-here, starts-short, starts-all}
 use Rattle.lister_text.proofs.starts.Goals as goal
 
 pub loop-i-init : goal.loop-i-init
