@@ -1,5 +1,4 @@
 -- `lister::main` never fails: the answer counts bytes of the buffer. Assumes nothing.
-use borrow.Author.Rules.{rules}
 use Rattle.lister_report.specs.laws.Replies.{report-counts}
 use Rattle.lister.proofs.main.Goals as goal
 
