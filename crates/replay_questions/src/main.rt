@@ -13,6 +13,7 @@
 // `tilesTo`, `sumsTo`): it agrees if and only if what is stored is what the definition says (specs/Decides). The score is right.
 // Assumed: what standard input gives is not modelled, so that the functions that read are only proved to be safe.
 #![tactic(auto)]
+
 ghost use Rattle.std.specs.Prelude.{◌≡◌, ◌≤◌, length};
 ghost use Rattle.ask_base.specs.Asked.{answer_of, column_of};
 ghost use Rattle.build_tables.specs.Lent.{lent_columns};

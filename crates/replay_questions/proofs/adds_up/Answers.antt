@@ -1,6 +1,5 @@
 -- `replay_questions::adds_up` meets its contract: what is compared is the tally. Assumes nothing.
 use Rattle.replay_questions.proofs.Laws.{sum_told}
-use borrow.Author.Rules.{rules}
 use Rattle.replay_questions.proofs.adds_up.Goals as goal
 
 pub returns : goal.returns

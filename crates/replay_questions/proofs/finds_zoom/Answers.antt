@@ -1,7 +1,6 @@
 -- `replay_questions::finds_zoom` meets its contract: what is compared is the expansion zoom. Assumes nothing.
 use mathlib.Core.Path.{◌∙◌}
 use Rattle.replay_questions.proofs.Laws.{zoom-told}
-use borrow.Author.Rules.{rules}
 use Rattle.replay_questions.proofs.finds_zoom.Goals as goal
 
 pub returns : goal.returns
