@@ -50,7 +50,7 @@ fn link(folder: &Path, name: &str) {
 fn missing(folders: &[PathBuf]) -> String {
     let folders: Vec<String> = folders.iter().map(|folder| folder.display().to_string()).collect();
     format!(
-        "neither libexports.a nor libreachvolem.a is in {}: run `rt check exports && tools/native-lib exports` in the \
+        "neither libexports.a nor libreachvolem.a is in {}: run `tools/native-lib exports` in the \
          repository, or set REACHVOLEM_LIB to the folder that has it",
         folders.join(" or ")
     )
