@@ -1,5 +1,5 @@
 -- Only one text is printed for a text, and it is what `report` leaves; so comparing bytes decides whether a case agrees. Assumes nothing.
-use Rattle.std.specs.Prelude.{Bool, true, false, List, ◌≡◌, refl, ℕ, length, take, drop}
+use Rattle.std.specs.Prelude.{Bool, true, false, List, ◌≡◌, ℕ, length, take, drop}
 use Rattle.std.proofs.Common.{ap, sym, subst, ◌∙◌, arith, take_at}
 use Rattle.build_all_zooms.specs.Zooms.{laid_over}
 use Rattle.lister_text.specs.laws.OneInput.{text-one}

@@ -4,6 +4,7 @@
 // Proved: a case agrees if and only if its second part is what SCOPE has the lister print for its first. Assumed: what io says of reading
 // and writing.
 #![tactic(auto)]
+
 ghost use Rattle.replay_lister.specs.Prints.{prints_is};
 ghost use Rattle.replay_vectors.specs.Scores.{ending_is};
 

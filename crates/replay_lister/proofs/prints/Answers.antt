@@ -1,6 +1,5 @@
 -- `replay_lister::prints` meets its contract: what `report` leaves is what is printed, and the comparison of bytes decides. Assumes
 -- nothing.
-use borrow.Author.Rules.{rules}
 use Rattle.lister_report.specs.laws.Replies.{report-counts}
 use Rattle.replay_lister.specs.One.{reported, decides}
 use Rattle.replay_lister.proofs.prints.Goals as goal

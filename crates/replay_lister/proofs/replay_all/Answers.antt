@@ -1,9 +1,7 @@
 -- `replay_lister::replay_all` meets its contract and ends: the score is right at each turn, and the cases that may still come are the
 -- measure. Assumes nothing.
-use Prim.Native.Nat.{◌-◌, ◌≤◌}
 use native.Mathlib.Omega.{arith}
-use borrow.Author.Rules.{rules}
-use Rattle.replay_vectors.specs.Scores.{SoundScore, sound_none, sound-agreed, sound-differed}
+use Rattle.replay_vectors.specs.Scores.{sound_none, sound-agreed, sound-differed}
 use Rattle.replay_lister.proofs.replay_all.Goals as goal
 
 pub loop-score-init : goal.loop-score-init
@@ -23,9 +21,9 @@ loop-score-preserved-in-Agrees c = rw c.agreed-score.ensures (sound-agreed _ c.l
 
 pub differed-score-requires : goal.differed-score-requires
 differed-score-requires c = record {
-      cases_bound = c.loop-score-test.true;
-      differences_le_cases = c.loop-score.invariant.0.most;
-    }
+  cases_bound = c.loop-score-test.true;
+  differences_le_cases = c.loop-score.invariant.0.most;
+}
 
 pub loop-score-smaller : goal.loop-score-smaller
 loop-score-smaller c = rw c.differed-score.ensures (omega arith)

@@ -1,9 +1,7 @@
 -- `replay_lister::replay_all` meets its contract and ends: the score is right at each turn, and the cases that may still come are the
 -- measure. Assumes nothing.
 use Prim.Native.Nat.{◌-◌, ◌≤◌}
-use native.Mathlib.Omega.{arith}
-use borrow.Author.Rules.{rules}
-use Rattle.replay_vectors.specs.Scores.{SoundScore, sound_none, sound-agreed, sound-differed}
+use Rattle.replay_vectors.specs.Scores.{SoundScore}
 use Rattle.replay_lister.proofs.replay_all.Given as goal
 
 abbrev pub invariant-loop-score : goal.invariant-loop-score
@@ -11,4 +9,3 @@ invariant-loop-score l = SoundScore l.score × (l.score.cases ≤ 4000001)
 
 abbrev pub decreases-loop-score : goal.decreases-loop-score
 decreases-loop-score l = 4000001 - l.score.cases
-
