@@ -1,6 +1,7 @@
 // The table lister's whole answer to a text: every line of every table of the build, the finest table first, or the refusal.
 // Proved: for every text the bytes that SCOPE says, and how many there are. Nothing is asked of the caller. Assumed: nothing.
 #![tactic(auto)]
+
 ghost use Rattle.std.specs.Prelude.{◌≡◌, [], ◌∷◌, ◌+◌, ◌*◌, ◌<◌, ◌≤◌, length, get_or};
 ghost use Rattle.build_tables.specs.Lent.{given, lent_cols};
 ghost use Rattle.build_tables.specs.Columns.{part, held_at};

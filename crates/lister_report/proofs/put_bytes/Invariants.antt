@@ -1,12 +1,8 @@
--- `lister_report::put_bytes` meets its contract: the bytes before i are stored, `Storing`. Assumes nothing.
-use mathlib.Core.List.{List, [], ◌∷◌, ◌++◌}
-use mathlib.Core.Path.{◌≡◌, refl}
-use Prim.Native.Nat.{ℕ, ◌+◌, ◌-◌, ◌<◌, ◌≤◌}
-use native.Mathlib.Numerals.{add-one}
-use native.Mathlib.Omega.{arith}
-use lib.ListN.{length, get_or, drop, drop_of_length-le}
-use lib.Seq.{drop-cons}
-use Rattle.lister_report.specs.laws.Put.{Storing, storing-start, storing-step, storing-end}
+-- The bytes before i are stored, `Storing`.
+use mathlib.Core.Path.{◌≡◌}
+use Prim.Native.Nat.{◌+◌, ◌-◌, ◌≤◌}
+use lib.ListN.{length, drop}
+use Rattle.lister_report.specs.laws.Put.{Storing}
 use Rattle.lister_report.proofs.put_bytes.Given as goal
 
 abbrev pub invariant-loop-i : goal.invariant-loop-i
@@ -14,4 +10,3 @@ invariant-loop-i l = (l.p ≡ l.at + l.i) × ((l.i ≤ length l.bs) × Storing l
 
 abbrev pub decreases-loop-i : goal.decreases-loop-i
 decreases-loop-i l = length l.bs - l.i
-

@@ -1,7 +1,6 @@
 -- `lister_report::put_end` meets its contract: its six parts, one after the other. Assumes nothing.
 use Rattle.lister_report.specs.laws.Put.{put-near, put-more}
 use native.Mathlib.Omega.{arith}
-use borrow.Author.Rules.{rules}
 use Rattle.lister_report.proofs.put_end.Goals as goal
 
 pub returns : goal.returns

@@ -1,6 +1,5 @@
 -- `lister_report::put_refusal` meets its contract: its four parts, one after the other. Assumes nothing.
 use native.Mathlib.Omega.{arith}
-use borrow.Author.Rules.{rules}
 use Rattle.lister_report.specs.laws.Put.{put-near, put-more}
 use Rattle.lister_report.proofs.put_refusal.Goals as goal
 

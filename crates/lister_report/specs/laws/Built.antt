@@ -1,7 +1,7 @@
 -- What an accepted build leaves, in columns of the lister's lengths, is what there is to print: its tables, each within the columns, with
 -- room for each line. Assumes nothing.
 use mathlib.Core.List.{List, map}
-use Rattle.std.specs.Prelude.{◌≡◌, refl, ℕ, ◌+◌, ◌-◌, ◌/◌, ◌≤◌, min, leb}
+use Rattle.std.specs.Prelude.{◌≡◌, refl, ℕ, ◌+◌, ◌/◌, ◌≤◌, min, leb}
 use Rattle.std.proofs.Math.Path.{ap, sym}
 use Rattle.std.proofs.Common.{◌∙◌, subst, arith}
 use Rattle.std.proofs.Math.ListN.{length}

@@ -1,5 +1,5 @@
 -- A part of the rows that is a table: its entries, and its lines one by one. Assumes nothing.
-use Rattle.std.specs.Prelude.{[], ◌++◌, ◌≡◌, ℕ, suc, ◌+◌, ◌-◌, ◌<◌, ◌≤◌, drop}
+use Rattle.std.specs.Prelude.{[], ◌++◌, ◌≡◌, ℕ, suc, ◌+◌, ◌<◌, ◌≤◌, drop}
 use Rattle.std.proofs.Math.Path.{refl, sym}
 use Rattle.std.proofs.Common.{ap, ◌∙◌, add-one, drop_of_length-le, drop-cons}
 use native.Mathlib.Omega.{arith}
