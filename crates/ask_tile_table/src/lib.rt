@@ -1,5 +1,6 @@
 // What a tile lists of one table, and its tally. The table and its index stand alone in the lent columns.
 #![tactic(auto)]
+
 ghost use Rattle.std.specs.Prelude.{◌≡◌, true, false, not, cond, ◌&&◌, [], ◌∷◌, ◌+◌, ◌*◌, ◌/◌, ◌^◌, ◌<◌, ◌≤◌, T, eqb, ltb, length, set};
 ghost use Rattle.std.specs.Float.Ieee.{le, neg};
 ghost use Rattle.floats.specs.Numbers.{one, pow31};
@@ -267,7 +268,7 @@ fn entry_named(
 fn round_in(g: TileSearch, c: f64, v: f64) -> i64
     requires framed { Framed g }
     requires in01 { In01 c }
-    requires t { T (le (neg one) v) × T (le v pow31) }
+    requires v_in { T (le (neg one) v) × T (le v pow31) }
     ensures { result ≡ rounded g c v }
 {
     floats::round_away(g.extent * (c * g.z2 - v))
@@ -321,7 +322,7 @@ fn list_by(
 ) -> Ran
     requires framed { Framed g }
     requires even { Even (given x y seen id parent num energy) }
-    requires fact { let n = length x.now in (n ≤ length ids.now) × (at + n < 2 ^ 64) }
+    requires room { let n = length x.now in (n ≤ length ids.now) × (at + n < 2 ^ 64) }
     ensures { let c = (lent_cols x y seen id parent num energy).entry in
         let vs = walked_turns g (length c.x) ids.now coords.now in
         left_runs result out.new px.new py.new ≡ run_tile (rows c) at vs out.old px.old py.old }
@@ -534,7 +535,7 @@ fn tally_one(
     marks: &mut [u8],
 ) -> Running
     requires even { Even (given x y seen id parent num energy) }
-    requires x_bound { marks_for few (length x.now) ≤ 8 * length marks.old }
+    requires reach { marks_for few (length x.now) ≤ 8 * length marks.old }
     requires count_bound { (r.count < 4194304) × (r.sum ≤ r.count * 4294967295) }
     ensures { let t = rows (lent_cols x y seen id parent num energy).entry in
         (held_marks_of result marks.new ≡ counted few (weight_by h) t r.count r.sum (p ∷ []) marks.old)
@@ -586,8 +587,8 @@ fn tally_by(
     marks: &mut [u8],
 ) -> Running
     requires even { Even (given x y seen id parent num energy) }
-    requires fact { let n = length x.now in (n ≤ length ids.now) × (marks_for few n ≤ 8 * length marks.old) }
-    requires x_bound { (r.count + length x.now ≤ 4194304) × (r.sum ≤ r.count * 4294967295) }
+    requires reach { let n = length x.now in (n ≤ length ids.now) × (marks_for few n ≤ 8 * length marks.old) }
+    requires count_bound { (r.count + length x.now ≤ 4194304) × (r.sum ≤ r.count * 4294967295) }
     ensures { let c = (lent_cols x y seen id parent num energy).entry in
         let ps = places_in (walked_turns g (length c.x) ids.now coords.now) in
         (held_marks_of result marks.new ≡ counted few (weight_by h) (rows c) r.count r.sum ps marks.old)
@@ -644,7 +645,7 @@ fn add_with(
 ) -> Running
     requires in_bounds { InBounds o × IsTile z tx ty }
     requires even { Even (given x y seen id parent num energy) }
-    requires fact { let n = length x.now in (coords_ok o.node_size n (length coords.now) ≡ true) × (n ≤ length ids.now) }
+    requires index { let n = length x.now in (coords_ok o.node_size n (length coords.now) ≡ true) × (n ≤ length ids.now) }
     requires blank { Blank few (length x.now) marks.old }
     ensures { let t = rows (lent_cols x y seen id parent num energy).entry in
         let vs = visited o z tx ty t ids.now coords.now in
@@ -698,7 +699,7 @@ fn add_all(
 ) -> Running
     requires in_bounds { InBounds o × IsTile z tx ty }
     requires even { Even (given x y seen id parent num energy) }
-    requires fact { let n = length x.now in (coords_ok o.node_size n (length coords.now) ≡ true) × (n ≤ length ids.now) }
+    requires index { let n = length x.now in (coords_ok o.node_size n (length coords.now) ≡ true) × (n ≤ length ids.now) }
     ensures { let t = rows (lent_cols x y seen id parent num energy).entry in
         result ≡ running_of (weight_in z tx ty) t (visited o z tx ty t ids.now coords.now) }
 {

@@ -4,7 +4,6 @@ use Prim.Native.Nat.{ℕ, ◌%◌, ◌^◌, ◌<◌}
 use native.Mathlib.Omega.{arith}
 use native.Mathlib.Nat.{one-mul, mod-eq_of_lt}
 use lib.Pow.{pow-lt}
-use borrow.Author.Rules.{rules}
 use Rattle.ask_tile_table.proofs.bit.Goals as goal
 
 pub returns : goal.returns

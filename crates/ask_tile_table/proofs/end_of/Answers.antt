@@ -3,7 +3,6 @@ use mathlib.Core.Path.{◌≡◌}
 use Prim.Native.Nat.{ℕ, ◌+◌, ◌^◌}
 use native.Mathlib.Omega.{arith}
 use lib.Ieee.{Float, binary64, of_bits, add, div}
-use borrow.Author.Rules.{rules}
 use borrow.Author.Tests.{eq-eqb, ne_eqb}
 use Rattle.floats.specs.Numbers.{one, two, float}
 use Rattle.ask_tile_table.specs.laws.Floor.{ends}

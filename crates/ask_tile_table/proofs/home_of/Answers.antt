@@ -1,5 +1,4 @@
 -- `ask_tile_table::home_of` meets its contract: the four edges, over one power. Assumes nothing.
-use borrow.Author.Rules.{rules}
 use Rattle.ask_tile_table.proofs.home_of.Goals as goal
 
 pub returns : goal.returns

@@ -3,7 +3,6 @@ use mathlib.Core.Path.{sym, subst}
 use Prim.Native.Nat.{ℕ, ◌%◌, ◌<◌}
 use native.Mathlib.Omega.{arith}
 use lib.Pow.{pow_pos}
-use borrow.Author.Rules.{rules}
 use Rattle.ask_tile_table.specs.laws.Marks.{marked-is}
 use Rattle.ask_tile_table.proofs.is_marked.Goals as goal
 

@@ -1,6 +1,5 @@
 -- `ask_tile_table::is_tile` meets its contract: each return is one of the three tests. Assumes nothing.
 use mathlib.Core.Path.{sym}
-use borrow.Author.Rules.{rules}
 use borrow.Author.Tests.{lt-leb, le-leb, le-ltb, lt-ltb}
 use Rattle.ask_tile_table.proofs.is_tile.Goals as goal
 

@@ -1,8 +1,6 @@
 -- `ask_tile_table::put_whole` meets its contract: a store past the end is no change. Assumes nothing.
 use mathlib.Core.Path.{sym}
-use lib.ListN.{set}
 use lib.Seq.{set_out}
-use borrow.Author.Rules.{rules}
 use Rattle.ask_tile_table.proofs.put_whole.Goals as goal
 
 pub returns-else-k-out : goal.returns-else-k-out

@@ -1,6 +1,5 @@
 -- `ask_tile_table::runs_strips` meets its contract. Assumes nothing.
 use borrow.Author.Tests.{not-true, not-false}
-use borrow.Author.Rules.{rules}
 use Rattle.ask_tile_table.specs.Tile.{wraps}
 use Rattle.ask_tile_table.proofs.runs_strips.Goals as goal
 
@@ -12,12 +11,12 @@ pub returns-in-LatLng : goal.returns-in-LatLng
 unfolding wraps
 returns-in-LatLng c = simp (
   not-false c.args.o.longitude_strips_only c.if-not-o.false,
-  c.enum_told-1.given.1,
+  c.in-LatLng.is,
 )
 
 pub returns-in-Cartesian : goal.returns-in-Cartesian
 unfolding wraps
 returns-in-Cartesian c = simp (
   not-false c.args.o.longitude_strips_only c.if-not-o.false,
-  c.enum_told-in-Cartesian-1.given.1,
+  c.in-Cartesian.is,
 )

@@ -1,6 +1,5 @@
 -- `ask_tile_table::search_east` meets its contract: it is the strip from 1 - p / z2 to 1. Assumes nothing.
 use lib.Ieee.{of_bits}
-use borrow.Author.Rules.{rules}
 use Rattle.ask_tile_table.specs.Tile.{east_strip}
 use Rattle.ask_tile_table.proofs.search_east.Goals as goal
 

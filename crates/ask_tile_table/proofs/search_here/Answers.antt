@@ -1,6 +1,5 @@
 -- `ask_tile_table::search_here` meets its contract: it is the strip of the tile's own range. Assumes nothing.
 use lib.Ieee.{of_bits}
-use borrow.Author.Rules.{rules}
 use Rattle.ask_tile_table.specs.Tile.{here}
 use Rattle.ask_tile_table.proofs.search_here.Goals as goal
 

@@ -1,6 +1,5 @@
 -- `ask_tile_table::search_west` meets its contract: it is the strip from 0 to p / z2. Assumes nothing.
 use lib.Ieee.{of_bits, neg}
-use borrow.Author.Rules.{rules}
 use Rattle.ask_tile_table.specs.Tile.{west_strip}
 use Rattle.ask_tile_table.proofs.search_west.Goals as goal
 

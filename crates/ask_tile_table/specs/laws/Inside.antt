@@ -4,7 +4,6 @@ use Rattle.std.specs.Prelude.{◌≡◌, true, ℕ, ◌^◌, ◌≤◌, ◌<◌,
 use Rattle.std.specs.Float.{binary64}
 use Rattle.std.specs.Float.Ieee.{le, add, sub, div}
 use Rattle.std.specs.Float.Ieee.Fits.{of_int-fits, add-fits}
-use Rattle.std.specs.Float.Ieee.Scale.{finite}
 use Rattle.floats.specs.Numbers.{one, float}
 use Rattle.floats.specs.laws.Fraction.{is_true}
 use Rattle.floats.specs.laws.Order.{le-le-trans}

@@ -24,7 +24,7 @@ use Rattle.build_tables.specs.laws.Bounds.{InBounds}
 use Rattle.build_tables.specs.Entries.{Table, entry, none, xs_of, ys_of}
 use Rattle.ask_tile_table.specs.declared.TileSearch.{TileSearch}
 use Rattle.ask_tile_table.specs.declared.Item.{Item}
-use Rattle.ask_tile_table.specs.Tile.{Visit, visits_of, visits, visited, here, east_strip, west_strip, least, greatest, listable}
+use Rattle.ask_tile_table.specs.Tile.{Visit, visits_of, visits, visited, here, east_strip, west_strip, listable}
 use Rattle.ask_tile_table.specs.Tile.{tile_listed, whole_tile, item_of}
 use Rattle.ask_tile_table.specs.Tile.{item_at, tile_items}
 use Rattle.ask_tile_table.specs.laws.Framed.{IsTile}

@@ -1,2 +1,0 @@
--- Laws that only the proofs of this crate use.
-pub mod Ends
