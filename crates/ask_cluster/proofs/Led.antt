@@ -2,22 +2,17 @@
 -- children that are listed there. Assumes nothing.
 use mathlib.Core.Bool.{true, false}
 use mathlib.Core.Path.{◌≡◌, refl, sym, ap, ◌∙◌}
-use mathlib.Core.Logic.{⊎_elim}
 use mathlib.Core.List.{List, [], ◌∷◌}
 use Prim.Native.Nat.{ℕ, ◌≤◌}
 use native.Mathlib.Nat.{le_of_eq}
 use native.Mathlib.Omega.{arith}
 use lib.ListN.{length}
-use denote.Enum.Declared.{tag_of}
-use types.Run.{OneOf}
-use Rattle.ask_base.specs.contracts.Target.{the_type}
 use Rattle.kdbush.specs.Run.{filled}
 use Rattle.build_tables.specs.declared.State.{State}
 use Rattle.ask_base.specs.declared.Answer.{Answer}
 use Rattle.ask_base.specs.declared.Ring.{Ring}
 use Rattle.ask_base.specs.declared.Target.{Target}
-use Rattle.ask_base.specs.declared.Target.TheVariants.{At, Spoiled as Target-as-Spoiled, NoTree as Target-as-NoTree}
-use Rattle.ask_base.specs.declared.Target.TheVariants.{NoCluster as Target-as-NoCluster}
+use Rattle.ask_base.specs.declared.Target.TheVariants.{At}
 use Rattle.ask_base.specs.Asked.{Asked, refused, answer_of, column_of}
 use Rattle.build_tables.specs.Room.{Columns, room_of}
 use Rattle.ask_base.specs.Columns.{table_at}
@@ -33,13 +28,6 @@ use Rattle.ask_cluster.specs.Children.{at_target}
 pub none_is : (l : List ℕ) → length l ≡ 0 → l ≡ []
 none_is [] e = refl
 none_is (a ∷ l) e = absurd (omega arith)
-
--- a target that is no place
-pub no_place : (t : Target) → OneOf (1 ∷ 2 ∷ 3 ∷ []) (tag_of the_type t) → (u o : ℕ) → t ≡ At u o → ⊥
-no_place (At t o) h u p e = ⊎_elim (λ k. omega arith) (λ w. ⊎_elim (λ k. omega arith) (λ k. omega arith) w) h
-no_place Target-as-Spoiled h u p e = let z : ◌≡◌ {A = ℕ} 0 1 = cc in omega arith
-no_place Target-as-NoTree h u p e = let z : ◌≡◌ {A = ℕ} 0 1 = cc in omega arith
-no_place Target-as-NoCluster h u p e = let z : ◌≡◌ {A = ℕ} 0 1 = cc in omega arith
 
 -- code that answers r, and leaves out' where out was, answers the question a
 abbrev pub Gives : Asked → Answer → List ℕ → List ℕ → Type 0

@@ -1,6 +1,7 @@
 // The questions that walk from cluster to cluster: the children of a cluster, the zoom at which it falls apart, and its lamps. Each looks
 // at the state first, then at where the id leads.
 #![tactic(auto)]
+
 ghost use Rattle.std.specs.Prelude.{◌≡◌, true, ℕ, ◌+◌, ◌-◌, ◌≤◌, length};
 ghost use Rattle.ask_base.specs.declared.Target.TheVariants.{At as Target-as-At};
 ghost use Rattle.ask_base.specs.Asked.{answer_of, column_of};

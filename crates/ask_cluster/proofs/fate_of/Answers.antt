@@ -1,6 +1,5 @@
 -- `ask_cluster::fate_of` meets its contract: the tests are those of `fateOf`. Assumes nothing.
 use borrow.Author.Tests.{lt-ltb, le-ltb, le-leb, lt-leb}
-use borrow.Author.Rules.{rules}
 use Rattle.ask_cluster.proofs.fate_of.Goals as goal
 
 pub returns-then-skipped-num : goal.returns-then-skipped-num
