@@ -80,8 +80,8 @@ fn list_used(
     px: &mut [i64],
     py: &mut [i64],
 ) -> Ran
-    requires fact { let c = given_columns x y seen id parent num energy ids coords in (state_ok s (room_of c) ≡ true) × IsTile z tx ty }
-    requires starts_value { (starts.now ≡ s.starts) × (lens.now ≡ s.lens) }
+    requires asked { let c = given_columns x y seen id parent num energy ids coords in (state_ok s (room_of c) ≡ true) × IsTile z tx ty }
+    requires arrays { (starts.now ≡ s.starts) × (lens.now ≡ s.lens) }
     ensures { let c = lent_columns x y seen id parent num energy ids coords in
         left_runs result out.new px.new py.new ≡ run_tile (table_for s c z) 0 (visits_for s c z tx ty) out.old px.old py.old }
 {
@@ -229,8 +229,8 @@ fn tally_used(
     tx: u32,
     ty: u32,
 ) -> Running
-    requires fact { let c = given_columns x y seen id parent num energy ids coords in (state_ok s (room_of c) ≡ true) × IsTile z tx ty }
-    requires starts_value { (starts.now ≡ s.starts) × (lens.now ≡ s.lens) }
+    requires asked { let c = given_columns x y seen id parent num energy ids coords in (state_ok s (room_of c) ≡ true) × IsTile z tx ty }
+    requires arrays { (starts.now ≡ s.starts) × (lens.now ≡ s.lens) }
     ensures { let c = lent_columns x y seen id parent num energy ids coords in
         result ≡ running_of (weight_in z tx ty) (table_for s c z) (visits_for s c z tx ty) }
 {

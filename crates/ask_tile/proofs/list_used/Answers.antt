@@ -14,8 +14,8 @@ use Rattle.ask_tile.proofs.list_used.Goals as goal
 pub part_used-p-requires : goal.part_used-p-requires
 part_used-p-requires c =
     let a = c.args in
-    let p = spot a.s (given_columns a.x a.y a.seen a.id a.parent a.num a.energy a.ids a.coords) a.z c.requires.fact.0 in
-    (c.requires.starts_value.0, c.requires.starts_value.1, p.table, omega (arith, p.ids-held))
+    let p = spot a.s (given_columns a.x a.y a.seen a.id a.parent a.num a.energy a.ids a.coords) a.z c.requires.asked.0 in
+    (c.requires.arrays.0, c.requires.arrays.1, p.table, omega (arith, p.ids-held))
 
 pub overflow_add-e : goal.overflow_add-e
 overflow_add-e c =
@@ -23,7 +23,7 @@ overflow_add-e c =
     let f = c.part_used-p.result.start in
     let n = c.part_used-p.result.len in
     let k = given_columns a.x a.y a.seen a.id a.parent a.num a.energy a.ids a.coords in
-    let p = spot-at a.s k a.z f n c.requires.fact.0 c.part_used-p.ensures.0 c.part_used-p.ensures.1 in
+    let p = spot-at a.s k a.z f n c.requires.asked.0 c.part_used-p.ensures.0 c.part_used-p.ensures.1 in
     omega (arith, p.ids-held)
 
 pub overflow_mul-c : goal.overflow_mul-c
@@ -32,7 +32,7 @@ overflow_mul-c c =
     let f = c.part_used-p.result.start in
     let n = c.part_used-p.result.len in
     let k = given_columns a.x a.y a.seen a.id a.parent a.num a.energy a.ids a.coords in
-    let p = spot-at a.s k a.z f n c.requires.fact.0 c.part_used-p.ensures.0 c.part_used-p.ensures.1 in
+    let p = spot-at a.s k a.z f n c.requires.asked.0 c.part_used-p.ensures.0 c.part_used-p.ensures.1 in
     omega (arith, p.ids-held)
 
 pub overflow_mul-d : goal.overflow_mul-d
@@ -41,7 +41,7 @@ overflow_mul-d c =
     let f = c.part_used-p.result.start in
     let n = c.part_used-p.result.len in
     let k = given_columns a.x a.y a.seen a.id a.parent a.num a.energy a.ids a.coords in
-    let p = spot-at a.s k a.z f n c.requires.fact.0 c.part_used-p.ensures.0 c.part_used-p.ensures.1 in
+    let p = spot-at a.s k a.z f n c.requires.asked.0 c.part_used-p.ensures.0 c.part_used-p.ensures.1 in
     omega (arith, p.ids-held)
 
 pub slice_bounds-list-end : goal.slice_bounds-list-end
@@ -50,7 +50,7 @@ slice_bounds-list-end c =
     let f = c.part_used-p.result.start in
     let n = c.part_used-p.result.len in
     let k = given_columns a.x a.y a.seen a.id a.parent a.num a.energy a.ids a.coords in
-    let p = spot-at a.s k a.z f n c.requires.fact.0 c.part_used-p.ensures.0 c.part_used-p.ensures.1 in
+    let p = spot-at a.s k a.z f n c.requires.asked.0 c.part_used-p.ensures.0 c.part_used-p.ensures.1 in
     omega (arith, p)
 
 pub slice_bounds-list-end-2 : goal.slice_bounds-list-end-2
@@ -59,7 +59,7 @@ slice_bounds-list-end-2 c =
     let f = c.part_used-p.result.start in
     let n = c.part_used-p.result.len in
     let k = given_columns a.x a.y a.seen a.id a.parent a.num a.energy a.ids a.coords in
-    let p = spot-at a.s k a.z f n c.requires.fact.0 c.part_used-p.ensures.0 c.part_used-p.ensures.1 in
+    let p = spot-at a.s k a.z f n c.requires.asked.0 c.part_used-p.ensures.0 c.part_used-p.ensures.1 in
     omega (arith, p)
 
 pub slice_bounds-list-end-3 : goal.slice_bounds-list-end-3
@@ -68,7 +68,7 @@ slice_bounds-list-end-3 c =
     let f = c.part_used-p.result.start in
     let n = c.part_used-p.result.len in
     let k = given_columns a.x a.y a.seen a.id a.parent a.num a.energy a.ids a.coords in
-    let p = spot-at a.s k a.z f n c.requires.fact.0 c.part_used-p.ensures.0 c.part_used-p.ensures.1 in
+    let p = spot-at a.s k a.z f n c.requires.asked.0 c.part_used-p.ensures.0 c.part_used-p.ensures.1 in
     omega (arith, p)
 
 pub slice_bounds-list-end-4 : goal.slice_bounds-list-end-4
@@ -77,7 +77,7 @@ slice_bounds-list-end-4 c =
     let f = c.part_used-p.result.start in
     let n = c.part_used-p.result.len in
     let k = given_columns a.x a.y a.seen a.id a.parent a.num a.energy a.ids a.coords in
-    let p = spot-at a.s k a.z f n c.requires.fact.0 c.part_used-p.ensures.0 c.part_used-p.ensures.1 in
+    let p = spot-at a.s k a.z f n c.requires.asked.0 c.part_used-p.ensures.0 c.part_used-p.ensures.1 in
     omega (arith, p)
 
 pub slice_bounds-list-end-5 : goal.slice_bounds-list-end-5
@@ -86,7 +86,7 @@ slice_bounds-list-end-5 c =
     let f = c.part_used-p.result.start in
     let n = c.part_used-p.result.len in
     let k = given_columns a.x a.y a.seen a.id a.parent a.num a.energy a.ids a.coords in
-    let p = spot-at a.s k a.z f n c.requires.fact.0 c.part_used-p.ensures.0 c.part_used-p.ensures.1 in
+    let p = spot-at a.s k a.z f n c.requires.asked.0 c.part_used-p.ensures.0 c.part_used-p.ensures.1 in
     omega (arith, p)
 
 pub slice_bounds-list-end-6 : goal.slice_bounds-list-end-6
@@ -95,7 +95,7 @@ slice_bounds-list-end-6 c =
     let f = c.part_used-p.result.start in
     let n = c.part_used-p.result.len in
     let k = given_columns a.x a.y a.seen a.id a.parent a.num a.energy a.ids a.coords in
-    let p = spot-at a.s k a.z f n c.requires.fact.0 c.part_used-p.ensures.0 c.part_used-p.ensures.1 in
+    let p = spot-at a.s k a.z f n c.requires.asked.0 c.part_used-p.ensures.0 c.part_used-p.ensures.1 in
     omega (arith, p)
 
 pub slice_bounds-list-end-7 : goal.slice_bounds-list-end-7
@@ -104,7 +104,7 @@ slice_bounds-list-end-7 c =
     let f = c.part_used-p.result.start in
     let n = c.part_used-p.result.len in
     let k = given_columns a.x a.y a.seen a.id a.parent a.num a.energy a.ids a.coords in
-    let p = spot-at a.s k a.z f n c.requires.fact.0 c.part_used-p.ensures.0 c.part_used-p.ensures.1 in
+    let p = spot-at a.s k a.z f n c.requires.asked.0 c.part_used-p.ensures.0 c.part_used-p.ensures.1 in
     omega (arith, p)
 
 pub slice_bounds-list-end-8 : goal.slice_bounds-list-end-8
@@ -113,7 +113,7 @@ slice_bounds-list-end-8 c =
     let f = c.part_used-p.result.start in
     let n = c.part_used-p.result.len in
     let k = given_columns a.x a.y a.seen a.id a.parent a.num a.energy a.ids a.coords in
-    let p = spot-at a.s k a.z f n c.requires.fact.0 c.part_used-p.ensures.0 c.part_used-p.ensures.1 in
+    let p = spot-at a.s k a.z f n c.requires.asked.0 c.part_used-p.ensures.0 c.part_used-p.ensures.1 in
     omega (arith, p)
 
 pub slice_bounds-list-end-9 : goal.slice_bounds-list-end-9
@@ -122,7 +122,7 @@ slice_bounds-list-end-9 c =
     let f = c.part_used-p.result.start in
     let n = c.part_used-p.result.len in
     let k = given_columns a.x a.y a.seen a.id a.parent a.num a.energy a.ids a.coords in
-    let p = spot-at a.s k a.z f n c.requires.fact.0 c.part_used-p.ensures.0 c.part_used-p.ensures.1 in
+    let p = spot-at a.s k a.z f n c.requires.asked.0 c.part_used-p.ensures.0 c.part_used-p.ensures.1 in
     omega (arith, p)
 
 pub list-requires : goal.list-requires
@@ -131,9 +131,9 @@ list-requires c =
     let f = c.part_used-p.result.start in
     let n = c.part_used-p.result.len in
     let k = given_columns a.x a.y a.seen a.id a.parent a.num a.energy a.ids a.coords in
-    let p = spot-at a.s k a.z f n c.requires.fact.0 c.part_used-p.ensures.0 c.part_used-p.ensures.1 in
+    let p = spot-at a.s k a.z f n c.requires.asked.0 c.part_used-p.ensures.0 c.part_used-p.ensures.1 in
     record {
-      in_bounds = (p.bounds, subst (λ (q : ℕ). IsTile q a.tx a.ty) (sym c.wide.ensures) c.requires.fact.1);
+      in_bounds = (p.bounds, subst (λ (q : ℕ). IsTile q a.tx a.ty) (sym c.wide.ensures) c.requires.asked.1);
       even = lent-even f n k.table p.rows-held;
       fact = (lent_ok a.s k (zoom_used a.s.options a.z) f n p, lent-ids a.s k (zoom_used a.s.options a.z) f n p);
     }

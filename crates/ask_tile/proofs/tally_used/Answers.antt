@@ -15,8 +15,8 @@ use Rattle.ask_tile.proofs.tally_used.Goals as goal
 pub part_used-p-requires : goal.part_used-p-requires
 part_used-p-requires c =
     let a = c.args in
-    let p = spot a.s (given_columns a.x a.y a.seen a.id a.parent a.num a.energy a.ids a.coords) a.z c.requires.fact.0 in
-    (c.requires.starts_value.0, c.requires.starts_value.1, p.table, omega (arith, p.ids-held))
+    let p = spot a.s (given_columns a.x a.y a.seen a.id a.parent a.num a.energy a.ids a.coords) a.z c.requires.asked.0 in
+    (c.requires.arrays.0, c.requires.arrays.1, p.table, omega (arith, p.ids-held))
 
 pub overflow_add-e : goal.overflow_add-e
 overflow_add-e c =
@@ -24,7 +24,7 @@ overflow_add-e c =
     let f = c.part_used-p.result.start in
     let n = c.part_used-p.result.len in
     let k = given_columns a.x a.y a.seen a.id a.parent a.num a.energy a.ids a.coords in
-    let p = spot-at a.s k a.z f n c.requires.fact.0 c.part_used-p.ensures.0 c.part_used-p.ensures.1 in
+    let p = spot-at a.s k a.z f n c.requires.asked.0 c.part_used-p.ensures.0 c.part_used-p.ensures.1 in
     omega (arith, p.ids-held)
 
 pub overflow_mul-c : goal.overflow_mul-c
@@ -33,7 +33,7 @@ overflow_mul-c c =
     let f = c.part_used-p.result.start in
     let n = c.part_used-p.result.len in
     let k = given_columns a.x a.y a.seen a.id a.parent a.num a.energy a.ids a.coords in
-    let p = spot-at a.s k a.z f n c.requires.fact.0 c.part_used-p.ensures.0 c.part_used-p.ensures.1 in
+    let p = spot-at a.s k a.z f n c.requires.asked.0 c.part_used-p.ensures.0 c.part_used-p.ensures.1 in
     omega (arith, p.ids-held)
 
 pub overflow_mul-d : goal.overflow_mul-d
@@ -42,7 +42,7 @@ overflow_mul-d c =
     let f = c.part_used-p.result.start in
     let n = c.part_used-p.result.len in
     let k = given_columns a.x a.y a.seen a.id a.parent a.num a.energy a.ids a.coords in
-    let p = spot-at a.s k a.z f n c.requires.fact.0 c.part_used-p.ensures.0 c.part_used-p.ensures.1 in
+    let p = spot-at a.s k a.z f n c.requires.asked.0 c.part_used-p.ensures.0 c.part_used-p.ensures.1 in
     omega (arith, p.ids-held)
 
 pub slice_bounds-add_up-end : goal.slice_bounds-add_up-end
@@ -51,7 +51,7 @@ slice_bounds-add_up-end c =
     let f = c.part_used-p.result.start in
     let n = c.part_used-p.result.len in
     let k = given_columns a.x a.y a.seen a.id a.parent a.num a.energy a.ids a.coords in
-    let p = spot-at a.s k a.z f n c.requires.fact.0 c.part_used-p.ensures.0 c.part_used-p.ensures.1 in
+    let p = spot-at a.s k a.z f n c.requires.asked.0 c.part_used-p.ensures.0 c.part_used-p.ensures.1 in
     omega (arith, p)
 
 pub slice_bounds-add_up-end-2 : goal.slice_bounds-add_up-end-2
@@ -60,7 +60,7 @@ slice_bounds-add_up-end-2 c =
     let f = c.part_used-p.result.start in
     let n = c.part_used-p.result.len in
     let k = given_columns a.x a.y a.seen a.id a.parent a.num a.energy a.ids a.coords in
-    let p = spot-at a.s k a.z f n c.requires.fact.0 c.part_used-p.ensures.0 c.part_used-p.ensures.1 in
+    let p = spot-at a.s k a.z f n c.requires.asked.0 c.part_used-p.ensures.0 c.part_used-p.ensures.1 in
     omega (arith, p)
 
 pub slice_bounds-add_up-end-3 : goal.slice_bounds-add_up-end-3
@@ -69,7 +69,7 @@ slice_bounds-add_up-end-3 c =
     let f = c.part_used-p.result.start in
     let n = c.part_used-p.result.len in
     let k = given_columns a.x a.y a.seen a.id a.parent a.num a.energy a.ids a.coords in
-    let p = spot-at a.s k a.z f n c.requires.fact.0 c.part_used-p.ensures.0 c.part_used-p.ensures.1 in
+    let p = spot-at a.s k a.z f n c.requires.asked.0 c.part_used-p.ensures.0 c.part_used-p.ensures.1 in
     omega (arith, p)
 
 pub slice_bounds-add_up-end-4 : goal.slice_bounds-add_up-end-4
@@ -78,7 +78,7 @@ slice_bounds-add_up-end-4 c =
     let f = c.part_used-p.result.start in
     let n = c.part_used-p.result.len in
     let k = given_columns a.x a.y a.seen a.id a.parent a.num a.energy a.ids a.coords in
-    let p = spot-at a.s k a.z f n c.requires.fact.0 c.part_used-p.ensures.0 c.part_used-p.ensures.1 in
+    let p = spot-at a.s k a.z f n c.requires.asked.0 c.part_used-p.ensures.0 c.part_used-p.ensures.1 in
     omega (arith, p)
 
 pub slice_bounds-add_up-end-5 : goal.slice_bounds-add_up-end-5
@@ -87,7 +87,7 @@ slice_bounds-add_up-end-5 c =
     let f = c.part_used-p.result.start in
     let n = c.part_used-p.result.len in
     let k = given_columns a.x a.y a.seen a.id a.parent a.num a.energy a.ids a.coords in
-    let p = spot-at a.s k a.z f n c.requires.fact.0 c.part_used-p.ensures.0 c.part_used-p.ensures.1 in
+    let p = spot-at a.s k a.z f n c.requires.asked.0 c.part_used-p.ensures.0 c.part_used-p.ensures.1 in
     omega (arith, p)
 
 pub slice_bounds-add_up-end-6 : goal.slice_bounds-add_up-end-6
@@ -96,7 +96,7 @@ slice_bounds-add_up-end-6 c =
     let f = c.part_used-p.result.start in
     let n = c.part_used-p.result.len in
     let k = given_columns a.x a.y a.seen a.id a.parent a.num a.energy a.ids a.coords in
-    let p = spot-at a.s k a.z f n c.requires.fact.0 c.part_used-p.ensures.0 c.part_used-p.ensures.1 in
+    let p = spot-at a.s k a.z f n c.requires.asked.0 c.part_used-p.ensures.0 c.part_used-p.ensures.1 in
     omega (arith, p)
 
 pub slice_bounds-add_up-end-7 : goal.slice_bounds-add_up-end-7
@@ -105,7 +105,7 @@ slice_bounds-add_up-end-7 c =
     let f = c.part_used-p.result.start in
     let n = c.part_used-p.result.len in
     let k = given_columns a.x a.y a.seen a.id a.parent a.num a.energy a.ids a.coords in
-    let p = spot-at a.s k a.z f n c.requires.fact.0 c.part_used-p.ensures.0 c.part_used-p.ensures.1 in
+    let p = spot-at a.s k a.z f n c.requires.asked.0 c.part_used-p.ensures.0 c.part_used-p.ensures.1 in
     omega (arith, p)
 
 pub slice_bounds-add_up-end-8 : goal.slice_bounds-add_up-end-8
@@ -114,7 +114,7 @@ slice_bounds-add_up-end-8 c =
     let f = c.part_used-p.result.start in
     let n = c.part_used-p.result.len in
     let k = given_columns a.x a.y a.seen a.id a.parent a.num a.energy a.ids a.coords in
-    let p = spot-at a.s k a.z f n c.requires.fact.0 c.part_used-p.ensures.0 c.part_used-p.ensures.1 in
+    let p = spot-at a.s k a.z f n c.requires.asked.0 c.part_used-p.ensures.0 c.part_used-p.ensures.1 in
     omega (arith, p)
 
 pub slice_bounds-add_up-end-9 : goal.slice_bounds-add_up-end-9
@@ -123,7 +123,7 @@ slice_bounds-add_up-end-9 c =
     let f = c.part_used-p.result.start in
     let n = c.part_used-p.result.len in
     let k = given_columns a.x a.y a.seen a.id a.parent a.num a.energy a.ids a.coords in
-    let p = spot-at a.s k a.z f n c.requires.fact.0 c.part_used-p.ensures.0 c.part_used-p.ensures.1 in
+    let p = spot-at a.s k a.z f n c.requires.asked.0 c.part_used-p.ensures.0 c.part_used-p.ensures.1 in
     omega (arith, p)
 
 pub add_up-requires : goal.add_up-requires
@@ -132,9 +132,9 @@ add_up-requires c =
     let f = c.part_used-p.result.start in
     let n = c.part_used-p.result.len in
     let k = given_columns a.x a.y a.seen a.id a.parent a.num a.energy a.ids a.coords in
-    let p = spot-at a.s k a.z f n c.requires.fact.0 c.part_used-p.ensures.0 c.part_used-p.ensures.1 in
+    let p = spot-at a.s k a.z f n c.requires.asked.0 c.part_used-p.ensures.0 c.part_used-p.ensures.1 in
     record {
-      in_bounds = (p.bounds, subst (λ (q : ℕ). IsTile q a.tx a.ty) (sym c.wide.ensures) c.requires.fact.1);
+      in_bounds = (p.bounds, subst (λ (q : ℕ). IsTile q a.tx a.ty) (sym c.wide.ensures) c.requires.asked.1);
       even = lent-even f n k.table p.rows-held;
       fact = (lent_ok a.s k (zoom_used a.s.options a.z) f n p, lent-ids a.s k (zoom_used a.s.options a.z) f n p);
     }

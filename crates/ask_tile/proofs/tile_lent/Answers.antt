@@ -77,7 +77,7 @@ list_used-requires c =
     let k = given_columns a.x a.y a.seen a.id a.parent a.num a.energy a.ids a.coords in
     let sound : state_ok s (room_of k) ≡ true = sym (c.is_sound_by.ensures ∙ ap (state_ok s) c.room.ensures) ∙ c.if-not-is_sound_by.false in
     let within : is_tile a.z a.tx a.ty ≡ true = sym (c.is_tile.ensures ∙ ap (λ (q : ℕ). is_tile q a.tx a.ty) c.wide.ensures) ∙ c.if-not-is_tile.false in
-    record { fact = (sound, tile-is a.z a.tx a.ty within); starts_value = (refl, refl) }
+    record { asked = (sound, tile-is a.z a.tx a.ty within); arrays = (refl, refl) }
 
 pub returns-in-Spoiled : goal.returns-in-Spoiled
 returns-in-Spoiled c =
