@@ -1,6 +1,7 @@
 // The public surface, whole: what a caller may name, one line each. What is not here is not promised; the C names are in `exports`.
 // No function here asks anything of its caller, and each contract determines the reply and every lent column (docs/PROMISES.md).
 #![tactic(auto)]
+
 pub use ask_base::Answer;
 pub use ask_box::{list_box, list_ring, zoom_used};
 pub use ask_cluster::{Expansion, children, expansion_zoom, leaves};
