@@ -14,10 +14,6 @@ use Rattle.kdsort.specs.Cols.{key}
 use Rattle.kdsort.specs.laws.Scans.{up_none, down-none}
 use Rattle.kdsort.specs.laws.Batches.{batch_entry, next_up, next_down, Ups, Downs, ups-past, ups-stop, downs-past, downs-stop}
 
-pub byte-most : (b : Bool) → bool_byte b ≤ 1
-byte-most true = omega arith
-byte-most false = omega arith
-
 add-0 : (n : ℕ) → n + 0 ≡ n
 add-0 n = omega arith
 

@@ -106,15 +106,3 @@ cols-eq p q = cc
 
 pub cut-eq : {s s' : IndexCols} {j j' : ℕ} → s ≡ s' → j ≡ j' → cut s j ≡ cut s' j'
 cut-eq p q = cc
-
-pub le-eq : {a b c : ℕ} → a ≤ b → c ≡ b → a ≤ c
-le-eq p q = omega arith
-
-pub eq-le : {a b c : ℕ} → a ≡ b → b ≤ c → a ≤ c
-eq-le p q = omega arith
-
-pub le-more : {a b : ℕ} → a ≤ b → a ≤ b + 1
-le-more p = omega arith
-
-pub lt-more : {a b : ℕ} → a < b → a + 1 ≤ b
-lt-more p = omega arith

@@ -1,5 +1,5 @@
--- `kdsort::sort` meets its contract: a leaf is left as it is, a node is its selection and then its two sides. The measure is the
--- interval's length. Assumes nothing.
+-- `kdsort::sort` meets its contract: a leaf is left as it is, a node is its selection and then its two sides.
+-- Assumes nothing.
 use mathlib.Core.Path.{sym, ap, ◌∙◌}
 use Prim.Native.Nat.{◌+◌, ◌-◌}
 use Rattle.kdsort.specs.Cols.{IndexCols, index_cols}

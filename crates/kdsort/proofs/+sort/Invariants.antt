@@ -1,5 +1,4 @@
--- `kdsort::sort` meets its contract: a leaf is left as it is, a node is its selection and then its two sides. The measure is the
--- interval's length. Assumes nothing.
+-- `kdsort::sort`: the measure is the interval's length. Assumes nothing.
 use Prim.Native.Nat.{◌-◌}
 use Rattle.kdsort.proofs.+sort.Given as goal
 

@@ -1,4 +1,4 @@
--- `kdsort::build_index` meets its contract: the loop fills the slots one after the other, and the sort does the rest. Assumes nothing.
+-- `kdsort::build_index`: the slots below i are filled. The measure is how many are left. Assumes nothing.
 use mathlib.Core.Path.{◌≡◌}
 use Prim.Native.Nat.{◌-◌, ◌≤◌}
 use lib.ListN.{length}

@@ -1,4 +1,4 @@
--- `kdsort::exchange` meets its contract: after each turn one pair more is exchanged. Assumes nothing.
+-- `kdsort::exchange`: the pairs below k are exchanged. The measure is how many are left. Assumes nothing.
 use mathlib.Core.Path.{◌≡◌}
 use Prim.Native.Nat.{◌-◌, ◌≤◌}
 use lib.ListN.{length}
