@@ -1,4 +1,4 @@
--- `kdslots::narrow` meets its contract: what is left out answers nothing. The measure is the interval's length. Assumes nothing.
+-- `kdslots::narrow`: what is left out answers nothing. The measure is the interval's length. Assumes nothing.
 use mathlib.Core.Path.{◌≡◌}
 use Prim.Native.Nat.{◌-◌, ◌≤◌, ◌<◌}
 use Rattle.kdsort.specs.Shape.{shape}
