@@ -8,7 +8,8 @@ use Rattle.kdsort.proofs.exchange.Given as goal
 
 abbrev pub invariant-loop-k : goal.invariant-loop-k
 invariant-loop-k l =
-    (index_cols l.ids l.coords ≡ exchanged (index_cols l.initial.ids l.initial.coords) (batch_entry l.ups) (batch_entry l.downs) l.k) × (l.k ≤ l.count)
+    let s = index_cols l.initial.ids l.initial.coords in
+    (index_cols l.ids l.coords ≡ exchanged s (batch_entry l.ups) (batch_entry l.downs) l.k) × (l.k ≤ l.count)
     × (length l.ids ≡ length l.initial.ids) × (length l.coords ≡ length l.initial.coords)
 
 abbrev pub decreases-loop-k : goal.decreases-loop-k
