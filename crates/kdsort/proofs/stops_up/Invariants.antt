@@ -1,5 +1,5 @@
--- `kdsort::stops_up`: the list has the stops among the slots that were looked at. The measure is how many are still to be looked at. Assumes
--- nothing.
+-- `kdsort::stops_up`: the list has the stops among the slots that were looked at. The measure is how many are still to be looked at.
+-- Assumes nothing.
 use mathlib.Core.Path.{◌≡◌}
 use Prim.Native.Nat.{◌-◌, ◌≤◌}
 use lib.ListN.{length}
