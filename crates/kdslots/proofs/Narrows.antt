@@ -11,7 +11,8 @@ use Rattle.kdslots.specs.declared.Query.{Query}
 use Rattle.kdslots.specs.Query.{goes_left, goes_right}
 use Rattle.kdslots.specs.Slots.{Search, slots, over}
 use Rattle.kdslots.specs.laws.Bounds.{both_true}
-use Rattle.kdslots.specs.laws.Reaches.{on-axis, median-reached}
+use Rattle.kdslots.specs.laws.Reaches.{on-axis}
+use Rattle.kdslots.proofs.Complete.{median-reached}
 use Rattle.kdslots.specs.laws.Intervals.{slots-node}
 
 and-no-more : (l : List ℕ) → l ++ [] ≡ l

@@ -15,11 +15,10 @@ pub mod Sound
 pub mod Keep
 -- Order: one order of all the slots of an index, in which every search comes to them: it has each slot, once.
 pub mod Order
--- Reaches: no search skips a part that has a slot which passes, where the part is in order around its median; and where a part is skipped
--- the median itself does not pass.
+-- Reaches: no search skips a part that has a slot which passes, where the part is in order around its median.
 pub mod Reaches
--- Complete: over an index in the order of the tree every search answers just the slots that pass, each box and each ring: it is a filter of
--- one order of all slots, which no query changes.
+-- Complete: where no part that has a slot which passes is skipped, those that pass are answered, in the order of all slots; and what an
+-- index in the order of the tree is, of which proofs/Complete says that this holds.
 pub mod Complete
 -- Corner: SCOPE's corner, over an index of three slots: x = 0.25 - 2 ^ -55, asked for with qx = 1 and radius 0.75.
 pub mod Corner

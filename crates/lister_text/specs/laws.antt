@@ -8,7 +8,7 @@ pub mod Scan
 pub mod Form
 -- Coords: a coordinate is k / 65,536 exactly: no NaN, and within [0, 1] where k is at most 65,536.
 pub mod Coords
--- Reading: a line is read if and only if it stands there: number-ends and line-ends say what was read, number-read and line-read that it is
+-- Reading: a line is read if and only if it stands there: number-ends and line-ends say what was read, number_read and line_read that it is
 -- read.
 pub mod Reading
 -- Lines: a line in a reading of several: where it stands, the reading goes on past it (`goes_on`, `past`); and where a reading went on past
@@ -18,7 +18,7 @@ pub mod Lines
 pub mod Points
 -- OneInput: no two inputs that SCOPE takes have one writing: `text-one`.
 pub mod OneInput
--- Heads: the first seven lines are read if and only if they stand there: head-read and head-ends.
+-- Heads: the first seven lines are read if and only if they stand there: head_read and head-ends.
 pub mod Heads
 -- Whole: a text is read as these values if and only if it is their writing: `accepts` and `only`.
 pub mod Whole

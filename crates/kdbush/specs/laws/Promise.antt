@@ -28,7 +28,8 @@ use Rattle.kdslots.specs.laws.Sound.{answers-sound, answers-between, answers-dis
 use Rattle.kdslots.specs.Keep.{put, keep}
 use Rattle.kdslots.specs.laws.Keep.{keep-both}
 use Rattle.kdslots.specs.laws.Order.{order, order-between}
-use Rattle.kdslots.specs.laws.Complete.{passes_at, answers-complete, answers-kept}
+use Rattle.kdslots.specs.laws.Complete.{passes_at}
+use Rattle.kdslots.proofs.Complete.{answers-complete, answers-kept}
 
 -- ---- slots and their places
 

@@ -1,23 +1,19 @@
--- Over an index in the order of the tree every search answers just the slots that pass, each box and each ring: it is a filter of one
--- order of all slots, which no query changes. Assumes nothing.
-use Rattle.std.specs.Prelude.{Bool, true, false, ◌≡◌, refl, List, [], ◌∷◌, ◌++◌, ℕ, zero, suc, ◌+◌, ◌-◌, ◌≤◌, ◌<◌, T, Float}
-use Rattle.std.proofs.Common.{true≢false, sym, ap, ap₂, ◌∙◌, subst, arith}
-use Rattle.std.specs.Float.Ieee.{le}
+-- Where no part that has a slot which passes is skipped, those that pass are answered, in the order of all slots; and what an index in the
+-- order of the tree is, of which proofs/Complete says that this holds. Assumes nothing.
+use Rattle.std.specs.Prelude.{Bool, true, false, ◌≡◌, refl, List, [], ◌∷◌, ◌++◌, ℕ, zero, suc, ◌+◌, ◌-◌, ◌≤◌, ◌<◌, Float}
+use Rattle.std.proofs.Common.{true≢false, sym, ap, ap₂, ◌∙◌, arith}
 use Rattle.kdsort.specs.Cols.{key}
 use Rattle.kdsort.specs.Shape.{Shape, leaf, node, shape}
-use Rattle.kdsort.specs.laws.Shape.{Spans, all, both, spans}
+use Rattle.kdsort.specs.laws.Shape.{Spans, all, both}
 use Rattle.kdsort.specs.Tree.{Kd}
 use Rattle.kdslots.specs.declared.Query.{Query}
 use Rattle.kdslots.specs.Query.{passes_q}
-use Rattle.kdslots.specs.Slots.{Search, when, scanned, slots, over, answers}
-use Rattle.kdslots.specs.laws.Members.{In, BetweenSlots}
+use Rattle.kdslots.specs.Slots.{Search, when, scanned, slots}
+use Rattle.kdslots.specs.laws.Members.{BetweenSlots}
 use Rattle.kdslots.specs.laws.Sound.{slots-between}
-use Rattle.kdslots.specs.laws.Reaches.{on-axis, reaches-left, reaches-right}
 use Rattle.kdslots.specs.Keep.{put, keep}
-use Rattle.kdslots.specs.laws.Keep.{keep_append, keep-none, keep-passing}
-use Rattle.kdslots.specs.laws.Order.{everything, order, order-all}
-
--- ---- where no part that has a slot which passes is skipped, those that pass are answered, in the order of all slots
+use Rattle.kdslots.specs.laws.Keep.{keep_append, keep-none}
+use Rattle.kdslots.specs.laws.Order.{everything}
 
 unfoldable pub Fair : Search → ℕ → ℕ → ℕ → Shape → Type 0
 Fair s ax lo hi (leaf a b) = Unit {0}
@@ -45,7 +41,7 @@ part-kept p false lo hi mine l w e f = sym (keep-none p lo hi l w (λ i a b. not
     not-true true f = absurd (f refl)
     not-true false f = refl
 
-filtered : (s : Search) (ax lo hi : ℕ) (t : Shape) → Spans lo hi t → lo ≤ hi → Fair s ax lo hi t
+pub filtered : (s : Search) (ax lo hi : ℕ) (t : Shape) → Spans lo hi t → lo ≤ hi → Fair s ax lo hi t
     → slots s ax t ≡ keep s.test (slots everything ax t)
 unfolding slots Fair
 filtered s ax lo hi _ all h f = scanned-kept s lo (hi - lo)
@@ -63,19 +59,6 @@ filtered s ax lo hi _ (both {m = m} {r = r} {l = l} a b p q) h f =
 
 -- ---- the order of the tree
 
--- a search over an index in the order of the tree skips no slot that passes
-kd-fair : (q : Query) (cs : List Float) (ax lo hi : ℕ) (t : Shape) → ax < 2 → Kd cs ax lo hi t → Fair (over q cs) ax lo hi t
-unfolding Fair Kd
-kd-fair q cs ax lo hi (leaf a b) h k = tt
-kd-fair q cs ax lo hi (node m r l) h k = (
-  (λ i a b p. reaches-right (key 0 cs i) (key 1 cs i) (key ax cs m) q ax h
-      (subst (λ (z : Float). T (le (key ax cs m) z)) (sym (on-axis cs i ax h)) (k.0.right i a b)) p),
-  (λ i a b p. reaches-left (key 0 cs i) (key 1 cs i) (key ax cs m) q ax h
-      (subst (λ (z : Float). T (le z (key ax cs m))) (sym (on-axis cs i ax h)) (k.0.left i a b)) p),
-  kd-fair q cs (1 - ax) (m + 1) hi r (omega arith) k.2,
-  kd-fair q cs (1 - ax) lo m l (omega arith) k.1,
-)
-
 -- an index of n slots is in the order of the tree
 abbrev pub Ordered : List Float → ℕ → ℕ → Type 0
 Ordered cs size n = Kd cs 0 0 n (shape (size + 1) 0 n)
@@ -83,15 +66,3 @@ Ordered cs size n = Kd cs 0 0 n (shape (size + 1) 0 n)
 -- whether a slot passes
 abbrev pub passes_at : Query → List Float → ℕ → Bool
 passes_at q cs i = passes_q q (key 0 cs i) (key 1 cs i)
-
--- the one law of both searches: those slots of the tree's order that pass, and in that order
-pub answers-kept : (q : Query) (cs : List Float) (size n : ℕ) → Ordered cs size n
-    → answers q cs size n ≡ keep (passes_at q cs) (order size n)
-answers-kept q cs size n k = filtered (over q cs) 0 0 n (shape (size + 1) 0 n) (spans (size + 1) 0 n) (omega arith)
-    (kd-fair q cs 0 0 n (shape (size + 1) 0 n) (omega arith) k)
-
--- each slot that passes is answered
-pub answers-complete : (q : Query) (cs : List Float) (size n : ℕ) → Ordered cs size n → (i : ℕ) → i < n → passes_at q cs i ≡ true
-    → In i (answers q cs size n)
-answers-complete q cs size n k i h p =
-    subst (In i) (sym (answers-kept q cs size n k)) (keep-passing (passes_at q cs) i (order size n) (order-all size n i h) p)

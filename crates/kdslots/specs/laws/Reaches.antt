@@ -1,17 +1,17 @@
--- No search skips a part that has a slot which passes, where the part is in order around its median; and where a part is skipped the
--- median itself does not pass. For every query, whatever its numbers are. Assumes nothing.
+-- No search skips a part that has a slot which passes, where the part is in order around its median. For every query, whatever its numbers
+-- are. Assumes nothing.
 use Rattle.std.specs.Prelude.{◌≡◌, refl, Bool, true, false, ◌&&◌, not, List, ℕ, zero, suc, ◌<◌, T, Float}
 use Rattle.std.proofs.Common.{arith}
 use Rattle.std.specs.Float.{binary64}
-use Rattle.std.specs.Float.Ieee.{is_nan, le, lt, mul}
+use Rattle.std.specs.Float.Ieee.{le, lt, mul}
 use Rattle.floats.specs.laws.Fraction.{yes_of, is_true}
-use Rattle.floats.specs.laws.Order.{le-le-trans, le-reflexive, le-right-number}
+use Rattle.floats.specs.laws.Order.{le-le-trans}
 use Rattle.kdsort.specs.Cols.{key}
 use Rattle.kdslots.specs.declared.Query.{Query}
 use Rattle.kdslots.specs.declared.Query.TheVariants.{Range, Within}
 use Rattle.kdslots.specs.Query.{passes_q, on_axis, too_far, goes_left, goes_right}
 use Rattle.kdslots.specs.laws.Bounds.{and_both}
-use Rattle.floats.specs.laws.Skip.{left-x-fails, left-y-fails, right-x-fails, right-y-fails, x-number, y-number}
+use Rattle.floats.specs.laws.Skip.{left-x-fails, left-y-fails, right-x-fails, right-y-fails}
 
 -- a point in a box, edge by edge
 pub record InBox (a b c d x y : Float) : Type 0 where
@@ -60,21 +60,3 @@ module _ (x y v : Float) where
   reaches-right (Within qx qy r) (suc zero) h l e =
       goes (lt qy v) (too_far v qy r) (λ k j. right-y-fails x y v qx qy (mul binary64 r r) l k j (yes_of e))
   reaches-right (Within qx qy r) (suc (suc k)) h l e = absurd (omega arith)
-
--- ---- the median
-
-passes-number : (x y : Float) (q : Query) (ax : ℕ) → ax < 2 → passes_q q x y ≡ true → T (not (is_nan (on_axis ax x y)))
-passes-number x y (Range a b c d) zero h e = le-right-number a x (in-box a b c d x y e).west
-passes-number x y (Range a b c d) (suc zero) h e = le-right-number b y (in-box a b c d x y e).low
-passes-number x y (Range a b c d) (suc (suc k)) h e = absurd (omega arith)
-passes-number x y (Within qx qy r) zero h e = x-number x y qx qy (mul binary64 r r) (yes_of e)
-passes-number x y (Within qx qy r) (suc zero) h e = y-number x y qx qy (mul binary64 r r) (yes_of e)
-passes-number x y (Within qx qy r) (suc (suc k)) h e = absurd (omega arith)
-
--- where a median passes, both its sides are gone into
-pub median-reached : (x y : Float) (q : Query) (ax : ℕ) → ax < 2 → passes_q q x y ≡ true → (goes_right q ax (on_axis ax x y) ≡ true)
-    × (goes_left q ax (on_axis ax x y) ≡ true)
-median-reached x y q ax h e =
-    let v = on_axis ax x y in
-    let o = le-reflexive (on_axis ax x y) (passes-number x y q ax h e) in
-    (reaches-right x y v q ax h o e, reaches-left x y v q ax h o e)
