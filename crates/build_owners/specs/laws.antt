@@ -3,7 +3,7 @@
 -- Climbs: what the code goes by, to fill a table's part of the owner column from that of the finer table without a search by id.
 pub mod Climbs
 -- Fills: columns that are written place by place: one table's owners from those of the finer table, and one table after the other until the
--- column is `ownerColumn`.
+-- column is `owner_column`.
 pub mod Fills
 -- Steps: from a cluster to the entry at its origin, and so on down to the lamp that it began with: one step of the way.
 pub mod Steps

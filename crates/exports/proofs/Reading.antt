@@ -1,5 +1,5 @@
--- Reading an entry: the tests on the way to it lead to the refusals of `entryAsked`, in its order, or to the entry; and past them the table
--- stands in the columns. Assumes nothing.
+-- Reading an entry: the tests on the way to it lead to the refusals of `entry_asked`, in its order, or to the entry; and past them the
+-- table stands in the columns. Assumes nothing.
 use mathlib.Core.Path.{◌≡◌, ap, sym, ◌∙◌}
 use mathlib.Core.Bool.{true, false}
 use Prim.Native.Nat.{ℕ, ◌+◌, ◌<◌, ◌≤◌}

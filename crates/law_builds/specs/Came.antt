@@ -24,7 +24,7 @@ came G z = comes (plan G) (max_z G + 1) (lamps_in G) (max_z G + 1 - z)
 unfoldable pub table_of_zoom : Given → ℕ → Table
 table_of_zoom G z = get_or (tables_of_build G) (max_z G + 1 - z) []
 
--- ---- what `runZooms` makes
+-- ---- what `run_zooms` makes
 
 -- the first zoom taken out
 comes-shift : (p : Plan) (top : ℕ) (t : Table) (j : ℕ) → comes p (suc top) t (suc j) ≡ comes p top (zoomed p top t).next j

@@ -23,7 +23,7 @@ pub record EffortAnswered (c : CoordinateSystem) (west least east greatest : Flo
   pub refused-box : box_ok c west least east greatest ≡ false → x ≡ refused Box
   pub never-spoiled : (a room : ℕ) → effort_reply_of x a room ≡ Spoiled → ⊥
 
--- the box at a zoom, asked of a state and its columns: the reply of `effort_box` is `effortReplyOf` of this
+-- the box at a zoom, asked of a state and its columns: the reply of `effort_box` is `effort_reply_of` of this
 abbrev pub effort_at : State → Columns → ℕ → Float → Float → Float → Float → EffortAsked
 effort_at st c zoom west least east greatest = effort_asked st c.ids c.coords zoom west least east greatest
 

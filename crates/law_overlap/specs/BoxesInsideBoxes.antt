@@ -90,7 +90,7 @@ pub record Overlaps (d : DataRange) (ask : Box → Asked) : Type 0 where
 
 -- ---- of every build
 
--- the box at a zoom, asked of a state and its columns: the answer of `list_box` is `answer_of` of this, and its output column `columnOf`
+-- the box at a zoom, asked of a state and its columns: the answer of `list_box` is `answer_of` of this, and its output column `column_of`
 abbrev pub box_at : State → Columns → ℕ → Box → Asked
 box_at s c zoom a = box_asked s c.ids c.coords zoom a.west a.least a.east a.greatest
 

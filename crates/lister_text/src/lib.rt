@@ -83,11 +83,6 @@ fn starts(s: &[u8], at: usize, key: &[u8]) -> bool
     true
 }
 
-// What a number has to be at least, and may be at most, for a digit more: none begins with 0, and none has eight digits.
-const LEAST: u32 = 1;
-
-const MOST: u32 = 999999;
-
 // The rest of a number whose first digit is read, up to its line's end: no digit after a 0, at most seven digits.
 fn more(s: &[u8], from: usize, first: u32) -> Value
     requires { first < 10 }
@@ -110,10 +105,10 @@ fn more(s: &[u8], from: usize, first: u32) -> Value
         if 57 < c {
             return Value::Bad;
         }
-        if v < LEAST {
+        if v < 1 {
             return Value::Bad;
         }
-        if MOST < v {
+        if 999999 < v {
             return Value::Bad;
         }
         v = v * 10 + wide(c - 48);

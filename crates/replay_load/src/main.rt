@@ -6,7 +6,7 @@
 // m entries of all tables, the slots of their indexes at the same positions, zeros in the first 2n of `near`, the old contents past all of
 // these, and in the state the options, n, and zeros as start and length of the other zooms. n goes to 64, and the tables to 1152 entries in
 // all; a case beyond is not of the form, nor is one with a max_zoom that is past 30 or below min_zoom. Proved: nothing here reads or writes
-// outside its columns, the verdict of a case is the equation `loadsTo` of specs/, and the score is right. Assumed: what standard input
+// outside its columns, the verdict of a case is the equation `loads_to` of specs/, and the score is right. Assumed: what standard input
 // gives is not modelled, so that the loops that read are only proved to be safe.
 #![tactic(auto)]
 

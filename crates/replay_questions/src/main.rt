@@ -9,8 +9,8 @@
 //     5 z x y, and then: room_places room_x room_y number carried m, m places, m times x, m times y
 // The output columns are as long as their rooms, 64 at the most, and filled with old contents: expected is that the m items stand at the
 // front, and behind them the old contents.
-// Proved: nothing here reads or writes outside its columns, the verdict on a question is the equation of specs/ (`listsTo`, `zoomsTo`,
-// `tilesTo`, `sumsTo`): it agrees if and only if what is stored is what the definition says (specs/Decides). The score is right.
+// Proved: nothing here reads or writes outside its columns, the verdict on a question is the equation of specs/ (`lists_to`, `zooms_to`,
+// `tiles_to`, `sums_to`): it agrees if and only if what is stored is what the definition says (specs/Decides). The score is right.
 // Assumed: what standard input gives is not modelled, so that the functions that read are only proved to be safe.
 #![tactic(auto)]
 

@@ -1,4 +1,4 @@
--- `ask_base::is_built` meets its contract: the two tests are those of `isBuilt`. Assumes nothing.
+-- `ask_base::is_built` meets its contract: the two tests are those of `is_built`. Assumes nothing.
 use borrow.Author.Tests.{le-leb, lt-leb}
 use Rattle.ask_base.proofs.is_built.Goals as goal
 

@@ -1,4 +1,4 @@
--- `ask_cluster::fate_of` meets its contract: the tests are those of `fateOf`. Assumes nothing.
+-- `ask_cluster::fate_of` meets its contract: the tests are those of `fate_of`. Assumes nothing.
 use borrow.Author.Tests.{lt-ltb, le-ltb, le-leb, lt-leb}
 use Rattle.ask_cluster.proofs.fate_of.Goals as goal
 

@@ -1,5 +1,5 @@
 -- Columns that are written place by place: one table's owners from those of the finer table, and one table after the other until the
--- column is `ownerColumn`. Assumes nothing.
+-- column is `owner_column`. Assumes nothing.
 use Rattle.std.specs.Prelude.{◌≡◌, refl, ◌⊎◌, ℕ, zero, suc, ◌+◌, ◌-◌, ◌*◌, ◌<◌, ◌≤◌, get_or, set, take, replicate}
 use Rattle.std.proofs.Math.Path.{sym, ap}
 use Rattle.std.proofs.Common.{ap₂, ◌∙◌, subst, inl, inr, ⊎_elim, suc-mul, mul-le-mul, le_refl, add-one, length-set, take-append-drop, get_or-set_same, get_or-set_other, get_or-take, get_or-append-add, drop-drop, length-take-le}

@@ -1,4 +1,4 @@
--- `is_table` meets its contract: each test is one of `isTable`, in its order. Assumes nothing.
+-- `is_table` meets its contract: each test is one of `is_table`, in its order. Assumes nothing.
 use borrow.Author.Tests.{le-leb, lt-leb, eq-eqb, ne_eqb}
 use Rattle.build_tables.proofs.is_table.Goals as goal
 

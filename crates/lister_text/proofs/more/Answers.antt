@@ -25,23 +25,23 @@ returns-then-c-gt57 c =
     sym (more-here c.args.s.now c.loop-at.at c.loop-at.v (omega arith)
     ∙ simp (ne_eqb _ _ c.if-c-eq10.false, le-ltb _ _ c.if-c-lt48.false, lt-ltb _ _ c.if-c-gt57.true)) ∙ c.loop-at.invariant.0
 
-pub returns-then-v-lt-LEAST : goal.returns-then-v-lt-LEAST
+pub returns-then-v-lt1 : goal.returns-then-v-lt1
 unfolding more_text
-returns-then-v-lt-LEAST c =
+returns-then-v-lt1 c =
     sym (more-here c.args.s.now c.loop-at.at c.loop-at.v (omega arith)
-    ∙ simp (ne_eqb _ _ c.if-c-eq10.false, le-ltb _ _ c.if-c-lt48.false, le-ltb _ _ c.if-c-gt57.false, lt-ltb _ _ c.if-v-lt-LEAST.true))
+    ∙ simp (ne_eqb _ _ c.if-c-eq10.false, le-ltb _ _ c.if-c-lt48.false, le-ltb _ _ c.if-c-gt57.false, lt-ltb _ _ c.if-v-lt1.true))
     ∙ c.loop-at.invariant.0
 
-pub returns-then-v-gt-MOST : goal.returns-then-v-gt-MOST
+pub returns-then-v-gt999999 : goal.returns-then-v-gt999999
 unfolding more_text
-returns-then-v-gt-MOST c =
+returns-then-v-gt999999 c =
     sym (more-here c.args.s.now c.loop-at.at c.loop-at.v (omega arith)
     ∙ simp (
       ne_eqb _ _ c.if-c-eq10.false,
       le-ltb _ _ c.if-c-lt48.false,
       le-ltb _ _ c.if-c-gt57.false,
-      le-ltb _ _ c.if-v-lt-LEAST.false,
-      lt-ltb _ _ c.if-v-gt-MOST.true,
+      le-ltb _ _ c.if-v-lt1.false,
+      lt-ltb _ _ c.if-v-gt999999.true,
     )) ∙ c.loop-at.invariant.0
 
 pub wide-requires : goal.wide-requires
@@ -55,8 +55,8 @@ loop-at-preserved c = (
         ne_eqb _ _ c.if-c-eq10.false,
         le-ltb _ _ c.if-c-lt48.false,
         le-ltb _ _ c.if-c-gt57.false,
-        le-ltb _ _ c.if-v-lt-LEAST.false,
-        le-ltb _ _ c.if-v-gt-MOST.false,
+        le-ltb _ _ c.if-v-lt1.false,
+        le-ltb _ _ c.if-v-gt999999.false,
       )) ∙ c.loop-at.invariant.0),
   omega arith,
 )

@@ -1,4 +1,4 @@
--- `lister_text::parse` meets its contract: it answers what `parsedOf` does, and the law `parsing` says what that is. Assumes nothing.
+-- `lister_text::parse` meets its contract: it answers what `parsed_of` does, and the law `parsing` says what that is. Assumes nothing.
 -- the columns as they came
 use mathlib.Core.Path.{refl, sym, ◌∙◌, subst}
 use borrow.Author.Tests.{lt-ltb, le-ltb}

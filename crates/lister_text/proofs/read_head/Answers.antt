@@ -1,4 +1,4 @@
--- `lister_text::read_head` meets its contract: the first seven lines, one after the other, as `headOfText` has them. Assumes nothing.
+-- `lister_text::read_head` meets its contract: the first seven lines, one after the other, as `head_of_text` has them. Assumes nothing.
 -- the third line's place, and the two before it
 use mathlib.Core.Path.{sym, ◌∙◌, subst}
 use Rattle.lister_text.specs.laws.Scan.{value_in}

@@ -1,4 +1,4 @@
--- A text is read as these values if and only if it is their writing: `accepts` and `only`. So what `parsedOf` answers meets the contract
+-- A text is read as these values if and only if it is their writing: `accepts` and `only`. So what `parsed_of` answers meets the contract
 -- of `parse` (`parsing`), which allows just one reply to a text, and one content of the columns (`parsing-one`). Assumes nothing.
 use Rattle.std.specs.Prelude.{Bool, true, false, cond, List, map, ◌≡◌, refl, ℕ, ◌+◌, ◌≤◌, ltb, length, take, drop}
 use Rattle.std.proofs.Common.{ap, sym, subst, ◌∙◌, arith, le-ltb, ltb-false, take_at}

@@ -1,4 +1,4 @@
--- `Options::extent_ok` meets its contract: the two tests are those of `extentOk`. Assumes nothing.
+-- `Options::extent_ok` meets its contract: the two tests are those of `extent_ok`. Assumes nothing.
 use mathlib.Core.Path.{sym, ap, ◌∙◌}
 use mathlib.Core.Bool.{Bool, ◌&&◌}
 use lib.Ieee.{le, of_bits}

@@ -1,4 +1,4 @@
--- `Options::radius_ok` meets its contract: the two tests are those of `radiusOk`. Assumes nothing.
+-- `Options::radius_ok` meets its contract: the two tests are those of `radius_ok`. Assumes nothing.
 use mathlib.Core.Path.{sym, ap, ◌∙◌}
 use mathlib.Core.Bool.{Bool, ◌&&◌}
 use lib.Ieee.{le, of_bits}
