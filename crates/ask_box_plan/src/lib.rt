@@ -3,7 +3,11 @@
 // edge of a longitude build; on a Cartesian plan it is the least y as given.
 #![tactic(auto)]
 
-ghost use Rattle.std.specs.Prelude.{◌≡◌};
+ghost use Rattle.std.specs.Prelude.{◌≡◌, T};
+ghost use Rattle.std.specs.Float.{binary64};
+ghost use Rattle.std.specs.Float.Ieee.{le, rem};
+ghost use Rattle.std.specs.Float.Ieee.Scale.{finite};
+ghost use Rattle.range.specs.Range.{full_circle};
 ghost use Rattle.ask_box_plan.specs.Rule.{wrapped, wrapped_east, new_west, new_east, box_of, plan_of, box_ok};
 ghost use Rattle.ask_box_plan.specs.laws.Queries.{queries_of};
 
@@ -25,11 +29,52 @@ pub struct BoxPlan {
     pub two: bool,
 }
 
+// What is left of x, from 360 on, when 360 is taken from it as often as it goes: 360 * 2 ^ 1015 first, where that is not more than what
+// is left, and then each half of it. Every step is exact.
+fn reduced(x: f64) -> f64
+    requires finite { T (finite x) }
+    requires from_360 { T (le full_circle x) }
+    ensures { result ≡ rem binary64 x full_circle }
+{
+    let mut left = x;
+    let mut t = f64::from_bits(0x7FE6_8000_0000_0000);
+    for i in 0..1016u32 {
+        if t <= left {
+            left = left - t;
+        }
+        t = t / 2.0;
+    }
+    left
+}
+
+// v % 360, with the sign of v.
+fn rest(v: f64) -> f64
+    ensures { result ≡ rem binary64 v full_circle }
+{
+    if !floats::is_finite(v) {
+        return v - v;
+    }
+    if v < 0.0 {
+        let m = -v;
+        if m < 360.0 {
+            return v;
+        }
+        return -reduced(m);
+    }
+    if v < 360.0 {
+        return v;
+    }
+    if v < 720.0 {
+        return v - 360.0;
+    }
+    reduced(v)
+}
+
 // A longitude brought into -180 to 180.
 fn wrap(v: f64) -> f64
     ensures { result ≡ wrapped v }
 {
-    ((v + 180.0) % 360.0 + 360.0) % 360.0 - 180.0
+    rest(rest(v + 180.0) + 360.0) - 180.0
 }
 
 // The same of an eastern edge: 180 stays.
