@@ -35,7 +35,7 @@ fn file(folder: &Path, name: &str) -> PathBuf {
     folder.join(format!("lib{name}.a"))
 }
 
-/// Names the library to the linker, and what it needs: the C library's `fmod`, in libm.
+/// Names the library to the linker, and what `links` names.
 fn link(folder: &Path, name: &str) {
     println!("cargo::rerun-if-changed={}", file(folder, name).display());
     println!("cargo::rustc-link-search=native={}", folder.display());
@@ -43,7 +43,6 @@ fn link(folder: &Path, name: &str) {
     for name in fs::read_to_string(folder.join("links")).unwrap_or_default().lines() {
         println!("cargo::rustc-link-lib=dylib={name}");
     }
-    println!("cargo::rustc-link-lib=dylib=m");
 }
 
 /// What to run where the library is in none of these folders.

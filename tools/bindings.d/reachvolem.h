@@ -18,9 +18,9 @@
 
    The machine. 64-bit only. The library has no variables of its own, takes no lock and no memory but the stack: at most RV_STACK_TALLY
    bytes for a tally, RV_STACK_LEAVES for leaves, RV_STACK for any other call (measured on x86-64). So any number of threads may ask one
-   map at the same time; while rv_load or rv_post writes it, no other may. The box of a longitude build needs fmod, hence -lm:
-   `tools/native-lib exports`, then `cc -I include YOUR.c target/native/libexports.a -lm`; with a dist of
-   tools/make-dist, in its folder, `cc -I include YOUR.c asm/reachvolem-$(uname -m).s -lm`. Floats are IEEE 754's, rounded to
+   map at the same time; while rv_load or rv_post writes it, no other may. It is linked so:
+   `tools/native-lib exports`, then `cc -I include YOUR.c target/native/libexports.a`; with a dist of
+   tools/make-dist, in its folder, `cc -I include YOUR.c asm/reachvolem-$(uname -m).s`. Floats are IEEE 754's, rounded to
    nearest; a program that changes how they are rounded, or has tiny numbers flushed to 0, gets other answers. */
 #ifndef REACHVOLEM_H
 #define REACHVOLEM_H
