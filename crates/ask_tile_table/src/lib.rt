@@ -681,6 +681,36 @@ fn add_with(
     )
 }
 
+// The tally of what a tile finds, with N bytes of marks: a mark for each place of the table.
+fn add_among<const N: usize>(
+    o: Options,
+    z: u32,
+    tx: u32,
+    ty: u32,
+    x: &[f64],
+    y: &[f64],
+    seen: &[u8],
+    id: &[u32],
+    parent: &[u32],
+    num: &[u32],
+    energy: &[u64],
+    ids: &[u32],
+    coords: &[f64],
+) -> Running
+    requires in_bounds { InBounds o × IsTile z tx ty }
+    requires even { Even (given x y seen id parent num energy) }
+    requires held { N ≤ 131072 }
+    requires room { length x.now ≤ 8 * N }
+    requires index { let n = length x.now in (coords_ok o.node_size n (length coords.now) ≡ true) × (n ≤ length ids.now) }
+    ensures { let t = rows (lent_cols x y seen id parent num energy).entry in
+        result ≡ running_of (weight_in z tx ty) t (visited o z tx ty t ids.now coords.now) }
+{
+    let mut marks = [0u8; N];
+    add_with(
+        o, z, tx, ty, x, y, seen, id, parent, num, energy, ids, coords, false, &mut marks,
+    )
+}
+
 // The tally of what a tile finds, with a mark for each place of the table. A smaller table has fewer marks, so that fewer are cleared.
 fn add_all(
     o: Options,
@@ -704,14 +734,12 @@ fn add_all(
         result ≡ running_of (weight_in z tx ty) t (visited o z tx ty t ids.now coords.now) }
 {
     if x.len() <= 131072 {
-        let mut some = [0u8; 16384];
-        return add_with(
-            o, z, tx, ty, x, y, seen, id, parent, num, energy, ids, coords, false, &mut some,
+        return add_among::<16384>(
+            o, z, tx, ty, x, y, seen, id, parent, num, energy, ids, coords,
         );
     }
-    let mut marks = [0u8; 131072];
-    add_with(
-        o, z, tx, ty, x, y, seen, id, parent, num, energy, ids, coords, false, &mut marks,
+    add_among::<131072>(
+        o, z, tx, ty, x, y, seen, id, parent, num, energy, ids, coords,
     )
 }
 

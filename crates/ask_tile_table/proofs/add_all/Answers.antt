@@ -1,31 +1,32 @@
--- `ask_tile_table::add_all` meets its contract: the marks that it lends are blank, and there is one for each place of the table. Assumes
+-- `ask_tile_table::add_all` meets its contract: a table has no more places than the bytes of marks that it is given have bits. Assumes
 -- nothing.
-use Rattle.std.proofs.Common.{refl, false, length, arith}
+use Rattle.std.proofs.Common.{length, arith}
 use Rattle.kdslots.specs.laws.Bounds.{coords-is}
-use Rattle.ask_tile_table.specs.laws.Told.{blank}
 use Rattle.ask_tile_table.proofs.add_all.Goals as goal
 
-pub add_with-requires : goal.add_with-requires
-add_with-requires c = record {
+pub add_among-requires : goal.add_among-requires
+add_among-requires c = record {
   in_bounds = c.requires.in_bounds;
   even = c.requires.even;
+  held = omega arith;
+  room = omega (arith, c.if-x-le131072.true);
   index = c.requires.index;
-  blank = blank false (length c.args.x.now) 16384 (omega (arith, c.if-x-le131072.true));
 }
 
 pub returns-then-x-le131072 : goal.returns-then-x-le131072
-returns-then-x-le131072 c = c.add_with.ensures refl
+returns-then-x-le131072 c = c.add_among.ensures
 
-pub add_with-requires-2 : goal.add_with-requires-2
-add_with-requires-2 c =
+pub add_among-requires-2 : goal.add_among-requires-2
+add_among-requires-2 c =
     let a = c.args in
     let few = coords-is a.o.node_size (length a.x.now) (length a.coords.now) c.requires.index.0 in
     record {
       in_bounds = c.requires.in_bounds;
       even = c.requires.even;
+      held = omega arith;
+      room = omega (arith, few.n-to);
       index = c.requires.index;
-      blank = blank false (length a.x.now) 131072 (omega (arith, few.n-to));
     }
 
 pub returns : goal.returns
-returns c = c.add_with-2.ensures refl
+returns c = c.add_among-2.ensures

@@ -1,5 +1,5 @@
--- `ask_tile_table::list_by`: at the head of the loop what is ahead of the walk, listed after what the columns hold, gives the whole run. The
--- measure is what is ahead.
+-- `ask_tile_table::list_by`: at the head of the loop what is ahead of the walk, listed after what the columns hold, gives the whole run.
+-- The measure is what is ahead.
 use Rattle.std.proofs.Common.{◌≡◌, ◌+◌, ◌≤◌, length}
 use Rattle.kdslots.specs.laws.All.{AllBelow}
 use Rattle.kdbush.specs.Run.{places}

@@ -2,8 +2,9 @@
 
 use std::collections::BTreeSet;
 
-/// What may stand beside a type in the head of a function: these tell how a value goes over, nothing more.
-const HARMLESS: [&str; 3] = ["zeroext", "signext", "internal"];
+/// What may stand beside a type in the head of a function: these tell how a value goes over, nothing more. Two values
+/// that come back together stand in braces.
+const HARMLESS: [&str; 5] = ["zeroext", "signext", "internal", "{", "}"];
 
 /// The head of a function without `noundef`. Its group of attributes is kept in `defined`.
 pub fn define(line: &str, defined: &mut BTreeSet<String>) -> Result<String, String> {
@@ -16,7 +17,7 @@ pub fn define(line: &str, defined: &mut BTreeSet<String>) -> Result<String, Stri
     if !group.starts_with('#') || group.contains(' ') {
         return Err(format!("attributes {group}"));
     }
-    let words = before.split_whitespace().skip(1).chain(arguments.split([' ', ',']));
+    let words = before.split([' ', ',']).skip(1).chain(arguments.split([' ', ',']));
     for word in words.filter(|word| !word.is_empty()) {
         if !(is_type(word) || word.starts_with('%') || HARMLESS.contains(&word)) {
             return Err(format!("the word {word}"));

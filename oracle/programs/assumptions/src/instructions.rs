@@ -10,8 +10,14 @@ const PLAIN: [&str; 20] = [
     "sext", "bitcast", "uitofp", "sitofp", "br", "switch", "ret", "phi",
 ];
 
-/// LLVM's own functions that may be called. They assume nothing that the address sanitizer does not see.
-const OWN: [&str; 3] = ["@llvm.memmove.p0.p0.i64(", "@llvm.memset.p0.i64(", "@llvm.trap("];
+/// LLVM's own functions that may be called. They assume nothing that the address sanitizer does not see. The fence
+/// gives its argument back: it keeps the compiler from joining the rounded steps on its two sides.
+const OWN: [&str; 4] = [
+    "@llvm.memmove.p0.p0.i64(",
+    "@llvm.memset.p0.i64(",
+    "@llvm.trap(",
+    "@llvm.arithmetic.fence.f64(",
+];
 
 /// Words by which an operation or an argument lets the compiler assume more than its value.
 const FLAGS: [&str; 24] = [
@@ -38,6 +44,7 @@ pub fn check(line: &str, before: &str, checks: &mut Checks) -> Outcome {
         "store" => store(words, checks),
         "alloca" => alloca(line, result, words, checks),
         "call" => call(line, checks),
+        "extractvalue" => plain(line, checks),
         "unreachable" => {
             if before != "call void @llvm.trap()" {
                 checks.unreachable();

@@ -98,6 +98,18 @@ fn heads() {
 }
 
 #[test]
+fn what_assumes_nothing_goes_through() {
+    let kept = [
+        "%r = extractvalue { i8, i64 } %b, 1",
+        "%r = call { i8, i64 } @\"g\"(ptr %p)",
+        "%r = call double @llvm.arithmetic.fence.f64(double %d)",
+    ];
+    for line in kept {
+        assert_eq!(lines(line), [line]);
+    }
+}
+
+#[test]
 fn what_is_not_known_is_refused() {
     let lines = [
         "%r = or disjoint i64 %a, 1",
@@ -118,6 +130,7 @@ fn what_is_not_known_is_refused() {
         "%r = tail call i64 @g(ptr %p)",
         "call void @llvm.assume(i1 true)",
         "%r = add i64 %a, undef",
+        "%r = insertvalue { i8, i64 } poison, i8 1, 0",
     ];
     for line in lines {
         assert!(with(line).is_err(), "{line}");
@@ -130,6 +143,7 @@ fn promises_of_functions_are_refused() {
         checked(&format!("{head} {{\n  ret void\n}}\nattributes #0 = {{ {attribute} }}\n"))
     };
     assert!(define("define void @f(ptr %p) #0", "nounwind").is_ok());
+    assert!(define("define { i8, i64 } @f(ptr %p) #0", "nounwind").is_ok());
     assert!(define("define void @f(ptr nonnull %p) #0", "nounwind").is_err());
     assert!(define("define void @f(ptr noalias %p) #0", "nounwind").is_err());
     assert!(define("define void @f(ptr %p) #0", "nounwind willreturn").is_err());
