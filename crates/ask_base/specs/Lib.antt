@@ -1,6 +1,6 @@
 -- The definitions of ask_base, a line a module; what is true of them is in laws. Written by tools/modules.
 
--- Answers: the answer of a question that lists: SCOPE's number of each case, what it carries, and how long an answer a column has room for.
+-- Answers: the answer of a question that lists: how many items, or a refusal, and how long an answer a column has room for.
 pub mod Answers
 -- Asked: what a question comes to: a refusal before its walk, or what the walk finds; the answer and the column afterwards are read from
 -- it.

@@ -3,246 +3,154 @@
 // here of a caller follows from that.
 #![tactic(auto)]
 
-ghost use Rattle.std.specs.Prelude.{◌≡◌, ◌+◌, ◌*◌, ◌<◌, ◌≤◌, length, set};
-ghost use Rattle.kdwalk.specs.declared.Step.TheVariants.{Done};
-ghost use Rattle.kdwalk.specs.Reply.{next_step};
-ghost use Rattle.kdpages.specs.Pages.{tail_of};
-ghost use Rattle.build_tables.specs.Entries.{entry};
-ghost use Rattle.build_tables.specs.Rows.{rows};
-ghost use Rattle.build_tables.specs.Lent.{given, lent_cols};
-ghost use Rattle.build_tables.specs.Columns.{part};
-ghost use Rattle.build_tables.specs.State.{start_of, len_of};
-ghost use Rattle.ask_base.specs.Answers.{answer_number, answer_carried, fitted};
-ghost use Rattle.build_tables.specs.laws.Roomy.{Roomy};
-ghost use Rattle.ask_base.specs.Ids.{is_built, target_of, onward};
+ghost use Rattle.std.specs.Prelude.{◌≡◌, ◌<◌, ◌≤◌, set};
+ghost use Rattle.build_tables.specs.Room.{index_room, room_of};
+ghost use Rattle.build_tables.specs.Lent.{tables_held};
+ghost use Rattle.build_tables.specs.Ids.{origin_of, table_of};
+ghost use Rattle.build_tables.specs.laws.Sound.{Stands};
+ghost use Rattle.ask_base.specs.Answers.{fitted};
+ghost use Rattle.ask_base.specs.Columns.{ids_at, coords_at};
+ghost use Rattle.ask_base.specs.Ids.{origin, is_built, target_of, onward};
 ghost use Rattle.ask_base.specs.laws.Reached.{Reached};
-ghost use Rattle.ask_base.specs.laws.Around.{ring_of, InRing, ahead_in};
+ghost use Rattle.ask_base.specs.laws.Around.{ring_held, ring_of};
 
-use build_tables::{Entry, State};
-use kdpages::{Pages, Turned};
-use kdslots::Query;
+mod ring;
 
-// The answer of a question that lists, in SCOPE's words: how many items, or a refusal. `Listed` and `NoRoom` carry the whole length.
-#[derive(Clone, Copy)]
-pub enum Answer {
-    Listed(usize),
-    NoTree,
-    NoCluster,
-    Tile,
-    EmptyTile,
-    Box,
-    NoRoom(usize),
-    Spoiled,
-}
+use build_tables::{State, Tables};
+use kdslots::{Query, Search};
+use kdsort::Index;
+use refusals::Refusal;
+pub use ring::Ring;
 
-impl Answer {
-    // SCOPE's number of the answer, 0 where there is no refusal.
-    pub fn number(self) -> u32
-        ensures { result ≡ answer_number self }
-    {
-        match self {
-            Answer::Listed(_) => 0,
-            Answer::NoTree => 5,
-            Answer::NoCluster => 6,
-            Answer::Tile => 7,
-            Answer::EmptyTile => 8,
-            Answer::Box => 9,
-            Answer::NoRoom(_) => 10,
-            Answer::Spoiled => 11,
-        }
-    }
-
-    // What the answer carries, 0 where it carries nothing.
-    pub fn carried(self) -> usize
-        ensures { result ≡ answer_carried self }
-    {
-        match self {
-            Answer::Listed(k) => k,
-            Answer::NoTree => 0,
-            Answer::NoCluster => 0,
-            Answer::Tile => 0,
-            Answer::EmptyTile => 0,
-            Answer::Box => 0,
-            Answer::NoRoom(k) => k,
-            Answer::Spoiled => 0,
-        }
-    }
-}
+// The answer of a question that lists: how many items, or a refusal. `NoRoom` carries the whole length.
+pub type Answer = Result<usize, Refusal>;
 
 // The answer of k items for a column of so many.
 pub fn fit(k: usize, room: usize) -> Answer
     ensures { result ≡ fitted k room }
 {
     if k <= room {
-        return Answer::Listed(k);
+        return Ok(k);
     }
-    Answer::NoRoom(k)
+    Err(Refusal::NoRoom(k))
 }
 
-// Stores p at k, if the column reaches so far.
-pub fn put_at(out: &mut [u32], k: usize, p: u32)
-    ensures { out.new ≡ set out.old k p }
+// Stores v at k, if the column reaches so far.
+pub fn put_at<T: Copy>(out: &mut [T], k: usize, v: T)
+    ensures { out.new ≡ set out.old k v }
 {
     if k < out.len() {
-        out[k] = p;
+        out[k] = v;
     }
 }
 
-// The entry at the place p of the table of len entries that starts at `start` of the columns.
-pub fn entry_in(
-    start: usize,
-    len: usize,
-    x: &[f64],
-    y: &[f64],
-    seen: &[u8],
-    id: &[u32],
-    parent: &[u32],
-    num: &[u32],
-    energy: &[u64],
-    p: usize,
-) -> Entry
-    requires { Roomy (start + len) (given x y seen id parent num energy) × (p < len) }
-    ensures { let c = lent_cols x y seen id parent num energy in result ≡ entry (part start len (rows c.entry)) p }
-{
-    let end = start + len;
-    build_tables::entry_at(
-        &x[start..end],
-        &y[start..end],
-        &seen[start..end],
-        &id[start..end],
-        &parent[start..end],
-        &num[start..end],
-        &energy[start..end],
-        p,
-    )
-}
-
-// Where a cluster's id leads: to the origin in its table, or to a refusal.
+// The entry that a cluster was made at: its table, and its place there.
 #[derive(Clone, Copy)]
-pub enum Target {
-    At { table: usize, origin: usize },
-    Spoiled,
-    NoTree,
-    NoCluster,
+pub struct Origin {
+    pub table: usize,
+    pub place: usize,
 }
 
 // Whether a table is built.
-fn is_built(s: State, table: usize) -> bool
-    ensures { result ≡ is_built s table }
+fn is_built(s: &State, table: usize) -> bool
+    ensures { result ≡ is_built s.now table }
 {
     let o = s.options;
-    if table < o.min_zoom as usize {
-        return false;
+    o.min_zoom as usize <= table && table <= o.max_zoom as usize + 1
+}
+
+// The entry that an id of a cluster names, in a build of n points.
+fn origin_of(id: u32, n: u32) -> Origin
+    requires { n ≤ id }
+    ensures { result ≡ origin (table_of n id) (origin_of n id) }
+{
+    Origin {
+        table: build_tables::table_of(id, n),
+        place: build_tables::origin_of(id, n),
     }
-    table <= o.max_zoom as usize + 1
 }
 
 // The origin of the cluster that is asked for, in columns of cap entries.
-pub fn find_target(s: State, cap: usize, id: u32) -> Target
-    ensures { result ≡ target_of s cap id }
+#[tactic(auto, using(std::proofs::lemmas::Bool::Decides::nat_tests), unfolding(crate::specs::Ids::target_of))]
+pub fn find_target(s: &State, cap: usize, id: u32) -> Result<Origin, Refusal>
+    ensures { result ≡ target_of s.now cap id }
 {
     if !s.is_sound(cap) {
-        return Target::Spoiled;
+        return Err(Refusal::Spoiled);
     }
     if id < s.count {
-        return Target::NoCluster;
+        return Err(Refusal::NoCluster);
     }
-    let table = build_tables::table_of(id, s.count);
-    let origin = build_tables::origin_of(id, s.count);
-    if !is_built(s, table) {
-        return Target::NoTree;
+    let at = origin_of(id, s.count);
+    if !is_built(s, at.table) {
+        return Err(Refusal::NoTree);
     }
     let o = s.options;
-    if table == o.min_zoom as usize {
-        return Target::NoCluster;
+    if at.table == o.min_zoom as usize {
+        return Err(Refusal::NoCluster);
     }
-    if build_tables::len_of(s, table) <= origin {
-        return Target::NoCluster;
+    if build_tables::len_of(*s, at.table) <= at.place {
+        return Err(Refusal::NoCluster);
     }
-    Target::At { table, origin }
+    Ok(at)
 }
 
 // The origin of a child cluster that a walk in this table goes on into.
-pub fn go_on(s: State, table: usize, id: u32) -> Target
-    ensures { result ≡ onward s table id }
+#[tactic(auto, using(std::proofs::lemmas::Bool::Decides::nat_tests), unfolding(crate::specs::Ids::onward))]
+pub fn go_on(s: &State, table: usize, id: u32) -> Result<Origin, Refusal>
+    ensures { result ≡ onward s.now table id }
 {
     if id < s.count {
-        return Target::Spoiled;
+        return Err(Refusal::Spoiled);
     }
-    let next = build_tables::table_of(id, s.count);
-    let origin = build_tables::origin_of(id, s.count);
-    if next <= table {
-        return Target::Spoiled;
+    let next = origin_of(id, s.count);
+    if next.table <= table {
+        return Err(Refusal::Spoiled);
     }
-    if !is_built(s, next) {
-        return Target::Spoiled;
+    if !is_built(s, next.table) {
+        return Err(Refusal::Spoiled);
     }
-    if build_tables::len_of(s, next) <= origin {
-        return Target::Spoiled;
+    if build_tables::len_of(*s, next.table) <= next.place {
+        return Err(Refusal::Spoiled);
     }
-    Target::At {
-        table: next,
-        origin,
-    }
-}
-
-// A table by its part of the columns, and a search in it: around (x, y).
-#[derive(Clone, Copy)]
-pub struct Ring {
-    pub start: usize,
-    pub len: usize,
-    pub x: f64,
-    pub y: f64,
-    pub radius: f64,
-    pub node_size: usize,
+    Ok(next)
 }
 
 // The ring around the origin in its table, in which its children are.
-pub fn ring_of(
-    s: State,
-    cap: usize,
-    table: usize,
-    origin: usize,
-    x: &[f64],
-    y: &[f64],
-    seen: &[u8],
-    id: &[u32],
-    parent: &[u32],
-    num: &[u32],
-    energy: &[u64],
-) -> Ring
-    requires reached { Reached s cap table origin }
-    requires roomy { Roomy cap (given x y seen id parent num energy) }
-    ensures { let c = lent_cols x y seen id parent num energy in
-        result ≡ ring_of s (part (start_of s table) (len_of s table) (rows c.entry)) table origin }
+pub fn ring_of<'a>(s: &State, t: &Tables<'a>, at: Origin) -> Ring<'a>
+    requires { Reached s.now (room_of (tables_held t.now)) at.table at.place }
+    ensures { ring_held result ≡ ring_of s.now (tables_held t.now) at.table at.place }
 {
     let o = s.options;
-    let start = build_tables::start_of(s, table);
-    let len = build_tables::len_of(s, table);
-    let e = entry_in(start, len, x, y, seen, id, parent, num, energy, origin);
-    let radius = build_tables::radius_at(o.radius, o.extent, (table - 1) as u8);
-    Ring {
-        start,
-        len,
-        x: e.x,
-        y: e.y,
-        radius,
+    let table = t.table(
+        build_tables::start_of(*s, at.table),
+        build_tables::len_of(*s, at.table),
+    );
+    let e = table.entries.at(at.place);
+    let query = Query::Within {
+        qx: e.x,
+        qy: e.y,
+        radius: build_tables::radius_at(o.radius, o.extent, (at.table - 1) as u8),
+    };
+    let search = Search {
+        query,
         node_size: o.node_size,
-    }
+        n: table.entries.len(),
+        coords: table.index.coords,
+    };
+    Ring { table, search }
 }
 
-// The next slot of a walk over a ring that is read a page at a time.
-pub fn next_in(g: Ring, coords: &[f64], page: &mut [usize], p: Pages) -> Turned
-    requires { InRing g coords.now }
-    ensures step_value { result.step ≡ next_step Done (ahead_in g coords.now page.old p) }
-    ensures pages_value { let c = coords.now in ahead_in g c page.new result.pages ≡ tail_of (ahead_in g c page.old p) }
+// The index of the table of zoom z.
+pub fn index_at<'a>(s: &State, index: &Index<'a>, z: usize) -> Index<'a>
+    requires { Stands s.now (index_room index.now.ids.now index.now.coords.now) z × (z < 32) }
+    ensures ids { result.ids.now ≡ ids_at s.now index.now.ids.now z }
+    ensures coords { result.coords.now ≡ coords_at s.now index.now.coords.now z }
 {
-    let from = 2 * g.start;
-    let to = from + 2 * g.len;
-    let q = Query::Within {
-        qx: g.x,
-        qy: g.y,
-        radius: g.radius,
-    };
-    kdpages::next_slot(q, g.node_size, g.len, &coords[from..to], page, p)
+    let start = build_tables::start_of(*s, z);
+    let end = start + build_tables::len_of(*s, z);
+    Index {
+        ids: &index.ids[start..end],
+        coords: &index.coords[2 * start..2 * end],
+    }
 }

@@ -1,4 +1,3 @@
 -- Laws that only this crate's own proofs use.
 pub mod Parts
 pub mod Plans
-pub mod Used

@@ -11,7 +11,7 @@ use Rattle.build_tables.specs.declared.State.{State}
 use Rattle.build_tables.specs.Options.{zoom_used}
 use Rattle.build_tables.specs.State.{len_of}
 use Rattle.build_tables.specs.Sound.{state_ok}
-use Rattle.ask_base.specs.declared.Answer.TheVariants.{Box, Spoiled}
+use Rattle.refusals.specs.declared.Refusal.TheVariants.{Box, Spoiled}
 use Rattle.ask_base.specs.Asked.{Asked, refused, told}
 use Rattle.build_tables.specs.Room.{index_room}
 use Rattle.ask_base.specs.Columns.{ids_at, coords_at}

@@ -1,6 +1,6 @@
 // A box as it is searched: the rule for its longitudes, the one or two searches that it comes to, and whether it is one that SCOPE
 // takes. Every question about a box rests on it. Of its four numbers, y grows downwards on a mercator map, so that least_y is the northern
-// edge of a longitude build; on a Cartesian plan it is the least y as given.
+// edge of a longitude build; on a Cartesian plan it is the least y as given. They go one by one, as the C names have them.
 #![tactic(auto)]
 
 ghost use Rattle.std.specs.Prelude.{◌≡◌, T};
@@ -25,8 +25,7 @@ struct Edges {
 #[derive(Clone, Copy)]
 pub struct BoxPlan {
     pub first: Query,
-    pub second: Query,
-    pub two: bool,
+    pub second: Option<Query>,
 }
 
 // What is left of x, from 360 on, when 360 is taken from it as often as it goes: 360 * 2 ^ 1015 first, where that is not more than what
@@ -40,9 +39,9 @@ fn reduced(x: f64) -> f64
     let mut t = f64::from_bits(0x7FE6_8000_0000_0000);
     for i in 0..1016u32 {
         if t <= left {
-            left = left - t;
+            left -= t;
         }
-        t = t / 2.0;
+        t /= 2.0;
     }
     left
 }
@@ -128,11 +127,9 @@ pub fn plan_box(c: CoordinateSystem, west: f64, least_y: f64, east: f64, greates
 {
     match c {
         CoordinateSystem::Cartesian { range } => {
-            let q = box_of(c, west, least_y, east, greatest_y);
             BoxPlan {
-                first: q,
-                second: q,
-                two: false,
+                first: box_of(c, west, least_y, east, greatest_y),
+                second: None,
             }
         }
         CoordinateSystem::LatLng => {
@@ -144,15 +141,12 @@ pub fn plan_box(c: CoordinateSystem, west: f64, least_y: f64, east: f64, greates
                 let g = box_of(c, b.west, least_y, b.east, greatest_y);
                 return BoxPlan {
                     first: f,
-                    second: g,
-                    two: true,
+                    second: Some(g),
                 };
             }
-            let q = box_of(c, r.west, least_y, r.east, greatest_y);
             BoxPlan {
-                first: q,
-                second: q,
-                two: false,
+                first: box_of(c, r.west, least_y, r.east, greatest_y),
+                second: None,
             }
         }
     }
@@ -162,19 +156,17 @@ pub fn plan_box(c: CoordinateSystem, west: f64, least_y: f64, east: f64, greates
 pub fn box_ok(c: CoordinateSystem, west: f64, least_y: f64, east: f64, greatest_y: f64) -> bool
     ensures { result ≡ box_ok c west least_y east greatest_y }
 {
-    if !floats::both_finite(west, least_y) {
-        return false;
-    }
-    if !floats::both_finite(east, greatest_y) {
+    let given = Query::Range {
+        min_x: west,
+        min_y: least_y,
+        max_x: east,
+        max_y: greatest_y,
+    };
+    if !given.is_ok() {
         return false;
     }
     match c {
         CoordinateSystem::Cartesian { range } => true,
-        CoordinateSystem::LatLng => {
-            if floats::in_unit(least_y) {
-                return floats::in_unit(greatest_y);
-            }
-            false
-        }
+        CoordinateSystem::LatLng => floats::in_unit(least_y) && floats::in_unit(greatest_y),
     }
 }

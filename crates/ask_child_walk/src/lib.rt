@@ -1,148 +1,61 @@
 // The children of a cluster, one at a time and into a column: what the questions that walk from cluster to cluster rest on.
 #![tactic(auto)]
 
-ghost use Rattle.std.specs.Prelude.{◌≡◌, ◌+◌, ◌≤◌};
+ghost use Rattle.std.specs.Prelude.{◌≡◌};
 ghost use Rattle.kdslots.specs.laws.All.{AllBelow};
-ghost use Rattle.build_tables.specs.Room.{room_of};
-ghost use Rattle.build_tables.specs.Lent.{given_columns, lent_columns};
-ghost use Rattle.ask_base.specs.laws.Around.{ahead_in};
+ghost use Rattle.ask_base.specs.laws.Around.{ring_held, ahead_in};
 ghost use Rattle.ask_child_walk.specs.laws.Next.{Listed, next_in, child_in};
 
 use ask_base::Ring;
 use build_tables::Entry;
 use kdpages::Pages;
-use kdwalk::Step;
+use refusals::Refusal;
 
-// The next child of a cluster: where the walk stands after it, its place and its entry; or none is left; or a slot that names a place past
-// the table comes before it.
+// A child of a cluster: its place in the table, and its entry.
 #[derive(Clone, Copy)]
-pub enum Child {
-    At {
-        pages: Pages,
-        place: u32,
-        entry: Entry,
-    },
-    Done,
-    Spoiled,
+pub struct Child {
+    pub place: u32,
+    pub entry: Entry,
 }
 
-// How many children there are, or that a slot names a place past the table.
-#[derive(Clone, Copy)]
-pub enum Kids {
-    All(usize),
-    Spoiled,
-}
-
-// The first child of the cluster cid among the slots that are ahead of a walk over the ring.
+// The next child of the cluster cid among the slots that are ahead of a walk over the ring, if one is left; a slot that names a place past
+// the table is refused 11.
 pub fn next_child(
-    g: Ring,
-    x: &[f64],
-    y: &[f64],
-    seen: &[u8],
-    id: &[u32],
-    parent: &[u32],
-    num: &[u32],
-    energy: &[u64],
-    ids: &[u32],
-    coords: &[f64],
+    g: &Ring<'_>,
     cid: u32,
     page: &mut [usize],
-    from: Pages,
-) -> Child
-    requires len_bound { let c = given_columns x y seen id parent num energy ids coords in g.start + g.len ≤ room_of c }
-    requires all_below { AllBelow g.len (ahead_in g coords.now page.old from) }
-    ensures { let c = lent_columns x y seen id parent num energy ids coords in
-        child_in g c.coords page.new result ≡ next_in g c cid (ahead_in g c.coords page.old from) }
+    at: &mut Pages,
+) -> Result<Option<Child>, Refusal>
+    requires { let g = ring_held g.now in AllBelow g.len (ahead_in g page.old at.old) }
+    ensures { let g = ring_held g.now in
+        child_in g page.new at.new result ≡ next_in g cid (ahead_in g page.old at.old) }
 {
-    let start = g.start;
-    let len = g.len;
-    let mut at = from;
-    loop {
-        let t = ask_base::next_in(g, coords, page, at);
-        let step = t.step;
-        let pages = t.pages;
-        let Step::Slot(slot) = step else {
-            return Child::Done;
-        };
-        let i = start + slot;
-        let place = ids[i];
-        if len <= place as usize {
-            return Child::Spoiled;
+    let n = g.search.n;
+    let ids = g.table.index.ids;
+    while let Some(slot) = g.next(page, at) {
+        let place = ids[slot];
+        if n <= place as usize {
+            return Err(Refusal::Spoiled);
         }
-        let entry = ask_base::entry_in(
-            start,
-            len,
-            x,
-            y,
-            seen,
-            id,
-            parent,
-            num,
-            energy,
-            place as usize,
-        );
+        let entry = g.table.entries.at(place as usize);
         if entry.parent == cid {
-            return Child::At {
-                pages,
-                place,
-                entry,
-            };
+            return Ok(Some(Child { place, entry }));
         }
-        at = pages;
     }
+    Ok(None)
 }
 
-// The children of the cluster cid in the ring, written to `out` as far as they fit.
-pub fn list_kids(
-    g: Ring,
-    x: &[f64],
-    y: &[f64],
-    seen: &[u8],
-    id: &[u32],
-    parent: &[u32],
-    num: &[u32],
-    energy: &[u64],
-    ids: &[u32],
-    coords: &[f64],
-    cid: u32,
-    out: &mut [u32],
-) -> Kids
-    requires { let c = given_columns x y seen id parent num energy ids coords in g.start + g.len ≤ room_of c }
-    ensures { let c = lent_columns x y seen id parent num energy ids coords in
-        Listed g c cid out.old result out.new }
+// The children of the cluster cid in the ring, written to `out` as far as they fit: how many there are.
+pub fn list_kids(g: &Ring<'_>, cid: u32, out: &mut [u32]) -> Result<usize, Refusal>
+    ensures { Listed (ring_held g.now) cid out.old result out.new }
 {
-    let start = g.start;
-    let n = g.len;
     let mut k = 0;
     let mut page = [0usize; 16];
-    let mut from = kdpages::begin();
-    loop {
-        let t = ask_base::next_in(g, coords, &mut page, from);
-        from = t.pages;
-        let step = t.step;
-        let Step::Slot(slot) = step else {
-            return Kids::All(k);
-        };
-        let i = start + slot;
-        let place = ids[i];
-        if n <= place as usize {
-            return Kids::Spoiled;
-        }
-        let entry = ask_base::entry_in(
-            start,
-            n,
-            x,
-            y,
-            seen,
-            id,
-            parent,
-            num,
-            energy,
-            place as usize,
-        );
-        if entry.parent == cid {
-            ask_base::put_at(out, k, place);
-            k += 1;
-        }
+    let mut at = Pages::begin();
+    while let Some(kid) = next_child(g, cid, &mut page, &mut at)? {
+        prove!(k < g.search.n);
+        ask_base::put_at(out, k, kid.place);
+        k += 1;
     }
+    Ok(k)
 }

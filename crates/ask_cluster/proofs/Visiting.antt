@@ -1,26 +1,21 @@
 -- How the code's steps at one child make a visit of the walk over lamps, and how a child cluster is entered. Assumes nothing.
 use mathlib.Core.Bool.{Bool, true, false, cond}
 use mathlib.Core.Path.{◌≡◌, refl, sym, ap, subst, ◌∙◌}
-use mathlib.Core.List.{List, ◌∷◌, [], ◌++◌}
+use mathlib.Core.List.{List}
 use Prim.Native.Nat.{ℕ, ◌+◌, ◌<◌, ◌≤◌}
 use native.Mathlib.Omega.{arith}
-use borrow.Author.Tests.{lt-ltb, le-ltb}
 use lib.Dec.{ltb, leb}
-use lib.ListN.{length, set, length-append}
 use Rattle.build_tables.specs.declared.Entry.{Entry}
 use Rattle.build_tables.specs.declared.State.{State}
-use Rattle.ask_base.specs.declared.Target.{Target}
-use Rattle.ask_base.specs.declared.Target.TheVariants.{At, Spoiled as Target-as-Spoiled, NoTree as Target-as-NoTree}
-use Rattle.ask_base.specs.declared.Target.TheVariants.{NoCluster as Target-as-NoCluster}
+use Rattle.std.specs.Prelude.{Ok, Err}
 use Rattle.build_tables.specs.Room.{Columns}
-use Rattle.ask_base.specs.laws.Filled.{filled_next}
-use Rattle.ask_base.specs.Ids.{onward}
+use Rattle.refusals.specs.declared.Refusal.{Refusal}
+use Rattle.ask_base.specs.declared.Origin.{Origin}
+use Rattle.ask_base.specs.Ids.{Target, onward}
 use Rattle.ask_cluster.specs.declared.Fate.{Fate}
 use Rattle.ask_cluster.specs.declared.Fate.TheVariants.{Skipped, Entered, Listed}
-use Rattle.ask_cluster.specs.declared.Walk.{Walk}
-use Rattle.ask_cluster.specs.declared.Walk.TheVariants.{Went, Broke}
 use Rattle.ask_cluster.specs.Leaves.{Trip, broke, went, Into, enter, list_one, visit_child, leaf_walk}
-use Rattle.ask_cluster.specs.laws.Column.{fate_of, Does, Opened, does-same, does-nothing}
+use Rattle.ask_cluster.specs.laws.Column.{Walk, fate_of, Does, Opened, does-same, does-nothing}
 
 -- a visit of the child e in zoom t's table, with n skipped and k listed, comes to r and leaves out', whatever bounds the definition
 abbrev pub Visited : State → Columns → ℕ → ℕ → ℕ → Entry → ℕ → ℕ → List ℕ → Walk → List ℕ → Type 0
@@ -60,48 +55,27 @@ module _ (s : State) (c : Columns) (limit offset t : ℕ) (e : Entry) (n k : ℕ
         (does-same k out r out' (by_fate s x into t e n) (visit_child s c limit offset into t e n)
         (λ l. ap (λ (y : Fate). by_fate s y into t e n l) (sym d ∙ q) ∙ visit-fate s c limit offset into t e n l) (w f h)))
 
--- ---- a lamp
-
-module _ (N lamp n k : ℕ) (out : List ℕ) where
-  -- N are listed
-  pub list-broke : N ≤ k → Does k out (Broke k) out (list_one N lamp n)
-  list-broke h base l b =
-      let m : N ≤ length l = omega (arith, b.count) in
-      record { lamps = l; trip = simp (le-ltb _ _ m); behind = b }
-
-  -- the lamp goes to the column's next place
-  pub list-went : k < N → (out' : List ℕ) → out' ≡ set out k lamp
-      → Does k out (Went (record { skipped = n; listed = k + 1 })) out' (list_one N lamp n)
-  list-went h out' d base l b =
-      let m : length l < N = omega (arith, b.count) in
-      record {
-        lamps = l ++ (lamp ∷ []);
-        trip = simp (lt-ltb _ _ m);
-        behind = record {
-          count = omega (arith, b.count, length-append l (lamp ∷ []));
-          left = d ∙ rw (b.left, b.count) (filled_next l lamp base);
-        };
-      }
-
 -- ---- a child cluster
 
--- one that cannot be entered
-enter-lost : (into : Into) (t : Target) (id n : ℕ) (l : List ℕ) → ((u o : ℕ) → t ≡ At u o → ⊥) → broke l ≡ enter into t id n l
-enter-lost into (At u o) id n l h = absurd (h u o refl)
-enter-lost into Target-as-Spoiled id n l h = refl
-enter-lost into Target-as-NoTree id n l h = refl
-enter-lost into Target-as-NoCluster id n l h = refl
+-- a walk that is refused, whatever the refusal
+pub refused-so : (k : ℕ) (out out' : List ℕ) (x y : Refusal) (trip : List ℕ → Trip)
+    → Does k out (Err x) out' trip → Does k out (Err y) out' trip
+refused-so k out out' x y trip d base l b =
+    let q = d base l b in
+    record { lamps = q.lamps; trip = q.trip; count = tt; left = q.left }
 
 module _ (s : State) (c : Columns) (limit offset t id n k : ℕ) (out : List ℕ) (g : Target) (x : g ≡ onward s t id) where
-  pub opened-lost : ((u o : ℕ) → g ≡ At u o → ⊥) → Opened s c limit offset t id n k out (Broke k) out
-  opened-lost l f h =
+  -- one that cannot be entered
+  pub opened-lost : (e : Refusal) → g ≡ Err e → Opened s c limit offset t id n k out (Err e) out
+  opened-lost e y f h =
       let into = leaf_walk s c limit offset f in
-      does-same k out (Broke k) out broke (enter into (onward s t id) id n)
-      (λ m. enter-lost into g id n m l ∙ ap (λ (y : Target). enter into y id n m) x) (does-nothing k out (Broke k) refl)
+      does-same k out (Err e) out broke (enter into (onward s t id) id n)
+      (λ m. ap (λ (z : Target). enter into z id n m) (sym y ∙ x)) (does-nothing k out (Err e) (λ m i. tt))
 
-  pub opened_in : (u o : ℕ) → g ≡ At u o → t < u → (r : Walk) (out' : List ℕ)
-      → ((f : ℕ) → 32 ≤ f + u → Does k out r out' (leaf_walk s c limit offset f id u o n)) → Opened s c limit offset t id n k out r out'
-  opened_in u o y l r out' w f h =
+  pub opened_in : (a : Origin) → g ≡ Ok a → t < a.table → (r : Walk) (out' : List ℕ)
+      → ((f : ℕ) → 32 ≤ f + a.table → Does k out r out' (leaf_walk s c limit offset f id a.table a.place n))
+      → Opened s c limit offset t id n k out r out'
+  opened_in a y l r out' w f h =
       let into = leaf_walk s c limit offset f in
-      does-same k out r out' (into id u o n) (enter into (onward s t id) id n)
+      does-same k out r out' (into id a.table a.place n) (enter into (onward s t id) id n)
       (λ m. ap (λ (z : Target). enter into z id n m) (sym y ∙ x)) (w f (omega arith))

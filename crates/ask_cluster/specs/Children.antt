@@ -1,21 +1,16 @@
 -- What a question for children comes to: the places of the entries whose parent the cluster is. Definitions only.
-use Rattle.std.specs.Prelude.{cond, ℕ}
+use Rattle.std.specs.Prelude.{cond, ℕ, Ok, Err}
 use Rattle.build_tables.specs.declared.State.{State}
-use Rattle.ask_base.specs.declared.Answer.TheVariants.{NoTree, NoCluster, Spoiled}
-use Rattle.ask_base.specs.declared.Target.{Target}
-use Rattle.ask_base.specs.declared.Target.TheVariants.{At, Spoiled as Target-as-Spoiled}
-use Rattle.ask_base.specs.declared.Target.TheVariants.{NoTree as Target-as-NoTree, NoCluster as Target-as-NoCluster}
+use Rattle.refusals.specs.declared.Refusal.TheVariants.{NoCluster}
 use Rattle.ask_base.specs.Asked.{Asked, refused, told}
 use Rattle.build_tables.specs.Room.{Columns, room_of}
-use Rattle.ask_base.specs.Ids.{target_of}
+use Rattle.ask_base.specs.Ids.{Target, target_of}
 use Rattle.ask_child_walk.specs.Kids.{kids_at, clean_at, childless}
 
 -- where the id leads: to a refusal that writes nothing, or to an entry of a table, around which the question is answered
 abbrev pub at_target : Target → (ℕ → ℕ → Asked) → Asked
-at_target (At z o) f = f z o
-at_target Target-as-Spoiled f = refused Spoiled
-at_target Target-as-NoTree f = refused NoTree
-at_target Target-as-NoCluster f = refused NoCluster
+at_target (Ok a) f = f a.table a.place
+at_target (Err e) f = refused e
 
 -- around the entry o of zoom z's table: no children is refusal 6, after a slot that names a place past the table, and before 10
 unfoldable pub children_at : State → Columns → ℕ → ℕ → ℕ → Asked

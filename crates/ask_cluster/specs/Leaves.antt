@@ -1,16 +1,14 @@
 -- The lamps of a cluster: a walk over its children as the search finds them, into each that is a cluster and is not skipped whole.
 -- Definitions only.
-use Rattle.std.specs.Prelude.{Bool, true, false, cond, List, [], ◌∷◌, ◌++◌, map, ℕ, zero, suc, ◌+◌, ltb, leb, eqb, length}
+use Rattle.std.specs.Prelude.{Bool, true, false, cond, List, [], ◌∷◌, ◌++◌, map, ℕ, zero, suc, ◌+◌, ltb, leb, eqb, length, Ok, Err}
 use Rattle.build_tables.specs.declared.Entry.{Entry}
 use Rattle.build_tables.specs.declared.State.{State}
 use Rattle.build_tables.specs.Entries.{entry}
-use Rattle.ask_base.specs.declared.Answer.TheVariants.{NoCluster}
-use Rattle.ask_base.specs.declared.Target.{Target}
-use Rattle.ask_base.specs.declared.Target.TheVariants.{At, Spoiled, NoTree, NoCluster as Target-as-NoCluster}
+use Rattle.refusals.specs.declared.Refusal.TheVariants.{NoCluster}
 use Rattle.ask_base.specs.Asked.{Asked, refused, told}
 use Rattle.build_tables.specs.Room.{Columns, room_of}
 use Rattle.ask_base.specs.Columns.{table_at}
-use Rattle.ask_base.specs.Ids.{target_of, onward}
+use Rattle.ask_base.specs.Ids.{Target, target_of, onward}
 use Rattle.ask_child_walk.specs.Kids.{kids_at, clean_at, childless}
 use Rattle.ask_cluster.specs.Children.{at_target}
 
@@ -25,10 +23,8 @@ Into = ℕ → ℕ → ℕ → ℕ → List ℕ → Trip
 
 -- into a child cluster; one that cannot be entered breaks the walk
 abbrev pub enter : Into → Target → ℕ → ℕ → List ℕ → Trip
-enter into (At u o) id n l = into id u o n l
-enter into Spoiled id n l = broke l
-enter into NoTree id n l = broke l
-enter into Target-as-NoCluster id n l = broke l
+enter into (Ok a) id n l = into id a.table a.place n l
+enter into (Err e) id n l = broke l
 
 -- a lamp is listed, with n skipped; one after N are listed breaks the walk
 abbrev pub list_one : ℕ → ℕ → ℕ → List ℕ → Trip

@@ -1,6 +1,6 @@
 -- What a box question with a stated effort comes to, over whatever the lent columns hold: a refusal before any test, or the tests of the
 -- definition of its search in the table of the zoom used, of which the allowance takes the first. Definitions only.
-use Rattle.std.specs.Prelude.{cond, not, List, ℕ, Float}
+use Rattle.std.specs.Prelude.{cond, not, List, ℕ, Float, Err}
 use Rattle.kdslots.specs.declared.Query.{Query}
 use Rattle.build_tables.specs.declared.State.{State}
 use Rattle.build_tables.specs.Options.{zoom_used}
@@ -10,18 +10,18 @@ use Rattle.build_tables.specs.Room.{index_room}
 use Rattle.ask_base.specs.Columns.{ids_at, coords_at}
 use Rattle.ask_base.specs.Asked.{AskedFor, refused, told}
 use Rattle.ask_box_plan.specs.Rule.{plan_of, box_ok}
-use Rattle.ask_effort_tests.specs.declared.EffortReply.{EffortReply}
-use Rattle.ask_effort_tests.specs.declared.EffortReply.TheVariants.{Box, Spoiled}
+use Rattle.ask_effort_tests.specs.declared.EffortRefusal.{EffortRefusal}
+use Rattle.ask_effort_tests.specs.declared.EffortRefusal.TheVariants.{Box, Spoiled}
 use Rattle.ask_effort_tests.specs.Trials.{Mark, trials}
-use Rattle.ask_effort_tests.specs.Reply.{answer, column}
+use Rattle.ask_effort_tests.specs.Reply.{EffortReply, answer, column}
 
 -- what such a question comes to: the tests, over a table of so many entries
 abbrev pub EffortAsked : Type 0
-EffortAsked = AskedFor EffortReply ℕ Mark
+EffortAsked = AskedFor EffortRefusal ℕ Mark
 
 -- the reply, for an allowance and a column of so many
 abbrev pub effort_reply_of : EffortAsked → ℕ → ℕ → EffortReply
-effort_reply_of (refused r) a room = r
+effort_reply_of (refused r) a room = Err r
 effort_reply_of (told n ms) a room = answer n ms a room
 
 -- the column afterwards

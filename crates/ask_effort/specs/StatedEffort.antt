@@ -1,17 +1,16 @@
 -- #102, a box search with a stated effort: what is said of the reply of `effort_box` and of what it leaves in the column, beside
 -- `list_box` for the same box. The whole statement is `StatedEffort`, the last of this file: over any state and any columns. Proved shows
 -- that it holds. Definitions only.
-use Rattle.std.specs.Prelude.{◌≡◌, Bool, true, false, ◌⊎◌, List, [], ◌++◌, ℕ, ◌*◌, ◌≤◌, ◌<◌, min, length, Float}
+use Rattle.std.specs.Prelude.{◌≡◌, Bool, true, false, ◌⊎◌, List, [], ◌++◌, ℕ, ◌*◌, ◌≤◌, ◌<◌, min, length, Float, Ok, Err}
 use Rattle.kdbush.specs.Run.{sound}
 use Rattle.build_tables.specs.declared.State.{State}
-use Rattle.ask_base.specs.declared.Answer.{Answer}
-use Rattle.ask_base.specs.declared.Answer.TheVariants.{Listed, Box as Answer-as-Box, NoRoom as Answer-as-NoRoom, Spoiled as Answer-as-Spoiled}
+use Rattle.refusals.specs.declared.Refusal.TheVariants.{Box as Refusal-as-Box, NoRoom as Refusal-as-NoRoom, Spoiled as Refusal-as-Spoiled}
+use Rattle.ask_base.specs.Answers.{Answer}
 use Rattle.ask_base.specs.Asked.{Asked, refused, told, answer_of, column_of as box_column}
 use Rattle.ask_box.specs.Lists.{box_asked}
-use Rattle.ask_effort_tests.specs.declared.EffortReply.{EffortReply}
-use Rattle.ask_effort_tests.specs.declared.EffortReply.TheVariants.{Found, Box, NoRoom, Spoiled}
+use Rattle.ask_effort_tests.specs.declared.EffortRefusal.TheVariants.{Box, NoRoom, Spoiled}
 use Rattle.ask_effort_tests.specs.Trials.{Mark, items}
-use Rattle.ask_effort_tests.specs.Reply.{effort_number, effort_carried}
+use Rattle.ask_effort_tests.specs.Reply.{EffortReply, effort_number, effort_carried}
 use Rattle.ask_effort.specs.Effort.{EffortAsked, effort_reply_of, effort_column_of, effort_asked}
 
 -- the tests that the definition of the search makes; of a box that is split, those of both halves
@@ -26,10 +25,10 @@ effort_list (told n ms) a = sound n (items a ms)
 
 -- a reply without its effort
 abbrev pub plain : EffortReply → Answer
-plain (Found e) = Listed e.items
-plain Box = Answer-as-Box
-plain (NoRoom e) = Answer-as-NoRoom e.items
-plain Spoiled = Answer-as-Spoiled
+plain (Ok e) = Ok e.items
+plain (Err Box) = Err Refusal-as-Box
+plain (Err (NoRoom e)) = Err (Refusal-as-NoRoom e.items)
+plain (Err Spoiled) = Err Refusal-as-Spoiled
 
 -- a reply that carries an effort: what was found, or 10
 abbrev pub Carries : EffortReply → Type 0

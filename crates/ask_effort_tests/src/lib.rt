@@ -4,73 +4,76 @@
 // leaves out.
 #![tactic(auto)]
 
-ghost use Rattle.std.specs.Prelude.{◌≡◌, true, [], ◌∷◌, ◌+◌, ◌-◌, ◌*◌, ◌^◌, ◌≤◌, ◌<◌, length};
+ghost use Rattle.std.specs.Prelude.{◌≡◌, true, [], ◌∷◌, ◌+◌, ◌-◌, ◌*◌, ◌^◌, ◌≤◌, ◌<◌, length, IfOk};
 ghost use Rattle.kdsort.specs.Shape.{shape};
-ghost use Rattle.kdslots.specs.Slots.{over, when, scanned, slots};
+ghost use Rattle.kdslots.specs.Covers.{Covers};
+ghost use Rattle.kdslots.specs.Slots.{over, scanned, slots};
 ghost use Rattle.kdbush.specs.Reply.{index_ok};
 ghost use Rattle.ask_box_plan.specs.laws.Queries.{queries_of};
 ghost use Rattle.ask_effort_tests.specs.Tested.{testing};
 ghost use Rattle.ask_effort_tests.specs.Trials.{marks, trials};
-ghost use Rattle.ask_effort_tests.specs.Reply.{effort_number, no_effort, effort_carried, answer, column};
-ghost use Rattle.ask_effort_tests.specs.laws.Spend.{settled_tests, went_tests, spend};
+ghost use Rattle.ask_effort_tests.specs.Reply.{no_effort, effort_number_of, effort_carried_of, answer, column};
+ghost use Rattle.ask_effort_tests.specs.laws.Spend.{fresh, settled_tests, went_tests, spend};
 
 use ask_box_plan::BoxPlan;
-use kdslots::Query;
+use kdslots::{Interval, Search};
+use kdsort::Index;
 
 // How many places were found, how many slots were tested, and whether a test was left.
-#[derive(Clone, Copy)]
+#[derive(Clone, Copy, PartialEq, Eq, Debug)]
 pub struct Effort {
     pub items: usize,
     pub tested: usize,
     pub stopped: bool,
 }
 
-// The reply, in SCOPE's words: what was found within the allowance, or a refusal. `NoRoom` is judged on what was found before the stop, and
-// carries it.
-#[derive(Clone, Copy)]
-pub enum EffortReply {
-    Found(Effort),
+// Why such a question is refused, in SCOPE's words. `NoRoom` is judged on what was found before the stop, and carries it.
+#[derive(Clone, Copy, PartialEq, Eq, Debug)]
+pub enum EffortRefusal {
     Box,
     NoRoom(Effort),
     Spoiled,
 }
 
-impl EffortReply {
-    // SCOPE's number of the reply, 0 where nothing is refused.
+impl EffortRefusal {
+    // SCOPE's number of the refusal.
     pub fn number(self) -> u32
-        ensures { result ≡ effort_number self }
+        ensures { result ≡ effort_number_of self }
     {
         match self {
-            EffortReply::Found(_) => 0,
-            EffortReply::Box => 9,
-            EffortReply::NoRoom(_) => 10,
-            EffortReply::Spoiled => 11,
+            EffortRefusal::Box => 9,
+            EffortRefusal::NoRoom(_) => 10,
+            EffortRefusal::Spoiled => 11,
         }
     }
 
-    // What the reply carries: nothing found and nothing tested where it is 9 or 11.
+    // What the refusal carries: nothing found and nothing tested where it is 9 or 11.
     pub fn carried(self) -> Effort
-        ensures { result ≡ effort_carried self }
+        ensures { result ≡ effort_carried_of self }
     {
         match self {
-            EffortReply::Found(e) => e,
-            EffortReply::Box => no_effort(),
-            EffortReply::NoRoom(e) => e,
-            EffortReply::Spoiled => no_effort(),
+            EffortRefusal::NoRoom(e) => e,
+            _ => no_effort(),
         }
     }
 }
 
-// How far a search came: how many places it found and how many tests it may still make. It is over where a test is due and none is
-// allowed, or where a slot that passes names a place past the table, which spoils it.
+// How far a search came: how many places it found, and how many tests it may still make.
 #[derive(Clone, Copy)]
 struct Spent {
     found: usize,
     left: usize,
-    over: bool,
-    spoiled: bool,
 }
 
+// How a search ends before its last test: where a test is due and none is allowed, with as many places found; or where a slot that passes
+// names a place past the table, which spoils it.
+#[derive(Clone, Copy)]
+enum End {
+    Stopped(usize),
+    Spoiled,
+}
+
+// Nothing found, nothing tested, not stopped.
 fn no_effort() -> Effort
     ensures { result ≡ no_effort }
 {
@@ -81,181 +84,145 @@ fn no_effort() -> Effort
     }
 }
 
-fn wide(x: u32) -> usize
-    ensures { result ≡ x }
-{
-    x as usize
-}
-
 // The test of the slot i, which is due: it is made if it is allowed, and if it passes, its place goes to the next position, if the column
 // reaches so far.
-fn put(
-    q: Query,
-    ids: &[u32],
-    coords: &[f64],
-    n: usize,
-    i: usize,
-    s: Spent,
-    out: &mut [u32],
-) -> Spent
-    requires { (2 * i + 1 < length coords.now) × (i < length ids.now) × (s.found + s.left < 2 ^ 64) }
-    ensures { went_tests result out.new ≡ spend n (marks (over q coords.now) ids.now (i ∷ [])) s out.old }
+fn put(s: &Search<'_>, ids: &[u32], i: usize, at: Spent, out: &mut [u32]) -> Result<Spent, End>
+    requires { (2 * i + 1 < length s.now.coords.now) × (i < length ids.now) × (at.found + at.left < 2 ^ 64) }
+    ensures { let t = over s.now.query s.now.coords.now in
+        went_tests result out.new ≡ spend s.now.n (marks t ids.now (i ∷ [])) at out.old }
 {
-    if s.over {
-        return s;
+    if at.left == 0 {
+        return Err(End::Stopped(at.found));
     }
-    let at = s.found;
-    if s.left == 0 {
-        return Spent {
-            found: at,
-            left: 0,
-            over: true,
-            spoiled: false,
-        };
-    }
-    let left = s.left - 1;
-    if !kdslots::test_at(q, coords, i) {
-        return Spent {
-            found: at,
+    let left = at.left - 1;
+    if !s.tests(i) {
+        return Ok(Spent {
+            found: at.found,
             left,
-            over: false,
-            spoiled: false,
-        };
+        });
     }
     let p = ids[i];
-    if n <= wide(p) {
-        return Spent {
-            found: 0,
-            left: 0,
-            over: true,
-            spoiled: true,
-        };
+    if s.n <= p as usize {
+        return Err(End::Spoiled);
     }
-    if at < out.len() {
-        out[at] = p;
-        return Spent {
-            found: at + 1,
-            left,
-            over: false,
-            spoiled: false,
-        };
+    if at.found < out.len() {
+        out[at.found] = p;
     }
-    Spent {
-        found: at + 1,
+    Ok(Spent {
+        found: at.found + 1,
         left,
-        over: false,
-        spoiled: false,
-    }
+    })
 }
 
-// The tests of the slots from lo up to hi, one by one.
-fn scan(
-    q: Query,
-    ids: &[u32],
-    coords: &[f64],
-    n: usize,
-    lo: usize,
-    hi: usize,
-    s: Spent,
-    out: &mut [u32],
-) -> Spent
-    requires { (2 * hi ≤ length coords.now) × (hi ≤ length ids.now) × (s.found + s.left < 2 ^ 64) }
-    ensures { let t = over q coords.now in
-        went_tests result out.new ≡ spend n (marks t ids.now (scanned (testing t) lo (hi - lo))) s out.old }
+// The tests of the slots of an interval, one by one.
+fn scan(s: &Search<'_>, ids: &[u32], v: Interval, at: Spent, out: &mut [u32]) -> Result<Spent, End>
+    requires { (2 * v.hi ≤ length s.now.coords.now) × (v.hi ≤ length ids.now) × (at.found + at.left < 2 ^ 64) }
+    ensures { let t = over s.now.query s.now.coords.now in
+        went_tests result out.new ≡ spend s.now.n (marks t ids.now (scanned (testing t) v.lo (v.hi - v.lo))) at out.old }
 {
-    let mut k = s;
-    let mut i = lo;
-    while i < hi {
-        if k.over {
-            return k;
-        }
-        k = put(q, ids, coords, n, i, k, out);
-        i += 1;
+    // A copy, which no store in the column can change: so its numbers are read once, and not at each slot.
+    let own = *s;
+    let mut k = at;
+    for i in v.lo..v.hi {
+        k = put(&own, ids, i, k, out)?;
     }
-    k
+    Ok(k)
 }
 
-// The tests of the slots from lo up to hi, if they are gone into: of an interval of more than `most` slots the median, then the right
-// part, then the left.
-fn part(
-    go: bool,
-    q: Query,
-    ids: &[u32],
-    coords: &[f64],
-    n: usize,
-    most: usize,
-    lo: usize,
-    hi: usize,
-    axis: usize,
-    s: Spent,
-    out: &mut [u32],
-) -> Spent
-    requires { (2 * hi ≤ length coords.now) × (hi ≤ length ids.now) × (lo ≤ hi) × (axis < 2) × (s.found + s.left < 2 ^ 64) }
-    ensures { let t = over q coords.now in
-        went_tests result out.new ≡ spend n (marks t ids.now (when go (slots (testing t) axis (shape most lo hi)))) s out.old }
+// The tests of an interval: of one that is split the median, then the right part, then the left, where they are gone into.
+fn part(s: &Search<'_>, ids: &[u32], v: Interval, at: Spent, out: &mut [u32]) -> Result<Spent, End>
+    requires { Covers s.now v × (v.hi ≤ length ids.now) × (at.found + at.left < 2 ^ 64) }
+    ensures { let t = over s.now.query s.now.coords.now in
+        let most = s.now.node_size + 1 in
+        went_tests result out.new ≡ spend s.now.n (marks t ids.now (slots (testing t) v.axis (shape most v.lo v.hi))) at out.old }
 {
-    if !go {
-        return s;
+    if v.len() <= s.most() {
+        return scan(s, ids, v, at, out);
     }
-    if s.over {
-        return s;
+    let m = v.median();
+    let mut k = put(s, ids, m, at, out)?;
+    if s.goes_right(v.axis, m) {
+        k = part(s, ids, v.right(), k, out)?;
     }
-    if hi - lo <= most {
-        return scan(q, ids, coords, n, lo, hi, s, out);
+    if s.goes_left(v.axis, m) {
+        return part(s, ids, v.left(), k, out);
     }
-    let m = lo + (hi - lo - 1) / 2;
-    let next = m + 1;
-    let k = put(q, ids, coords, n, m, s, out);
-    let r = kdslots::right_at(q, coords, axis, m);
-    let j = part(r, q, ids, coords, n, most, next, hi, 1 - axis, k, out);
-    let l = kdslots::left_at(q, coords, axis, m);
-    part(l, q, ids, coords, n, most, lo, m, 1 - axis, j, out)
+    Ok(k)
+}
+
+// The tests of a plan: the second search goes on with what the first has left.
+fn both(
+    p: &BoxPlan,
+    node_size: usize,
+    n: usize,
+    index: &Index<'_>,
+    allowance: usize,
+    out: &mut [u32],
+) -> Result<Spent, End>
+    requires { index_ok node_size n index.now.ids.now index.now.coords.now ≡ true }
+    ensures { let t = trials (queries_of p.now) node_size n index.now.ids.now index.now.coords.now in
+        went_tests result out.new ≡ spend n t (fresh allowance) out.old }
+{
+    let whole = Interval {
+        lo: 0,
+        hi: n,
+        axis: 0,
+    };
+    let begun = Spent {
+        found: 0,
+        left: allowance,
+    };
+    let first = Search {
+        query: p.first,
+        node_size,
+        n,
+        coords: index.coords,
+    };
+    let k = part(&first, index.ids, whole, begun, out)?;
+    if let Some(query) = p.second {
+        let second = Search { query, ..first };
+        return part(&second, index.ids, whole, k, out);
+    }
+    Ok(k)
 }
 
 // The reply by how far a search came that was allowed so many tests.
-fn settle(s: Spent, allowance: usize, room: usize) -> EffortReply
-    requires { s.left ≤ allowance }
-    ensures { result ≡ settled_tests s allowance room }
+fn settle(made: Result<Spent, End>, allowance: usize, room: usize) -> Result<Effort, EffortRefusal>
+    requires { IfOk made (λ s. s.left ≤ allowance) }
+    ensures { result ≡ settled_tests made allowance room }
 {
-    if s.spoiled {
-        return EffortReply::Spoiled;
-    }
-    let e = Effort {
-        items: s.found,
-        tested: allowance - s.left,
-        stopped: s.over,
+    let e = match made {
+        Ok(s) => Effort {
+            items: s.found,
+            tested: allowance - s.left,
+            stopped: false,
+        },
+        Err(End::Stopped(found)) => Effort {
+            items: found,
+            tested: allowance,
+            stopped: true,
+        },
+        Err(End::Spoiled) => return Err(EffortRefusal::Spoiled),
     };
-    if room < s.found {
-        return EffortReply::NoRoom(e);
+    if room < e.items {
+        return Err(EffortRefusal::NoRoom(e));
     }
-    EffortReply::Found(e)
+    Ok(e)
 }
 
-// Lists the places that a plan finds within so many tests over an index that may be searched: the second search goes on with what the
-// first has left.
+// Lists the places that a plan finds within so many tests over an index that may be searched.
 pub fn search(
-    p: BoxPlan,
+    p: &BoxPlan,
     node_size: usize,
     n: usize,
-    ids: &[u32],
-    coords: &[f64],
+    index: &Index<'_>,
     allowance: usize,
     out: &mut [u32],
-) -> EffortReply
-    requires { index_ok node_size n ids.now coords.now ≡ true }
-    ensures { let t = trials (queries_of p) node_size n ids.now coords.now in
+) -> Result<Effort, EffortRefusal>
+    requires { index_ok node_size n index.now.ids.now index.now.coords.now ≡ true }
+    ensures { let t = trials (queries_of p.now) node_size n index.now.ids.now index.now.coords.now in
         (result ≡ answer n t allowance (length out.old)) × (out.new ≡ column n t allowance out.old) }
 {
-    let q = p.first;
-    let w = p.second;
-    let most = node_size + 1;
-    let s = Spent {
-        found: 0,
-        left: allowance,
-        over: false,
-        spoiled: false,
-    };
-    let h = part(true, q, ids, coords, n, most, 0, n, 0, s, out);
-    let r = part(p.two, w, ids, coords, n, most, 0, n, 0, h, out);
-    settle(r, allowance, out.len())
+    let made = both(p, node_size, n, index, allowance, out);
+    settle(made, allowance, out.len())
 }

@@ -1,7 +1,7 @@
 -- What is true of the definitions of ask_tile, a line a module. Written by tools/modules.
 
--- Used: the table of the zoom used, of a sound state: it stands in the columns, and what is lent of them from its start to its end is the
--- table and its index.
+-- Used: the table of the zoom used, of a sound state: it stands in the columns, and the tile that is asked of it, cut out of them, is asked
+-- of that table and its index.
 pub mod Used
 -- Ends: how a tile ends: the three columns, lent as far as the shortest of them reaches, hold the first items afterwards, and then what
 -- they held; and the answer is SCOPE's, by how far the listing came.

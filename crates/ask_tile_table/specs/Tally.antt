@@ -1,24 +1,16 @@
--- The tally of a tile: its answers, and the sum over the distinct entries listed of what each weighs there: its num where the tile holds
--- its centre, otherwise nothing. Definitions only.
-use Rattle.std.specs.Prelude.{Bool, true, false, cond, ◌&&◌, List, [], ◌∷◌, map, ℕ, ◌+◌, eqb}
+-- The tally of a tile: what its answer carries, and the sum over the distinct entries listed of what each weighs there: its num where the
+-- tile holds its centre, otherwise nothing. Definitions only.
+use Rattle.std.specs.Prelude.{Bool, true, false, cond, ◌&&◌, List, [], ◌∷◌, map, Result, Ok, Err, ℕ, ◌+◌, eqb}
+use Rattle.refusals.specs.declared.Refusal.{Refusal}
 use Rattle.build_tables.specs.declared.Entry.{Entry}
 use Rattle.build_tables.specs.Entries.{Table, entry}
-use Rattle.ask_tile_table.specs.declared.Tally.{Tally}
-use Rattle.ask_tile_table.specs.declared.Tally.TheVariants.{Sum, Tile as No-as-Tile, Spoiled}
 use Rattle.ask_tile_table.specs.Floor.{home_of}
 use Rattle.ask_tile_table.specs.Tile.{Visit, tile_listed}
 
--- SCOPE's number of an answer; 0 where there is no refusal
-abbrev pub tally_number : Tally → ℕ
-tally_number (Sum s) = 0
-tally_number No-as-Tile = 7
-tally_number Spoiled = 11
-
--- what it carries: the sum
-abbrev pub tally_value : Tally → ℕ
-tally_value (Sum s) = s
-tally_value No-as-Tile = 0
-tally_value Spoiled = 0
+-- what the answer of a tally carries: the sum, 0 where it is refused
+abbrev pub tally_value : Result ℕ Refusal → ℕ
+tally_value (Ok s) = s
+tally_value (Err e) = 0
 
 -- whether p is in the list
 unfoldable pub member : ℕ → List ℕ → Bool

@@ -1,6 +1,6 @@
 -- A tile (z, x, y), by SCOPE's 'Tile and tally': its three searches, what they find in a table with its index, and the item of each entry
 -- that is listed. Definitions only.
-use Rattle.std.specs.Prelude.{Bool, true, false, cond, ◌&&◌, List, [], ◌∷◌, ◌++◌, map, ℕ, ◌+◌, ◌^◌, leb, ltb, eqb, length, ℤ, Float}
+use Rattle.std.specs.Prelude.{Bool, true, false, cond, ◌&&◌, List, [], ◌∷◌, ◌++◌, map, Option, Some, None, ℕ, ◌+◌, ◌^◌, leb, ltb, eqb, length, ℤ, Float}
 use Rattle.std.specs.Float.{binary64}
 use Rattle.std.specs.Float.Ieee.{neg, add, sub, mul, div}
 use Rattle.floats.specs.Numbers.{zero, one, float}
@@ -16,6 +16,8 @@ use Rattle.build_tables.specs.declared.Entry.{Entry}
 use Rattle.build_tables.specs.Entries.{Table, entry}
 use Rattle.ask_tile_table.specs.declared.TileSearch.{TileSearch}
 use Rattle.ask_tile_table.specs.declared.Item.{Item}
+use Rattle.ask_tile_table.specs.declared.RowEnd.{RowEnd}
+use Rattle.ask_tile_table.specs.declared.RowEnd.TheVariants.{East, West}
 
 -- z is at most 31, and x and y are below 2^z
 abbrev pub is_tile : ℕ → ℕ → ℕ → Bool
@@ -41,9 +43,8 @@ abbrev pub greatest : Options → ℕ → ℕ → Float
 greatest o z v = div binary64 (add binary64 (add binary64 (float v) one) (margin o)) (side z)
 
 -- a search of the row y, from a to b on x, where v stands for the tile's x in the items
-abbrev pub strip : Options → ℕ → ℕ → Bool → Float → Float → Float → TileSearch
-strip o z y made a b v = record {
-  made = made;
+abbrev pub strip : Options → ℕ → ℕ → Float → Float → Float → TileSearch
+strip o z y a b v = record {
   query = Range a (least o z y) b (greatest o z y);
   node_size = o.node_size;
   extent = o.extent;
@@ -54,7 +55,7 @@ strip o z y made a b v = record {
 
 -- the tile's own range
 unfoldable pub here : Options → ℕ → ℕ → ℕ → TileSearch
-here o z x y = strip o z y true (least o z x) (greatest o z x) (float x)
+here o z x y = strip o z y (least o z x) (greatest o z x) (float x)
 
 -- whether x goes round: longitude does, a plan has no far side
 abbrev pub goes_round : CoordinateSystem → Bool
@@ -65,13 +66,34 @@ goes_round (Cartesian d) = false
 unfoldable pub wraps : Options → Bool
 wraps o = cond o.longitude_strips_only (goes_round o.coordinate_system) true
 
--- the east strip, of a tile in column 0: x from 1 - p / z2 up to 1, and the tile's own x counts as z2
+-- the east strip: x from 1 - p / z2 up to 1, and the tile's own x counts as z2; a tile in column 0 has it
 unfoldable pub east_strip : Options → ℕ → ℕ → ℕ → TileSearch
-east_strip o z x y = strip o z y (wraps o && eqb x 0) (sub binary64 one (edge o z)) one (side z)
+east_strip o z x y = strip o z y (sub binary64 one (edge o z)) one (side z)
 
--- the west strip, of a tile in the last column: x from 0 up to p / z2, and the tile's own x counts as -1
+abbrev pub has_east : Options → ℕ → Bool
+has_east o x = wraps o && eqb x 0
+
+-- the west strip: x from 0 up to p / z2, and the tile's own x counts as -1; a tile in the last column has it
 unfoldable pub west_strip : Options → ℕ → ℕ → ℕ → TileSearch
-west_strip o z x y = strip o z y (wraps o && eqb (x + 1) (2 ^ z)) zero (edge o z) (neg one)
+west_strip o z x y = strip o z y zero (edge o z) (neg one)
+
+abbrev pub has_west : Options → ℕ → ℕ → Bool
+has_west o z x = wraps o && eqb (x + 1) (2 ^ z)
+
+-- the strip at an end of the row, where the tile has it
+abbrev pub made_if : Bool → TileSearch → Option TileSearch
+made_if made g = cond made (Some g) None
+
+abbrev pub has_strip : RowEnd → Options → ℕ → ℕ → Bool
+has_strip East o z x = has_east o x
+has_strip West o z x = has_west o z x
+
+abbrev pub strip_search : RowEnd → Options → ℕ → ℕ → ℕ → TileSearch
+strip_search East o z x y = east_strip o z x y
+strip_search West o z x y = west_strip o z x y
+
+abbrev pub strip_at : RowEnd → Options → ℕ → ℕ → ℕ → Option TileSearch
+strip_at end o z x y = made_if (has_strip end o z x) (strip_search end o z x y)
 
 -- ---- what they find
 
@@ -84,12 +106,14 @@ abbrev pub visits_of : TileSearch → List ℕ → List Visit
 visits_of g ps = map (λ p. record { by = g; place = p }) ps
 
 -- the places that `range` answers in the table t, by its index; none where the tile has no such strip
-abbrev pub visits : TileSearch → Table → List ℕ → List Float → List Visit
-visits g t ids co = visits_of g (when g.made (found g.query g.node_size (length t) ids co))
+abbrev pub visits : Bool → TileSearch → Table → List ℕ → List Float → List Visit
+visits made g t ids co = visits_of g (when made (found g.query g.node_size (length t) ids co))
 
 -- by the three searches, one after the other
 unfoldable pub visited : Options → ℕ → ℕ → ℕ → Table → List ℕ → List Float → List Visit
-visited o z x y t ids co = visits (here o z x y) t ids co ++ (visits (east_strip o z x y) t ids co ++ visits (west_strip o z x y) t ids co)
+visited o z x y t ids co =
+    visits true (here o z x y) t ids co
+    ++ (visits (has_east o x) (east_strip o z x y) t ids co ++ visits (has_west o z x) (west_strip o z x y) t ids co)
 
 -- ---- what is listed
 

@@ -10,6 +10,8 @@ pub mod Finite
 pub mod Runs
 -- Turns: one turn of a walk over what a search finds: the end, an entry that cannot be listed, or one more item.
 pub mod Turns
+-- Asked: a tile that is asked for of a table: the table, what the walk of a search goes over there, and what the tile finds.
+pub mod Asked
 -- Three: a tile's three searches, one after the other, are what the tile finds: each walk goes over its whole answer, and what one leaves
 -- the next goes on from.
 pub mod Three
@@ -30,7 +32,8 @@ pub mod Counting
 pub mod Told
 -- Home: where a tile holds an entry's centre, as the code tests it: by the four edges of the tile.
 pub mod Home
--- Replies: any two replies that meet the contract of a method of `Tally`, which is public, are equal.
-pub mod Replies
+-- Added: the tally of a tile that is asked for of a table: the three searches, one after the other, tallied by the edges of the tile, are
+-- the tally of what the tile finds.
+pub mod Added
 -- Wraps: when strips run: always where the option is off, and for longitude either way; on a plan with the option on never.
 pub mod Wraps

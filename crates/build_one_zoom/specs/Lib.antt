@@ -7,5 +7,7 @@ pub mod Zoom
 pub mod Scanned
 -- Near: the neighbours of a place: what `within` answers around it, over the index of the table.
 pub mod Near
+-- Around: what stands around a place, by a zoom: the places that its searches answer.
+pub mod Around
 -- What is true of these: laws, and what contracts below the surface of build_one_zoom cite beside them.
 pub mod laws

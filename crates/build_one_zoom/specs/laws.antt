@@ -30,8 +30,7 @@ pub mod Sound
 -- Notes: what is noted of an entry before a table is scanned: nothing, or the very list that `within` answers at its place, where that is
 -- the entry itself or the entry and one other.
 pub mod Notes
+-- Searchable: an index that a zoom can be searched by: it keeps its promises, and the place of each of its slots is answered there.
+pub mod Searchable
 -- Bare: energies decide nothing: a zoom of a table without its energies is the zoom of the table, without them.
 pub mod Bare
--- Back: the columns that a call came back with, and that each is as long as it was, as the caller's proof has them: first among what was
--- lent to it.
-pub mod Back

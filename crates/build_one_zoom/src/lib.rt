@@ -3,26 +3,24 @@
 // it. An entry is read as one record.
 #![tactic(auto)]
 
-ghost use Rattle.std.specs.Prelude.{◌≡◌, List, ◌++◌, ℕ, ◌+◌, ◌-◌, ◌*◌, ◌^◌, ◌<◌, ◌≤◌, T, length, get_or, take};
-ghost use Rattle.std.specs.Float.Ieee.Scale.{finite};
-ghost use Rattle.kdsort.specs.Cols.{key};
-ghost use Rattle.kdsort.specs.Lent.{given_index, lent_index};
+ghost use Rattle.std.specs.Prelude.{◌≡◌, ◌+◌, ◌^◌, ◌<◌, ◌≤◌, length, take};
 ghost use Rattle.kdslots.specs.laws.All.{All, AllBelow};
-ghost use Rattle.kdbush.specs.laws.Promise.{Promised};
-ghost use Rattle.build_tables.specs.Entries.{Table, entry};
-ghost use Rattle.build_tables.specs.Rows.{cols, rows};
+ghost use Rattle.build_tables.specs.Entries.{entry};
+ghost use Rattle.build_tables.specs.Rows.{rows};
 ghost use Rattle.build_tables.specs.laws.Rows.{Even};
-ghost use Rattle.build_tables.specs.Lent.{given, given_mut, lent_cols, lent_cols_mut};
-ghost use Rattle.build_one_zoom.specs.Zoom.{num_of, energy_of, adds, more, more_of, absorb_one, absorb, absorbed};
+ghost use Rattle.build_tables.specs.Lent.{held, held_mut, SameColumns};
+ghost use Rattle.build_one_zoom.specs.Zoom.{energy_of, adds, more, more_of, absorb_one, absorb, absorbed};
 ghost use Rattle.build_one_zoom.specs.Zoom.{copy_one, copy_all, made_at, left_at, enough, visit, scan_one, cluster};
 ghost use Rattle.build_one_zoom.specs.Scanned.{Scanned, scan_of, unseen_count, unseen_num, unseen_of};
-ghost use Rattle.build_one_zoom.specs.Near.{near_of};
-ghost use Rattle.build_one_zoom.specs.laws.Near.{Answered, Placed, Radius};
-ghost use Rattle.build_one_zoom.specs.laws.Notes.{Tells, Noted, OwnNote, Slotted, Same};
+ghost use Rattle.build_one_zoom.specs.Around.{around};
+ghost use Rattle.build_one_zoom.specs.laws.Near.{Placed};
+ghost use Rattle.build_one_zoom.specs.laws.Notes.{Noted, Same};
+ghost use Rattle.build_one_zoom.specs.laws.Searchable.{Searchable, Zoomable};
 
-use build_tables::Entry;
-use kdbush::SearchReply;
-use kdslots::Query;
+mod zoom;
+
+use build_tables::{Entries, EntriesMut, Entry};
+pub use zoom::Zoom;
 
 // The running sums of a cluster: coordinates times nums, and energies.
 #[derive(Clone, Copy)]
@@ -33,32 +31,19 @@ struct Sums {
 }
 
 // The neighbour k: unseen, it is marked, gets the parent p, and adds its products and its energy.
-fn absorb_one(
-    x: &[f64],
-    y: &[f64],
-    seen: &mut [u8],
-    id: &[u32],
-    parent: &mut [u32],
-    num: &[u32],
-    energy: &[u64],
-    k: usize,
-    z: u8,
-    p: u32,
-    sums: Sums,
-) -> Sums
-    requires { let c = cols x.now y.now seen.old id.now parent.old num.now energy.now in
+fn absorb_one(t: &mut EntriesMut<'_>, k: usize, z: u8, p: u32, sums: Sums) -> Sums
+    requires { let c = held_mut t.old in
         Even c × (k < length c.x) × (sums.energy + adds energy_of z (entry (rows c) k) < 2 ^ 64) }
-    ensures { let before = rows (cols x.now y.now seen.old id.now parent.old num.now energy.now) in
-        let after = rows (cols x.now y.now seen.new id.now parent.new num.now energy.now) in
-        absorbed after result.x result.y result.energy
-        ≡ absorb_one z p (absorbed before sums.x sums.y sums.energy) k }
+    ensures rows { absorbed (rows (held_mut t.new)) result.x result.y result.energy
+        ≡ absorb_one z p (absorbed (rows (held_mut t.old)) sums.x sums.y sums.energy) k }
+    ensures lent { SameColumns t.old t.new }
 {
-    let e = build_tables::entry_at(x, y, seen, id, parent, num, energy, k);
+    let e = t.at(k);
     if e.seen <= z {
         return sums;
     }
-    seen[k] = z;
-    parent[k] = p;
+    t.seen[k] = z;
+    t.parent[k] = p;
     let w = e.num as f64;
     Sums {
         x: sums.x + e.x * w,
@@ -68,544 +53,211 @@ fn absorb_one(
 }
 
 // The neighbours, in answer order.
-fn absorb_near(
-    x: &[f64],
-    y: &[f64],
-    seen: &mut [u8],
-    id: &[u32],
-    parent: &mut [u32],
-    num: &[u32],
-    energy: &[u64],
-    near: &[u32],
-    z: u8,
-    p: u32,
-    sums: Sums,
-) -> Sums
-    requires { let c = cols x.now y.now seen.old id.now parent.old num.now energy.now in
+fn absorb_near(t: &mut EntriesMut<'_>, near: &[u32], z: u8, p: u32, sums: Sums) -> Sums
+    requires { let c = held_mut t.old in
         let ns = near.now in
         Even c × AllBelow (length c.x) ns × (sums.energy + more_of energy_of z (rows c) ns < 2 ^ 64) }
-    ensures { let before = rows (cols x.now y.now seen.old id.now parent.old num.now energy.now) in
-        let after = rows (cols x.now y.now seen.new id.now parent.new num.now energy.now) in
-        absorbed after result.x result.y result.energy
-        ≡ absorb z p (absorbed before sums.x sums.y sums.energy) near.now }
+    ensures rows { absorbed (rows (held_mut t.new)) result.x result.y result.energy
+        ≡ absorb z p (absorbed (rows (held_mut t.old)) sums.x sums.y sums.energy) near.now }
+    ensures lent { SameColumns t.old t.new }
 {
     let mut s = sums;
-    let mut j = 0;
-    while j < near.len() {
-        let k = near[j] as usize;
-        s = absorb_one(x, y, seen, id, parent, num, energy, k, z, p, s);
-        j += 1;
+    for &k in near {
+        s = absorb_one(t, k as usize, z, p, s);
     }
     s
 }
 
 // The neighbour k: unseen, it is marked, and then copied as the next table's next entry.
-fn copy_one(
-    x: &mut [f64],
-    y: &mut [f64],
-    seen: &mut [u8],
-    id: &mut [u32],
-    parent: &mut [u32],
-    num: &mut [u32],
-    energy: &mut [u64],
-    len: usize,
-    done: usize,
-    k: usize,
-    z: u8,
-) -> usize
-    requires { let c = given_mut x y seen id parent num energy in
-        Even c × (k < len) × (len + done + unseen_count z (take len (rows c)) ≤ length c.x) }
-    ensures { let c = lent_cols_mut x y seen id parent num energy in
-        let t = rows c.entry in
-        Scanned len done (copy_one z (scan_of len done t) k) t (rows c.exit) result }
+fn copy_one(t: &mut EntriesMut<'_>, zoom: &Zoom<'_>, done: usize, k: usize) -> usize
+    requires { let c = held_mut t.old in
+        let len = zoom.now.len in
+        Even c × (k < len) × (len + done + unseen_count zoom.now.z (take len (rows c)) ≤ length c.x) }
+    ensures rows { let r = rows (held_mut t.old) in
+        let len = zoom.now.len in
+        Scanned len done (copy_one zoom.now.z (scan_of len done r) k) r (rows (held_mut t.new)) result }
+    ensures lent { SameColumns t.old t.new }
 {
-    let e = build_tables::entry_at(x, y, seen, id, parent, num, energy, k);
-    if e.seen <= z {
+    let e = t.at(k);
+    if e.seen <= zoom.z {
         return done;
     }
-    seen[k] = z;
+    t.seen[k] = zoom.z;
     let mut m = e;
-    m.seen = z;
-    build_tables::put_entry(x, y, seen, id, parent, num, energy, len + done, m);
+    m.seen = zoom.z;
+    t.put(zoom.len + done, m);
     done + 1
 }
 
 // The neighbours, in answer order.
-fn copy_near(
-    x: &mut [f64],
-    y: &mut [f64],
-    seen: &mut [u8],
-    id: &mut [u32],
-    parent: &mut [u32],
-    num: &mut [u32],
-    energy: &mut [u64],
-    near: &[u32],
-    len: usize,
-    done: usize,
-    z: u8,
-) -> usize
-    requires { let c = given_mut x y seen id parent num energy in
-        Even c × AllBelow len near.now × (len + done + unseen_count z (take len (rows c)) ≤ length c.x) }
-    ensures { let c = lent_cols_mut x y seen id parent num energy in
-        let t = rows c.entry in
-        Scanned len done (copy_all z (scan_of len done t) near.now) t (rows c.exit) result }
+fn copy_near(t: &mut EntriesMut<'_>, zoom: &Zoom<'_>, near: &[u32], done: usize) -> usize
+    requires { let c = held_mut t.old in
+        let len = zoom.now.len in
+        Even c × AllBelow len near.now × (len + done + unseen_count zoom.now.z (take len (rows c)) ≤ length c.x) }
+    ensures rows { let r = rows (held_mut t.old) in
+        let len = zoom.now.len in
+        Scanned len done (copy_all zoom.now.z (scan_of len done r) near.now) r (rows (held_mut t.new)) result }
+    ensures lent { SameColumns t.old t.new }
 {
     let mut d = done;
-    let mut j = 0;
-    while j < near.len() {
-        let k = near[j] as usize;
-        d = copy_one(x, y, seen, id, parent, num, energy, len, d, k, z);
-        j += 1;
+    for &k in near {
+        d = copy_one(t, zoom, d, k as usize);
     }
     d
 }
 
-// What an entry adds to a total: its num, where it is unseen.
-fn counted(e: Entry, z: u8) -> u32
-    ensures { result ≡ adds num_of z e }
-{
-    if e.seen <= z {
-        return 0;
-    }
-    e.num
-}
-
 // The entry's own num and that of each unseen neighbour.
-fn total_near(
-    x: &[f64],
-    y: &[f64],
-    seen: &[u8],
-    id: &[u32],
-    parent: &[u32],
-    num: &[u32],
-    energy: &[u64],
-    near: &[u32],
-    z: u8,
-    own: u32,
-) -> u32
-    requires { let c = given x y seen id parent num energy in
+fn total_near(t: &Entries<'_>, near: &[u32], z: u8, own: u32) -> u32
+    requires { let c = held t.now in
         let ns = near.now in
-        Even c × AllBelow (length c.x) ns × (own + more z (rows c) ns < 2 ^ 32) }
-    ensures { let c = lent_cols x y seen id parent num energy in result ≡ own + more z (rows c.entry) near.now }
+        AllBelow (length c.x) ns × (own + more z (rows c) ns < 2 ^ 32) }
+    ensures { result ≡ own + more z (rows (held t.now)) near.now }
 {
     let mut total = own;
-    let mut j = 0;
-    while j < near.len() {
-        let k = near[j] as usize;
-        let e = build_tables::entry_at(x, y, seen, id, parent, num, energy, k);
-        total += counted(e, z);
-        j += 1;
+    for &k in near {
+        let e = t.at(k as usize);
+        if z < e.seen {
+            total += e.num;
+        }
     }
     total
 }
 
 // The entry i is made a cluster of `total` lamps with its unseen neighbours.
 fn make_one(
-    x: &mut [f64],
-    y: &mut [f64],
-    seen: &mut [u8],
-    id: &mut [u32],
-    parent: &mut [u32],
-    num: &mut [u32],
-    energy: &mut [u64],
+    t: &mut EntriesMut<'_>,
+    zoom: &Zoom<'_>,
     near: &[u32],
-    len: usize,
     done: usize,
     i: usize,
-    z: u8,
-    n: u32,
     total: u32,
 )
-    requires { let c = given_mut x y seen id parent num energy in
+    requires { let c = held_mut t.old in
+        let len = zoom.now.len in
         let ns = near.now in
-        Even c × AllBelow len ns × (i < len) × (len + done < length c.x) × (len ≤ 1048576) × (n ≤ 1048576) × (z ≤ 30)
-        × ((entry (rows c) i).energy + more_of energy_of z (rows c) ns < 2 ^ 64) }
-    ensures { let c = lent_cols_mut x y seen id parent num energy in
-        let t = rows c.entry in
-        Scanned len done (made_at n z i total near.now (scan_of len done t)) t (rows c.exit) (done + 1) }
+        Even c × AllBelow len ns × (i < len) × (len + done < length c.x)
+        × ((entry (rows c) i).energy + more_of energy_of zoom.now.z (rows c) ns < 2 ^ 64) }
+    ensures rows { let r = rows (held_mut t.old) in
+        let len = zoom.now.len in
+        Scanned len done (made_at zoom.now.count zoom.now.z i total near.now (scan_of len done r)) r (rows (held_mut t.new)) (done + 1) }
+    ensures lent { SameColumns t.old t.new }
 {
-    let cluster = build_tables::cluster_id(i, z, n);
-    let o = build_tables::entry_at(x, y, seen, id, parent, num, energy, i);
+    let cluster = build_tables::cluster_id(i, zoom.z, zoom.count);
+    let o = t.at(i);
     let own = o.num as f64;
     let from = Sums {
         x: o.x * own,
         y: o.y * own,
         energy: o.energy,
     };
-    let s = absorb_near(x, y, seen, id, parent, num, energy, near, z, cluster, from);
-    parent[i] = cluster;
-    let t = total as f64;
+    let s = absorb_near(t, near, zoom.z, cluster, from);
+    t.parent[i] = cluster;
+    let lamps = total as f64;
     let e = Entry {
-        x: s.x / t,
-        y: s.y / t,
+        x: s.x / lamps,
+        y: s.y / lamps,
         seen: build_tables::NEVER,
         id: cluster,
         parent: build_tables::UNSET,
         num: total,
         energy: s.energy,
     };
-    build_tables::put_entry(x, y, seen, id, parent, num, energy, len + done, e);
+    t.put(zoom.len + done, e);
 }
 
 // The entry i is copied, and then its unseen neighbours.
-fn leave_one(
-    x: &mut [f64],
-    y: &mut [f64],
-    seen: &mut [u8],
-    id: &mut [u32],
-    parent: &mut [u32],
-    num: &mut [u32],
-    energy: &mut [u64],
-    near: &[u32],
-    len: usize,
-    done: usize,
-    i: usize,
-    z: u8,
-) -> usize
-    requires { let c = given_mut x y seen id parent num energy in
-        Even c × AllBelow len near.now × (i < len) × (len + done + 1 + unseen_count z (take len (rows c)) ≤ length c.x) }
-    ensures { let c = lent_cols_mut x y seen id parent num energy in
-        let t = rows c.entry in
-        Scanned len done (left_at z i near.now (scan_of len done t)) t (rows c.exit) result }
+fn leave_one(t: &mut EntriesMut<'_>, zoom: &Zoom<'_>, near: &[u32], done: usize, i: usize) -> usize
+    requires { let c = held_mut t.old in
+        let len = zoom.now.len in
+        Even c × AllBelow len near.now × (i < len)
+        × (len + done + 1 + unseen_count zoom.now.z (take len (rows c)) ≤ length c.x) }
+    ensures rows { let r = rows (held_mut t.old) in
+        let len = zoom.now.len in
+        Scanned len done (left_at zoom.now.z i near.now (scan_of len done r)) r (rows (held_mut t.new)) result }
+    ensures lent { SameColumns t.old t.new }
 {
-    let e = build_tables::entry_at(x, y, seen, id, parent, num, energy, i);
-    build_tables::put_entry(x, y, seen, id, parent, num, energy, len + done, e);
-    copy_near(x, y, seen, id, parent, num, energy, near, len, done + 1, z)
+    let e = t.at(i);
+    t.put(zoom.len + done, e);
+    copy_near(t, zoom, near, done + 1)
 }
 
 // Whether the total exceeds the entry's own num and is at least min_points.
 fn is_enough(own: u32, total: u32, least: u32) -> bool
     ensures { result ≡ enough own total least }
 {
-    if own < total {
-        return least <= total;
-    }
-    false
+    own < total && least <= total
 }
 
 // The entry i, which is marked.
-fn visit_one(
-    x: &mut [f64],
-    y: &mut [f64],
-    seen: &mut [u8],
-    id: &mut [u32],
-    parent: &mut [u32],
-    num: &mut [u32],
-    energy: &mut [u64],
-    near: &[u32],
-    len: usize,
-    done: usize,
-    i: usize,
-    z: u8,
-    n: u32,
-    least: u32,
-) -> usize
-    requires { let c = given_mut x y seen id parent num energy in
+fn visit_one(t: &mut EntriesMut<'_>, zoom: &Zoom<'_>, near: &[u32], done: usize, i: usize) -> usize
+    requires { let c = held_mut t.old in
+        let len = zoom.now.len in
+        let z = zoom.now.z in
         let ns = near.now in
         Even c × AllBelow len ns × (i < len) × (len + done + 1 + unseen_count z (take len (rows c)) ≤ length c.x)
-        × (len ≤ 1048576) × (n ≤ 1048576) × (z ≤ 30) × ((entry (rows c) i).num + more z (rows c) ns < 2 ^ 32)
+        × ((entry (rows c) i).num + more z (rows c) ns < 2 ^ 32)
         × ((entry (rows c) i).energy + more_of energy_of z (rows c) ns < 2 ^ 64) }
-    ensures { let c = lent_cols_mut x y seen id parent num energy in
-        let t = rows c.entry in
-        Scanned len done (visit n least z near.now i (scan_of len done t)) t (rows c.exit) result }
+    ensures rows { let r = rows (held_mut t.old) in
+        let len = zoom.now.len in
+        Scanned len done (visit zoom.now.count zoom.now.least zoom.now.z near.now i (scan_of len done r)) r
+        (rows (held_mut t.new)) result }
+    ensures lent { SameColumns t.old t.new }
 {
-    let e = build_tables::entry_at(x, y, seen, id, parent, num, energy, i);
-    let own = e.num;
-    let total = total_near(x, y, seen, id, parent, num, energy, near, z, own);
-    if is_enough(own, total, least) {
-        make_one(
-            x, y, seen, id, parent, num, energy, near, len, done, i, z, n, total,
-        );
+    let e = t.at(i);
+    let total = total_near(&t.lent(), near, zoom.z, e.num);
+    if is_enough(e.num, total, zoom.least) {
+        make_one(t, zoom, near, done, i, total);
         return done + 1;
     }
-    leave_one(x, y, seen, id, parent, num, energy, near, len, done, i, z)
-}
-
-// The note of an entry at whose place these two are answered: 2 + 2 * other where it comes first, 3 + 2 * other where the other does.
-fn note_of(own: u32, first: u32, second: u32) -> u32
-    ensures { (l rest : List ℕ) → length l ≡ 2 → get_or (l ++ rest) 0 0 ≡ first → get_or (l ++ rest) 1 0 ≡ second → Tells own result l }
-{
-    if first == own {
-        if build_tables::MOST_COUNT < second {
-            return 0;
-        }
-        return 2 + 2 * second;
-    }
-    if second != own {
-        return 0;
-    }
-    if build_tables::MOST_COUNT < first {
-        return 0;
-    }
-    3 + 2 * first
-}
-
-// The note of the entry `own`, at whose place (qx, qy) two are answered.
-fn note_two(
-    ids: &[u32],
-    coords: &[f64],
-    node_size: usize,
-    r: f64,
-    len: usize,
-    own: u32,
-    qx: f64,
-    qy: f64,
-) -> u32
-    requires promised { Promised node_size len ids.now coords.now }
-    requires qy_len { length (near_of node_size len ids.now coords.now r qx qy) ≡ 2 }
-    ensures { Tells own result (near_of node_size len ids.now coords.now r qx qy) }
-{
-    let mut two: [u32; 2] = [0; 2];
-    match kdbush::within(node_size, len, ids, coords, qx, qy, r, &mut two) {
-        SearchReply::Found(_) => note_of(own, two[0], two[1]),
-        SearchReply::Box => 0,
-        SearchReply::NoRoom(_) => 0,
-        SearchReply::Spoiled => 0,
-    }
-}
-
-// A note, and how many places are answered.
-#[derive(Clone, Copy)]
-struct Note {
-    note: u32,
-    found: usize,
-}
-
-// The note of the entry of the slot s, from what is answered at the slot's own coordinates: 1 where that is the entry alone, and 0 where
-// it is more than two.
-fn note_at(ids: &[u32], coords: &[f64], node_size: usize, r: f64, len: usize, s: usize) -> Note
-    requires promised { Promised node_size len ids.now coords.now × (s < len) × (len ≤ 1048576) }
-    requires fact { let i = given_index ids coords in OwnNote len (near_of node_size len i.ids i.co r) i.ids i.co }
-    ensures { let i = (lent_index ids coords).entry in
-        let around = near_of node_size len i.ids i.co r in
-        Tells (get_or i.ids s 0) result.note (around (key 0 i.co s) (key 1 i.co s)) }
-{
-    let qx = coords[2 * s];
-    let qy = coords[2 * s + 1];
-    let found = kdcount::count(Query::Within { qx, qy, radius: r }, node_size, len, coords);
-    if found == 1 {
-        return Note { note: 1, found };
-    }
-    if found != 2 {
-        return Note { note: 0, found };
-    }
-    let note = note_two(ids, coords, node_size, r, len, ids[s], qx, qy);
-    Note { note, found }
-}
-
-// No notes.
-fn forget(near: &mut [u32], notes: usize, len: usize)
-    requires { (notes + len ≤ length near.old) × (notes ≤ 1048576) × (len ≤ 1048576) }
-    ensures { (i : ℕ) → i < len → get_or near.new (notes + i) 0 ≡ 0 }
-{
-    let mut i = 0;
-    while i < len {
-        near[notes + i] = 0;
-        i += 1;
-    }
-}
-
-fn wide(x: u32) -> usize
-    ensures { result ≡ x }
-{
-    x as usize
-}
-
-// Notes of the entries of a table, in the order of its index's slots, where one search finds in the caches what the one before it read.
-// They stand in `near` from `notes` on. Where much is answered they end early: what has no note is searched for when it is scanned.
-fn note_all(
-    ids: &[u32],
-    coords: &[f64],
-    near: &mut [u32],
-    node_size: usize,
-    r: f64,
-    len: usize,
-    notes: usize,
-)
-    requires promised { Promised node_size len ids.now coords.now × (notes + len ≤ length near.old) × (notes ≤ 1048576)
-        × (len ≤ 1048576) }
-    requires fact { let i = given_index ids coords in OwnNote len (near_of node_size len i.ids i.co r) i.ids i.co }
-    ensures { let i = (lent_index ids coords).entry in
-        let around = near_of node_size len i.ids i.co r in
-        ((t : Table) → Slotted len i.ids i.co t → Noted notes len around near.new t) }
-{
-    forget(near, notes, len);
-    let mut left = 4 * len;
-    let mut s = 0;
-    while s < len {
-        let n = note_at(ids, coords, node_size, r, len, s);
-        if left < n.found {
-            return;
-        }
-        left = left - n.found;
-        let own = wide(ids[s]);
-        near[notes + own] = n.note;
-        s += 1;
-    }
-}
-
-// Lists the places around (qx, qy) at the front of `near`: how many there are.
-fn search_near(
-    ids: &[u32],
-    coords: &[f64],
-    near: &mut [u32],
-    node_size: usize,
-    r: f64,
-    len: usize,
-    qx: f64,
-    qy: f64,
-) -> usize
-    requires promised { Promised node_size len ids.now coords.now × Radius r × (len ≤ length near.old) }
-    requires t { T (finite qx) × T (finite qy) }
-    ensures { let around = near_of node_size len ids.now coords.now r in
-        Answered (around qx qy) near.new result × Same len near.old near.new }
-{
-    match kdbush::within(node_size, len, ids, coords, qx, qy, r, near) {
-        SearchReply::Found(k) => k,
-        SearchReply::Box => 0,
-        SearchReply::NoRoom(_) => 0,
-        SearchReply::Spoiled => 0,
-    }
-}
-
-// Lists the neighbours of the entry i, which is at (qx, qy), at the front of `near`: how many there are. They are those of its note, or
-// are searched for where that says nothing.
-fn neighbours(
-    ids: &[u32],
-    coords: &[f64],
-    near: &mut [u32],
-    node_size: usize,
-    r: f64,
-    len: usize,
-    i: usize,
-    note: u32,
-    qx: f64,
-    qy: f64,
-) -> usize
-    requires promised { Promised node_size len ids.now coords.now × Radius r × (len ≤ length near.old) × (i < len) × (len ≤ 1048576) }
-    requires t { T (finite qx) × T (finite qy) }
-    requires tells { Tells i note (near_of node_size len ids.now coords.now r qx qy) }
-    ensures { let around = near_of node_size len ids.now coords.now r in
-        Answered (around qx qy) near.new result × Same len near.old near.new }
-{
-    if note == 0 {
-        return search_near(ids, coords, near, node_size, r, len, qx, qy);
-    }
-    let own = i as u32;
-    if note == 1 {
-        near[0] = own;
-        return 1;
-    }
-    let other = (note - 2) / 2;
-    if note % 2 == 0 {
-        near[0] = own;
-        near[1] = other;
-        return 2;
-    }
-    near[0] = other;
-    near[1] = own;
-    2
+    leave_one(t, zoom, near, done, i)
 }
 
 // The entry i: passed by, or marked and visited.
 fn scan_one(
-    x: &mut [f64],
-    y: &mut [f64],
-    seen: &mut [u8],
-    id: &mut [u32],
-    parent: &mut [u32],
-    num: &mut [u32],
-    energy: &mut [u64],
-    ids: &[u32],
-    coords: &[f64],
+    t: &mut EntriesMut<'_>,
+    zoom: &Zoom<'_>,
     near: &mut [u32],
-    node_size: usize,
-    r: f64,
-    len: usize,
     done: usize,
     i: usize,
-    z: u8,
-    n: u32,
-    least: u32,
 ) -> usize
-    requires { let c = given_mut x y seen id parent num energy in
-        let t = take len (rows c) in
-        let g = given_index ids coords in
-        let around = near_of node_size len g.ids g.co r in
-        let ns = near.old in
-        Even c × Promised node_size len g.ids g.co × Radius r × (n + len ≤ length ns) × (i < len)
-        × All Placed t × Noted n len around ns t × (len + done + unseen_count z t ≤ length c.x)
-        × (len ≤ n) × (n ≤ 1048576) × (z ≤ 30) × (unseen_num z t < 2 ^ 32) × (unseen_of energy_of z t < 2 ^ 64) }
-    ensures { let c = lent_cols_mut x y seen id parent num energy in
-        let t = rows c.entry in
-        let around = near_of node_size len ids.now coords.now r in
-        Same len near.old near.new × Scanned len done (scan_one n least z around (scan_of len done t) i) t (rows c.exit) result }
+    requires { let c = held_mut t.old in
+        let len = zoom.now.len in
+        let z = zoom.now.z in
+        let r = take len (rows c) in
+        let n = zoom.now.count in
+        Even c × Searchable zoom.now × (n + len ≤ length near.old) × (i < len) × All Placed r × Noted n len (around zoom.now) near.old r
+        × (len + done + unseen_count z r ≤ length c.x) × (unseen_num z r < 2 ^ 32) × (unseen_of energy_of z r < 2 ^ 64) }
+    ensures same { Same zoom.now.len near.old near.new }
+    ensures rows { let r = rows (held_mut t.old) in
+        let len = zoom.now.len in
+        Scanned len done (scan_one zoom.now.count zoom.now.least zoom.now.z (around zoom.now) (scan_of len done r) i) r
+        (rows (held_mut t.new)) result }
+    ensures lent { SameColumns t.old t.new }
 {
-    let e = build_tables::entry_at(x, y, seen, id, parent, num, energy, i);
-    if e.seen <= z {
+    let e = t.at(i);
+    if e.seen <= zoom.z {
         return done;
     }
-    seen[i] = z;
-    let note = near[wide(n) + i];
-    let found = neighbours(ids, coords, near, node_size, r, len, i, note, e.x, e.y);
-    visit_one(
-        x,
-        y,
-        seen,
-        id,
-        parent,
-        num,
-        energy,
-        &near[..found],
-        len,
-        done,
-        i,
-        z,
-        n,
-        least,
-    )
+    t.seen[i] = zoom.z;
+    let note = near[zoom.count as usize + i];
+    let found = zoom.neighbours(near, i, note, e.x, e.y);
+    visit_one(t, zoom, &near[..found], done, i)
 }
 
-// Zoom z of the table of `len` entries, whose index stands in ids and coords: how many entries the next table has.
-pub fn cluster(
-    x: &mut [f64],
-    y: &mut [f64],
-    seen: &mut [u8],
-    id: &mut [u32],
-    parent: &mut [u32],
-    num: &mut [u32],
-    energy: &mut [u64],
-    ids: &[u32],
-    coords: &[f64],
-    near: &mut [u32],
-    node_size: usize,
-    r: f64,
-    len: usize,
-    z: u8,
-    n: u32,
-    least: u32,
-) -> usize
-    requires { let c = given_mut x y seen id parent num energy in
-        let t = take len (rows c) in
-        let i = given_index ids coords in
-        let around = near_of node_size len i.ids i.co r in
-        Even c × Promised node_size len i.ids i.co × Radius r × (n + len ≤ length near.old) × (len + len ≤ length c.x)
-        × All Placed t × Slotted len i.ids i.co t × OwnNote len around i.ids i.co
-        × (len ≤ n) × (n ≤ 1048576) × (z ≤ 30) × (unseen_num z t < 2 ^ 32) × (unseen_of energy_of z t < 2 ^ 64) }
-    ensures { let c = lent_cols_mut x y seen id parent num energy in
-        let t = rows c.entry in
-        let around = near_of node_size len ids.now coords.now r in
-        Scanned len 0 (cluster n least z around (take len t)) t (rows c.exit) result }
+// The zoom of its table: how many entries the next table has.
+pub fn cluster(t: &mut EntriesMut<'_>, zoom: &Zoom<'_>, near: &mut [u32]) -> usize
+    requires { let c = held_mut t.old in
+        let len = zoom.now.len in
+        Even c × Zoomable zoom.now (take len (rows c)) near.old × (len + len ≤ length c.x) }
+    ensures rows { let r = rows (held_mut t.old) in
+        let len = zoom.now.len in
+        Scanned len 0 (cluster zoom.now.count zoom.now.least zoom.now.z (around zoom.now) (take len r)) r (rows (held_mut t.new)) result }
+    ensures lent { SameColumns t.old t.new }
 {
-    note_all(ids, coords, near, node_size, r, len, wide(n));
-    let mut d = 0;
-    let mut i = 0;
-    while i < len {
-        d = scan_one(
-            x, y, seen, id, parent, num, energy, ids, coords, near, node_size, r, len, d, i, z, n,
-            least,
-        );
-        i += 1;
+    zoom.note_all(near);
+    let mut done = 0;
+    for i in 0..zoom.len {
+        done = scan_one(t, zoom, near, done, i);
     }
-    d
+    done
 }

@@ -4,85 +4,25 @@
 #![tactic(auto)]
 
 ghost use Rattle.std.specs.Prelude.{◌≡◌, ◌⊎◌, ℕ, suc, ◌+◌, ◌-◌, ◌*◌, ◌<◌, ◌≤◌, length, get_or, replicate};
-ghost use Rattle.build_tables.specs.Entries.{entry, unset};
+ghost use Rattle.build_tables.specs.Entries.{unset};
 ghost use Rattle.build_tables.specs.Rows.{rows};
-ghost use Rattle.build_tables.specs.laws.Rows.{Even};
 ghost use Rattle.build_tables.specs.laws.Roomy.{Roomy, front_cols};
-ghost use Rattle.build_tables.specs.Lent.{given, lent_cols};
+ghost use Rattle.build_tables.specs.Lent.{held_mut};
 ghost use Rattle.build_tables.specs.Options.{table_count};
+ghost use Rattle.build_tables.specs.State.{start_of, len_of};
 ghost use Rattle.build_all_zooms.specs.Zooms.{laid_over};
 ghost use Rattle.supercluster.specs.laws.Held.{held_by};
 ghost use Rattle.build_owners.specs.OwnerColumn.{owner_column};
-ghost use Rattle.build_owners.specs.laws.Climbs.{lead_of, Chain, seat_of, owner_on, finer, Climbable};
+ghost use Rattle.build_owners.specs.laws.Climbs.{rows_of, lead_of, Chain, seat_of, owner_on, finer, Climbable};
 ghost use Rattle.build_owners.specs.laws.Fills.{Wrote, lead_from, Sends, Sent, next_owner, Sits};
 
-use build_tables::{Entry, State};
+use build_tables::{Entries, EntriesMut, Entry, State};
 
-fn wide(x: u32) -> usize
-    ensures { result ≡ x }
-{
-    x as usize
-}
-
-// The lamp that the entry with the id `from` began with: the lamp itself, or that of the origin of its cluster.
-fn lead(
-    x: &[f64],
-    y: &[f64],
-    seen: &[u8],
-    id: &[u32],
-    parent: &[u32],
-    num: &[u32],
-    energy: &[u64],
-    starts: &[u32; 32],
-    n: u32,
-    from: u32,
-) -> u32
-    requires { let c = given x y seen id parent num energy in Even c × Chain n starts.now (rows c) 32 from }
-    ensures { let c = lent_cols x y seen id parent num energy in
-        result ≡ lead_of n starts.now (rows c.entry) 32 from }
-{
-    let mut c = from;
-    let mut left = build_tables::ZOOMS;
-    while n <= c {
-        let t = build_tables::table_of(c, n);
-        let at = wide(starts[t]) + build_tables::origin_of(c, n);
-        let e = build_tables::entry_at(x, y, seen, id, parent, num, energy, at);
-        c = e.id;
-        left -= 1;
-    }
-    c
-}
-
-// The place that owns the lamp which each entry began with goes to this entry, in the table at `start`, of `len` entries.
-fn send(
-    x: &[f64],
-    y: &[f64],
-    seen: &[u8],
-    id: &[u32],
-    parent: &[u32],
-    num: &[u32],
-    energy: &[u64],
-    starts: &[u32; 32],
-    n: u32,
-    start: usize,
-    len: usize,
-    own: &[u32],
-    to: &mut [u32],
-)
-    requires { let c = given x y seen id parent num energy in
-        Even c × Sends n starts.now (rows c) start len own.now (length to.old) }
-    ensures { let c = lent_cols x y seen id parent num energy in
-        let at = lead_from n starts.now (rows c.entry) start in
-        Sent (λ d. get_or own.now (at d) 0) len to.new }
-{
-    let mut d = 0;
-    while d < len {
-        let e = build_tables::entry_at(x, y, seen, id, parent, num, energy, start + d);
-        let l = wide(lead(x, y, seen, id, parent, num, energy, starts, n, e.id));
-        let k = wide(own[l]);
-        to[k] = d as u32;
-        d += 1;
-    }
+// A build: the entries of its tables, and the state that says which they are.
+#[derive(Clone, Copy)]
+struct Build<'a, 's> {
+    entries: Entries<'a>,
+    state: &'s State,
 }
 
 // With which place of its table the place k goes: the origin of the cluster that absorbed it, or itself.
@@ -96,176 +36,126 @@ fn seat(e: Entry, n: u32, k: usize) -> usize
     build_tables::origin_of(e.parent, n)
 }
 
-// Each lamp's owner in the next table, behind those in the table at `start`, which stand at `at`.
-fn climb(
-    x: &[f64],
-    y: &[f64],
-    seen: &[u8],
-    id: &[u32],
-    parent: &[u32],
-    num: &[u32],
-    energy: &[u64],
-    n: u32,
-    start: usize,
-    to: &[u32],
-    owners: &mut [u32],
-    at: usize,
-)
-    requires { let c = given x y seen id parent num energy in
-        Even c × Sits n (rows c) start (length to.now) owners.old at }
-    ensures { let c = lent_cols x y seen id parent num energy in
-        Wrote (at + n) n (next_owner n (rows c.entry) start to.now owners.old at) owners.old owners.new }
-{
-    let count = wide(n);
-    let next = at + count;
-    let mut l = 0;
-    while l < count {
-        let k = wide(owners[at + l]);
-        let e = build_tables::entry_at(x, y, seen, id, parent, num, energy, start + k);
-        let s = seat(e, n, k);
-        owners[next + l] = to[s];
-        l += 1;
-    }
-}
-
-// In the finest table a lamp owns itself.
+// In the finest table a lamp owns itself. The loop goes by places: of what `iter_mut` and `enumerate` leave nothing is known afterwards.
 fn own_themselves(owners: &mut [u32], n: usize)
     requires { (n ≤ length owners.old) × (n ≤ 1048576) }
     ensures { Wrote 0 n (λ (l : ℕ). l) owners.old owners.new }
 {
-    let mut l = 0;
-    while l < n {
+    for l in 0..n {
         owners[l] = l as u32;
-        l += 1;
     }
 }
 
-// Zeros.
-fn clear(to: &mut [u32])
-    ensures { to.new ≡ replicate (length to.old) 0 }
-{
-    let mut i = 0;
-    while i < to.len() {
-        to[i] = 0;
-        i += 1;
+impl Build<'_, '_> {
+    // The lamp that the entry with the id `from` began with: the lamp itself, or that of the origin of its cluster.
+    fn lead(&self, from: u32) -> u32
+        requires { let s = self.now.state.now in Chain s.count s.starts (rows_of self.now) 32 from }
+        ensures { let s = self.now.state.now in result ≡ lead_of s.count s.starts (rows_of self.now) 32 from }
+    {
+        let n = self.state.count;
+        let mut c = from;
+        for _ in 0..build_tables::ZOOMS {
+            if c < n {
+                return c;
+            }
+            let t = build_tables::table_of(c, n);
+            let at = self.state.starts[t] as usize + build_tables::origin_of(c, n);
+            let e = self.entries.at(at);
+            c = e.id;
+        }
+        c
     }
-}
 
-// The owners in the table of zoom z, behind those in table z + 1, which stand at `at`.
-fn one_table(
-    x: &[f64],
-    y: &[f64],
-    seen: &[u8],
-    id: &[u32],
-    parent: &[u32],
-    num: &[u32],
-    energy: &[u64],
-    s: State,
-    z: usize,
-    to: &mut [u32],
-    owners: &mut [u32],
-    at: usize,
-)
-    requires { let c = given x y seen id parent num energy in
-        Even c × Climbable s (rows c) × (s.options.min_zoom ≤ z) × (z ≤ s.options.max_zoom)
-        × (length to.old ≡ s.count) × (at + s.count + s.count ≤ length owners.old)
-        × ((l : ℕ) → l < s.count → get_or owners.old (at + l) 0 ≡ finer s (rows c) z l) }
-    ensures { let c = lent_cols x y seen id parent num energy in
-        Wrote (at + s.count) s.count (owner_on s (rows c.entry) z) owners.old owners.new }
-{
-    let n = s.count;
-    let starts = s.starts;
-    let start = build_tables::start_of(s, z);
-    let len = build_tables::len_of(s, z);
-    let end = at + wide(n);
-    send(
-        x,
-        y,
-        seen,
-        id,
-        parent,
-        num,
-        energy,
-        &starts,
-        n,
-        start,
-        len,
-        &owners[at..end],
-        to,
-    );
-    let finer = build_tables::start_of(s, z + 1);
-    climb(
-        x, y, seen, id, parent, num, energy, n, finer, to, owners, at,
-    );
-}
-
-// The owners in every table, of columns that just hold the tables; `to` is room to work.
-fn fill_in(
-    x: &[f64],
-    y: &[f64],
-    seen: &[u8],
-    id: &[u32],
-    parent: &[u32],
-    num: &[u32],
-    energy: &[u64],
-    s: State,
-    to: &mut [u32],
-    owners: &mut [u32],
-)
-    requires { let c = given x y seen id parent num energy in
-        Even c × Climbable s (rows c) × (length to.old ≡ s.count)
-        × (table_count s.options * s.count ≤ length owners.old) }
-    ensures { let c = lent_cols x y seen id parent num energy in
-        (to.new ≡ replicate (length to.old) 0)
-        × (owners.new ≡ laid_over (owner_column s.count (held_by s (rows c.entry))) owners.old) }
-{
-    let n = wide(s.count);
-    own_themselves(owners, n);
-    let o = s.options;
-    let low = o.min_zoom as usize;
-    let mut z = o.max_zoom as usize + 1;
-    let mut at = 0;
-    while low < z {
-        z = z - 1;
-        one_table(x, y, seen, id, parent, num, energy, s, z, to, owners, at);
-        at += n;
+    // The place that owns the lamp which each entry of table z began with goes to this entry; `own` has the owners in table z + 1.
+    fn send(&self, z: usize, own: &[u32], to: &mut [u32])
+        requires { let s = self.now.state.now in
+            (z < 32) × Sends s.count s.starts (rows_of self.now) (start_of s z) (len_of s z) own.now (length to.old) }
+        ensures { let s = self.now.state.now in
+            let at = lead_from s.count s.starts (rows_of self.now) (start_of s z) in
+            Sent (λ d. get_or own.now (at d) 0) (len_of s z) to.new }
+    {
+        let start = build_tables::start_of(*self.state, z);
+        for d in 0..build_tables::len_of(*self.state, z) {
+            let e = self.entries.at(start + d);
+            let l = self.lead(e.id) as usize;
+            let k = own[l] as usize;
+            to[k] = d as u32;
+        }
     }
-    clear(to);
+
+    // Each lamp's owner in the next table, behind those in table z, which stand at `at`.
+    fn climb(&self, z: usize, to: &[u32], owners: &mut [u32], at: usize)
+        requires { let s = self.now.state.now in
+            (z < 32) × Sits s.count (rows_of self.now) (start_of s z) (length to.now) owners.old at }
+        ensures { let s = self.now.state.now in
+            Wrote (at + s.count) s.count (next_owner s.count (rows_of self.now) (start_of s z) to.now owners.old at)
+            owners.old owners.new }
+    {
+        let n = self.state.count;
+        let start = build_tables::start_of(*self.state, z);
+        let next = at + n as usize;
+        for l in 0..n as usize {
+            let k = owners[at + l] as usize;
+            let e = self.entries.at(start + k);
+            let s = seat(e, n, k);
+            owners[next + l] = to[s];
+        }
+    }
+
+    // The owners in the table of zoom z, behind those in table z + 1, which stand at `at`.
+    fn one_table(&self, z: usize, to: &mut [u32], owners: &mut [u32], at: usize)
+        requires { let s = self.now.state.now in
+            Climbable s (rows_of self.now) × (s.options.min_zoom ≤ z) × (z ≤ s.options.max_zoom)
+            × (length to.old ≡ s.count) × (at + s.count + s.count ≤ length owners.old)
+            × ((l : ℕ) → l < s.count → get_or owners.old (at + l) 0 ≡ finer s (rows_of self.now) z l) }
+        ensures { let s = self.now.state.now in
+            Wrote (at + s.count) s.count (owner_on s (rows_of self.now) z) owners.old owners.new }
+    {
+        let end = at + self.state.count as usize;
+        self.send(z, &owners[at..end], to);
+        self.climb(z + 1, to, owners, at);
+    }
+
+    // The owners in every table; `to` is room to work, and is left as zeros.
+    fn fill(&self, to: &mut [u32], owners: &mut [u32])
+        requires { let s = self.now.state.now in
+            Climbable s (rows_of self.now) × (length to.old ≡ s.count) × (table_count s.options * s.count ≤ length owners.old) }
+        ensures { let s = self.now.state.now in
+            (to.new ≡ replicate (length to.old) 0)
+            × (owners.new ≡ laid_over (owner_column s.count (held_by s (rows_of self.now))) owners.old) }
+    {
+        let n = self.state.count as usize;
+        let o = self.state.options;
+        own_themselves(owners, n);
+        let mut at = 0;
+        for z in (o.min_zoom as usize..o.max_zoom as usize + 1).rev() {
+            self.one_table(z, to, owners, at);
+            at += n;
+        }
+        to.fill(0);
+    }
 }
 
 // The owners in every table of a build, in the fronts of the columns. The front of `near` is room to work, and is left as zeros.
-pub fn fill(
-    x: &[f64],
-    y: &[f64],
-    seen: &[u8],
-    id: &[u32],
-    parent: &[u32],
-    num: &[u32],
-    energy: &[u64],
-    s: State,
-    near: &mut [u32],
-    owners: &mut [u32],
-)
-    requires { let c = given x y seen id parent num energy in
+pub fn fill(t: &EntriesMut<'_>, s: State, near: &mut [u32], owners: &mut [u32])
+    requires { let c = held_mut t.now in
         let m = table_count s.options * s.count in
         Roomy m c × Climbable s (rows (front_cols m c)) × (s.count ≤ length near.old) × (m ≤ length owners.old) }
-    ensures { let c = lent_cols x y seen id parent num energy in
-        let R = rows (front_cols (table_count s.options * s.count) c.entry) in
+    ensures { let R = rows (front_cols (table_count s.options * s.count) (held_mut t.now)) in
         (near.new ≡ laid_over (replicate s.count 0) near.old)
         × (owners.new ≡ laid_over (owner_column s.count (held_by s R)) owners.old) }
 {
-    let n = wide(s.count);
+    let n = s.count as usize;
     let m = build_tables::table_count(s.options) * n;
-    fill_in(
-        &x[..m],
-        &y[..m],
-        &seen[..m],
-        &id[..m],
-        &parent[..m],
-        &num[..m],
-        &energy[..m],
-        s,
-        &mut near[..n],
-        owners,
-    );
+    let entries = Entries {
+        x: &t.x[..m],
+        y: &t.y[..m],
+        seen: &t.seen[..m],
+        id: &t.id[..m],
+        parent: &t.parent[..m],
+        num: &t.num[..m],
+        energy: &t.energy[..m],
+    };
+    let build = Build { entries, state: &s };
+    build.fill(&mut near[..n], owners);
 }

@@ -1,92 +1,38 @@
 // How many entries lent columns hold: those of a table, of an index, of a build. Every question and the build look at it first.
 #![tactic(auto)]
 
-ghost use Rattle.std.specs.Prelude.{◌≡◌, ◌/◌, min};
-ghost use Rattle.build_tables.specs.Room.{index_room, room_by, room_of};
-ghost use Rattle.build_tables.specs.Lent.{lent_columns};
+ghost use Rattle.std.specs.Prelude.{◌≡◌, min, length};
+ghost use Rattle.build_tables.specs.Room.{index_room, room_of};
+ghost use Rattle.build_tables.specs.Lent.{tables_held, tables_held_mut};
 
-// The smaller of two numbers.
-pub fn less(a: usize, b: usize) -> usize
-    ensures { result ≡ min a b }
-{
-    if a <= b {
-        return a;
-    }
-    b
-}
+use build_tables::{Tables, TablesMut};
+use kdsort::Index;
 
 // How many entries the columns of the index hold.
-pub fn index_room(ids: &[u32], coords: &[f64]) -> usize
-    ensures { result ≡ index_room ids.now coords.now }
+pub fn index_room(index: &Index<'_>) -> usize
+    ensures { result ≡ index_room index.now.ids.now index.now.coords.now }
 {
-    less(ids.len(), coords.len() / 2)
-}
-
-// How many entries columns of these lengths hold, and an index with room for so many.
-pub fn room_by(
-    x: usize,
-    y: usize,
-    seen: usize,
-    id: usize,
-    parent: usize,
-    num: usize,
-    energy: usize,
-    index: usize,
-) -> usize
-    ensures { result ≡ room_by x y seen id parent num energy index }
-{
-    let a = less(x, y);
-    let b = less(seen, id);
-    let c = less(parent, num);
-    let d = less(a, b);
-    let e = less(energy, index);
-    let f = less(c, e);
-    less(d, f)
+    index.ids.len().min(index.coords.len() / 2)
 }
 
 // How many entries the nine lent columns hold.
-pub fn room(
-    x: &[f64],
-    y: &[f64],
-    seen: &[u8],
-    id: &[u32],
-    parent: &[u32],
-    num: &[u32],
-    energy: &[u64],
-    ids: &[u32],
-    coords: &[f64],
-) -> usize
-    ensures { result ≡ room_of (lent_columns x y seen id parent num energy ids coords) }
+pub fn room(t: &Tables<'_>) -> usize
+    ensures { result ≡ room_of (tables_held t.now) }
 {
-    let index = index_room(ids, coords);
-    room_by(
-        x.len(),
-        y.len(),
-        seen.len(),
-        id.len(),
-        parent.len(),
-        num.len(),
-        energy.len(),
-        index,
-    )
+    let index = index_room(&Index {
+        ids: t.ids,
+        coords: t.coords,
+    });
+    let a = t.x.len().min(t.y.len());
+    let b = t.seen.len().min(t.id.len());
+    let c = t.parent.len().min(t.num.len());
+    let d = t.energy.len().min(index);
+    a.min(b).min(c.min(d))
 }
 
-// How many entries columns of these lengths hold for a build: those of the tables, those of the index, and the room to work.
-pub fn room_all(
-    x: usize,
-    y: usize,
-    seen: usize,
-    id: usize,
-    parent: usize,
-    num: usize,
-    energy: usize,
-    ids: usize,
-    coords: usize,
-    near: usize,
-) -> usize
-    ensures { result ≡ min (room_by x y seen id parent num energy (min ids (coords / 2))) near }
+// How many entries the ten columns hold for a build: those of the tables and of the index, and the room to work.
+pub fn room_all(t: &TablesMut<'_>) -> usize
+    ensures { result ≡ min (room_of (tables_held_mut t.now)) (length t.now.near.now) }
 {
-    let index = less(ids, coords / 2);
-    let held = room_by(x, y, seen, id, parent, num, energy, index);
-    less(held, near)
+    room(&t.lent()).min(t.near.len())
 }

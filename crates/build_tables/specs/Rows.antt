@@ -30,6 +30,19 @@ row c i =
       energy = get_or c.energy i 0;
     }
 
+-- the same done to each column
+abbrev pub each : ((A : Type 0) → List A → List A) → Cols → Cols
+each f c =
+    record {
+      x = f Float c.x;
+      y = f Float c.y;
+      seen = f ℕ c.seen;
+      id = f ℕ c.id;
+      parent = f ℕ c.parent;
+      num = f ℕ c.num;
+      energy = f ℕ c.energy;
+    }
+
 -- and with each column of others
 abbrev pub each2 : ((A : Type 0) → List A → List A → List A) → Cols → Cols → Cols
 each2 f c d =

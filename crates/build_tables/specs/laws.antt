@@ -11,6 +11,9 @@ pub mod Roomy
 -- Columns: the columns of a table's rows are the columns; rows of parts are parts of the rows; and what becomes of a column whose part is
 -- lent and comes back.
 pub mod Columns
+-- Lent: columns lent to be written, after a step and after two: the same loans, each as long as it was, so that columns as long as each
+-- other stay so.
+pub mod Lent
 -- Ids: an id of a build is at least N, is not the unset parent, and gives its origin and its table back.
 pub mod Ids
 -- Radius: for the radius and the extent that a build takes the radius of a zoom is finite and not below 0.

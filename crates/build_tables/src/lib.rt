@@ -2,19 +2,18 @@
 // The tables stand in seven lent columns; an entry is read and written as one record of these seven.
 #![tactic(auto)]
 
-ghost use Rattle.std.specs.Prelude.{◌≡◌, ◌&&◌, ◌+◌, ◌<◌, ◌≤◌, min, eqb, length, set};
+ghost use Rattle.std.specs.Prelude.{◌≡◌, ◌&&◌, ◌+◌, ◌<◌, ◌≤◌, eqb};
 ghost use Rattle.build_tables.specs.Given.{setting_of, system_of};
 ghost use Rattle.build_tables.specs.Options.{options_ok, zooms_ok, radius_ok, extent_ok, table_count, raised, zoom_used};
 ghost use Rattle.build_tables.specs.State.{new_state, with_table, start_of, len_of};
 ghost use Rattle.build_tables.specs.Sound.{is_table, packed, state_ok};
-ghost use Rattle.build_tables.specs.Entries.{entry};
-ghost use Rattle.build_tables.specs.Rows.{rows};
-ghost use Rattle.build_tables.specs.laws.Rows.{Even};
-ghost use Rattle.build_tables.specs.Lent.{given, given_mut, lent_cols, lent_cols_mut};
 ghost use Rattle.build_tables.specs.Ids.{cluster_id, origin_of, table_of};
 ghost use Rattle.build_tables.specs.Radius.{radius_at};
 
-use range::{CoordinateSystem, DataRange, Setting};
+mod columns;
+
+pub use columns::{Entries, EntriesMut, Table, Tables, TablesMut};
+use range::{CoordinateSystem, DataRange};
 
 // What a build goes by.
 #[derive(Clone, Copy)]
@@ -64,13 +63,10 @@ pub struct Entry {
 }
 
 // An offset or a scale: this number, where one is given.
-pub fn setting(given: bool, v: f64) -> Setting
+pub fn setting(given: bool, v: f64) -> Option<f64>
     ensures { result ≡ setting_of given v }
 {
-    if given {
-        return Setting::Given(v);
-    }
-    Setting::Derived
+    if given { Some(v) } else { None }
 }
 
 // A coordinate system: Cartesian with this range, or longitude; then the range is not looked at.
@@ -78,42 +74,29 @@ pub fn system(cartesian: bool, range: DataRange) -> CoordinateSystem
     ensures { result ≡ system_of cartesian range }
 {
     if cartesian {
-        return CoordinateSystem::Cartesian { range };
+        CoordinateSystem::Cartesian { range }
+    } else {
+        CoordinateSystem::LatLng
     }
-    CoordinateSystem::LatLng
 }
 
 impl Options {
     // Whether each option is within SCOPE's bounds.
+    #[tactic(auto, unfolding(crate::specs::Options::options_ok))]
     pub fn is_in_bounds(self) -> bool
         ensures { result ≡ options_ok self }
     {
-        if !self.zooms_ok() {
-            return false;
-        }
-        if !self.radius_ok() {
-            return false;
-        }
-        if !self.extent_ok() {
-            return false;
-        }
-        if self.node_size < 1 {
-            return false;
-        }
-        if kdslots::MOST_NODE_SIZE < self.node_size {
-            return false;
-        }
-        let system = self.coordinate_system;
-        system.is_in_bounds()
+        self.zooms_ok()
+            && self.radius_ok()
+            && self.extent_ok()
+            && kdslots::node_size_ok(self.node_size)
+            && self.coordinate_system.is_in_bounds()
     }
 
     fn zooms_ok(self) -> bool
         ensures { result ≡ zooms_ok self }
     {
-        if self.min_zoom <= self.max_zoom {
-            return self.max_zoom <= 30;
-        }
-        false
+        self.min_zoom <= self.max_zoom && self.max_zoom <= 30
     }
 
     fn radius_ok(self) -> bool
@@ -134,9 +117,10 @@ impl Options {
     {
         let z = self.raise(zoom);
         if z <= self.max_zoom {
-            return z;
+            z
+        } else {
+            self.max_zoom + 1
         }
-        self.max_zoom + 1
     }
 
     // The zoom raised to min_zoom.
@@ -144,9 +128,10 @@ impl Options {
         ensures { result ≡ raised self zoom }
     {
         if zoom < self.min_zoom {
-            return self.min_zoom;
+            self.min_zoom
+        } else {
+            zoom
         }
-        zoom
     }
 }
 
@@ -154,13 +139,7 @@ impl Options {
 fn is_table(start: u32, len: u32, n: u32, at: usize) -> bool
     ensures { result ≡ is_table start len n at }
 {
-    if start as usize != at {
-        return false;
-    }
-    if len < 1 {
-        return false;
-    }
-    len <= n
+    start as usize == at && 1 <= len && len <= n
 }
 
 // How many tables a build has.
@@ -173,25 +152,20 @@ pub fn table_count(o: Options) -> usize
 
 impl State {
     // Whether the finest table has N entries, and the tables are packed from 0 on, the largest zoom first, within columns of cap entries.
-    // The state's arrays are lent beside it, so that they are read in place.
-    fn is_filled(self, starts: &[u32; 32], lens: &[u32; 32], cap: usize) -> bool
-        requires min_zoom_bound { (self.options.min_zoom ≤ self.options.max_zoom) × (self.options.max_zoom ≤ 30)
-            × (self.count ≤ 1048576) }
-        requires starts_value { (starts.now ≡ self.starts) × (lens.now ≡ self.lens) }
-        ensures { let o = self.options in
-            result ≡ (eqb (len_of self (o.max_zoom + 1)) self.count && packed self cap (table_count o) 0) }
+    fn is_filled(&self, cap: usize) -> bool
+        requires { let o = self.now.options in (o.min_zoom ≤ o.max_zoom) × (o.max_zoom ≤ 30) × (self.now.count ≤ 1048576) }
+        ensures { let o = self.now.options in
+            result ≡ (eqb (len_of self.now (o.max_zoom + 1)) self.now.count && packed self.now cap (table_count o) 0) }
     {
         let o = self.options;
-        if lens[o.max_zoom as usize + 1] != self.count {
+        if self.lens[o.max_zoom as usize + 1] != self.count {
             return false;
         }
         let low = o.min_zoom as usize;
-        let mut left = table_count(o);
         let mut at = 0;
-        while 0 < left {
-            left -= 1;
-            let len = lens[low + left];
-            if !is_table(starts[low + left], len, self.count, at) {
+        for left in (0..table_count(o)).rev() {
+            let len = self.lens[low + left];
+            if !is_table(self.starts[low + left], len, self.count, at) {
                 return false;
             }
             at += len as usize;
@@ -199,13 +173,15 @@ impl State {
         at <= cap
     }
 
+    #[tactic(auto, unfolding(crate::specs::Sound::state_ok))]
     // Whether a question may go by this state over columns of cap entries: refusal 11 is for any other.
-    pub fn is_sound(self, cap: usize) -> bool
-        ensures { result ≡ state_ok self cap }
+    pub fn is_sound(&self, cap: usize) -> bool
+        ensures { result ≡ state_ok self.now cap }
     {
-        let starts = self.starts;
-        let lens = self.lens;
-        is_sound_by(self, &starts, &lens, cap)
+        if !self.options.is_in_bounds() {
+            return false;
+        }
+        kdslots::count_ok(self.count as usize) && self.is_filled(cap)
     }
 }
 
@@ -224,24 +200,6 @@ pub fn len_of(s: State, zoom: usize) -> usize
 {
     let lens = s.lens;
     lens[zoom] as usize
-}
-
-// `State::is_sound`, with the state's arrays lent beside it, so that they are read in place.
-pub fn is_sound_by(s: State, starts: &[u32; 32], lens: &[u32; 32], cap: usize) -> bool
-    requires { (starts.now ≡ s.starts) × (lens.now ≡ s.lens) }
-    ensures { result ≡ state_ok s cap }
-{
-    let o = s.options;
-    if !o.is_in_bounds() {
-        return false;
-    }
-    if s.count < 1 {
-        return false;
-    }
-    if MOST_COUNT < s.count {
-        return false;
-    }
-    s.is_filled(starts, lens, cap)
 }
 
 // A build of no tables yet.
@@ -265,55 +223,6 @@ pub fn with_table(s: State, zoom: usize, start: u32, len: u32) -> State
     t.starts[zoom] = start;
     t.lens[zoom] = len;
     t
-}
-
-// The entry at i of the columns.
-pub fn entry_at(
-    x: &[f64],
-    y: &[f64],
-    seen: &[u8],
-    id: &[u32],
-    parent: &[u32],
-    num: &[u32],
-    energy: &[u64],
-    i: usize,
-) -> Entry
-    requires { let c = given x y seen id parent num energy in Even c × (i < length c.x) }
-    ensures { let c = lent_cols x y seen id parent num energy in result ≡ entry (rows c.entry) i }
-{
-    Entry {
-        x: x[i],
-        y: y[i],
-        seen: seen[i],
-        id: id[i],
-        parent: parent[i],
-        num: num[i],
-        energy: energy[i],
-    }
-}
-
-// Writes the entry e at i of the columns.
-pub fn put_entry(
-    x: &mut [f64],
-    y: &mut [f64],
-    seen: &mut [u8],
-    id: &mut [u32],
-    parent: &mut [u32],
-    num: &mut [u32],
-    energy: &mut [u64],
-    i: usize,
-    e: Entry,
-)
-    requires { let c = given_mut x y seen id parent num energy in Even c × (i < length c.x) }
-    ensures { let c = lent_cols_mut x y seen id parent num energy in rows c.exit ≡ set (rows c.entry) i e }
-{
-    x[i] = e.x;
-    y[i] = e.y;
-    seen[i] = e.seen;
-    id[i] = e.id;
-    parent[i] = e.parent;
-    num[i] = e.num;
-    energy[i] = e.energy;
 }
 
 // The id of the cluster made at the place `origin` of the table zoom + 1, in a build of n points.

@@ -2,24 +2,28 @@
 -- table stands in the columns. Assumes nothing.
 use mathlib.Core.Path.{◌≡◌, ap, sym, ◌∙◌}
 use mathlib.Core.Bool.{true, false}
+use mathlib.Core.List.{List}
+use lib.ListN.{length}
+use Rattle.std.specs.Prelude.{Ok, Err}
 use Prim.Native.Nat.{ℕ, ◌+◌, ◌<◌, ◌≤◌}
 use native.Mathlib.Omega.{arith}
 use borrow.Author.Tests.{le-leb, lt-leb}
 use Rattle.build_tables.specs.declared.State.{State}
 use Rattle.build_tables.specs.declared.Entry.{Entry}
 use Rattle.build_tables.specs.Entries.{entry}
-use Rattle.build_tables.specs.Rows.{rows}
+use Rattle.build_tables.specs.Rows.{Cols, rows, each}
 use Rattle.build_tables.specs.Columns.{part}
 use Rattle.build_tables.specs.State.{start_of, len_of}
 use Rattle.build_tables.specs.Sound.{state_ok}
 use Rattle.build_tables.specs.laws.Sound.{given, stands}
 use Rattle.build_tables.specs.Room.{Columns, room_of}
-use Rattle.build_tables.specs.laws.Roomy.{Roomy}
+use Rattle.build_tables.specs.declared.columns.Table.{Table}
+use Rattle.build_tables.specs.Lent.{held}
+use Rattle.build_tables.specs.laws.Roomy.{each-roomy}
+use Rattle.build_tables.specs.laws.Columns.{part-long, rows-part}
 use Rattle.ask_base.specs.Columns.{table_at}
-use Rattle.ask_base.specs.laws.Columns.{table-roomy}
-use Rattle.exports.specs.declared.Read.{Read}
-use Rattle.exports.specs.declared.Read.TheVariants.{At, NoTree, NoEntry, Spoiled}
-use Rattle.exports.specs.Read.{entry_asked, read_as, read_of}
+use Rattle.refusals.specs.declared.Refusal.TheVariants.{NoTree, NoCluster, Spoiled}
+use Rattle.exports.specs.Read.{entry_asked}
 
 -- past the tests of the state and the zoom
 pub record Built (s : State) (c : Columns) (z : ℕ) : Type 0 where
@@ -28,23 +32,23 @@ pub record Built (s : State) (c : Columns) (z : ℕ) : Type 0 where
   pub high : z ≤ s.options.max_zoom + 1
 
 module _ (s : State) (c : Columns) (z p : ℕ) where
-  pub read-spoiled : state_ok s (room_of c) ≡ false → Spoiled ≡ entry_asked s c z p
+  pub read-spoiled : state_ok s (room_of c) ≡ false → Err Spoiled ≡ entry_asked s c z p
   unfolding entry_asked
   read-spoiled e = simp e
 
-  pub read_low : state_ok s (room_of c) ≡ true → z < s.options.min_zoom → NoTree ≡ entry_asked s c z p
+  pub read_low : state_ok s (room_of c) ≡ true → z < s.options.min_zoom → Err NoTree ≡ entry_asked s c z p
   unfolding entry_asked
   read_low e h = simp (e, lt-leb _ _ h)
 
-  pub read-high : state_ok s (room_of c) ≡ true → s.options.min_zoom ≤ z → s.options.max_zoom + 1 < z → NoTree ≡ entry_asked s c z p
+  pub read-high : state_ok s (room_of c) ≡ true → s.options.min_zoom ≤ z → s.options.max_zoom + 1 < z → Err NoTree ≡ entry_asked s c z p
   unfolding entry_asked
   read-high e l h = simp (e, le-leb _ _ l, lt-leb _ _ h)
 
-  pub read_past : {n : ℕ} → Built s c z → n ≡ len_of s z → n ≤ p → NoEntry ≡ entry_asked s c z p
+  pub read_past : {n : ℕ} → Built s c z → n ≡ len_of s z → n ≤ p → Err NoCluster ≡ entry_asked s c z p
   unfolding entry_asked
   read_past b q h = simp (b.good, le-leb _ _ b.low, le-leb _ _ b.high, sym q, le-leb _ _ h)
 
-  pub read_at : {n : ℕ} (e : Entry) → Built s c z → n ≡ len_of s z → p < n → e ≡ entry (table_at s c z) p → At e ≡ entry_asked s c z p
+  pub read_at : {n : ℕ} (e : Entry) → Built s c z → n ≡ len_of s z → p < n → e ≡ entry (table_at s c z) p → Ok e ≡ entry_asked s c z p
   unfolding entry_asked
   read_at e b q h k = simp (b.good, le-leb _ _ b.low, le-leb _ _ b.high, sym q, lt-leb _ _ h, k)
 
@@ -53,19 +57,14 @@ pub small : (s : State) (c : Columns) (z : ℕ) → Built s c z → z < 32
 small s c z b = let g = given s (room_of c) b.good in omega (arith, g.zoom-to, b.high)
 
 -- the columns reach over the table
-pub reach : (s : State) (c : Columns) (z : ℕ) {a n : ℕ} → Built s c z → a ≡ start_of s z → n ≡ len_of s z → Roomy (a + n) c.table
-reach s c z b f q = rw (f, q) (table-roomy s c z (stands s (room_of c) b.good z b.low b.high))
+module _ (s : State) (c : Columns) (z : ℕ) (b : Built s c z) {a n : ℕ} (f : a ≡ start_of s z) (q : n ≡ len_of s z) where
+  pub reach : a + n ≤ room_of c
+  reach = let w = stands s (room_of c) b.good z b.low b.high in omega (arith, w.ends, f, q)
 
--- the entry that is read is that of the table
-pub entry-is : (s : State) (c : Columns) (z p : ℕ) {a n : ℕ} {e : Entry} → a ≡ start_of s z → n ≡ len_of s z
-    → e ≡ entry (part a n (rows c.table)) p → e ≡ entry (table_at s c z) p
-entry-is s c z p {a} {n} f q k =
-    k ∙ ap (λ (i : ℕ). entry (part i n (rows c.table)) p) f ∙ ap (λ (i : ℕ). entry (part (start_of s z) i (rows c.table)) p) q
+  -- what is cut out of them is the table of the zoom
+  module _ (t : Table) (cut : held t.entries ≡ each (λ A l. part a n l) c.table) where
+    pub long : length t.entries.x.now ≡ n
+    long = ap (λ (k : Cols). length k.x) cut ∙ part-long a n c.table.x (each-roomy c (a + n) reach).hx
 
--- what a C caller is left with: a refusal leaves the fields
-pub read-refused : {r q : Read} {n : ℕ} (t : Read) (b : Entry) → r ≡ t → r ≡ q → read_as n b ≡ read_of t b → read_as n b ≡ read_of q b
-read-refused t b e f g = g ∙ ap (λ (u : Read). read_of u b) (sym e ∙ f)
-
--- the entry is written into them
-pub read-written : {r q : Read} {e : Entry} (l b : Entry) → r ≡ At e → r ≡ q → l ≡ e → read_as 0 l ≡ read_of q b
-read-written l b e f g = ap (λ (u : Entry). read_as 0 u) g ∙ ap (λ (u : Read). read_of u b) (sym e ∙ f)
+    pub entry-is : (p : ℕ) {e : Entry} → e ≡ entry (rows (held t.entries)) p → e ≡ entry (table_at s c z) p
+    entry-is p k = k ∙ ap (λ (r : List Entry). entry r p) (ap rows cut ∙ rows-part a n c.table ∙ rw (f, q))

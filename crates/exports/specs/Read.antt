@@ -1,5 +1,5 @@
 -- An entry as a C caller reads it: what a zoom and a place lead to, and the number and the seven fields that are left. Definitions only.
-use Rattle.std.specs.Prelude.{cond, not, ℕ, leb, Float}
+use Rattle.std.specs.Prelude.{cond, not, ℕ, leb, Float, Result, Ok, Err}
 use Rattle.std.specs.Borrow.{MutBor}
 use denote.Triple.Both.{Both}
 use Rattle.build_tables.specs.declared.State.{State}
@@ -10,16 +10,17 @@ use Rattle.build_tables.specs.Sound.{state_ok}
 use Rattle.build_tables.specs.Room.{Columns, room_of}
 use Rattle.ask_base.specs.Columns.{table_at}
 use Rattle.ask_base.specs.Ids.{is_built}
-use Rattle.exports.specs.declared.Read.{Read}
-use Rattle.exports.specs.declared.Read.TheVariants.{At, NoTree, NoEntry, Spoiled}
+use Rattle.refusals.specs.declared.Refusal.{Refusal}
+use Rattle.refusals.specs.declared.Refusal.TheVariants.{NoTree, NoCluster, Spoiled}
+use Rattle.refusals.specs.Refusals.{number_of}
 
 -- with its refusals in their order: the state (11), the table is not built (5), the place is past it (6)
-unfoldable pub entry_asked : State → Columns → ℕ → ℕ → Read
+unfoldable pub entry_asked : State → Columns → ℕ → ℕ → Result Entry Refusal
 entry_asked s c z p =
-    cond (not (state_ok s (room_of c))) Spoiled
-    (cond (not (is_built s z)) NoTree
-    (cond (leb (len_of s z) p) NoEntry
-    (At (entry (table_at s c z) p))))
+    cond (not (state_ok s (room_of c))) (Err Spoiled)
+    (cond (not (is_built s z)) (Err NoTree)
+    (cond (leb (len_of s z) p) (Err NoCluster)
+    (Ok (entry (table_at s c z) p))))
 
 -- an entry of these fields
 abbrev pub fields : Float → Float → ℕ → ℕ → ℕ → ℕ → ℕ → Entry
@@ -45,8 +46,6 @@ abbrev pub read_as : ℕ → Entry → ReadAs
 read_as n e = record { number = n; left = e }
 
 -- what it comes to, where the fields were these: a refusal leaves them
-abbrev pub read_of : Read → Entry → ReadAs
-read_of (At e) before = read_as 0 e
-read_of NoTree before = read_as 5 before
-read_of NoEntry before = read_as 6 before
-read_of Spoiled before = read_as 11 before
+abbrev pub read_of : Result Entry Refusal → Entry → ReadAs
+read_of (Ok e) before = read_as 0 e
+read_of (Err r) before = read_as (number_of r) before

@@ -1,18 +1,13 @@
 -- Replies to the questions as a C caller sees them: SCOPE's number, what is carried, and the output columns afterwards. Definitions only.
-use Rattle.std.specs.Prelude.{Bool, List, ℕ, length, ℤ}
-use Rattle.ask_base.specs.Answers.{answer_number, answer_carried}
+use Rattle.std.specs.Prelude.{Bool, List, ℕ, length, ℤ, Result}
+use Rattle.refusals.specs.declared.Refusal.{Refusal}
+use Rattle.refusals.specs.Refusals.{number, carried as carried_by}
 use Rattle.ask_base.specs.Asked.{Asked, answer_of, column_of}
-use Rattle.ask_effort_tests.specs.declared.EffortReply.{EffortReply}
-use Rattle.ask_effort_tests.specs.Reply.{effort_number, effort_carried}
+use Rattle.ask_effort_tests.specs.Reply.{EffortReply, effort_number, effort_carried}
 use Rattle.ask_effort.specs.Effort.{EffortAsked, effort_reply_of, effort_column_of as effort_column}
-use Rattle.ask_cluster.specs.declared.Expansion.{Expansion}
-use Rattle.ask_cluster.specs.Expansion.{expansion_number, expansion_carried}
-use Rattle.ask_tile_table.specs.declared.Tally.{Tally}
-use Rattle.ask_tile_table.specs.Tally.{tally_number, tally_value}
+use Rattle.ask_tile_table.specs.Tally.{tally_value}
 use Rattle.ask_tile.specs.Asked.{TileOutcome}
-use Rattle.ask_owner.specs.declared.OwnerReply.{OwnerReply}
-use Rattle.ask_owner.specs.Asked.{owner_number, owner_carried}
-use Rattle.posting.specs.Post.{Posted, post_number}
+use Rattle.posting.specs.Post.{Posted}
 
 -- of a question that has no output column
 pub record Said : Type 0 where
@@ -22,14 +17,13 @@ pub record Said : Type 0 where
 abbrev pub said : ℕ → ℕ → Said
 said n k = record { number = n; carried = k }
 
-abbrev pub zoom_said : Expansion → Said
-zoom_said r = said (expansion_number r) (expansion_carried r)
+-- of the zoom at which a cluster falls apart, and of an owner's place
+abbrev pub number_said : Result ℕ Refusal → Said
+number_said r = said (number r) (carried_by r)
 
-abbrev pub tally_said : Tally → Said
-tally_said r = said (tally_number r) (tally_value r)
-
-abbrev pub owner_said : OwnerReply → Said
-owner_said r = said (owner_number r) (owner_carried r)
+-- of a sum
+abbrev pub tally_said : Result ℕ Refusal → Said
+tally_said r = said (number r) (tally_value r)
 
 -- of a question that lists
 pub record Told : Type 0 where
@@ -42,7 +36,7 @@ told_c n k out = record { number = n; carried = k; column = out }
 
 -- what it comes to, with an output column of these old contents
 abbrev pub told_of : Asked → List ℕ → Told
-told_of a out = told_c (answer_number (answer_of a (length out))) (answer_carried (answer_of a (length out))) (column_of a out)
+told_of a out = told_c (number (answer_of a (length out))) (carried_by (answer_of a (length out))) (column_of a out)
 
 -- of a box within an effort: carried is how many were found
 pub record EffortTold : Type 0 where
@@ -74,7 +68,7 @@ abbrev pub tile_told : ℕ → ℕ → List ℕ → List ℤ → List ℤ → Ti
 tile_told n k places xs ys = record { number = n; carried = k; places = places; xs = xs; ys = ys }
 
 abbrev pub tile_of : TileOutcome → TileTold
-tile_of o = tile_told (answer_number o.answer) (answer_carried o.answer) o.places o.xs o.ys
+tile_of o = tile_told (number o.answer) (carried_by o.answer) o.places o.xs o.ys
 
 -- of a posting: the number, and the energy column
 pub record PostTold : Type 0 where
@@ -85,4 +79,4 @@ abbrev pub post_told : ℕ → List ℕ → PostTold
 post_told n energy = record { number = n; energy = energy }
 
 abbrev pub post_told_of : Posted → PostTold
-post_told_of p = post_told (post_number p.reply) p.energy
+post_told_of p = post_told (number p.reply) p.energy

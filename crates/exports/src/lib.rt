@@ -7,10 +7,11 @@
 #![tactic(auto)]
 
 ghost use Rattle.std.specs.Prelude.{◌≡◌, length};
-ghost use Rattle.kdbush.specs.Reply.{build_number, build_carried, built, index_checked, search_number, search_carried, searched, column_after};
-ghost use Rattle.kdwalk.specs.Reply.{step_number, step_carried, first_step, after_step};
+ghost use Rattle.kdbush.specs.Reply.{built, index_checked, searched, column_after};
+ghost use Rattle.kdwalk.specs.Reply.{step_carried, first_step, after_step};
+ghost use Rattle.refusals.specs.Refusals.{number, carried as carried_by, refusal_carried};
 ghost use Rattle.exports.specs.Given.{ranged, given_options};
-ghost use Rattle.exports.specs.Told.{said, zoom_said, tally_said, owner_said, told_c, told_of, effort_told, effort_told_of, tile_told, tile_of};
+ghost use Rattle.exports.specs.Told.{said, number_said, tally_said, told_c, told_of, effort_told, effort_told_of, tile_told, tile_of};
 ghost use Rattle.exports.specs.Told.{post_told, post_told_of};
 ghost use Rattle.exports.specs.Laid.{replied, replied_of, laid, laid_of};
 ghost use Rattle.exports.specs.Read.{entry_asked, lent_entry, read_as, read_of};
@@ -20,9 +21,11 @@ ghost use Rattle.kdsort.specs.Lent.{lent_index_mut};
 ghost use Rattle.range.specs.Range.{normalized, denormalized};
 ghost use Rattle.build_tables.specs.State.{state_of};
 ghost use Rattle.build_tables.specs.Options.{zoom_used};
-ghost use Rattle.build_tables.specs.Lent.{lent_columns};
+ghost use Rattle.build_tables.specs.Lent.{lent_columns, tables_held};
+ghost use Rattle.ask_tile_table.specs.Tally.{tally_value};
 ghost use Rattle.ask_box.specs.Lists.{box_asked, ring_asked};
 ghost use Rattle.ask_effort.specs.Effort.{effort_asked};
+ghost use Rattle.ask_effort_tests.specs.Reply.{effort_number, effort_carried};
 ghost use Rattle.ask_cluster.specs.Children.{children_of};
 ghost use Rattle.ask_cluster.specs.Leaves.{leaves_of};
 ghost use Rattle.ask_cluster.specs.Expansion.{zoom_of};
@@ -31,10 +34,109 @@ ghost use Rattle.ask_tile.specs.Tallied.{tallied};
 ghost use Rattle.ask_owner.specs.Asked.{owner_asked};
 ghost use Rattle.posting.specs.Post.{posted};
 
-use build_tables::{Entry, Options, State};
-use kdslots::Query;
+use ask_effort_tests::{Effort, EffortRefusal};
+use ask_tile::StateParts;
+use build_tables::{Entry, Options, State, Tables, TablesMut};
+use kdslots::{Query, Search};
+use kdsort::{Index, IndexMut};
 use range::DataRange;
-use supercluster::Loaded;
+use refusals::Refusal;
+use supercluster::Points;
+
+// SCOPE's number of a reply, 0 where nothing is refused.
+fn number(reply: Result<(), Refusal>) -> u32
+    ensures { result ≡ number reply }
+{
+    match reply {
+        Ok(()) => 0,
+        Err(refusal) => refusal.number(),
+    }
+}
+
+// The same, and behind a pointer what the refusal carries, or 0.
+fn tell_done(reply: Result<(), Refusal>, carried: &mut usize) -> u32
+    ensures number { result ≡ number reply }
+    ensures carried { carried.new ≡ refusal_carried reply }
+{
+    *carried = match reply {
+        Ok(()) => 0,
+        Err(refusal) => refusal.carried(),
+    };
+    number(reply)
+}
+
+// The number of a reply; what it carries goes behind a pointer.
+fn tell(reply: Result<usize, Refusal>, carried: &mut usize) -> u32
+    ensures number { result ≡ number reply }
+    ensures carried { carried.new ≡ carried_by reply }
+{
+    match reply {
+        Ok(k) => {
+            *carried = k;
+            0
+        }
+        Err(refusal) => {
+            *carried = refusal.carried();
+            refusal.number()
+        }
+    }
+}
+
+// The same of a sum: 0 where it is refused.
+fn tell_sum(reply: Result<u64, Refusal>, sum: &mut usize) -> u32
+    ensures number { result ≡ number reply }
+    ensures sum { sum.new ≡ tally_value reply }
+{
+    match reply {
+        Ok(k) => {
+            *sum = k as usize;
+            0
+        }
+        Err(refusal) => {
+            *sum = 0;
+            refusal.number()
+        }
+    }
+}
+
+// The same of a box within an effort: how many were found, how many slots were tested, and whether a test was left.
+fn tell_effort(
+    reply: Result<Effort, EffortRefusal>,
+    items: &mut usize,
+    tested: &mut usize,
+    stopped: &mut bool,
+) -> u32
+    ensures number { result ≡ effort_number reply }
+    ensures items { items.new ≡ (effort_carried reply).items }
+    ensures tested { tested.new ≡ (effort_carried reply).tested }
+    ensures stopped { stopped.new ≡ (effort_carried reply).stopped }
+{
+    let (number, e) = match reply {
+        Ok(e) => (0, e),
+        Err(refusal) => (refusal.number(), refusal.carried()),
+    };
+    *items = e.items;
+    *tested = e.tested;
+    *stopped = e.stopped;
+    number
+}
+
+// The same of a step of a walk: its slot, or the largest usize where it has none.
+fn tell_step(step: Result<Option<usize>, Refusal>, slot: &mut usize) -> u32
+    ensures number { result ≡ number step }
+    ensures slot { slot.new ≡ step_carried step }
+{
+    match step {
+        Ok(next) => {
+            *slot = next.unwrap_or(usize::MAX);
+            0
+        }
+        Err(refusal) => {
+            *slot = usize::MAX;
+            refusal.number()
+        }
+    }
+}
 
 // The index of N points, xs_len of them, whose coordinates are from 0 to 1. Written are the first N entries of ids (the place of
 // each slot) and the first 2N of coords (its x and y), sorted by node_size (1 to 65,535); what lies behind them stays. Refused in
@@ -49,13 +151,13 @@ pub extern "C" fn kdbush_build(
     coords: &mut [f64],
     carried: &mut usize,
 ) -> u32
-    ensures result_value { let c = lent_index_mut ids coords in result ≡ build_number (index_checked node_size xs.now ys.now c.entry) }
-    ensures carried_value { let c = lent_index_mut ids coords in carried.new ≡ build_carried (index_checked node_size xs.now ys.now c.entry) }
+    ensures result_value { let c = lent_index_mut ids coords in result ≡ number (index_checked node_size xs.now ys.now c.entry) }
+    ensures carried_value { let c = lent_index_mut ids coords in carried.new ≡ refusal_carried (index_checked node_size xs.now ys.now c.entry) }
     ensures c_value { let c = lent_index_mut ids coords in c.exit ≡ built node_size xs.now ys.now c.entry }
 {
-    let r = kdbush::build(node_size, xs, ys, ids, coords);
-    *carried = r.carried();
-    r.number()
+    let mut index = IndexMut { ids, coords };
+    let r = kdbush::build(node_size, xs, ys, &mut index);
+    tell_done(r, carried)
 }
 
 // Searches an index of n points: the places of those with min_x <= x <= max_x and min_y <= y <= max_y, in the order of the walk.
@@ -76,15 +178,15 @@ pub extern "C" fn kdbush_range(
     carried: &mut usize,
 ) -> u32
     ensures result_value { let q = Query.Range min_x min_y max_x max_y in
-        result ≡ search_number (searched q node_size n ids.now coords.now (length out.old)) }
+        result ≡ number (searched q node_size n ids.now coords.now (length out.old)) }
     ensures carried_value { let q = Query.Range min_x min_y max_x max_y in
-        carried.new ≡ search_carried (searched q node_size n ids.now coords.now (length out.old)) }
+        carried.new ≡ carried_by (searched q node_size n ids.now coords.now (length out.old)) }
     ensures out_value { let q = Query.Range min_x min_y max_x max_y in
         out.new ≡ column_after q node_size n ids.now coords.now out.old }
 {
-    let r = kdbush::range(node_size, n, ids, coords, min_x, min_y, max_x, max_y, out);
-    *carried = r.carried();
-    r.number()
+    let index = Index { ids, coords };
+    let r = kdbush::range(node_size, n, &index, min_x, min_y, max_x, max_y, out);
+    tell(r, carried)
 }
 
 // Searches an index of n points: the places of those with (x - qx)^2 + (y - qy)^2 <= radius^2, in the order of the walk. Written,
@@ -101,14 +203,62 @@ pub extern "C" fn kdbush_within(
     out: &mut [u32],
     carried: &mut usize,
 ) -> u32
-    ensures value { result ≡ search_number (searched (Query.Within qx qy radius) node_size n ids.now coords.now (length out.old)) }
+    ensures value { result ≡ number (searched (Query.Within qx qy radius) node_size n ids.now coords.now (length out.old)) }
     ensures carried_value { let q = Query.Within qx qy radius in
-        carried.new ≡ search_carried (searched q node_size n ids.now coords.now (length out.old)) }
+        carried.new ≡ carried_by (searched q node_size n ids.now coords.now (length out.old)) }
     ensures out_value { out.new ≡ column_after (Query.Within qx qy radius) node_size n ids.now coords.now out.old }
 {
-    let r = kdbush::within(node_size, n, ids, coords, qx, qy, radius, out);
-    *carried = r.carried();
-    r.number()
+    let index = Index { ids, coords };
+    let r = kdbush::within(node_size, n, &index, qx, qy, radius, out);
+    tell(r, carried)
+}
+
+// The search of a box, in the first n slots of an index.
+fn box_search(
+    node_size: usize,
+    n: usize,
+    coords: &[f64],
+    min_x: f64,
+    min_y: f64,
+    max_x: f64,
+    max_y: f64,
+) -> Search<'_>
+    ensures query { result.query ≡ Query.Range min_x min_y max_x max_y }
+    ensures index { (result.node_size ≡ node_size) × (result.n ≡ n) × (result.coords.now ≡ coords.now) }
+{
+    let query = Query::Range {
+        min_x,
+        min_y,
+        max_x,
+        max_y,
+    };
+    Search {
+        query,
+        node_size,
+        n,
+        coords,
+    }
+}
+
+// The search around a place.
+fn ring_search(
+    node_size: usize,
+    n: usize,
+    coords: &[f64],
+    qx: f64,
+    qy: f64,
+    radius: f64,
+) -> Search<'_>
+    ensures query { result.query ≡ Query.Within qx qy radius }
+    ensures index { (result.node_size ≡ node_size) × (result.n ≡ n) × (result.coords.now ≡ coords.now) }
+{
+    let query = Query::Within { qx, qy, radius };
+    Search {
+        query,
+        node_size,
+        n,
+        coords,
+    }
 }
 
 // The walk of kdbush_range by steps, over coords alone. slot is the first slot that passes, and ids[slot] its place; where none
@@ -126,19 +276,12 @@ pub extern "C" fn kdbush_range_first(
     slot: &mut usize,
 ) -> u32
     ensures result_value { let q = Query.Range min_x min_y max_x max_y in
-        result ≡ step_number (first_step q node_size n coords.now) }
+        result ≡ number (first_step q node_size n coords.now) }
     ensures slot_value { let q = Query.Range min_x min_y max_x max_y in
         slot.new ≡ step_carried (first_step q node_size n coords.now) }
 {
-    let q = Query::Range {
-        min_x,
-        min_y,
-        max_x,
-        max_y,
-    };
-    let s = kdwalk::first(q, node_size, n, coords);
-    *slot = s.carried();
-    s.number()
+    let step = kdwalk::first(&box_search(node_size, n, coords, min_x, min_y, max_x, max_y));
+    tell_step(step, slot)
 }
 
 // The slot that follows slot in that walk, into next; the largest size_t where none follows, and for each slot from n on. Refused as
@@ -156,19 +299,13 @@ pub extern "C" fn kdbush_range_after(
     next: &mut usize,
 ) -> u32
     ensures result_value { let q = Query.Range min_x min_y max_x max_y in
-        result ≡ step_number (after_step q node_size n coords.now slot) }
+        result ≡ number (after_step q node_size n coords.now slot) }
     ensures next_value { let q = Query.Range min_x min_y max_x max_y in
         next.new ≡ step_carried (after_step q node_size n coords.now slot) }
 {
-    let q = Query::Range {
-        min_x,
-        min_y,
-        max_x,
-        max_y,
-    };
-    let s = kdwalk::after(q, node_size, n, coords, slot);
-    *next = s.carried();
-    s.number()
+    let s = box_search(node_size, n, coords, min_x, min_y, max_x, max_y);
+    let step = kdwalk::after(&s, slot);
+    tell_step(step, next)
 }
 
 // The walk of kdbush_within by steps. As kdbush_range_first; 9 also refuses a radius below 0.
@@ -182,12 +319,11 @@ pub extern "C" fn kdbush_within_first(
     radius: f64,
     slot: &mut usize,
 ) -> u32
-    ensures value { result ≡ step_number (first_step (Query.Within qx qy radius) node_size n coords.now) }
+    ensures value { result ≡ number (first_step (Query.Within qx qy radius) node_size n coords.now) }
     ensures slot_value { slot.new ≡ step_carried (first_step (Query.Within qx qy radius) node_size n coords.now) }
 {
-    let s = kdwalk::first(Query::Within { qx, qy, radius }, node_size, n, coords);
-    *slot = s.carried();
-    s.number()
+    let step = kdwalk::first(&ring_search(node_size, n, coords, qx, qy, radius));
+    tell_step(step, slot)
 }
 
 // The slot that follows slot in that walk, into next. As kdbush_range_after; 9 also refuses a radius below 0.
@@ -202,12 +338,12 @@ pub extern "C" fn kdbush_within_after(
     slot: usize,
     next: &mut usize,
 ) -> u32
-    ensures value { result ≡ step_number (after_step (Query.Within qx qy radius) node_size n coords.now slot) }
+    ensures value { result ≡ number (after_step (Query.Within qx qy radius) node_size n coords.now slot) }
     ensures next_value { next.new ≡ step_carried (after_step (Query.Within qx qy radius) node_size n coords.now slot) }
 {
-    let s = kdwalk::after(Query::Within { qx, qy, radius }, node_size, n, coords, slot);
-    *next = s.carried();
-    s.number()
+    let s = ring_search(node_size, n, coords, qx, qy, radius);
+    let step = kdwalk::after(&s, slot);
+    tell_step(step, next)
 }
 
 // The range of a Cartesian plan: its offset and its scale where they are given.
@@ -407,17 +543,25 @@ fn store(state: State, starts: &mut [u32; 32], lens: &mut [u32; 32])
 
 // The reply of a build, as numbers: SCOPE's number is the answer, the rest goes behind pointers. A refusal leaves the two arrays as they
 // were.
-fn tell(loaded: Loaded, starts: &mut [u32; 32], lens: &mut [u32; 32], carried: &mut usize) -> u32
-    ensures { replied result carried.new starts.new lens.new ≡ replied_of loaded starts.old lens.old }
+fn tell_load(
+    reply: Result<State, Refusal>,
+    starts: &mut [u32; 32],
+    lens: &mut [u32; 32],
+    carried: &mut usize,
+) -> u32
+    ensures { replied result carried.new starts.new lens.new ≡ replied_of reply starts.old lens.old }
 {
-    let r = loaded.reply;
-    *carried = r.carried();
-    let number = r.number();
-    if 0 < number {
-        return number;
+    match reply {
+        Ok(state) => {
+            *carried = 0;
+            store(state, starts, lens);
+            0
+        }
+        Err(refused) => {
+            *carried = refused.carried();
+            refused.number()
+        }
     }
-    store(loaded.state, starts, lens);
-    number
 }
 
 // Builds the tables of N points, xs_len of them: xs and ys in the coordinates of the options, energies in watt-hours. With need =
@@ -487,10 +631,21 @@ pub extern "C" fn supercluster_load(
         scale,
         longitude_strips_only,
     );
-    let loaded = owners::load(
-        o, xs, ys, energies, x, y, seen, id, parent, num, energy, ids, coords, near, owners,
-    );
-    tell(loaded, starts, lens, carried)
+    let points = Points { xs, ys, energies };
+    let mut t = TablesMut {
+        x,
+        y,
+        seen,
+        id,
+        parent,
+        num,
+        energy,
+        ids,
+        coords,
+        near,
+    };
+    let reply = owners::load(o, &points, &mut t, owners);
+    tell_load(reply, starts, lens, carried)
 }
 
 // The places of the table of the zoom used in the box from (west, least_y) to (east, greatest_y), in the coordinates of the options.
@@ -553,9 +708,9 @@ pub extern "C" fn supercluster_box(
         longitude_strips_only,
     );
     let s = state(o, count, starts, lens);
-    let r = ask_box::list_box(s, ids, coords, zoom, west, least_y, east, greatest_y, out);
-    *carried = r.carried();
-    r.number()
+    let index = Index { ids, coords };
+    let r = ask_box::list_box(s, &index, zoom, west, least_y, east, greatest_y, out);
+    tell(r, carried)
 }
 
 // The same within so many tests, the allowance, which the two halves of a box that crosses the date line share. Beside what was
@@ -621,14 +776,11 @@ pub extern "C" fn supercluster_box_effort(
         longitude_strips_only,
     );
     let s = state(o, count, starts, lens);
+    let index = Index { ids, coords };
     let r = ask_effort::effort_box(
-        s, ids, coords, zoom, west, least_y, east, greatest_y, allowance, out,
+        s, &index, zoom, west, least_y, east, greatest_y, allowance, out,
     );
-    let k = r.carried();
-    *tested = k.tested;
-    *stopped = k.stopped;
-    *carried = k.items;
-    r.number()
+    tell_effort(r, carried, tested, stopped)
 }
 
 // The places of the table of the zoom used with (x - ring_x)^2 + (y - ring_y)^2 <= ring_radius^2; all are in the tables' own numbers
@@ -688,9 +840,9 @@ pub extern "C" fn supercluster_ring(
         longitude_strips_only,
     );
     let s = state(o, count, starts, lens);
-    let r = ask_box::list_ring(s, ids, coords, zoom, ring_x, ring_y, ring_radius, out);
-    *carried = r.carried();
-    r.number()
+    let index = Index { ids, coords };
+    let r = ask_box::list_ring(s, &index, zoom, ring_x, ring_y, ring_radius, out);
+    tell(r, carried)
 }
 
 // The places of the children of the cluster cid, in the table of zoom (cid - N) mod 32. Written are the first entries of out,
@@ -756,11 +908,18 @@ pub extern "C" fn supercluster_children(
         longitude_strips_only,
     );
     let s = state(o, count, starts, lens);
-    let r = ask_cluster::children(
-        s, x, y, seen, id, parent, num, energy, ids, coords, cid, out,
-    );
-    *carried = r.carried();
-    r.number()
+    let t = Tables {
+        x,
+        y,
+        seen,
+        id,
+        parent,
+        num,
+        energy,
+        ids,
+        coords,
+    };
+    tell(ask_cluster::children(s, &t, cid, out), carried)
 }
 
 // The ids of the lamps of the cluster cid: at most limit of them, after the first skip. Limit 0 lists none; the cluster's num as
@@ -826,11 +985,18 @@ pub extern "C" fn supercluster_leaves(
         longitude_strips_only,
     );
     let s = state(o, count, starts, lens);
-    let r = ask_cluster::leaves(
-        s, x, y, seen, id, parent, num, energy, ids, coords, cid, limit, skip, out,
-    );
-    *carried = r.carried();
-    r.number()
+    let t = Tables {
+        x,
+        y,
+        seen,
+        id,
+        parent,
+        num,
+        energy,
+        ids,
+        coords,
+    };
+    tell(ask_cluster::leaves(s, &t, cid, limit, skip, out), carried)
 }
 
 // The zoom at which the cluster cid falls apart, as what is carried. Refused as supercluster_children, but 10 does not occur.
@@ -871,7 +1037,7 @@ pub extern "C" fn supercluster_expansion_zoom(
         offset_given offset scale_given scale longitude_strips_only in
         let s = state_of o count starts.now lens.now in
         let c = lent_columns x y seen id parent num energy ids coords in
-        said result carried.new ≡ zoom_said (zoom_of s c cid) }
+        said result carried.new ≡ number_said (zoom_of s c cid) }
 {
     let o = options(
         min_zoom,
@@ -892,9 +1058,19 @@ pub extern "C" fn supercluster_expansion_zoom(
         longitude_strips_only,
     );
     let s = state(o, count, starts, lens);
-    let r = ask_cluster::expansion_zoom(s, x, y, seen, id, parent, num, energy, ids, coords, cid);
-    *carried = r.carried() as usize;
-    r.number()
+    let t = Tables {
+        x,
+        y,
+        seen,
+        id,
+        parent,
+        num,
+        energy,
+        ids,
+        coords,
+    };
+    let r = ask_cluster::expansion_zoom(s, &t, cid);
+    tell(r.map(|z| z as usize), carried)
 }
 
 // The entries that the tile (z, tile_x, tile_y) lists: their places in the table of the zoom used, and where they stand in the tile,
@@ -965,12 +1141,25 @@ pub extern "C" fn supercluster_tile(
         scale,
         longitude_strips_only,
     );
-    let r = ask_tile::tile_lent(
-        o, count, starts, lens, x, y, seen, id, parent, num, energy, ids, coords, z, tile_x,
-        tile_y, places, px, py,
-    );
-    *carried = r.carried();
-    r.number()
+    let t = Tables {
+        x,
+        y,
+        seen,
+        id,
+        parent,
+        num,
+        energy,
+        ids,
+        coords,
+    };
+    let s = StateParts {
+        options: o,
+        count,
+        starts,
+        lens,
+    };
+    let r = ask_tile::tile_lent(&s, &t, z, tile_x, tile_y, places, px, py);
+    tell(r, carried)
 }
 
 // The nums of the entries that the tile (z, tile_x, tile_y) lists and whose centre it holds, added up, each entry once, as what is
@@ -1034,11 +1223,25 @@ pub extern "C" fn supercluster_tally(
         scale,
         longitude_strips_only,
     );
-    let r = ask_tile::tally_lent(
-        o, count, starts, lens, x, y, seen, id, parent, num, energy, ids, coords, z, tile_x, tile_y,
-    );
-    *carried = r.value() as usize;
-    r.number()
+    let t = Tables {
+        x,
+        y,
+        seen,
+        id,
+        parent,
+        num,
+        energy,
+        ids,
+        coords,
+    };
+    let s = StateParts {
+        options: o,
+        count,
+        starts,
+        lens,
+    };
+    let r = ask_tile::tally_lent(&s, &t, z, tile_x, tile_y);
+    tell_sum(r, carried)
 }
 
 // The entry that owns a lamp in the table of the zoom used: its place in that table goes into place, 0 where it is refused. owners is
@@ -1073,7 +1276,7 @@ pub extern "C" fn supercluster_owner(
     ensures { let o = given_options min_zoom max_zoom min_points radius extent node_size cartesian min_x min_y max_x max_y
         offset_given offset scale_given scale longitude_strips_only in
         let s = state_of o count starts.now lens.now in
-        said result place.new ≡ owner_said (owner_asked s owners.now lamp zoom) }
+        said result place.new ≡ number_said (owner_asked s owners.now lamp zoom) }
 {
     let o = options(
         min_zoom,
@@ -1094,9 +1297,7 @@ pub extern "C" fn supercluster_owner(
         longitude_strips_only,
     );
     let s = state(o, count, starts, lens);
-    let r = ask_owner::owner(s, owners, lamp, zoom);
-    *place = r.carried();
-    r.number()
+    tell(ask_owner::owner(s, owners, lamp, zoom), place)
 }
 
 // Replaces the figure of one lamp, in watt-hours, without a new build. energy and owners are the columns that a build leaves. Written
@@ -1155,53 +1356,30 @@ pub extern "C" fn supercluster_post(
         longitude_strips_only,
     );
     let s = state(o, count, starts, lens);
-    let r = posting::post(s, energy, owners, lamp, figure);
-    r.number()
-}
-
-// What a zoom and a place lead to: an entry of a table, or a refusal.
-#[derive(Clone, Copy)]
-enum Read {
-    At { entry: Entry },
-    NoTree,
-    NoEntry,
-    Spoiled,
+    number(posting::post(s, energy, owners, lamp, figure))
 }
 
 // The entry at a place of the table of a zoom.
-fn look_up(
-    s: State,
-    x: &[f64],
-    y: &[f64],
-    seen: &[u8],
-    id: &[u32],
-    parent: &[u32],
-    num: &[u32],
-    energy: &[u64],
-    ids: &[u32],
-    coords: &[f64],
-    zoom: usize,
-    place: usize,
-) -> Read
-    ensures { let c = lent_columns x y seen id parent num energy ids coords in result ≡ entry_asked s c zoom place }
+fn look_up(s: &State, t: &Tables<'_>, zoom: usize, place: usize) -> Result<Entry, Refusal>
+    ensures { result ≡ entry_asked s.now (tables_held t.now) zoom place }
 {
-    if !s.is_sound(build_room::room(x, y, seen, id, parent, num, energy, ids, coords)) {
-        return Read::Spoiled;
+    if !s.is_sound(build_room::room(t)) {
+        return Err(Refusal::Spoiled);
     }
     let o = s.options;
     if zoom < o.min_zoom as usize {
-        return Read::NoTree;
+        return Err(Refusal::NoTree);
     }
     if o.max_zoom as usize + 1 < zoom {
-        return Read::NoTree;
+        return Err(Refusal::NoTree);
     }
-    let len = build_tables::len_of(s, zoom);
+    let len = build_tables::len_of(*s, zoom);
     if len <= place {
-        return Read::NoEntry;
+        return Err(Refusal::NoCluster);
     }
-    let start = build_tables::start_of(s, zoom);
-    let entry = ask_base::entry_in(start, len, x, y, seen, id, parent, num, energy, place);
-    Read::At { entry }
+    let start = build_tables::start_of(*s, zoom);
+    let table = t.table(start, len);
+    Ok(table.entries.at(place))
 }
 
 // Writes an entry behind seven pointers.
@@ -1297,8 +1475,7 @@ pub extern "C" fn supercluster_entry(
         longitude_strips_only,
     );
     let s = state(o, count, starts, lens);
-    let found = look_up(
-        s,
+    let t = Tables {
         x,
         y,
         seen,
@@ -1308,14 +1485,10 @@ pub extern "C" fn supercluster_entry(
         energy,
         ids,
         coords,
-        zoom as usize,
-        place as usize,
-    );
-    match found {
-        Read::Spoiled => 11,
-        Read::NoTree => 5,
-        Read::NoEntry => 6,
-        Read::At { entry } => {
+    };
+    match look_up(&s, &t, zoom as usize, place as usize) {
+        Err(refusal) => refusal.number(),
+        Ok(entry) => {
             hand(
                 entry,
                 entry_x,

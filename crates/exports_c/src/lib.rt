@@ -3,10 +3,11 @@
 #![tactic(auto)]
 
 ghost use Rattle.std.specs.Prelude.{◌≡◌, length};
-ghost use Rattle.kdbush.specs.Reply.{build_number, build_carried, built, index_checked, search_number, search_carried, searched, column_after};
-ghost use Rattle.kdwalk.specs.Reply.{step_number, step_carried, first_step, after_step};
+ghost use Rattle.kdbush.specs.Reply.{built, index_checked, searched, column_after};
+ghost use Rattle.kdwalk.specs.Reply.{step_carried, first_step, after_step};
+ghost use Rattle.refusals.specs.Refusals.{number, carried as carried_by, refusal_carried};
 ghost use Rattle.exports.specs.Given.{ranged, given_options};
-ghost use Rattle.exports.specs.Told.{said, zoom_said, tally_said, owner_said, told_c, told_of, effort_told, effort_told_of, tile_told, tile_of};
+ghost use Rattle.exports.specs.Told.{said, number_said, tally_said, told_c, told_of, effort_told, effort_told_of, tile_told, tile_of};
 ghost use Rattle.exports.specs.Told.{post_told, post_told_of};
 ghost use Rattle.exports.specs.Laid.{replied, laid, laid_of};
 ghost use Rattle.exports.specs.Read.{entry_asked, lent_entry, read_as, read_of};
@@ -39,8 +40,8 @@ pub extern "C" fn kdbush_build(
     coords: &mut [f64],
     carried: &mut usize,
 ) -> u32
-    ensures result_value { let c = lent_index_mut ids coords in result ≡ build_number (index_checked node_size xs.now ys.now c.entry) }
-    ensures carried_value { let c = lent_index_mut ids coords in carried.new ≡ build_carried (index_checked node_size xs.now ys.now c.entry) }
+    ensures result_value { let c = lent_index_mut ids coords in result ≡ number (index_checked node_size xs.now ys.now c.entry) }
+    ensures carried_value { let c = lent_index_mut ids coords in carried.new ≡ refusal_carried (index_checked node_size xs.now ys.now c.entry) }
     ensures c_value { let c = lent_index_mut ids coords in c.exit ≡ built node_size xs.now ys.now c.entry }
 {
     exports::kdbush_build(node_size, xs, ys, ids, coords, carried)
@@ -61,9 +62,9 @@ pub extern "C" fn kdbush_range(
     carried: &mut usize,
 ) -> u32
     ensures result_value { let q = Query.Range min_x min_y max_x max_y in
-        result ≡ search_number (searched q node_size n ids.now coords.now (length out.old)) }
+        result ≡ number (searched q node_size n ids.now coords.now (length out.old)) }
     ensures carried_value { let q = Query.Range min_x min_y max_x max_y in
-        carried.new ≡ search_carried (searched q node_size n ids.now coords.now (length out.old)) }
+        carried.new ≡ carried_by (searched q node_size n ids.now coords.now (length out.old)) }
     ensures out_value { let q = Query.Range min_x min_y max_x max_y in
         out.new ≡ column_after q node_size n ids.now coords.now out.old }
 {
@@ -85,9 +86,9 @@ pub extern "C" fn kdbush_within(
     out: &mut [u32],
     carried: &mut usize,
 ) -> u32
-    ensures value { result ≡ search_number (searched (Query.Within qx qy radius) node_size n ids.now coords.now (length out.old)) }
+    ensures value { result ≡ number (searched (Query.Within qx qy radius) node_size n ids.now coords.now (length out.old)) }
     ensures carried_value { let q = Query.Within qx qy radius in
-        carried.new ≡ search_carried (searched q node_size n ids.now coords.now (length out.old)) }
+        carried.new ≡ carried_by (searched q node_size n ids.now coords.now (length out.old)) }
     ensures out_value { out.new ≡ column_after (Query.Within qx qy radius) node_size n ids.now coords.now out.old }
 {
     exports::kdbush_within(node_size, n, ids, coords, qx, qy, radius, out, carried)
@@ -106,7 +107,7 @@ pub extern "C" fn kdbush_range_first(
     slot: &mut usize,
 ) -> u32
     ensures result_value { let q = Query.Range min_x min_y max_x max_y in
-        result ≡ step_number (first_step q node_size n coords.now) }
+        result ≡ number (first_step q node_size n coords.now) }
     ensures slot_value { let q = Query.Range min_x min_y max_x max_y in
         slot.new ≡ step_carried (first_step q node_size n coords.now) }
 {
@@ -127,7 +128,7 @@ pub extern "C" fn kdbush_range_after(
     next: &mut usize,
 ) -> u32
     ensures result_value { let q = Query.Range min_x min_y max_x max_y in
-        result ≡ step_number (after_step q node_size n coords.now slot) }
+        result ≡ number (after_step q node_size n coords.now slot) }
     ensures next_value { let q = Query.Range min_x min_y max_x max_y in
         next.new ≡ step_carried (after_step q node_size n coords.now slot) }
 {
@@ -145,7 +146,7 @@ pub extern "C" fn kdbush_within_first(
     radius: f64,
     slot: &mut usize,
 ) -> u32
-    ensures value { result ≡ step_number (first_step (Query.Within qx qy radius) node_size n coords.now) }
+    ensures value { result ≡ number (first_step (Query.Within qx qy radius) node_size n coords.now) }
     ensures slot_value { slot.new ≡ step_carried (first_step (Query.Within qx qy radius) node_size n coords.now) }
 {
     exports::kdbush_within_first(node_size, n, coords, qx, qy, radius, slot)
@@ -163,7 +164,7 @@ pub extern "C" fn kdbush_within_after(
     slot: usize,
     next: &mut usize,
 ) -> u32
-    ensures value { result ≡ step_number (after_step (Query.Within qx qy radius) node_size n coords.now slot) }
+    ensures value { result ≡ number (after_step (Query.Within qx qy radius) node_size n coords.now slot) }
     ensures next_value { next.new ≡ step_carried (after_step (Query.Within qx qy radius) node_size n coords.now slot) }
 {
     exports::kdbush_within_after(node_size, n, coords, qx, qy, radius, slot, next)
@@ -757,7 +758,7 @@ pub extern "C" fn supercluster_expansion_zoom(
         offset_given offset scale_given scale longitude_strips_only in
         let s = state_of o count starts.now lens.now in
         let c = lent_columns x y seen id parent num energy ids coords in
-        said result carried.new ≡ zoom_said (zoom_of s c cid) }
+        said result carried.new ≡ number_said (zoom_of s c cid) }
 {
     exports::supercluster_expansion_zoom(
         min_zoom,
@@ -986,7 +987,7 @@ pub extern "C" fn supercluster_owner(
     ensures { let o = given_options min_zoom max_zoom min_points radius extent node_size cartesian min_x min_y max_x max_y
         offset_given offset scale_given scale longitude_strips_only in
         let s = state_of o count starts.now lens.now in
-        said result place.new ≡ owner_said (owner_asked s owners.now lamp zoom) }
+        said result place.new ≡ number_said (owner_asked s owners.now lamp zoom) }
 {
     exports::supercluster_owner(
         min_zoom,

@@ -16,28 +16,25 @@ pub fn in_unit(x: f64) -> bool
     0.0 <= x && x <= 1.0
 }
 
-// Whether x is no number: only a NaN differs from itself.
+// Whether x is no number.
 pub fn is_nan(x: f64) -> bool
     ensures { result ≡ is_nan x }
 {
-    x != x
+    x.is_nan()
 }
 
-// Whether x is a number and no infinity: only then is x - x zero.
+// Whether x is a number and no infinity.
 pub fn is_finite(x: f64) -> bool
     ensures { result ≡ finite x }
 {
-    x - x == 0.0
+    x.is_finite()
 }
 
 // Whether both are numbers and no infinities.
 pub fn both_finite(a: f64, b: f64) -> bool
     ensures { result ≡ (finite a && finite b) }
 {
-    if is_finite(a) {
-        return is_finite(b);
-    }
-    false
+    is_finite(a) && is_finite(b)
 }
 
 // 2 ^ n, made from its bits: (n + 1023) * 2 ^ 52.
@@ -62,8 +59,8 @@ fn round_up(x: f64) -> u64
 
 // The whole number nearest to v, which is within 2 ^ 48 either way. A half goes away from zero.
 pub fn round_away(v: f64) -> i64
-    requires t { T (le (neg pow48) v) }
-    requires t_2 { T (le v pow48) }
+    requires at_least { T (le (neg pow48) v) }
+    requires at_most { T (le v pow48) }
     ensures { result ≡ away v }
 {
     if v < 0.0 {

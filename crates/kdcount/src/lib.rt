@@ -2,59 +2,53 @@
 // public surface: a function may ask something of its caller. `kdwalk_count` counts the same by the public cursor.
 #![tactic(auto)]
 
-ghost use Rattle.std.specs.Prelude.{◌≡◌, ◌-◌, ◌*◌, ◌≤◌, ◌<◌, length};
+ghost use Rattle.std.specs.Prelude.{◌≡◌, ◌+◌, ◌-◌, ◌*◌, ◌≤◌, length};
 ghost use Rattle.kdsort.specs.Shape.{shape};
-ghost use Rattle.kdslots.specs.Slots.{over, when, scanned, slots, answers};
+ghost use Rattle.kdslots.specs.Slots.{over, scanned, slots, answers};
 
-use kdslots::Query;
+use kdslots::{Interval, Search};
 
-// How many of the slots from lo up to hi are answered. No test decides where to go on, so that several slots are tested at once.
-fn count_slots(q: Query, coords: &[f64], lo: usize, hi: usize) -> usize
-    requires { 2 * hi ≤ length coords.now }
-    ensures { result ≡ length (scanned (over q coords.now) lo (hi - lo)) }
+// How many slots of an interval are answered, tested one by one. No test decides where to go on, so that several slots are tested at once.
+fn count_slots(s: &Search<'_>, v: Interval) -> usize
+    requires { 2 * v.hi ≤ length s.now.coords.now }
+    ensures { result ≡ length (scanned (over s.now.query s.now.coords.now) v.lo (v.hi - v.lo)) }
 {
     let mut k = 0;
-    let mut i = lo;
-    while i < hi {
-        k += kdslots::test_at(q, coords, i) as usize;
-        i += 1;
+    for i in v.lo..v.hi {
+        k += s.tests(i) as usize;
     }
     k
 }
 
-// How many slots are answered of those from lo up to hi, if they are searched.
-fn count_part(
-    is_searched: bool,
-    q: Query,
-    coords: &[f64],
-    most: usize,
-    lo: usize,
-    hi: usize,
-    axis: usize,
-) -> usize
-    requires { (2 * hi ≤ length coords.now) × (lo ≤ hi) × (axis < 2) }
-    ensures { result ≡ length (when is_searched (slots (over q coords.now) axis (shape most lo hi))) }
+// How many slots of an interval are answered.
+fn count_part(s: &Search<'_>, v: Interval) -> usize
+    requires { (2 * v.hi ≤ length s.now.coords.now) × (s.now.node_size ≤ 65535) }
+    ensures { result ≡ length (slots (over s.now.query s.now.coords.now) v.axis (shape (s.now.node_size + 1) v.lo v.hi)) }
 {
-    if !is_searched {
-        return 0;
+    if v.len() <= s.most() {
+        return count_slots(s, v);
     }
-    if hi - lo <= most {
-        return count_slots(q, coords, lo, hi);
-    }
-    let m = lo + (hi - lo - 1) / 2;
-    let median = kdslots::test_at(q, coords, m) as usize;
-    let goes_right = kdslots::right_at(q, coords, axis, m);
-    let goes_left = kdslots::left_at(q, coords, axis, m);
-    let right = count_part(goes_right, q, coords, most, m + 1, hi, 1 - axis);
-    let left = count_part(goes_left, q, coords, most, lo, m, 1 - axis);
+    let m = v.median();
+    let median = s.tests(m) as usize;
+    let goes_right = s.goes_right(v.axis, m);
+    let goes_left = s.goes_left(v.axis, m);
+    let right = if goes_right {
+        count_part(s, v.right())
+    } else {
+        0
+    };
+    let left = if goes_left {
+        count_part(s, v.left())
+    } else {
+        0
+    };
     median + right + left
 }
 
-// How many slots of an index of n a query answers.
-pub fn count(q: Query, node_size: usize, n: usize, coords: &[f64]) -> usize
-    requires { (2 * n ≤ length coords.now) × (node_size ≤ 65535) }
-    ensures { result ≡ length (answers q coords.now node_size n) }
+// How many slots a search answers.
+pub fn count(s: &Search<'_>) -> usize
+    requires { (2 * s.now.n ≤ length s.now.coords.now) × (s.now.node_size ≤ 65535) }
+    ensures { result ≡ length (answers s.now.query s.now.coords.now s.now.node_size s.now.n) }
 {
-    let v = kdslots::narrow(q, coords, node_size + 1, n);
-    count_part(true, q, coords, node_size + 1, v.lo, v.hi, v.axis)
+    count_part(s, s.narrow(s.most()))
 }

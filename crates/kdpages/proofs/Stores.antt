@@ -17,6 +17,9 @@ use Rattle.kdslots.specs.laws.Intervals.{scanned-suc, slots-leaf, slots-node}
 
 -- ---- one slot, and one list after another
 
+pub same_store : (l : List ℕ) {k j : ℕ} {page o : List ℕ} → k ≡ j → page ≡ o → store k l page ≡ store j l o
+same_store l e f = cc
+
 -- a full page stays as it is
 pub full : (k : ℕ) (l page : List ℕ) → length page ≤ k → stored k page ≡ store k l page
 unfolding store

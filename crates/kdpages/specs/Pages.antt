@@ -1,45 +1,43 @@
 -- A walk that is read a page at a time: what is ahead of a reader, for every content of the page, and the laws that a caller's loop goes
 -- by. Assumes nothing.
 --
--- A caller's loop. `let mut page = [0usize; 64]; let mut p = begin();` and in the loop `let t = next_slot(q, size, n, coords, &mut page,
--- p); p = t.pages; let s = t.step; let Step::Slot(c) = s else { .. };`. With l = ahead_of q size n coords page p at the loop's head: the
--- invariant is AllBelow n l × (any fold over l ≡ the same fold over the walk), and the measure is length l. It starts by `ahead-begun`
--- and `walk-below`. At a slot `next-slot` gives l ≡ c ∷ l', where l' is what is ahead afterwards: c is below n and l' keeps the invariant
--- by `below_next`, and l' is shorter. At any other step `next-end` gives l ≡ []. The page's contents and its length are never asked for;
--- where the page is a local array the invariant also has length page ≡ 64, which the call keeps, so that it can be lent.
-use Rattle.std.specs.Prelude.{Bool, true, false, cond, ◌&&◌, ◌≡◌, refl, List, [], ◌∷◌, ◌++◌, ℕ, ◌+◌, ◌-◌, ◌≤◌, ◌<◌, ltb, eqb, Float, length, set, take, drop}
+-- A caller's loop. `let mut page = [0usize; 64]; let mut p = Pages::begin();` and then `while let Some(c) = p.next_slot(s, &mut page)`.
+-- With l = ahead_of q size n coords page p at the loop's head: the invariant is AllBelow n l × (any fold over l ≡ the same fold over the
+-- walk), and the measure is length l. It starts by `ahead-begun` and `walk-below`. At a slot `next-slot` gives l ≡ c ∷ l', where l' is
+-- what is ahead afterwards: c is below n and l' keeps the invariant by `below_next`, and l' is shorter. At the end `next-end` gives
+-- l ≡ []. The page's contents and its length are never asked for; where the page is a local array the invariant also has
+-- length page ≡ 64, which the call keeps, so that it can be lent.
+use Rattle.std.specs.Prelude.{Bool, true, false, cond, ◌&&◌, ◌≡◌, refl, List, [], ◌∷◌, ◌++◌, ℕ, ◌+◌, ◌-◌, ◌≤◌, ◌<◌, ltb, eqb, Float, length, set, take, drop, Option, Some, None}
 use Rattle.std.proofs.Common.{sym, ap, ◌∙◌, subst, ⊎_elim, arith, lt-ltb, le-ltb, ne_eqb, ltb-true, ltb-false}
 use Rattle.std.proofs.lemmas.Bool.{eqb-false}
 use Rattle.std.proofs.Math.Seq.{append_snoc}
 use Rattle.kdsort.specs.Shape.{Shape, node, shape}
 use Rattle.kdsort.specs.laws.Shape.{Spans, all, both, spans}
 use Rattle.kdslots.specs.declared.Query.{Query}
-use Rattle.kdwalk.specs.declared.Step.{Step}
-use Rattle.kdwalk.specs.declared.Step.TheVariants.{Slot, Done, Box, Spoiled}
 use Rattle.kdpages.specs.declared.Onward.{Onward}
 use Rattle.kdpages.specs.declared.Onward.TheVariants.{Start, After, Nothing}
 use Rattle.kdpages.specs.declared.Pages.{Pages}
-use Rattle.kdpages.specs.declared.Turned.{Turned}
 use Rattle.kdslots.specs.Query.{query_ok}
 use Rattle.kdslots.specs.laws.All.{All, AllBelow}
 use Rattle.kdslots.specs.Slots.{Search, when, scanned, slots, over}
 use Rattle.kdwalk.specs.Cursor.{rest, rest_of}
 use Rattle.kdslots.specs.Bounds.{coords_ok}
-use Rattle.kdwalk.specs.Reply.{next_step, walk, walk_after}
+use Rattle.kdwalk.specs.Reply.{walk, walk_after}
+use Rattle.kdwalk.specs.laws.Cursor.{head_of}
 use Rattle.kdslots.specs.laws.Members.{split, no-nil, when-all}
 use Rattle.kdwalk.specs.laws.Walk.{rest-follows, scanned-rest, walk-follows, goes}
 
 -- ---- what is ahead
 
--- what a walk has from where it goes on, c being the slot that it goes on after, where it goes on after one
-abbrev pub onward_of : Query → ℕ → ℕ → List Float → Onward → ℕ → List ℕ
-onward_of q size n co Start c = walk q size n co
-onward_of q size n co After c = walk_after q size n co c
-onward_of q size n co Nothing c = []
+-- what a walk has from where it goes on
+abbrev pub onward_of : Query → ℕ → ℕ → List Float → Onward → List ℕ
+onward_of q size n co Start = walk q size n co
+onward_of q size n co (After c) = walk_after q size n co c
+onward_of q size n co Nothing = []
 
 -- what is left to read of the page, and then what the walk has after the page
 unfoldable pub ahead_of : Query → ℕ → ℕ → List Float → List ℕ → Pages → List ℕ
-ahead_of q size n co page p = drop p.at (take p.len page) ++ onward_of q size n co p.onward p.last
+ahead_of q size n co page p = drop p.at (take p.len page) ++ onward_of q size n co p.onward
 
 -- all but the first
 abbrev pub tail_of : List ℕ → List ℕ
@@ -48,18 +46,12 @@ tail_of (i ∷ l) = l
 
 -- a walk that begins
 abbrev pub begun : Pages
-begun = record { len = 0; at = 0; onward = Start; last = 0 }
+begun = record { len = 0; at = 0; onward = Start }
 
--- a step with an empty page: the walk goes on after the slot
-abbrev pub stepped_of : Step → Turned
-stepped_of (Slot i) = record { step = Slot i; pages = record { len = 0; at = 0; onward = After; last = i } }
-stepped_of Done = record { step = Done; pages = record { len = 0; at = 0; onward = Nothing; last = 0 } }
-stepped_of Box = record { step = Done; pages = record { len = 0; at = 0; onward = Nothing; last = 0 } }
-stepped_of Spoiled = record { step = Done; pages = record { len = 0; at = 0; onward = Nothing; last = 0 } }
-
--- the first step of a list
-abbrev pub lone_of : List ℕ → Turned
-lone_of l = stepped_of (next_step Done l)
+-- with an empty page: the walk goes on after the slot, or is done
+abbrev pub stepped_of : Option ℕ → Pages
+stepped_of (Some i) = record { len = 0; at = 0; onward = After i }
+stepped_of None = record { len = 0; at = 0; onward = Nothing }
 
 -- how many slots a page has, beside the page
 pub data Stored : Type 0 where
@@ -81,15 +73,15 @@ unfolding ahead_of
 ahead-begun q size n co page = refl
 
 -- a step at a slot: what was ahead is the slot, and then what is ahead now
-pub next-slot : (l l' : List ℕ) (s : Step) (c : ℕ) → s ≡ Slot c → s ≡ next_step Done l → l' ≡ tail_of l → l ≡ c ∷ l'
-next-slot [] l' s c e f g = let z : Slot c ≡ Done = sym e ∙ f in absurd (let z : ◌≡◌ {A = ℕ} 0 1 = cc in omega arith)
+pub next-slot : (l l' : List ℕ) (s : Option ℕ) (c : ℕ) → s ≡ Some c → s ≡ head_of l → l' ≡ tail_of l → l ≡ c ∷ l'
+next-slot [] l' s c e f g = let z : Some c ≡ None = sym e ∙ f in absurd (let z : ◌≡◌ {A = ℕ} 0 1 = cc in omega arith)
 next-slot (i ∷ l) l' s c e f g =
-    let z : Slot c ≡ Slot i = sym e ∙ f in
+    let z : Some c ≡ Some i = sym e ∙ f in
     let y : i ≡ c = cc in
     ap (λ (k : ℕ). k ∷ l) y ∙ ap (λ (m : List ℕ). c ∷ m) (sym g)
 
 -- a step that is no slot: nothing was ahead
-pub next-end : (l : List ℕ) (s : Step) → ((i : ℕ) → s ≡ Slot i → ⊥) → s ≡ next_step Done l → l ≡ []
+pub next-end : (l : List ℕ) (s : Option ℕ) → ((i : ℕ) → s ≡ Some i → ⊥) → s ≡ head_of l → l ≡ []
 next-end [] s h e = refl
 next-end (i ∷ l) s h e = absurd (h i e)
 
@@ -175,13 +167,13 @@ rest-again s ax lo hi _ (both {m = m} {r = r} {l = l} a b p q) d h k pre c post 
 
 module _ (q : Query) (size n : ℕ) (co : List Float) where
   -- a walk goes on after each of its slots with what follows it
-  pub onward-follows : (from : Onward) (d : ℕ) (pre : List ℕ) (c : ℕ) (post : List ℕ) → onward_of q size n co from d ≡ pre ++ c ∷ post
+  pub onward-follows : (from : Onward) (pre : List ℕ) (c : ℕ) (post : List ℕ) → onward_of q size n co from ≡ pre ++ c ∷ post
       → walk_after q size n co c ≡ post
-  onward-follows Start d pre c post e =
+  onward-follows Start pre c post e =
       let w = walk-follows q size n co pre c post e in
       let b : (coords_ok size n (length co) && query_ok q && ltb c n) ≡ true = rw (goes q size n co pre c post e, lt-ltb c n w.0) in
       ap (λ (t : Bool). cond t (rest_of q co size n c) []) b ∙ w.1
-  onward-follows After d pre c post e = go (coords_ok size n (length co) && query_ok q) (ltb d n) refl refl e
+  onward-follows (After d) pre c post e = go (coords_ok size n (length co) && query_ok q) (ltb d n) refl refl e
     where
       go : (a b : Bool) → (coords_ok size n (length co) && query_ok q) ≡ a → ltb d n ≡ b
           → cond (a && b) (rest_of q co size n d) [] ≡ pre ++ c ∷ post → walk_after q size n co c ≡ post
@@ -192,4 +184,4 @@ module _ (q : Query) (size n : ℕ) (co : List Float) where
           ap (λ (t : Bool). cond t (rest_of q co size n c) []) b ∙ w.2
       go true false f g x = absurd (no-nil pre c post x)
       go false b f g x = absurd (no-nil pre c post x)
-  onward-follows Nothing d pre c post e = absurd (no-nil pre c post e)
+  onward-follows Nothing pre c post e = absurd (no-nil pre c post e)

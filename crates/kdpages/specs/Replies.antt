@@ -1,10 +1,8 @@
 -- Any two replies that meet the contract of `begin` are equal; of `next_slot`, any two steps, and what is ahead of the reader after each.
 -- Assumes nothing.
-use Rattle.std.specs.Prelude.{◌≡◌, List, ℕ}
+use Rattle.std.specs.Prelude.{◌≡◌, List, ℕ, Option}
 use Rattle.floats.specs.laws.Replies.{same-reply}
-use Rattle.kdwalk.specs.declared.Step.{Step}
-use Rattle.kdwalk.specs.declared.Step.TheVariants.{Done}
-use Rattle.kdwalk.specs.Reply.{next_step}
+use Rattle.kdwalk.specs.laws.Cursor.{head_of}
 use Rattle.kdpages.specs.declared.Pages.{Pages}
 use Rattle.kdpages.specs.Pages.{begun, tail_of}
 
@@ -12,7 +10,7 @@ pub begin-replies : (r t : Pages) → r ≡ begun → t ≡ begun → r ≡ t
 begin-replies r t = same-reply
 
 -- `next_slot`: the step; and what is ahead afterwards, which is all that a reader of the walk sees of the page
-pub next-slot-replies : (l : List ℕ) (r t : Step) → r ≡ next_step Done l → t ≡ next_step Done l → r ≡ t
+pub next-slot-replies : (l : List ℕ) (r t : Option ℕ) → r ≡ head_of l → t ≡ head_of l → r ≡ t
 next-slot-replies l r t = same-reply
 
 pub next-slot-ahead : (l u v : List ℕ) → u ≡ tail_of l → v ≡ tail_of l → u ≡ v

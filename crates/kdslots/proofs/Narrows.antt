@@ -1,10 +1,11 @@
 -- What a search of an interval answers where only one side is searched: what that side answers, since no median passes there. Assumes
 -- nothing.
-use mathlib.Core.Path.{◌≡◌, refl, sym, ap, ◌∙◌, subst}
+use mathlib.Core.Path.{◌≡◌, refl, sym, ◌∙◌, subst}
 use mathlib.Core.Bool.{Bool, true, false, ◌&&◌, true≢false}
-use mathlib.Core.List.{List, [], ◌∷◌, ◌++◌}
+use mathlib.Core.List.{List}
 use Prim.Native.Nat.{ℕ, ◌+◌, ◌-◌, ◌<◌}
 use lib.Ieee.{Float}
+use Rattle.std.proofs.lemmas.List.{append-nil}
 use Rattle.kdsort.specs.Cols.{key}
 use Rattle.kdsort.specs.Shape.{shape, mid}
 use Rattle.kdslots.specs.declared.Query.{Query}
@@ -15,14 +16,10 @@ use Rattle.kdslots.specs.laws.Reaches.{on-axis}
 use Rattle.kdslots.proofs.Complete.{median-reached}
 use Rattle.kdslots.specs.laws.Intervals.{slots-node}
 
-and-no-more : (l : List ℕ) → l ++ [] ≡ l
-and-no-more [] = refl
-and-no-more (i ∷ l) = ap (λ (z : List ℕ). i ∷ z) (and-no-more l)
-
 module _ (s : Search) (ax most lo hi : ℕ) (h : most < hi - lo) (no : s.test (mid lo hi) ≡ false) where
   pub only-right : s.right ax (mid lo hi) ≡ true → s.left ax (mid lo hi) ≡ false
       → slots s ax (shape most lo hi) ≡ slots s (1 - ax) (shape most (mid lo hi + 1) hi)
-  only-right r l = rw (slots-node s ax most lo hi h, no, r, l) (and-no-more (slots s (1 - ax) (shape most (mid lo hi + 1) hi)))
+  only-right r l = rw (slots-node s ax most lo hi h, no, r, l) (append-nil (slots s (1 - ax) (shape most (mid lo hi + 1) hi)))
 
   pub only-left : s.right ax (mid lo hi) ≡ false → s.left ax (mid lo hi) ≡ true
       → slots s ax (shape most lo hi) ≡ slots s (1 - ax) (shape most lo (mid lo hi))

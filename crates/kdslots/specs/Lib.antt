@@ -10,5 +10,7 @@ pub mod Slots
 pub mod Bounds
 -- Keep: the places of a list that pass a test, in the list's order.
 pub mod Keep
+-- Covers: what a search asks of an interval that it goes into.
+pub mod Covers
 -- What is true of these: laws, and what contracts below the surface of kdslots cite beside them.
 pub mod laws

@@ -4,15 +4,31 @@
 
 ghost use Rattle.std.specs.Prelude.{◌≡◌, ◌+◌, ◌*◌, ◌≤◌, ◌<◌, length};
 ghost use Rattle.kdsort.specs.Shape.{shape};
-ghost use Rattle.kdslots.specs.Query.{passes_q, query_ok};
+ghost use Rattle.kdslots.specs.Query.{passes_q, on_axis, too_far, query_ok};
 ghost use Rattle.kdslots.specs.Slots.{over, slots};
 ghost use Rattle.kdslots.specs.Bounds.{node_size_ok, count_ok, coords_ok};
+
+pub use kdsort::Interval;
 
 // The most points that an index may have.
 pub const MOST_POINTS: usize = 1048576;
 
 // The largest node size.
 pub const MOST_NODE_SIZE: usize = 65535;
+
+// Whether an index may have this node size.
+pub fn node_size_ok(node_size: usize) -> bool
+    ensures { result ≡ node_size_ok node_size }
+{
+    (1..=MOST_NODE_SIZE).contains(&node_size)
+}
+
+// Whether an index may have this many points.
+pub fn count_ok(n: usize) -> bool
+    ensures { result ≡ count_ok n }
+{
+    (1..=MOST_POINTS).contains(&n)
+}
 
 // What is asked of an index: the entries of a box, or those around a place.
 #[derive(Clone, Copy)]
@@ -30,176 +46,150 @@ pub enum Query {
     },
 }
 
-// The slots from lo up to hi, and the axis that they are split on.
+// Of two coordinates the one on the axis.
+fn on_axis(axis: usize, x: f64, y: f64) -> f64
+    ensures { result ≡ on_axis axis x y }
+{
+    if axis == 0 { x } else { y }
+}
+
+// Whether the coordinate v alone lies further than the radius from p.
+fn too_far(v: f64, p: f64, radius: f64) -> bool
+    ensures { result ≡ too_far v p radius }
+{
+    let d = v - p;
+    radius * radius < d * d
+}
+
+impl Query {
+    // Whether it is one that SCOPE takes.
+    pub fn is_ok(self) -> bool
+        ensures { result ≡ query_ok self }
+    {
+        match self {
+            Query::Range {
+                min_x,
+                min_y,
+                max_x,
+                max_y,
+            } => floats::both_finite(min_x, min_y) && floats::both_finite(max_x, max_y),
+            Query::Within { qx, qy, radius } => {
+                floats::both_finite(qx, qy) && floats::is_finite(radius) && 0.0 <= radius
+            }
+        }
+    }
+
+    // Whether the point is answered.
+    fn passes(self, x: f64, y: f64) -> bool
+        ensures { result ≡ passes_q self x y }
+    {
+        match self {
+            Query::Range {
+                min_x,
+                min_y,
+                max_x,
+                max_y,
+            } => (x >= min_x) & (y >= min_y) & (x <= max_x) & (y <= max_y),
+            Query::Within { qx, qy, radius } => {
+                let dx = x - qx;
+                let dy = y - qy;
+                dx * dx + dy * dy <= radius * radius
+            }
+        }
+    }
+}
+
+// A search of the first n slots of an index, by its node size. Slot p has the coordinates coords[2 * p] and coords[2 * p + 1].
 #[derive(Clone, Copy)]
-pub struct Interval {
-    pub lo: usize,
-    pub hi: usize,
-    pub axis: usize,
+pub struct Search<'a> {
+    pub query: Query,
+    pub node_size: usize,
+    pub n: usize,
+    pub coords: &'a [f64],
 }
 
-// Whether the point is answered.
-fn passes(q: Query, x: f64, y: f64) -> bool
-    ensures { result ≡ passes_q q x y }
-{
-    match q {
-        Query::Range {
-            min_x,
-            min_y,
-            max_x,
-            max_y,
-        } => (x >= min_x) & (y >= min_y) & (x <= max_x) & (y <= max_y),
-        Query::Within { qx, qy, radius } => {
-            let dx = x - qx;
-            let dy = y - qy;
-            dx * dx + dy * dy <= radius * radius
-        }
+impl Search<'_> {
+    // Whether the coordinates of the index may be searched.
+    pub fn is_sound(&self) -> bool
+        ensures { let s = self.now in result ≡ coords_ok s.node_size s.n (length s.coords.now) }
+    {
+        node_size_ok(self.node_size) && count_ok(self.n) && 2 * self.n <= self.coords.len()
     }
-}
 
-// Whether the slot i is answered.
-pub fn test_at(q: Query, coords: &[f64], i: usize) -> bool
-    requires { 2 * i + 1 < length coords.now }
-    ensures { result ≡ (over q coords.now).test i }
-{
-    passes(q, coords[2 * i], coords[2 * i + 1])
-}
+    // The most slots that are not split.
+    pub fn most(&self) -> usize
+        requires { self.now.node_size ≤ 65535 }
+        ensures { result ≡ self.now.node_size + 1 }
+    {
+        self.node_size + 1
+    }
 
-// Whether the part left of the median m is searched.
-pub fn left_at(q: Query, coords: &[f64], axis: usize, m: usize) -> bool
-    requires { (2 * m + 1 < length coords.now) × (axis < 2) }
-    ensures { result ≡ (over q coords.now).left axis m }
-{
-    let v = coords[2 * m + axis];
-    match q {
-        Query::Range {
-            min_x,
-            min_y,
-            max_x,
-            max_y,
-        } => { if axis == 0 { min_x <= v } else { min_y <= v } }
-        Query::Within { qx, qy, radius } => {
-            if axis == 0 {
-                let d = v - qx;
-                !((v < qx) & (radius * radius < d * d))
-            } else {
-                let d = v - qy;
-                !((v < qy) & (radius * radius < d * d))
+    // Whether the slot i is answered.
+    pub fn tests(&self, i: usize) -> bool
+        requires { 2 * i + 1 < length self.now.coords.now }
+        ensures { let s = self.now in result ≡ (over s.query s.coords.now).test i }
+    {
+        self.query
+            .passes(self.coords[2 * i], self.coords[2 * i + 1])
+    }
+
+    // Whether the part left of the median m is searched.
+    pub fn goes_left(&self, axis: usize, m: usize) -> bool
+        requires { (2 * m + 1 < length self.now.coords.now) × (axis < 2) }
+        ensures { let s = self.now in result ≡ (over s.query s.coords.now).left axis m }
+    {
+        let v = self.coords[2 * m + axis];
+        match self.query {
+            Query::Range { min_x, min_y, .. } => on_axis(axis, min_x, min_y) <= v,
+            Query::Within { qx, qy, radius } => {
+                let p = on_axis(axis, qx, qy);
+                !((v < p) & too_far(v, p, radius))
             }
         }
     }
-}
 
-// Whether the part right of the median m is searched.
-pub fn right_at(q: Query, coords: &[f64], axis: usize, m: usize) -> bool
-    requires { (2 * m + 1 < length coords.now) × (axis < 2) }
-    ensures { result ≡ (over q coords.now).right axis m }
-{
-    let v = coords[2 * m + axis];
-    match q {
-        Query::Range {
-            min_x,
-            min_y,
-            max_x,
-            max_y,
-        } => { if axis == 0 { max_x >= v } else { max_y >= v } }
-        Query::Within { qx, qy, radius } => {
-            if axis == 0 {
-                let d = v - qx;
-                !((qx < v) & (radius * radius < d * d))
-            } else {
-                let d = v - qy;
-                !((qy < v) & (radius * radius < d * d))
+    // Whether the part right of it is searched. (Apart from the left: which comparison is made decides what a NaN does.)
+    pub fn goes_right(&self, axis: usize, m: usize) -> bool
+        requires { (2 * m + 1 < length self.now.coords.now) × (axis < 2) }
+        ensures { let s = self.now in result ≡ (over s.query s.coords.now).right axis m }
+    {
+        let v = self.coords[2 * m + axis];
+        match self.query {
+            Query::Range { max_x, max_y, .. } => on_axis(axis, max_x, max_y) >= v,
+            Query::Within { qx, qy, radius } => {
+                let p = on_axis(axis, qx, qy);
+                !((p < v) & too_far(v, p, radius))
             }
         }
     }
-}
 
-// An interval that has all that is answered of the slots below n: while it has more than `most` slots and only one side of its median is
-// searched, the rest is left out. No median is answered there.
-pub fn narrow(q: Query, coords: &[f64], most: usize, n: usize) -> Interval
-    requires { 2 * n ≤ length coords.now }
-    ensures hi_value { let s = over q coords.now in slots s result.axis (shape most result.lo result.hi) ≡ slots s 0 (shape most 0 n) }
-    ensures lo_le_hi { (result.lo ≤ result.hi) × (result.hi ≤ n) × (result.axis < 2) }
-{
-    let mut lo = 0;
-    let mut hi = n;
-    let mut axis = 0;
-    while most < hi - lo {
-        let m = lo + (hi - lo - 1) / 2;
-        if right_at(q, coords, axis, m) {
-            if left_at(q, coords, axis, m) {
-                return Interval { lo, hi, axis };
-            }
-            lo = m + 1;
-            axis = 1 - axis;
-        } else {
-            if !left_at(q, coords, axis, m) {
-                return Interval { lo, hi, axis };
-            }
-            hi = m;
-            axis = 1 - axis;
-        }
-    }
-    Interval { lo, hi, axis }
-}
-
-// Whether an index may have this node size.
-pub fn node_size_ok(node_size: usize) -> bool
-    ensures { result ≡ node_size_ok node_size }
-{
-    if 1 <= node_size {
-        return node_size <= MOST_NODE_SIZE;
-    }
-    false
-}
-
-// Whether an index may have this many points.
-pub fn count_ok(n: usize) -> bool
-    ensures { result ≡ count_ok n }
-{
-    if 1 <= n {
-        return n <= MOST_POINTS;
-    }
-    false
-}
-
-// Whether the coordinates of an index of n slots may be searched.
-pub fn coords_ok(node_size: usize, n: usize, coords: usize) -> bool
-    ensures { result ≡ coords_ok node_size n coords }
-{
-    if !node_size_ok(node_size) {
-        return false;
-    }
-    if !count_ok(n) {
-        return false;
-    }
-    2 * n <= coords
-}
-
-// Whether a query is one that SCOPE takes.
-pub fn query_ok(q: Query) -> bool
-    ensures { result ≡ query_ok q }
-{
-    match q {
-        Query::Range {
-            min_x,
-            min_y,
-            max_x,
-            max_y,
-        } => {
-            if floats::both_finite(min_x, min_y) {
-                return floats::both_finite(max_x, max_y);
-            }
-            false
-        }
-        Query::Within { qx, qy, radius } => {
-            if floats::both_finite(qx, qy) {
-                if floats::is_finite(radius) {
-                    return 0.0 <= radius;
+    // An interval that has all that is answered: while it has more than `most` slots and only one side of its median is searched, the
+    // rest is left out. No median is answered there.
+    pub fn narrow(&self, most: usize) -> Interval
+        requires { 2 * self.now.n ≤ length self.now.coords.now }
+        ensures hi_value { let s = over self.now.query self.now.coords.now in
+            slots s result.axis (shape most result.lo result.hi) ≡ slots s 0 (shape most 0 self.now.n) }
+        ensures hi_le_n { result.hi ≤ self.now.n }
+    {
+        let mut v = Interval {
+            lo: 0,
+            hi: self.n,
+            axis: 0,
+        };
+        while most < v.len() {
+            let m = v.median();
+            if self.goes_right(v.axis, m) {
+                if self.goes_left(v.axis, m) {
+                    return v;
                 }
+                v = v.right();
+            } else {
+                if !self.goes_left(v.axis, m) {
+                    return v;
+                }
+                v = v.left();
             }
-            false
         }
+        v
     }
 }

@@ -4,7 +4,7 @@ use mathlib.Core.Path.{◌≡◌, refl}
 use mathlib.Core.Bool.{Bool, true, false, not}
 use mathlib.Core.List.{List}
 use Prim.Native.Nat.{ℕ, ◌+◌, ◌-◌, ◌<◌, ◌≤◌}
-use native.Mathlib.Nat.{le_refl}
+use native.Mathlib.Nat.{le_refl, add-zero}
 use native.Mathlib.Omega.{arith}
 use mir.Val.{bool_byte}
 use lib.ListN.{length, set}
@@ -13,9 +13,6 @@ use lib.Ieee.{Float, lt}
 use Rattle.kdsort.specs.Cols.{key}
 use Rattle.kdsort.specs.laws.Scans.{up_none, down-none}
 use Rattle.kdsort.specs.laws.Batches.{batch_entry, next_up, next_down, Ups, Downs, ups-past, ups-stop, downs-past, downs-stop}
-
-add-0 : (n : ℕ) → n + 0 ≡ n
-add-0 n = omega arith
 
 pub ups-starts : (a : ℕ) (t : Float) (c : List Float) (from : ℕ) (xs : List ℕ) → 0 < length xs
     → Ups a t c from from (batch_entry (set xs 0 from)) 0
@@ -58,7 +55,7 @@ ups-more a t c from p n xs u l = go (lt (key a c p) t) refl where
   go : (b : Bool) → lt (key a c p) t ≡ b
       → Ups a t c from (p + 1) (batch_entry (set xs (n + bool_byte (not b)) (p + 1))) (n + bool_byte (not b))
   go true h =
-      rw (add-0 n) (ups-past a t c from p n (batch_entry xs) (batch_entry (set xs n (p + 1))) u
+      rw (add-zero n) (ups-past a t c from p n (batch_entry xs) (batch_entry (set xs n (p + 1))) u
       (λ k m. get_or-set_other xs n k (p + 1) 0 (λ q. omega arith)) (get_or-set_same xs n (p + 1) 0 (omega arith)) h)
   go false h =
       ups-stop a t c from p n (batch_entry xs) (batch_entry (set xs (n + 1) (p + 1))) u
@@ -71,7 +68,7 @@ downs-more a t c from p n xs u z l = go (lt t (key a c p)) refl where
   go : (b : Bool) → lt t (key a c p) ≡ b
       → Downs a t c from (p - 1) (batch_entry (set xs (n + bool_byte (not b)) (p - 1))) (n + bool_byte (not b))
   go true h =
-      rw (add-0 n) (downs-past a t c from p n (batch_entry xs) (batch_entry (set xs n (p - 1))) u z
+      rw (add-zero n) (downs-past a t c from p n (batch_entry xs) (batch_entry (set xs n (p - 1))) u z
       (λ k m. get_or-set_other xs n k (p - 1) 0 (λ q. omega arith)) (get_or-set_same xs n (p - 1) 0 (omega arith)) h)
   go false h =
       downs-stop a t c from p n (batch_entry xs) (batch_entry (set xs (n + 1) (p - 1))) u z

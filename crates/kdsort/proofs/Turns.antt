@@ -7,7 +7,6 @@ use Prim.Native.Nat.{ℕ, zero, suc, ◌+◌, ◌-◌, ◌<◌, ◌≤◌}
 use native.Mathlib.Nat.{le_refl}
 use native.Mathlib.Omega.{arith}
 use lib.Dec.{ltb, leb}
-use lib.ListN.{length}
 use lib.Ieee.{Float, lt, eq}
 use borrow.Author.Tests.{lt-ltb, le-ltb}
 use Rattle.kdsort.specs.Cols.{IndexCols, index_cols, swap_item, key}
@@ -49,25 +48,21 @@ pub record Low (a : ℕ) (t : Float) (c : List Float) (l j : ℕ) : Type 0 where
   pub stop : lt t (key a c slot) ≡ false
 
 -- at the head of a pass
-pub record Pass (P : Cut) (a : ℕ) (t : Float) (l r n m : ℕ) (ids : List ℕ) (co : List Float) (i j : ℕ) : Type 0 where
-  pub ids-long : length ids ≡ n
-  pub co-long : length co ≡ m
+pub record Pass (P : Cut) (a : ℕ) (t : Float) (l r : ℕ) (s : IndexCols) (i j : ℕ) : Type 0 where
   pub i-from : l ≤ i
   pub i-to : i ≤ r
   pub j-from : l ≤ j
   pub j-to : j ≤ r
-  pub i-stop : lt (key a co i) t ≡ false
-  pub j-stop : lt t (key a co j) ≡ false
+  pub i-stop : lt (key a s.co i) t ≡ false
+  pub j-stop : lt t (key a s.co j) ≡ false
   pub moved : j ≤ i → j < r
-  pub goes : Passing P a t (index_cols ids co) i j
+  pub goes : Passing P a t s i j
 
 -- at the head of a cut
-pub record Parts (S : IndexCols) (a k last n m : ℕ) (ids : List ℕ) (co : List Float) (l r : ℕ) : Type 0 where
-  pub ids-long : length ids ≡ n
-  pub co-long : length co ≡ m
+pub record Parts (S : IndexCols) (a k last : ℕ) (s : IndexCols) (l r : ℕ) : Type 0 where
   pub r-to : r ≤ last
   pub around : l < r → (l ≤ k) × (k ≤ r)
-  pub goes : Selecting S a k (index_cols ids co) l r
+  pub goes : Selecting S a k s l r
 
 -- ---- before and after the passes
 

@@ -1,20 +1,26 @@
 -- The index's two lent columns in a contract, each named once. Definitions only.
-use Rattle.std.specs.Prelude.{ℕ, Float}
+use Rattle.std.specs.Prelude.{◌≡◌, ℕ, Float, length}
 use denote.Triple.Both.{Both}
-use Rattle.lent.specs.Lent.{Slice, Lent, SliceMut, LentMut}
+use Rattle.lent.specs.Lent.{LentMut}
+use Rattle.kdsort.specs.declared.Index.{Index}
+use Rattle.kdsort.specs.declared.IndexMut.{IndexMut}
 use Rattle.kdsort.specs.Cols.{IndexCols, index_cols}
 
--- in a `requires`, where they are read, and where they are written
-abbrev pub given_index : Slice ℕ → Slice Float → IndexCols
-given_index ids coords = index_cols ids.now coords.now
-
-abbrev pub given_index_mut : SliceMut ℕ → SliceMut Float → IndexCols
-given_index_mut ids coords = index_cols ids.now coords.now
-
--- in an `ensures`: as the function is called, and as it returns
-abbrev pub lent_index : Lent ℕ → Lent Float → Both IndexCols IndexCols
-lent_index ids coords = record { entry = given_index ids.entry coords.entry; exit = given_index ids.exit coords.exit }
-
+-- two columns that are written, in an `ensures`: as the function is called, and as it returns
 abbrev pub lent_index_mut : LentMut ℕ → LentMut Float → Both IndexCols IndexCols
 lent_index_mut ids coords =
-    record { entry = given_index_mut ids.entry coords.entry; exit = given_index_mut ids.exit coords.exit }
+    record { entry = index_cols ids.entry.now coords.entry.now; exit = index_cols ids.exit.now coords.exit.now }
+
+-- what the columns of an index hold: lent to be read, and to be written
+abbrev pub index_held : Index → IndexCols
+index_held i = index_cols i.ids.now i.coords.now
+
+abbrev pub index_held_mut : IndexMut → IndexCols
+index_held_mut i = index_cols i.ids.now i.coords.now
+
+-- the same two loans, each as long as it was
+pub record SameIndex (before after : IndexMut) : Type 0 where
+  pub ids : after.ids.ghost_name ≡ before.ids.ghost_name
+  pub coords : after.coords.ghost_name ≡ before.coords.ghost_name
+  pub ids_length : length after.ids.now ≡ length before.ids.now
+  pub coords_length : length after.coords.now ≡ length before.coords.now

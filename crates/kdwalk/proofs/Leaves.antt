@@ -8,7 +8,7 @@ use borrow.Author.Tests.{lt-ltb, le-ltb, eq-eqb, ne_eqb, ltb-false, eqb-false}
 use lib.Dec.{ltb, eqb}
 use Rattle.kdsort.specs.Shape.{Shape, leaf, node, shape, mid}
 use Rattle.kdsort.specs.laws.Shape.{Spans, all, both, shape-leaf, shape-node}
-use Rattle.kdwalk.specs.declared.Next.TheVariants.{Slot, Done}
+use Rattle.std.specs.Prelude.{Some, None}
 use Rattle.kdslots.specs.Slots.{Search, when, scanned, slots}
 use Rattle.kdwalk.specs.laws.Cursor.{head_of, leaf_end}
 use Rattle.kdwalk.specs.Cursor.{rest}
@@ -36,19 +36,19 @@ end-leaf most lo hi c h = rw (shape-leaf most lo hi h)
 -- ---- what is answered there
 
 -- the rest of the leaf comes first of what is answered after the slot
-pub leaf_first : (s : Search) (ax : ℕ) (t : Shape) (c i : ℕ) → Slot i ≡ head_of (scanned s (c + 1) (leaf_end t c - (c + 1)))
-    → Slot i ≡ head_of (rest s ax t c)
+pub leaf_first : (s : Search) (ax : ℕ) (t : Shape) (c i : ℕ) → Some i ≡ head_of (scanned s (c + 1) (leaf_end t c - (c + 1)))
+    → Some i ≡ head_of (rest s ax t c)
 unfolding leaf_end rest
 leaf_first s ax (leaf lo hi) c i e = e
 leaf_first s ax (node m r l) c i e = go (eqb c m) (ltb m c) refl refl (leaf_first s (1 - ax) r c i) (leaf_first s (1 - ax) l c i)
   where
     go : (b d : Bool) → eqb c m ≡ b → ltb m c ≡ d
-        → (Slot i ≡ head_of (scanned s (c + 1) (leaf_end r c - (c + 1))) → Slot i ≡ head_of (rest s (1 - ax) r c))
-        → (Slot i ≡ head_of (scanned s (c + 1) (leaf_end l c - (c + 1))) → Slot i ≡ head_of (rest s (1 - ax) l c))
-        → Slot i ≡ head_of (rest s ax (node m r l) c)
+        → (Some i ≡ head_of (scanned s (c + 1) (leaf_end r c - (c + 1))) → Some i ≡ head_of (rest s (1 - ax) r c))
+        → (Some i ≡ head_of (scanned s (c + 1) (leaf_end l c - (c + 1))) → Some i ≡ head_of (rest s (1 - ax) l c))
+        → Some i ≡ head_of (rest s ax (node m r l) c)
     go true d p q right left =
-        let f : Slot i ≡ head_of (scanned s (c + 1) (c + 1 - (c + 1))) = rw (p, leaf_end) at e in
-        let g : Done ≡ Slot i = none s (c + 1) (c + 1) (omega arith) ∙ sym f in
+        let f : Some i ≡ head_of (scanned s (c + 1) (c + 1 - (c + 1))) = rw (p, leaf_end) at e in
+        let g : None ≡ Some i = none s (c + 1) (c + 1) (omega arith) ∙ sym f in
         absurd (let z : ◌≡◌ {A = ℕ} 0 1 = cc in omega arith)
     go false true p q right left = rw (p, q, rest)
         (picks (rest s (1 - ax) r c) (when (s.left ax m) (slots s (1 - ax) l)) i (right (rw (p, q, leaf_end) at e)))

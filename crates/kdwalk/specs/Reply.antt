@@ -1,36 +1,36 @@
 -- The steps of a walk over the answered slots, for every input: SCOPE's refusals in its order, and otherwise the answer, one slot at a
 -- time. Definitions only.
-use Rattle.std.specs.Prelude.{cond, ◌&&◌, List, [], ◌∷◌, ℕ, ltb, length, Float}
+use Rattle.std.specs.Prelude.{cond, ◌&&◌, List, [], ◌∷◌, ℕ, ltb, length, Float, Option, Some, None, Result, Ok, Err}
+use Rattle.refusals.specs.declared.Refusal.{Refusal}
+use Rattle.refusals.specs.declared.Refusal.TheVariants.{Box, Spoiled}
 use Rattle.kdslots.specs.declared.Query.{Query}
 use Rattle.kdslots.specs.Query.{query_ok}
 use Rattle.kdslots.specs.Slots.{answers}
 use Rattle.kdslots.specs.Bounds.{coords_ok}
-use Rattle.kdwalk.specs.declared.Step.{Step}
-use Rattle.kdwalk.specs.declared.Step.TheVariants.{Slot, Done, Box, Spoiled}
 use Rattle.kdwalk.specs.Cursor.{rest_of}
 
--- SCOPE's number of a step
-abbrev pub step_number : Step → ℕ
-step_number (Slot i) = 0
-step_number Done = 0
-step_number Box = 9
-step_number Spoiled = 11
+-- a step of a walk over the answered slots: the next slot, none at the end, or a refusal
+abbrev pub Step : Type 0
+Step = Result (Option ℕ) Refusal
 
 -- the slot that a step carries, or the largest usize where it carries none
 abbrev pub step_carried : Step → ℕ
-step_carried (Slot i) = i
-step_carried Done = 18446744073709551615
-step_carried Box = 18446744073709551615
-step_carried Spoiled = 18446744073709551615
+step_carried (Ok (Some i)) = i
+step_carried (Ok None) = 18446744073709551615
+step_carried (Err e) = 18446744073709551615
 
 -- the first of the list, or how it ends
 abbrev pub next_step : Step → List ℕ → Step
 next_step e [] = e
-next_step e (i ∷ l) = Slot i
+next_step e (i ∷ l) = Ok (Some i)
+
+-- whether a walk may begin: refusals 11, 9, in this order
+abbrev pub walk_checked : Query → ℕ → ℕ → List Float → Result (Unit {0}) Refusal
+walk_checked q size n co = cond (coords_ok size n (length co)) (cond (query_ok q) (Ok tt) (Err Box)) (Err Spoiled)
 
 -- how a walk ends: with a refusal that it began with, or done
 abbrev pub ending : Query → ℕ → ℕ → List Float → Step
-ending q size n co = cond (coords_ok size n (length co)) (cond (query_ok q) Done Box) Spoiled
+ending q size n co = cond (coords_ok size n (length co)) (cond (query_ok q) (Ok None) (Err Box)) (Err Spoiled)
 
 -- the slots that a walk goes over: none where it is refused
 abbrev pub walk : Query → ℕ → ℕ → List Float → List ℕ

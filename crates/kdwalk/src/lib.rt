@@ -3,122 +3,84 @@
 #![tactic(auto)]
 
 ghost use Rattle.std.specs.Prelude.{◌≡◌, ◌+◌, ◌-◌, ◌*◌, ◌≤◌, ◌<◌, length};
-ghost use Rattle.kdsort.specs.Shape.{shape};
+ghost use Rattle.kdsort.specs.Shape.{shape, mid};
+ghost use Rattle.kdslots.specs.Covers.{Covers};
 ghost use Rattle.kdslots.specs.Slots.{over, when, scanned, slots};
 ghost use Rattle.kdslots.specs.laws.Intervals.{below};
 ghost use Rattle.kdwalk.specs.laws.Cursor.{head_of, leaf_end};
 ghost use Rattle.kdwalk.specs.Cursor.{rest};
-ghost use Rattle.kdwalk.specs.Reply.{step_number, step_carried, first_step, after_step};
+ghost use Rattle.kdwalk.specs.Reply.{walk_checked, first_step, after_step};
 
-use kdslots::Query;
-
-// A step of a walk over the answered slots: the next slot, the end, or a refusal.
-#[derive(Clone, Copy)]
-pub enum Step {
-    Slot(usize),
-    Done,
-    Box,
-    Spoiled,
-}
-
-impl Step {
-    // SCOPE's number of the step: 0 where nothing is refused.
-    pub fn number(self) -> u32
-        ensures { result ≡ step_number self }
-    {
-        match self {
-            Step::Slot(_) => 0,
-            Step::Done => 0,
-            Step::Box => 9,
-            Step::Spoiled => 11,
-        }
-    }
-
-    // The slot that the step carries: the largest usize where it carries none.
-    pub fn carried(self) -> usize
-        ensures { result ≡ step_carried self }
-    {
-        match self {
-            Step::Slot(i) => i,
-            Step::Done => 0xffff_ffff_ffff_ffff,
-            Step::Box => 0xffff_ffff_ffff_ffff,
-            Step::Spoiled => 0xffff_ffff_ffff_ffff,
-        }
-    }
-}
-
-// The next answered slot of an interval.
-#[derive(Clone, Copy)]
-enum Next {
-    Slot(usize),
-    Done,
-}
+use kdslots::{Interval, Search};
+use refusals::Refusal;
 
 // The first slot from `from` up to hi that is answered.
-fn first_from(q: Query, coords: &[f64], from: usize, hi: usize) -> Next
-    requires { 2 * hi ≤ length coords.now }
-    ensures { result ≡ head_of (scanned (over q coords.now) from (hi - from)) }
+fn first_from(s: &Search<'_>, from: usize, hi: usize) -> Option<usize>
+    requires { 2 * hi ≤ length s.now.coords.now }
+    ensures { let o = over s.now.query s.now.coords.now in result ≡ head_of (scanned o from (hi - from)) }
 {
-    let mut i = from;
-    while i < hi {
-        if kdslots::test_at(q, coords, i) {
-            return Next::Slot(i);
+    for i in from..hi {
+        if s.tests(i) {
+            return Some(i);
         }
-        i += 1;
     }
-    Next::Done
+    None
 }
 
-// The first slot that is answered from lo up to hi.
+// The first slot of an interval that is answered.
 #[cycle(first_below_first_in_first_left)]
-fn first_in(q: Query, coords: &[f64], most: usize, lo: usize, hi: usize, axis: usize) -> Next
-    requires { (2 * hi ≤ length coords.now) × (lo ≤ hi) × (axis < 2) }
-    ensures { result ≡ head_of (slots (over q coords.now) axis (shape most lo hi)) }
+fn first_in(s: &Search<'_>, v: Interval) -> Option<usize>
+    requires { Covers s.now v }
+    ensures { let o = over s.now.query s.now.coords.now in
+        result ≡ head_of (slots o v.axis (shape (s.now.node_size + 1) v.lo v.hi)) }
 {
-    if hi - lo <= most {
-        return first_from(q, coords, lo, hi);
+    if v.len() <= s.most() {
+        return first_from(s, v.lo, v.hi);
     }
-    let m = lo + (hi - lo - 1) / 2;
-    if kdslots::test_at(q, coords, m) {
-        return Next::Slot(m);
+    let m = v.median();
+    if s.tests(m) {
+        return Some(m);
     }
-    first_below(q, coords, most, lo, hi, axis)
+    first_below(s, v)
 }
 
 // The first slot that is answered in the parts of an interval that is split: the right part, then the left.
 #[cycle(first_below_first_in_first_left)]
-fn first_below(q: Query, coords: &[f64], most: usize, lo: usize, hi: usize, axis: usize) -> Next
-    requires { (2 * hi ≤ length coords.now) × (lo < hi) × (axis < 2) }
-    ensures { result ≡ head_of (below (over q coords.now) axis most lo hi) }
+fn first_below(s: &Search<'_>, v: Interval) -> Option<usize>
+    requires { Covers s.now v × (v.lo < v.hi) }
+    ensures { let o = over s.now.query s.now.coords.now in result ≡ head_of (below o v.axis (s.now.node_size + 1) v.lo v.hi) }
 {
-    let m = lo + (hi - lo - 1) / 2;
-    if kdslots::right_at(q, coords, axis, m) {
-        if let Next::Slot(i) = first_in(q, coords, most, m + 1, hi, 1 - axis) {
-            return Next::Slot(i);
+    if s.goes_right(v.axis, v.median()) {
+        if let Some(i) = first_in(s, v.right()) {
+            return Some(i);
         }
     }
-    first_left(q, coords, most, lo, m, axis)
+    first_left(s, v)
 }
 
-// The first slot that is answered in the part left of the median m.
+// The first slot that is answered in the left part.
 #[cycle(first_below_first_in_first_left)]
-fn first_left(q: Query, coords: &[f64], most: usize, lo: usize, m: usize, axis: usize) -> Next
-    requires { (2 * m + 1 < length coords.now) × (lo ≤ m) × (axis < 2) }
-    ensures { let o = over q coords.now in result ≡ head_of (when (o.left axis m) (slots o (1 - axis) (shape most lo m))) }
+fn first_left(s: &Search<'_>, v: Interval) -> Option<usize>
+    requires { Covers s.now v × (v.lo < v.hi) }
+    ensures { let o = over s.now.query s.now.coords.now in
+        let m = mid v.lo v.hi in
+        result ≡ head_of (when (o.left v.axis m) (slots o (1 - v.axis) (shape (s.now.node_size + 1) v.lo m))) }
 {
-    if kdslots::left_at(q, coords, axis, m) {
-        return first_in(q, coords, most, lo, m, 1 - axis);
+    if s.goes_left(v.axis, v.median()) {
+        return first_in(s, v.left());
     }
-    Next::Done
+    None
 }
 
 // Up to where the slots after c are answered one by one: the end of the unsplit interval that has it; a median has none after it.
-fn leaf_end(most: usize, n: usize, c: usize) -> usize
-    requires { c < n }
-    ensures { result ≡ leaf_end (shape most 0 n) c }
+fn leaf_end(s: &Search<'_>, c: usize) -> usize
+    requires { (c < s.now.n) × (s.now.node_size ≤ 65535) }
+    ensures { result ≡ leaf_end (shape (s.now.node_size + 1) 0 s.now.n) c }
 {
+    // By its two ends, since an interval was slower here: each step of a walk goes through this loop.
+    let most = s.most();
     let mut lo = 0;
-    let mut hi = n;
+    let mut hi = s.n;
     while most < hi - lo {
         let m = lo + (hi - lo - 1) / 2;
         if c == m {
@@ -133,70 +95,65 @@ fn leaf_end(most: usize, n: usize, c: usize) -> usize
     hi
 }
 
-// The slot that is answered after the slot c, from lo up to hi.
-fn next_in(
-    q: Query,
-    coords: &[f64],
-    most: usize,
-    lo: usize,
-    hi: usize,
-    axis: usize,
-    c: usize,
-) -> Next
-    requires { (2 * hi ≤ length coords.now) × (lo ≤ c) × (c < hi) × (axis < 2) }
-    ensures { result ≡ head_of (rest (over q coords.now) axis (shape most lo hi) c) }
+// The slot of an interval that is answered after the slot c.
+fn next_in(s: &Search<'_>, v: Interval, c: usize) -> Option<usize>
+    requires { Covers s.now v × (v.lo ≤ c) × (c < v.hi) }
+    ensures { let o = over s.now.query s.now.coords.now in
+        result ≡ head_of (rest o v.axis (shape (s.now.node_size + 1) v.lo v.hi) c) }
 {
-    if hi - lo <= most {
-        return first_from(q, coords, c + 1, hi);
+    if v.len() <= s.most() {
+        return first_from(s, c + 1, v.hi);
     }
-    let m = lo + (hi - lo - 1) / 2;
+    let m = v.median();
     if c < m {
-        return next_in(q, coords, most, lo, m, 1 - axis, c);
+        return next_in(s, v.left(), c);
     }
     if c == m {
-        return first_below(q, coords, most, lo, hi, axis);
+        return first_below(s, v);
     }
-    if let Next::Slot(i) = next_in(q, coords, most, m + 1, hi, 1 - axis, c) {
-        return Next::Slot(i);
+    if let Some(i) = next_in(s, v.right(), c) {
+        return Some(i);
     }
-    first_left(q, coords, most, lo, m, axis)
+    first_left(s, v)
 }
 
-// The first slot that a query answers.
-pub fn first(q: Query, node_size: usize, n: usize, coords: &[f64]) -> Step
-    ensures { result ≡ first_step q node_size n coords.now }
+// Whether the search may be walked: the coordinates hold an index, and the query is one that SCOPE takes.
+fn check(s: &Search<'_>) -> Result<(), Refusal>
+    ensures { let a = s.now in result ≡ walk_checked a.query a.node_size a.n a.coords.now }
 {
-    if !kdslots::coords_ok(node_size, n, coords.len()) {
-        return Step::Spoiled;
+    if !s.is_sound() {
+        return Err(Refusal::Spoiled);
     }
-    if !kdslots::query_ok(q) {
-        return Step::Box;
+    if !s.query.is_ok() {
+        return Err(Refusal::Box);
     }
-    let v = kdslots::narrow(q, coords, node_size + 1, n);
-    match first_in(q, coords, node_size + 1, v.lo, v.hi, v.axis) {
-        Next::Slot(i) => Step::Slot(i),
-        Next::Done => Step::Done,
-    }
+    Ok(())
 }
 
-// The slot that a query answers after the slot c.
-pub fn after(q: Query, node_size: usize, n: usize, coords: &[f64], c: usize) -> Step
-    ensures { result ≡ after_step q node_size n coords.now c }
+// The first slot that a query answers; none where it answers none.
+pub fn first(s: &Search<'_>) -> Result<Option<usize>, Refusal>
+    ensures { let a = s.now in result ≡ first_step a.query a.node_size a.n a.coords.now }
 {
-    if !kdslots::coords_ok(node_size, n, coords.len()) {
-        return Step::Spoiled;
+    check(s)?;
+    let v = s.narrow(s.most());
+    Ok(first_in(s, v))
+}
+
+// The slot that a query answers after the slot c; none where it was the last.
+pub fn after(s: &Search<'_>, c: usize) -> Result<Option<usize>, Refusal>
+    ensures { let a = s.now in result ≡ after_step a.query a.node_size a.n a.coords.now c }
+{
+    check(s)?;
+    if s.n <= c {
+        return Ok(None);
     }
-    if !kdslots::query_ok(q) {
-        return Step::Box;
+    if let Some(i) = first_from(s, c + 1, leaf_end(s, c)) {
+        return Ok(Some(i));
     }
-    if n <= c {
-        return Step::Done;
-    }
-    if let Next::Slot(i) = first_from(q, coords, c + 1, leaf_end(node_size + 1, n, c)) {
-        return Step::Slot(i);
-    }
-    match next_in(q, coords, node_size + 1, 0, n, 0, c) {
-        Next::Slot(i) => Step::Slot(i),
-        Next::Done => Step::Done,
-    }
+    let whole = Interval {
+        lo: 0,
+        hi: s.n,
+        axis: 0,
+    };
+    Ok(next_in(s, whole, c))
 }

@@ -1,6 +1,6 @@
 -- #102 holds of every build that `load` accepts: `effort-of-build`. The box without an effort is answered whole there, and what an
 -- allowance finds begins what it lists. Assumes nothing.
-use Rattle.std.specs.Prelude.{◌≡◌, refl, Bool, true, false, cond, List, [], ℕ, leb, length, Float}
+use Rattle.std.specs.Prelude.{◌≡◌, refl, Bool, true, false, cond, List, [], ℕ, leb, length, Float, Ok, Err}
 use Rattle.std.proofs.Common.{sym, ap, ◌∙◌, arith}
 use Rattle.kdslots.specs.laws.Bounds.{yes}
 use Rattle.kdbush.specs.Run.{whole}
@@ -18,7 +18,7 @@ use Rattle.supercluster.specs.laws.Load.{Holds}
 use Rattle.law_answers.specs.laws.Stored.{state_by, columns_by, of-load}
 use Rattle.law_answers.specs.laws.Boxed.{fits-somehow, index-sound, box-told}
 use Rattle.ask_effort_tests.specs.declared.Effort.{Effort}
-use Rattle.ask_effort_tests.specs.declared.EffortReply.TheVariants.{Found, Box, NoRoom, Spoiled}
+use Rattle.ask_effort_tests.specs.declared.EffortRefusal.TheVariants.{Box, NoRoom, Spoiled}
 use Rattle.ask_effort_tests.specs.Trials.{Mark, hits, items}
 use Rattle.ask_effort_tests.specs.Reply.{effort_number, effort_of, effort_fitted, answer}
 use Rattle.ask_effort_tests.specs.laws.Promise.{items-of-all}
@@ -43,13 +43,13 @@ module _ (n : ℕ) (ms : List Mark) (l : List ℕ) (e : walked n (hits ms) ≡ t
           ∙ ap (λ (x : Asked). answer_of x 0) e)))
 
   told-whole : (a room : ℕ) → answer n ms a room ≡ effort_fitted (effort_of a ms) room
-  told-whole a room = yes (whole n (items a ms)) (effort_fitted (effort_of a ms) room) Spoiled (items-whole a)
+  told-whole a room = yes (whole n (items a ms)) (effort_fitted (effort_of a ms) room) (Err Spoiled) (items-whole a)
 
 -- what fits or not is not 11
-not-spoiled : (e : Effort) (room : ℕ) → effort_fitted e room ≡ Spoiled → ⊥
+not-spoiled : (e : Effort) (room : ℕ) → effort_fitted e room ≡ Err Spoiled → ⊥
 not-spoiled e room = go (leb e.items room)
   where
-    go : (b : Bool) → cond b (Found e) (NoRoom e) ≡ Spoiled → ⊥
+    go : (b : Bool) → cond b (Ok e) (Err (NoRoom e)) ≡ Err Spoiled → ⊥
     go true f = omega (arith, ap effort_number f)
     go false f = omega (arith, ap effort_number f)
 
@@ -83,7 +83,7 @@ module _ (st : State) (ids : List ℕ) (co : List Float) (zoom : ℕ) (west leas
       }
     where
       by : (a room : ℕ) (b : Bool) → box_ok st.options.coordinate_system west least east greatest ≡ b
-          → effort_reply_of (effort_asked st ids co zoom west least east greatest) a room ≡ Spoiled → ⊥
+          → effort_reply_of (effort_asked st ids co zoom west least east greatest) a room ≡ Err Spoiled → ⊥
       by a room true f h =
           let x = t f in
           not-spoiled (effort_of a (tests_of (effort_asked st ids co zoom west least east greatest))) room
@@ -102,7 +102,7 @@ module _ (G : Given) (acc : AcceptedBuild G) (l : BuildColumns) (h : Holds (need
       (box-told G acc l h zoom west least east greatest)
 
 pub effort-of-build : EffortOfBuild
-effort-of-build G l d zoom west least east greatest =
+effort-of-build G l s d zoom west least east greatest =
     of-load (λ st c. EffortAnswered G.options.coordinate_system west least east greatest
     (effort_at st c zoom west least east greatest)) G l
-    (λ a h. build-answered G a l h zoom west least east greatest) d
+    (λ a h. build-answered G a l h zoom west least east greatest) s d

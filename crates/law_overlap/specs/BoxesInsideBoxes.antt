@@ -1,14 +1,13 @@
 -- #111, boxes inside boxes: what `list_box` answers for the common part of two boxes, for one that is empty, for the same box twice, and
 -- for three boxes cut in any order. The whole statement is `BoxesInsideBoxes`, the last of this file: of every Cartesian build that `load`
 -- accepts, at every zoom. Proved shows that it holds. Definitions only.
-use Rattle.std.specs.Prelude.{◌≡◌, ◌⊎◌, Bool, true, false, ◌||◌, List, [], ◌∷◌, ℕ, T, eqb, Float}
+use Rattle.std.specs.Prelude.{◌≡◌, ◌⊎◌, Bool, true, false, ◌||◌, List, [], ◌∷◌, ℕ, T, eqb, Float, Ok}
 use Rattle.std.specs.Float.Ieee.{lt}
 use Rattle.std.specs.Float.Ieee.Scale.{finite}
 use Rattle.range.specs.declared.DataRange.{DataRange}
 use Rattle.range.specs.declared.CoordinateSystem.TheVariants.{Cartesian}
 use Rattle.range.specs.Range.{smaller_of, larger_of, normalized}
 use Rattle.kdslots.specs.Keep.{keep}
-use Rattle.supercluster.specs.declared.LoadReply.TheVariants.{Done}
 use Rattle.build_tables.specs.declared.State.{State}
 use Rattle.ask_base.specs.Asked.{Asked, told}
 use Rattle.build_tables.specs.Room.{Columns}
@@ -98,6 +97,6 @@ box_at s c zoom a = box_asked s c.ids c.coords zoom a.west a.least a.east a.grea
 -- zoom, built or not
 abbrev pub BoxesInsideBoxes : Type 0
 BoxesInsideBoxes =
-    (G : Given) (l : BuildColumns) → (loaded_of G l).reply.reply ≡ Done
+    (G : Given) (l : BuildColumns) (s : State) → (loaded_of G l).reply ≡ Ok s
     → (d : DataRange) → G.options.coordinate_system ≡ Cartesian d → (zoom : ℕ)
-    → Overlaps d (box_at (loaded_of G l).reply.state (columns_of (loaded_of G l).columns) zoom)
+    → Overlaps d (box_at s (columns_of (loaded_of G l).columns) zoom)

@@ -87,5 +87,5 @@ module _ (G : Given) (acc : AcceptedBuild G) (l : BuildColumns) (h : Holds (need
 -- ---- of every build that `load` accepts
 
 pub boxes-inside-boxes : BoxesInsideBoxes
-boxes-inside-boxes G l e d c zoom =
-    of-load (λ s k. Overlaps d (box_at s k zoom)) G l (λ a h. build-overlaps G a l h d c zoom) e
+boxes-inside-boxes G l s e d c zoom =
+    of-load (λ s k. Overlaps d (box_at s k zoom)) G l (λ a h. build-overlaps G a l h d c zoom) s e

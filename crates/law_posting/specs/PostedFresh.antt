@@ -1,6 +1,6 @@
 -- A posting to an accepted build (#110): it is taken, and leaves reply, state and all eleven columns as a fresh build with the new figure
 -- does; and two postings to different lamps leave the same in either order. Assumes nothing.
-use Rattle.std.specs.Prelude.{◌≡◌, refl, Bool, ◌&&◌, eqb, leb, set, drop, Float}
+use Rattle.std.specs.Prelude.{◌≡◌, refl, Bool, ◌&&◌, eqb, leb, set, drop, Float, Option, Result, Ok}
 use Rattle.std.proofs.Math.Path.{sym, ap, subst}
 use Rattle.std.proofs.Common.{ap₂, ◌∙◌, arith, length-set}
 use Rattle.std.proofs.Math.Bool.{true}
@@ -9,7 +9,8 @@ use Prim.Native.Nat.{ℕ, suc, ◌+◌, ◌-◌, ◌^◌, ◌<◌, ◌≤◌, mi
 use borrow.Author.Tests.{lt-ltb, le-leb, eq-eqb}
 use Rattle.std.proofs.Math.ListN.{length, get_or, replicate}
 use Rattle.std.proofs.lemmas.List.{length-map, set_comm}
-use Rattle.kdbush.specs.declared.Outside.{Outside}
+use Rattle.refusals.specs.declared.Refusal.{Refusal}
+use Rattle.refusals.specs.Refusals.{number}
 use Rattle.kdbush.specs.Reply.{pair_ok, first_outside}
 use Rattle.build_tables.specs.declared.Entry.{Entry}
 use Rattle.build_tables.specs.declared.Options.{Options}
@@ -20,14 +21,12 @@ use Rattle.build_tables.specs.Rows.{cols}
 use Rattle.build_tables.specs.laws.Bounds.{options-are}
 use Rattle.build_one_zoom.specs.laws.Bare.{bare, bares}
 use Rattle.build_all_zooms.specs.Zooms.{joined, joined_ids, joined_co, laid_over, starts, lens}
-use Rattle.supercluster.specs.declared.LoadReply.{LoadReply}
-use Rattle.supercluster.specs.declared.LoadReply.TheVariants.{Done}
 use Rattle.supercluster.specs.Build.{BuildColumns, build_columns, outcome, written, need, most_energy, first_over}
 use Rattle.supercluster.specs.Build.{triple_ok}
-use Rattle.supercluster.specs.Build.{ordered, converted_all, checked_in, load_number, unless_refused, by_reply}
+use Rattle.supercluster.specs.Build.{ordered, converted_all, checked_in, unless_refused, by_reply}
 use Rattle.supercluster.specs.laws.Fill.{all-light}
 use Rattle.supercluster.specs.laws.Held.{LaidOut, built-laid}
-use Rattle.supercluster.specs.laws.Load.{done-by, replies}
+use Rattle.supercluster.specs.laws.Load.{done-by, replies, verdict_of}
 use Rattle.supercluster.specs.laws.Over.{over-length}
 use Rattle.supercluster.specs.laws.Right.{tables-count}
 use Rattle.law_builds.specs.Given.{Given, given_build, AcceptedBuild, points, min_z, max_z, tables_of_build, energy_at}
@@ -39,7 +38,6 @@ use Rattle.law_answers.specs.Stored.{columns_of}
 use Rattle.law_answers.specs.laws.Stored.{state_by, fits, sound-in}
 use Rattle.build_owners.specs.OwnerColumn.{owner_column}
 use Rattle.ask_owner.specs.Asked.{owners_reach}
-use Rattle.posting.specs.declared.PostReply.TheVariants.{Done as Taken}
 use Rattle.posting.specs.Post.{owner_by, figure_of, replaced, mendable, mended, all_mend, post_asked, Posted, posting, posted}
 use Rattle.owners.specs.LoadedWith.{room_with, OwnedOutcome, owned_outcome, loaded_with}
 use Rattle.owners.specs.laws.Keeping.{done-accepted}
@@ -53,9 +51,9 @@ use Rattle.law_posting.specs.Tables.{MendedTable, Mended, all-mended, mendable-c
 
 -- ---- what is said
 
--- what a posting to the outcome of a build comes to
-abbrev pub post_to : OwnedOutcome → ℕ → ℕ → Posted
-post_to x lamp figure = posted x.build.reply.state x.build.columns.table.energy x.owners lamp figure
+-- what a posting to the outcome of a build comes to, where s is the state that the build replies
+abbrev pub post_to : State → OwnedOutcome → ℕ → ℕ → Posted
+post_to s x lamp figure = posted s x.build.columns.table.energy x.owners lamp figure
 
 -- the outcome with another energy column
 abbrev pub with_energy : OwnedOutcome → List ℕ → OwnedOutcome
@@ -66,8 +64,8 @@ with_energy x e =
     c.near)) x.owners
 
 -- the outcome once a posting is made
-abbrev pub after : OwnedOutcome → ℕ → ℕ → OwnedOutcome
-after x lamp figure = with_energy x (post_to x lamp figure).energy
+abbrev pub after : State → OwnedOutcome → ℕ → ℕ → OwnedOutcome
+after s x lamp figure = with_energy x (post_to s x lamp figure).energy
 
 -- ---- the energy column
 
@@ -189,38 +187,38 @@ module _ (G : Given) (a : AcceptedBuild G) (lamp figure : ℕ) (h : lamp < point
   -- the posting
   pub posted-column : posted (state_by G) (laid_over (energies_of (joined (tables_of_build G))) d)
       (laid_over (owner_column (points G) (tables_of_build G)) own) lamp figure
-      ≡ posting Taken (laid_over (energies_of (joined (tables_of_build (with_figure G lamp figure)))) d)
+      ≡ posting (Ok tt) (laid_over (energies_of (joined (tables_of_build (with_figure G lamp figure)))) d)
   unfolding posted post_asked
   posted-column =
       let m : all_mend s kept lamp figure column ≡ true =
       rw (eq-eqb _ _ itself) (ap (λ (b : ℕ). mendable s kept lamp b figure column (table_count G.options)) figure-is ∙ able) in
       rw (reached, lt-ltb lamp (points G) h, le-leb figure most_energy f, m)
-      (ap (posting Taken) (ap (λ (b : ℕ). mended s kept lamp b figure column (table_count G.options)) figure-is ∙ fresh))
+      (ap (posting (Ok tt)) (ap (λ (b : ℕ). mended s kept lamp b figure column (table_count G.options)) figure-is ∙ fresh))
 
 -- ---- of `load`
 
 -- the check of a build with the new figure
 checked-too : (o : Options) (xs ys : List Float) (ws vs : List ℕ) (room : ℕ) → length vs ≡ length ws
-    → ((k : ℕ) → get_or vs k 0 ≤ most_energy) → checked_in o xs ys ws room ≡ Done → checked_in o xs ys vs room ≡ Done
+    → ((k : ℕ) → get_or vs k 0 ≤ most_energy) → checked_in o xs ys ws room ≡ Ok tt → checked_in o xs ys vs room ≡ Ok tt
 checked-too o xs ys ws vs room n l c =
     let ps = converted_all o.coordinate_system xs ys in
     let p = first_outside (map (λ p. p.x) ps) (map (λ p. p.y) ps) 0 in
     let q = leb (need o (length xs)) room in
     let e = done-by (options_ok o) (triple_ok xs ys ws) p (first_over ws 0) q c in
-    ap₂ (λ (b : Bool) (i : Outside). ordered (options_ok o) b p i q) (ap (λ (k : ℕ). pair_ok xs ys && eqb k (length xs)) n)
+    ap₂ (λ (b : Bool) (i : Option ℕ). ordered (options_ok o) b p i q) (ap (λ (k : ℕ). pair_ok xs ys && eqb k (length xs)) n)
     (all-light vs 0 l ∙ sym e.3) ∙ c
 
 -- what `load` leaves, where it refuses nothing
-taken : (o : Options) (xs ys : List Float) (ws : List ℕ) (l : BuildColumns) (own : List ℕ) → checked_in o xs ys ws (room_with l own) ≡ Done
+taken : (o : Options) (xs ys : List Float) (ws : List ℕ) (l : BuildColumns) (own : List ℕ) → checked_in o xs ys ws (room_with l own) ≡ Ok tt
     → loaded_with o xs ys ws l own
-    ≡ owned_outcome (by_reply o xs ys ws l Done) (laid_over (owner_column (length xs) (tables_of_build (given_build o xs ys ws))) own)
+    ≡ owned_outcome (by_reply o xs ys ws l (Ok tt)) (laid_over (owner_column (length xs) (tables_of_build (given_build o xs ys ws))) own)
 unfolding loaded_with
 taken o xs ys ws l own c =
     let column = owner_column (length xs) (tables_of_build (given_build o xs ys ws)) in
-    ap (λ (r : LoadReply). owned_outcome (by_reply o xs ys ws l r) (unless_refused (load_number r) (laid_over column own) own)) c
+    ap (λ (r : Result (Unit {0}) Refusal). owned_outcome (by_reply o xs ys ws l r) (unless_refused (number r) (laid_over column own) own)) c
 
-module _ (o : Options) (xs ys : List Float) (ws : List ℕ) (l : BuildColumns) (own : List ℕ)
-    (done : (loaded_with o xs ys ws l own).build.reply.reply ≡ Done) (lamp figure : ℕ) (h : lamp < length xs)
+module _ (o : Options) (xs ys : List Float) (ws : List ℕ) (l : BuildColumns) (own : List ℕ) (told : State)
+    (done : (loaded_with o xs ys ws l own).build.reply ≡ Ok told) (lamp figure : ℕ) (h : lamp < length xs)
     (f : figure ≤ most_energy) where
   abbrev G : Given
   G = given_build o xs ys ws
@@ -228,16 +226,23 @@ module _ (o : Options) (xs ys : List Float) (ws : List ℕ) (l : BuildColumns) (
   abbrev K : Given
   K = with_figure (given_build o xs ys ws) lamp figure
 
-  pub checked-done : checked_in o xs ys ws (room_with l own) ≡ Done
+  pub checked-done : checked_in o xs ys ws (room_with l own) ≡ Ok tt
   unfolding loaded_with
-  checked-done = sym (replies o xs ys ws l (checked_in o xs ys ws (room_with l own))) ∙ done
+  checked-done = sym (replies o xs ys ws l (checked_in o xs ys ws (room_with l own))) ∙ ap verdict_of done
+
+  -- the state that is replied is that of the tables
+  told-is : state_by (given_build o xs ys ws) ≡ told
+  told-is =
+      let q : Ok (state_by (given_build o xs ys ws)) ≡ Ok told =
+      sym (ap (λ (y : OwnedOutcome). y.build.reply) (taken o xs ys ws l own checked-done)) ∙ done in
+      cc
 
   holds-all : AcceptedBuild (given_build o xs ys ws) × (need o (length xs) ≤ length l.table.energy) × (need o (length xs) ≤ length own)
   holds-all =
       let g = done-accepted o xs ys ws l own (min (length l.near) (length own)) refl checked-done in
       (g.0, g.1.table.hw, g.2)
 
-  checked-after : checked_in o xs ys (set ws lamp figure) (room_with l own) ≡ Done
+  checked-after : checked_in o xs ys (set ws lamp figure) (room_with l own) ≡ Ok tt
   checked-after =
       checked-too o xs ys ws (set ws lamp figure) (room_with l own) (length-set ws lamp figure)
       (light (given_build o xs ys ws) holds-all.0 lamp figure h f) checked-done
@@ -245,7 +250,7 @@ module _ (o : Options) (xs ys : List Float) (ws : List ℕ) (l : BuildColumns) (
   energy-after : posted (state_by (given_build o xs ys ws))
       (written o.node_size (length xs) (tables_of_build (given_build o xs ys ws)) l).table.energy
       (laid_over (owner_column (length xs) (tables_of_build (given_build o xs ys ws))) own) lamp figure
-      ≡ posting Taken (written o.node_size (length xs) (tables_of_build (with_figure (given_build o xs ys ws) lamp figure))
+      ≡ posting (Ok tt) (written o.node_size (length xs) (tables_of_build (with_figure (given_build o xs ys ws) lamp figure))
       l).table.energy
   unfolding written
   energy-after = let g = holds-all in posted-column G g.0 lamp figure h f l.table.energy own g.2 g.1
@@ -257,10 +262,10 @@ module _ (o : Options) (xs ys : List Float) (ws : List ℕ) (l : BuildColumns) (
   field g e d = by_bare (λ ts. laid_over (map g (joined ts)) d) (λ ts. ap (λ (q : List _). laid_over q d) (column-bare g e ts)) G lamp figure
 
   -- reply, state and columns but for the energies are the same
-  same-but : with_energy (owned_outcome (by_reply o xs ys ws l Done)
+  same-but : with_energy (owned_outcome (by_reply o xs ys ws l (Ok tt))
       (laid_over (owner_column (length xs) (tables_of_build (given_build o xs ys ws))) own))
       (written o.node_size (length xs) (tables_of_build (with_figure (given_build o xs ys ws) lamp figure)) l).table.energy
-      ≡ owned_outcome (by_reply o xs ys (set ws lamp figure) l Done)
+      ≡ owned_outcome (by_reply o xs ys (set ws lamp figure) l (Ok tt))
       (laid_over (owner_column (length xs) (tables_of_build (with_figure (given_build o xs ys ws) lamp figure))) own)
   unfolding written
   same-but =
@@ -286,46 +291,46 @@ module _ (o : Options) (xs ys : List Float) (ws : List ℕ) (l : BuildColumns) (
       (λ ts. ap (λ (q : List ℕ). laid_over q own) (owners-bare (length xs) ts)) G lamp figure in
       let w = written size (length xs) (tables_of_build K) l in
       λ i. owned_outcome
-      (outcome (record { reply = Done; state = record { options = o; count = length xs; starts = at i; lens = el i } })
+      (outcome (Ok (record { options = o; count = length xs; starts = at i; lens = el i }))
       (build_columns (cols (ex i) (ey i) (es i) (ei i) (ep i) (en i) w.table.energy) (ed i) (ec i) w.near)) (eo i)
 
   -- a posting is taken, and what it leaves is a fresh build with the new figure
-  pub posted-fresh : ((post_to (loaded_with o xs ys ws l own) lamp figure).reply ≡ Taken)
-      × (after (loaded_with o xs ys ws l own) lamp figure ≡ loaded_with o xs ys (set ws lamp figure) l own)
+  pub posted-fresh : ((post_to told (loaded_with o xs ys ws l own) lamp figure).reply ≡ Ok tt)
+      × (after told (loaded_with o xs ys ws l own) lamp figure ≡ loaded_with o xs ys (set ws lamp figure) l own)
   posted-fresh =
       let e = taken o xs ys ws l own checked-done in
-      let x = owned_outcome (by_reply o xs ys ws l Done) (laid_over (owner_column (length xs) (tables_of_build G)) own) in
-      let p : post_to (loaded_with o xs ys ws l own) lamp figure
-      ≡ posting Taken (written o.node_size (length xs) (tables_of_build K) l).table.energy =
-      ap (λ (y : OwnedOutcome). post_to y lamp figure) e ∙ energy-after in (
+      let x = owned_outcome (by_reply o xs ys ws l (Ok tt)) (laid_over (owner_column (length xs) (tables_of_build G)) own) in
+      let p : post_to told (loaded_with o xs ys ws l own) lamp figure
+      ≡ posting (Ok tt) (written o.node_size (length xs) (tables_of_build K) l).table.energy =
+      ap₂ (λ (t : State) (y : OwnedOutcome). post_to t y lamp figure) (sym told-is) e ∙ energy-after in (
         ap (λ (q : Posted). q.reply) p,
         ap₂ (λ (y : OwnedOutcome) (q : Posted). with_energy y q.energy) e p ∙ same-but
             ∙ sym (taken o xs ys (set ws lamp figure) l own checked-after),
       )
 
 -- two postings to different lamps leave the same in either order
-pub posts-commute : (o : Options) (xs ys : List Float) (ws : List ℕ) (l : BuildColumns) (own : List ℕ)
-    → (loaded_with o xs ys ws l own).build.reply.reply ≡ Done → (i j v w : ℕ) → i < length xs → j < length xs → v ≤ most_energy
+pub posts-commute : (o : Options) (xs ys : List Float) (ws : List ℕ) (l : BuildColumns) (own : List ℕ) (s : State)
+    → (loaded_with o xs ys ws l own).build.reply ≡ Ok s → (i j v w : ℕ) → i < length xs → j < length xs → v ≤ most_energy
     → w ≤ most_energy → (i ≡ j → ⊥)
-    → after (after (loaded_with o xs ys ws l own) i v) j w ≡ after (after (loaded_with o xs ys ws l own) j w) i v
-posts-commute o xs ys ws l own done i j v w hi hj hv hw n =
+    → after s (after s (loaded_with o xs ys ws l own) i v) j w ≡ after s (after s (loaded_with o xs ys ws l own) j w) i v
+posts-commute o xs ys ws l own s done i j v w hi hj hv hw n =
     both i j v w hi hj hv hw ∙ ap (λ (q : List ℕ). loaded_with o xs ys q l own) (set_comm ws i j v w n) ∙ sym (both j i w v hj hi hw hv)
   where
     both : (i j v w : ℕ) → i < length xs → j < length xs → v ≤ most_energy → w ≤ most_energy
-        → after (after (loaded_with o xs ys ws l own) i v) j w ≡ loaded_with o xs ys (set (set ws i v) j w) l own
+        → after s (after s (loaded_with o xs ys ws l own) i v) j w ≡ loaded_with o xs ys (set (set ws i v) j w) l own
     both i j v w hi hj hv hw =
-        let a = (posted-fresh o xs ys ws l own done i v hi hv).1 in
-        let d : (loaded_with o xs ys (set ws i v) l own).build.reply.reply ≡ Done =
-        ap (λ (y : OwnedOutcome). y.build.reply.reply) (sym a) ∙ done in
-        ap (λ (y : OwnedOutcome). after y j w) a ∙ (posted-fresh o xs ys (set ws i v) l own d j w hj hw).1
+        let a = (posted-fresh o xs ys ws l own s done i v hi hv).1 in
+        let d : (loaded_with o xs ys (set ws i v) l own).build.reply ≡ Ok s = ap (λ (y : OwnedOutcome). y.build.reply) (sym a) ∙ done in
+        ap (λ (y : OwnedOutcome). after s y j w) a ∙ (posted-fresh o xs ys (set ws i v) l own s d j w hj hw).1
 
--- so of what a posting leaves demand 3 holds as of every accepted build, and the owner column has each lamp's owner
-pub posted-owners : (o : Options) (xs ys : List Float) (ws : List ℕ) (l : BuildColumns) (own : List ℕ)
-    → (loaded_with o xs ys ws l own).build.reply.reply ≡ Done → (lamp figure : ℕ) → lamp < length xs → figure ≤ most_energy
-    → let x = after (loaded_with o xs ys ws l own) lamp figure in
-    (own : ℕ → ℕ → ℕ) × Owners x.build.reply.state (columns_of x.build.columns) (set ws lamp figure) own
-    × KeptOwners x.build.reply.state x.owners own
-posted-owners o xs ys ws l own done lamp figure h f =
+-- so what a posting leaves has the same state, and demand 3 holds of it as of every accepted build, and the owner column has each lamp's
+-- owner
+pub posted-owners : (o : Options) (xs ys : List Float) (ws : List ℕ) (l : BuildColumns) (own : List ℕ) (s : State)
+    → (loaded_with o xs ys ws l own).build.reply ≡ Ok s → (lamp figure : ℕ) → lamp < length xs → figure ≤ most_energy
+    → let x = after s (loaded_with o xs ys ws l own) lamp figure in
+    (x.build.reply ≡ Ok s)
+    × ((own : ℕ → ℕ → ℕ) × Owners s (columns_of x.build.columns) (set ws lamp figure) own × KeptOwners s x.owners own)
+posted-owners o xs ys ws l own s done lamp figure h f =
     let K = with_figure (given_build o xs ys ws) lamp figure in
-    let x = after (loaded_with o xs ys ws l own) lamp figure in
-    let g = loaded-owners K l own x (posted-fresh o xs ys ws l own done lamp figure h f).1 done in (owner K, g.0, g.1)
+    let x = after s (loaded_with o xs ys ws l own) lamp figure in
+    let g = loaded-owners K l own x (posted-fresh o xs ys ws l own s done lamp figure h f).1 s done in (done, (owner K, g.0, g.1))

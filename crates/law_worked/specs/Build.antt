@@ -1,6 +1,6 @@
 -- SCOPE's worked build as `load` leaves it: in columns of 12 entries or more, whatever they held, the build is accepted, and this is its
 -- state and what stands in the columns of entries and of the index. The state is sound over them. Assumes nothing.
-use Rattle.std.specs.Prelude.{◌≡◌, refl, Bool, true, cond, List, ◌∷◌, ℕ, ◌/◌, ◌≤◌, drop, replicate}
+use Rattle.std.specs.Prelude.{◌≡◌, refl, Bool, true, cond, List, ◌∷◌, ℕ, ◌/◌, ◌≤◌, drop, replicate, Ok, Err, Result}
 use Rattle.std.proofs.Common.{ap, ◌∙◌, arith, le-leb}
 use Rattle.std.specs.Float.Ieee.{add, sub, mul, div, of_bits, le, lt, eq}
 use Rattle.range.specs.Range.{offset_of, scale_of, normalized, in_bounds, system_in_bounds, converted}
@@ -13,7 +13,9 @@ use Rattle.build_tables.specs.Sound.{packed, state_ok}
 use Rattle.build_tables.specs.Entries.{Table, never, unset}
 use Rattle.kdbush.specs.Reply.{index_of}
 use Rattle.build_all_zooms.specs.Zooms.{index_of_table, joined, joined_ids, joined_co, starts, lens}
-use Rattle.supercluster.specs.declared.LoadReply.TheVariants.{Done, Tables}
+use Rattle.refusals.specs.declared.Refusal.{Refusal}
+use Rattle.refusals.specs.declared.Refusal.TheVariants.{Tables}
+use Rattle.build_tables.specs.State.{new_state}
 use Rattle.supercluster.specs.Build.{converted_all, BuildColumns, first_over, written, built_state, checked, Outcome, outcome, by_reply, loaded}
 use Rattle.supercluster.specs.laws.Load.{roomy}
 use Rattle.build_tables.specs.Room.{Columns, columns, room_of}
@@ -27,9 +29,14 @@ use Rattle.law_answers.specs.Stored.{columns_of}
 abbrev pub worked_built : BuildColumns → Outcome
 worked_built l = loaded (options 64) xs ys ws l
 
+-- the state of a reply; of a refusal, which no build here is, one of no tables
+abbrev pub state_told : Result State Refusal → State
+state_told (Ok s) = s
+state_told (Err e) = new_state (options 64) 0
+
 -- its state
 abbrev pub state_in : BuildColumns → State
-state_in l = (worked_built l).reply.state
+state_in l = state_told (worked_built l).reply
 
 abbrev pub columns_in : BuildColumns → Columns
 columns_in l = columns_of (worked_built l).columns
@@ -70,10 +77,10 @@ abbrev pub worked_held : BuildColumns → Columns
 worked_held l = columns_of (after_build l)
 
 -- columns of 12 entries are long enough
-pub accepted : (l : BuildColumns) → roomy 12 l ≡ true → checked (options 64) xs ys ws l ≡ Done
+pub accepted : (l : BuildColumns) → roomy 12 l ≡ true → checked (options 64) xs ys ws l ≡ Ok tt
 unfolding checked options_ok system_in_bounds in_bounds first_outside converted_all converted normalized offset_of scale_of add sub mul div
     of_bits le lt options xs ys ws b first_over
-accepted l h = ap (λ (c : Bool). cond c Done Tables) h
+accepted l h = ap (λ (c : Bool). cond c (Ok tt) (Err Tables)) h
 
 -- the tables that SCOPE prints, packed in the columns, each with its index
 state-of-shown : built_state (options 64) 4 shown ≡ state
@@ -85,12 +92,12 @@ unfolding written joined joined_ids joined_co index_of_table index_of indexed so
 written-shown l = refl
 
 -- the build is accepted, and leaves just these
-pub built-is : (l : BuildColumns) → roomy 12 l ≡ true → worked_built l ≡ outcome (record { reply = Done; state = state }) (after_build l)
+pub built-is : (l : BuildColumns) → roomy 12 l ≡ true → worked_built l ≡ outcome (Ok state) (after_build l)
 unfolding loaded options xs
 built-is l h =
     ap (by_reply (options 64) xs ys ws l) (accepted l h)
-    ∙ ap (λ (ts : List Table). outcome (record { reply = Done; state = built_state (options 64) 4 ts }) (written 64 4 ts l)) tables-are
-    ∙ (λ i. outcome (record { reply = Done; state = state-of-shown i }) (written-shown l i))
+    ∙ ap (λ (ts : List Table). outcome (Ok (built_state (options 64) 4 ts)) (written 64 4 ts l)) tables-are
+    ∙ (λ i. outcome (Ok (state-of-shown i)) (written-shown l i))
 
 -- ---- the state is sound over them
 

@@ -1,7 +1,7 @@
 -- SCOPE's lines that are not marked P, computed from the definitions too: the largest max_zoom, options that are refused, a lone lamp at
 -- (1, 0.5), which tile (0,0,0) lists twice and counts once, and lists once with the strips for longitude only (#114); the four lamps with
 -- min_points 3, and both edge strips at z = 0. Assumes nothing.
-use Rattle.std.specs.Prelude.{◌≡◌, refl, Bool, true, cond, [], ◌∷◌, map, ℕ, replicate, pos}
+use Rattle.std.specs.Prelude.{◌≡◌, refl, Bool, true, cond, [], ◌∷◌, map, ℕ, replicate, pos, Ok, Err}
 use Rattle.std.proofs.Common.{ap}
 use Rattle.std.specs.Float.Ieee.{neg, add, sub, mul, div, of_int, of_bits, le, lt, eq}
 use Rattle.floats.specs.Numbers.{zero, half, one}
@@ -23,17 +23,17 @@ use Rattle.build_tables.specs.Sound.{packed, state_ok}
 use Rattle.build_one_zoom.specs.Zoom.{more_of, absorb_one, absorb, copy_one, copy_all, visit, scan_one, scan_from, cluster}
 use Rattle.kdbush.specs.Reply.{index_of}
 use Rattle.build_all_zooms.specs.Zooms.{index_of_table, run_zooms, joined, joined_ids, joined_co, starts, lens}
-use Rattle.supercluster.specs.declared.LoadReply.TheVariants.{Done, Tables}
-use Rattle.supercluster.specs.Build.{converted_all, finest, tables_of, BuildColumns, written, first_over, checked, load_number, Outcome, loaded}
+use Rattle.refusals.specs.declared.Refusal.TheVariants.{Tables, NoRoom}
+use Rattle.refusals.specs.Refusals.{number}
+use Rattle.supercluster.specs.Build.{converted_all, finest, tables_of, BuildColumns, written, first_over, checked, Outcome, loaded}
 use Rattle.supercluster.specs.laws.Load.{roomy}
-use Rattle.ask_base.specs.declared.Answer.TheVariants.{NoRoom}
-use Rattle.ask_tile_table.specs.declared.Tally.TheVariants.{Sum}
 use Rattle.ask_tile_table.specs.Floor.{home_of}
 use Rattle.ask_tile_table.specs.Tile.{here, wraps, east_strip, west_strip, visited, tile_listed, whole_tile, rounded}
 use Rattle.ask_tile_table.specs.Tally.{member, distinct, total, tally_of}
 use Rattle.ask_tile.specs.Tallied.{tallied}
 use Rattle.ask_base.specs.Asked.{told}
 use Rattle.ask_tile.specs.Asked.{TileAsked, tile_asked, tile_outcome, outcome_of, tiled}
+use Rattle.law_worked.specs.Build.{state_told}
 use Rattle.law_worked.specs.Tables.{b, options, xs, ys, ws, zeros}
 use Rattle.law_answers.specs.Stored.{columns_of}
 
@@ -56,16 +56,16 @@ with z k =
     }
 
 -- 32 tables of four lamps
-pub zoom-30 : (l : BuildColumns) → roomy 128 l ≡ true → checked (with 30 2) xs ys ws l ≡ Done
+pub zoom-30 : (l : BuildColumns) → roomy 128 l ≡ true → checked (with 30 2) xs ys ws l ≡ Ok tt
 unfolding checked options_ok system_in_bounds in_bounds first_outside converted_all converted normalized offset_of scale_of add sub mul div
     of_bits le lt with options xs ys ws b first_over
-zoom-30 l h = ap (λ (c : Bool). cond c Done Tables) h
+zoom-30 l h = ap (λ (c : Bool). cond c (Ok tt) (Err Tables)) h
 
-pub zoom-31 : (l : BuildColumns) → load_number (checked (with 31 2) xs ys ws l) ≡ 1
+pub zoom-31 : (l : BuildColumns) → number (checked (with 31 2) xs ys ws l) ≡ 1
 unfolding checked options_ok system_in_bounds in_bounds offset_of scale_of sub of_bits le lt with options b
 zoom-31 l = refl
 
-pub size-0 : (l : BuildColumns) → load_number (checked (options 0) xs ys ws l) ≡ 1
+pub size-0 : (l : BuildColumns) → number (checked (options 0) xs ys ws l) ≡ 1
 unfolding checked options_ok system_in_bounds in_bounds offset_of scale_of sub of_bits le lt options b
 size-0 l = refl
 
@@ -86,7 +86,7 @@ abbrev pub lone : Outcome
 lone = loaded (options 64) (one ∷ []) (half ∷ []) (9 ∷ []) (zeros 3)
 
 -- at (512,256), and again at (0,256)
-pub tile-of-lone : tile_asked lone.reply.state (columns_of lone.columns) 0 0 0
+pub tile-of-lone : tile_asked (state_told lone.reply) (columns_of lone.columns) 0 0 0
     ≡ told true (record { place = 0; x = pos 512; y = pos 256 } ∷ record { place = 0; x = pos 0; y = pos 256 } ∷ [])
 unfolding loaded checked first_over zeros written joined joined_ids joined_co starts lens tables_of run_zooms converted_all finest index_of_table
     index_of
@@ -98,12 +98,12 @@ unfolding loaded checked first_over zeros written joined joined_ids joined_co st
 tile-of-lone = refl
 
 -- the shortest column has room for one of the two
-pub lone-no-room : tiled lone.reply.state (columns_of lone.columns) 0 0 0 (9 ∷ 9 ∷ []) (pos 9 ∷ []) (pos 9 ∷ pos 9 ∷ [])
-    ≡ tile_outcome (NoRoom 2) (0 ∷ 9 ∷ []) (pos 512 ∷ []) (pos 256 ∷ pos 9 ∷ [])
+pub lone-no-room : tiled (state_told lone.reply) (columns_of lone.columns) 0 0 0 (9 ∷ 9 ∷ []) (pos 9 ∷ []) (pos 9 ∷ pos 9 ∷ [])
+    ≡ tile_outcome (Err (NoRoom 2)) (0 ∷ 9 ∷ []) (pos 512 ∷ []) (pos 256 ∷ pos 9 ∷ [])
 lone-no-room = ap (λ (a : TileAsked). outcome_of a (9 ∷ 9 ∷ []) (pos 9 ∷ []) (pos 9 ∷ pos 9 ∷ [])) tile-of-lone
 
 -- listed twice, and counted once
-pub tally-of-lone : tallied lone.reply.state (columns_of lone.columns) 0 0 0 ≡ Sum 1
+pub tally-of-lone : tallied (state_told lone.reply) (columns_of lone.columns) 0 0 0 ≡ Ok 1
 unfolding loaded checked first_over zeros written joined joined_ids joined_co starts lens tables_of run_zooms converted_all finest index_of_table
     index_of
     radius_at cluster scan_from scan_one visit copy_all copy_one absorb absorb_one more_of converted normalized offset_of scale_of filled_slots sorted
@@ -131,7 +131,7 @@ on_plan o =
 abbrev pub worked_planned : Outcome
 worked_planned = loaded (on_plan (options 64)) (one ∷ []) (half ∷ []) (9 ∷ []) (zeros 3)
 
-pub tile-of-planned : tile_asked worked_planned.reply.state (columns_of worked_planned.columns) 0 0 0
+pub tile-of-planned : tile_asked (state_told worked_planned.reply) (columns_of worked_planned.columns) 0 0 0
     ≡ told true (record { place = 0; x = pos 512; y = pos 256 } ∷ [])
 unfolding on_plan loaded checked first_over zeros written joined joined_ids joined_co starts lens tables_of run_zooms converted_all finest
     index_of_table
@@ -148,7 +148,7 @@ tile-of-planned = refl
 abbrev pub two_lamps : Outcome
 two_lamps = loaded (options 64) (zero ∷ one ∷ []) (half ∷ half ∷ []) (9 ∷ 9 ∷ []) (zeros 6)
 
-pub tile-of-two : tile_asked two_lamps.reply.state (columns_of two_lamps.columns) 0 0 0
+pub tile-of-two : tile_asked (state_told two_lamps.reply) (columns_of two_lamps.columns) 0 0 0
     ≡ told true
     (record { place = 0; x = pos 0; y = pos 256 }
     ∷ record { place = 1; x = pos 512; y = pos 256 }

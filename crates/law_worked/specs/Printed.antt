@@ -1,15 +1,15 @@
 -- SCOPE's example of the table lister, computed: the text that it gives is the writing of the example, and what is printed for it is its
 -- seven lines. The tables are those of Tables. Assumes nothing.
-use Rattle.std.specs.Prelude.{List, [], ◌∷◌, ◌++◌, ◌≡◌, refl, ℕ}
+use Rattle.std.specs.Prelude.{List, [], ◌∷◌, ◌++◌, ◌≡◌, refl, ℕ, Ok}
 use Rattle.std.proofs.Common.{ap, ◌∙◌}
 use Rattle.std.specs.Float.Ieee.{div, of_int, of_bits, to_bits, is_nan}
-use Rattle.supercluster.specs.declared.LoadReply.TheVariants.{Done}
 use Rattle.supercluster.specs.Build.{BuildColumns, checked, loaded}
-use Rattle.lister_text.specs.declared.Parsed.TheVariants.{Refused}
+use Rattle.refusals.specs.declared.Refusal.TheVariants.{Text}
+use Rattle.refusals.specs.Refusals.{number_of}
 use Rattle.lister_text.specs.Bytes.{bytes}
 use Rattle.lister_text.specs.Digits.{decimal_of}
-use Rattle.lister_text.specs.Text.{LampText, Input, line, points_text, text, head_is, given_xs, given_ys, given_energies, point_cols}
-use Rattle.lister_text.specs.Text.{parsed_number}
+use Rattle.lister_text.specs.declared.LampText.{LampText}
+use Rattle.lister_text.specs.Text.{Input, line, points_text, text, head_is, given_xs, given_ys, given_energies, point_cols}
 use Rattle.lister_text.specs.Values.{options_of}
 use Rattle.lister_report.specs.Hex.{hex_of}
 use Rattle.lister_report.specs.Lines.{table_text, tables_text, refusal_text}
@@ -81,7 +81,7 @@ ws-are : given_energies example ≡ ws
 unfolding example ws
 ws-are = refl
 
-reply-is : checked (options 64) xs ys ws lister_columns ≡ Done
+reply-is : checked (options 64) xs ys ws lister_columns ≡ Ok tt
 unfolding lister_columns
 reply-is = accepted lister_columns refl
 
@@ -104,7 +104,7 @@ lines_are =
 
 -- ---- the lines of refusals
 
-pub no_text : refusal_text (parsed_number Refused) 0 ≡ bytes "refusal=12\n"
+pub no_text : refusal_text (number_of Text) 0 ≡ bytes "refusal=12\n"
 unfolding decimal_of
 no_text = refl
 

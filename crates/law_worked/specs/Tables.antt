@@ -1,11 +1,10 @@
 -- SCOPE's worked build, computed from the definitions: the real index, the real search and the real distance test give the tables that
 -- SCOPE prints, at its node size and at node size 1, where the index is split; and columns one entry too short are refused 4. Assumes
 -- nothing.
-use Rattle.std.specs.Prelude.{◌≡◌, refl, false, List, [], ◌∷◌, ℕ, ◌+◌, set, replicate, Float}
+use Rattle.std.specs.Prelude.{◌≡◌, refl, false, List, [], ◌∷◌, ℕ, ◌+◌, set, replicate, Float, Some, Err}
 use Rattle.std.specs.Float.{binary64}
 use Rattle.std.specs.Float.Ieee.{add, sub, mul, div, of_int, of_bits, le, lt, eq}
 use Rattle.floats.specs.Numbers.{zero, one}
-use Rattle.range.specs.declared.Setting.TheVariants.{Given}
 use Rattle.range.specs.declared.CoordinateSystem.TheVariants.{Cartesian}
 use Rattle.range.specs.Range.{offset_of, scale_of, normalized, in_bounds, system_in_bounds, converted}
 use Rattle.kdsort.specs.Cols.{swap_co, swap_ids}
@@ -24,7 +23,7 @@ use Rattle.build_tables.specs.Rows.{cols}
 use Rattle.build_one_zoom.specs.Zoom.{more_of, absorb_one, absorb, copy_one, copy_all, visit, scan_one, scan_from, cluster}
 use Rattle.kdbush.specs.Reply.{index_of}
 use Rattle.build_all_zooms.specs.Zooms.{index_of_table, run_zooms, starts}
-use Rattle.supercluster.specs.declared.LoadReply.TheVariants.{Tables}
+use Rattle.refusals.specs.declared.Refusal.TheVariants.{Tables}
 use Rattle.supercluster.specs.Build.{converted_all, finest, tables_of, BuildColumns, build_columns, first_over, checked, loaded}
 
 -- a float by its bits, as SCOPE prints it
@@ -47,7 +46,7 @@ options size =
       extent = b 0x4080000000000000;
       node_size = size;
       coordinate_system = Cartesian
-          (record { min_x = zero; min_y = zero; max_x = one; max_y = one; offset = Given zero; scale = Given one });
+          (record { min_x = zero; min_y = zero; max_x = one; max_y = one; offset = Some zero; scale = Some one });
       longitude_strips_only = false;
     }
 
@@ -101,7 +100,7 @@ zeros n =
     build_columns (cols f f z z z z z) z (replicate (n + n) zero) z
 
 -- columns of 12 entries are long enough (Build), and one less is refused 4
-pub too_short : (loaded (options 64) xs ys ws (zeros 11)).reply.reply ≡ Tables
+pub too_short : (loaded (options 64) xs ys ws (zeros 11)).reply ≡ Err Tables
 unfolding loaded checked options_ok system_in_bounds in_bounds first_outside converted_all converted normalized offset_of scale_of add sub mul
     div of_bits le lt options xs ys ws b zeros first_over
 too_short = refl

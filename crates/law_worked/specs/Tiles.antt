@@ -1,6 +1,6 @@
 -- SCOPE's P line on a tile, over the state and the columns of the worked build (Build), computed from the definitions; what the tile leaves
 -- in output columns, and its tally. Assumes nothing.
-use Rattle.std.specs.Prelude.{◌≡◌, Bool, not, [], ◌∷◌}
+use Rattle.std.specs.Prelude.{◌≡◌, Bool, not, [], ◌∷◌, Ok, Err}
 use Rattle.std.proofs.Math.Path.{ap}
 use Rattle.std.proofs.Math.Bool.{true, cond}
 use Rattle.std.proofs.Math.IntN.{pos}
@@ -10,8 +10,7 @@ use Rattle.kdsort.specs.Shape.{shape, split}
 use Rattle.kdslots.specs.Slots.{scanned, slots}
 use Rattle.kdbush.specs.Run.{places}
 use Rattle.build_tables.specs.Rows.{rows}
-use Rattle.ask_base.specs.declared.Answer.TheVariants.{Listed, Tile, Spoiled}
-use Rattle.ask_tile_table.specs.declared.Tally.TheVariants.{Sum, Spoiled as Tally-as-Spoiled}
+use Rattle.refusals.specs.declared.Refusal.TheVariants.{Tile, Spoiled}
 use Rattle.ask_tile_table.specs.Floor.{home_of}
 use Rattle.ask_tile_table.specs.Tile.{here, wraps, east_strip, west_strip, visited, tile_listed, whole_tile, rounded}
 use Rattle.ask_tile_table.specs.Tally.{member, distinct, total, tally_of}
@@ -36,7 +35,7 @@ module _ (l : BuildColumns) where
 
   -- in columns of two: the first item, and then what stood there
   pub tile-columns : tiled state (worked_held l) 0 0 0 (9 ∷ 9 ∷ []) (pos 9 ∷ pos 9 ∷ []) (pos 9 ∷ pos 9 ∷ [])
-      ≡ tile_outcome (Listed 1) (0 ∷ 9 ∷ []) (pos 176 ∷ pos 9 ∷ []) (pos 256 ∷ pos 9 ∷ [])
+      ≡ tile_outcome (Ok 1) (0 ∷ 9 ∷ []) (pos 176 ∷ pos 9 ∷ []) (pos 256 ∷ pos 9 ∷ [])
   tile-columns = ap (λ (a : TileAsked). outcome_of a (9 ∷ 9 ∷ []) (pos 9 ∷ pos 9 ∷ []) (pos 9 ∷ pos 9 ∷ [])) tile-000
 
   -- there is one tile at zoom 0
@@ -45,8 +44,8 @@ module _ (l : BuildColumns) where
   no_tile = ap (asks (refused Tile)) (sound l)
 
   -- its four lamps
-  pub tally-000 : tallied state (worked_held l) 0 0 0 ≡ Sum 4
+  pub tally-000 : tallied state (worked_held l) 0 0 0 ≡ Ok 4
   unfolding tallied tally_of total distinct member home_of visited here wraps east_strip west_strip tile_listed whole_tile rounded away neg add
       sub mul div
       of_int of_bits le lt eq shape split scanned slots places rows options state after_build b
-  tally-000 = ap (λ (s : Bool). cond (not s) Tally-as-Spoiled (Sum 4)) (sound l)
+  tally-000 = ap (λ (s : Bool). cond (not s) (Err Spoiled) (Ok 4)) (sound l)

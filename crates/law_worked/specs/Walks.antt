@@ -1,6 +1,6 @@
 -- SCOPE's P lines on children, leaves, expansion zoom and refusals, over the state and the columns of the worked build (Build), computed
 -- from the definitions. Assumes nothing.
-use Rattle.std.specs.Prelude.{◌≡◌, Bool, true, cond, not, List, [], ◌∷◌, ℕ, ◌-◌, length}
+use Rattle.std.specs.Prelude.{◌≡◌, Bool, true, cond, not, List, [], ◌∷◌, ℕ, ◌-◌, length, Ok, Err}
 use Rattle.std.proofs.Math.Path.{ap}
 use Rattle.std.specs.Float.Ieee.{add, sub, mul, div, of_int, of_bits, le, lt, eq}
 use Rattle.kdsort.specs.Shape.{shape, split}
@@ -9,16 +9,15 @@ use Rattle.kdbush.specs.Run.{places, sound as sound_places, whole}
 use Rattle.build_tables.specs.declared.State.{State}
 use Rattle.build_tables.specs.Rows.{rows}
 use Rattle.build_tables.specs.Radius.{radius_at}
-use Rattle.ask_base.specs.declared.Target.{Target}
-use Rattle.ask_base.specs.declared.Target.TheVariants.{At, Spoiled, NoTree, NoCluster}
-use Rattle.ask_base.specs.Answers.{answer_number}
+use Rattle.ask_base.specs.Ids.{Target, origin}
+use Rattle.refusals.specs.declared.Refusal.TheVariants.{Spoiled, NoTree, NoCluster}
+use Rattle.refusals.specs.Refusals.{number}
 use Rattle.ask_base.specs.Asked.{told, answer_of, column_of}
 use Rattle.build_tables.specs.Room.{Columns, room_of}
 use Rattle.ask_base.specs.Ids.{target_of, onward}
 use Rattle.ask_child_walk.specs.Kids.{kids_at, clean_at}
-use Rattle.ask_cluster.specs.declared.Expansion.TheVariants.{At as Zoom-as-At}
 use Rattle.ask_cluster.specs.Children.{at_target, children_at, children_of}
-use Rattle.ask_cluster.specs.Expansion.{expansion_number, expand, zoom_at, zoom_of}
+use Rattle.ask_cluster.specs.Expansion.{expand, zoom_at, zoom_of}
 use Rattle.ask_cluster.specs.Leaves.{visit_child, steps, leaf_walk, leaves_at, leaves_of}
 use Rattle.supercluster.specs.Build.{BuildColumns}
 use Rattle.law_worked.specs.Tables.{b, options}
@@ -27,40 +26,40 @@ use Rattle.law_worked.specs.Build.{state, after_build, worked_held, sound}
 -- children, leaves and expansion zoom of this id are refused with SCOPE's number n, whatever limit, offset and column are given, and the
 -- column stays as it was
 pub record Refused (s : State) (c : Columns) (id n : ℕ) : Type 0 where
-  pub children : (out : List ℕ) → (answer_number (answer_of (children_of s c id) (length out)) ≡ n) × (column_of (children_of s c id) out ≡ out)
+  pub children : (out : List ℕ) → (number (answer_of (children_of s c id) (length out)) ≡ n) × (column_of (children_of s c id) out ≡ out)
   pub leaves : (limit offset : ℕ) (out : List ℕ)
-      → (answer_number (answer_of (leaves_of s c id limit offset) (length out)) ≡ n) × (column_of (leaves_of s c id limit offset) out ≡ out)
-  pub zoom : expansion_number (zoom_of s c id) ≡ n
+      → (number (answer_of (leaves_of s c id limit offset) (length out)) ≡ n) × (column_of (leaves_of s c id limit offset) out ≡ out)
+  pub zoom : number (zoom_of s c id) ≡ n
 
 module _ (l : BuildColumns) where
   -- ---- where the ids lead, the state being sound
 
   leads : Target → Bool → Target
-  leads t s = cond (not s) Spoiled t
+  leads t s = cond (not s) (Err Spoiled) t
 
-  at_5 : target_of state (room_of (worked_held l)) 5 ≡ At 1 0
+  at_5 : target_of state (room_of (worked_held l)) 5 ≡ Ok (origin 1 0)
   unfolding target_of state options leads
-  at_5 = ap (leads (At 1 0)) (sound l)
+  at_5 = ap (leads (Ok (origin 1 0))) (sound l)
 
-  at-6 : target_of state (room_of (worked_held l)) 6 ≡ At 2 0
+  at-6 : target_of state (room_of (worked_held l)) 6 ≡ Ok (origin 2 0)
   unfolding target_of state options leads
-  at-6 = ap (leads (At 2 0)) (sound l)
+  at-6 = ap (leads (Ok (origin 2 0))) (sound l)
 
-  at-3 : target_of state (room_of (worked_held l)) 3 ≡ NoCluster
+  at-3 : target_of state (room_of (worked_held l)) 3 ≡ Err NoCluster
   unfolding target_of state options leads
-  at-3 = ap (leads NoCluster) (sound l)
+  at-3 = ap (leads (Err NoCluster)) (sound l)
 
-  at-4 : target_of state (room_of (worked_held l)) 4 ≡ NoCluster
+  at-4 : target_of state (room_of (worked_held l)) 4 ≡ Err NoCluster
   unfolding target_of state options leads
-  at-4 = ap (leads NoCluster) (sound l)
+  at-4 = ap (leads (Err NoCluster)) (sound l)
 
-  at_7 : target_of state (room_of (worked_held l)) 7 ≡ NoTree
+  at_7 : target_of state (room_of (worked_held l)) 7 ≡ Err NoTree
   unfolding target_of state options leads
-  at_7 = ap (leads NoTree) (sound l)
+  at_7 = ap (leads (Err NoTree)) (sound l)
 
-  at-134 : target_of state (room_of (worked_held l)) 134 ≡ NoCluster
+  at-134 : target_of state (room_of (worked_held l)) 134 ≡ Err NoCluster
   unfolding target_of state options leads
-  at-134 = ap (leads NoCluster) (sound l)
+  at-134 = ap (leads (Err NoCluster)) (sound l)
 
   -- ---- children: entries 0 and 1 of table 1
 
@@ -97,24 +96,24 @@ module _ (l : BuildColumns) where
 
   -- ---- expansion zooms
 
-  pub zoom-5 : zoom_of state (worked_held l) 5 ≡ Zoom-as-At 1
+  pub zoom-5 : zoom_of state (worked_held l) 5 ≡ Ok 1
   unfolding zoom_of expand onward kids_at clean_at radius_at rows places sound_places whole slots scanned shape
       split add sub mul div of_int of_bits le lt eq state options after_build b
-  zoom-5 = ap (λ (t : Target). zoom_at t (λ z o. expand state (worked_held l) (2 - (z - 1)) (At z o) 5 (z - 1) true)) at_5
+  zoom-5 = ap (λ (t : Target). zoom_at t (λ z o. expand state (worked_held l) (2 - (z - 1)) (Ok (origin z o)) 5 (z - 1) true)) at_5
 
-  pub zoom-6 : zoom_of state (worked_held l) 6 ≡ Zoom-as-At 2
+  pub zoom-6 : zoom_of state (worked_held l) 6 ≡ Ok 2
   unfolding zoom_of expand onward kids_at clean_at radius_at rows places sound_places whole slots scanned shape
       split add sub mul div of_int of_bits le lt eq state options after_build b
-  zoom-6 = ap (λ (t : Target). zoom_at t (λ z o. expand state (worked_held l) (2 - (z - 1)) (At z o) 6 (z - 1) true)) at-6
+  zoom-6 = ap (λ (t : Target). zoom_at t (λ z o. expand state (worked_held l) (2 - (z - 1)) (Ok (origin z o)) 6 (z - 1) true)) at-6
 
   -- ---- refusals
 
   module _ (id : ℕ) where
-    no-cluster : target_of state (room_of (worked_held l)) id ≡ NoCluster → Refused state (worked_held l) id 6
+    no-cluster : target_of state (room_of (worked_held l)) id ≡ Err NoCluster → Refused state (worked_held l) id 6
     unfolding children_of leaves_of zoom_of
     no-cluster e = record { children = λ out. (rw e, rw e); leaves = λ limit offset out. (rw e, rw e); zoom = rw e }
 
-    no-tree : target_of state (room_of (worked_held l)) id ≡ NoTree → Refused state (worked_held l) id 5
+    no-tree : target_of state (room_of (worked_held l)) id ≡ Err NoTree → Refused state (worked_held l) id 5
     unfolding children_of leaves_of zoom_of
     no-tree e = record { children = λ out. (rw e, rw e); leaves = λ limit offset out. (rw e, rw e); zoom = rw e }
 

@@ -1,7 +1,7 @@
 -- SCOPE's lines marked P as one proved table, in SCOPE's order and words, before them the lines that the table lister prints. What is asked
 -- of the worked build is asked of the state and the columns that `load` replies and leaves of SCOPE's four lamps, in any columns that are
 -- long enough. Assumes nothing.
-use Rattle.std.specs.Prelude.{◌≡◌, refl, true, [], ◌∷◌, pos, negsuc}
+use Rattle.std.specs.Prelude.{◌≡◌, refl, true, [], ◌∷◌, pos, negsuc, Ok}
 use Rattle.std.proofs.Common.{sym, subst}
 use Rattle.std.specs.Float.Ieee.{neg}
 use Rattle.floats.specs.Numbers.{half}
@@ -11,19 +11,17 @@ use Rattle.build_tables.specs.declared.State.{State}
 use Rattle.build_tables.specs.Ids.{origin_of, table_of}
 use Rattle.ask_base.specs.Asked.{told}
 use Rattle.build_tables.specs.Room.{Columns}
-use Rattle.ask_cluster.specs.declared.Expansion.TheVariants.{At}
 use Rattle.ask_cluster.specs.Children.{children_of}
 use Rattle.ask_cluster.specs.Expansion.{zoom_of}
 use Rattle.ask_cluster.specs.Leaves.{leaves_of}
 use Rattle.ask_tile.specs.Asked.{tile_asked}
-use Rattle.supercluster.specs.declared.LoadReply.TheVariants.{Done}
 use Rattle.supercluster.specs.Build.{tables_of, BuildColumns, Outcome, loaded}
 use Rattle.supercluster.specs.laws.Load.{roomy}
 use Rattle.lister_text.specs.Text.{text, head_is, given_xs, given_ys, given_energies}
 use Rattle.lister_text.specs.Values.{options_of}
 use Rattle.lister_report.specs.Report.{lister_columns as zeros, lines_of}
 use Rattle.law_answers.specs.Stored.{columns_of}
-use Rattle.law_worked.specs.Build.{worked_built, state_in, columns_in, state, worked_held, built-is}
+use Rattle.law_worked.specs.Build.{worked_built, state_in, columns_in, state, worked_held, built-is, state_told}
 use Rattle.law_worked.specs.Walks.{Refused, children-5, leaves-10-0, leaves-3-1, leaves-0-0, leaves-0-1, zoom-5, zoom-6, refused-3}
 use Rattle.law_worked.specs.Walks.{refused-4, refused-7, refused-134}
 use Rattle.build_owners.specs.OwnerColumn.{owner_column}
@@ -49,8 +47,8 @@ pub record Worked (s : State) (c : Columns) : Type 0 where
   pub leaves-limit-0 : leaves_of s c 5 0 0 ≡ told true []
   pub leaves-limit-0-later : leaves_of s c 5 0 1 ≡ told true []
   -- at which zoom 5 and 6 come apart
-  pub expansion-of-5 : zoom_of s c 5 ≡ At 1
-  pub expansion-of-6 : zoom_of s c 6 ≡ At 2
+  pub expansion-of-5 : zoom_of s c 5 ≡ Ok 1
+  pub expansion-of-6 : zoom_of s c 6 ≡ Ok 2
   -- all three questions are refused, of 3, 4 and 134 by 6, of 7 by 5
   pub id-3 : Refused s c 3 6
   pub id-4 : Refused s c 4 6
@@ -91,15 +89,15 @@ table l =
     }
 
 -- and those are what `load` replies and leaves
-pub worked : (l : BuildColumns) → roomy 12 l ≡ true → ((worked_built l).reply.reply ≡ Done) × Worked (state_in l) (columns_in l)
-worked l h = subst (λ (o : Outcome). (o.reply.reply ≡ Done) × Worked o.reply.state (columns_of o.columns)) (sym (built-is l h))
+pub worked : (l : BuildColumns) → roomy 12 l ≡ true → ((worked_built l).reply ≡ Ok (state_in l)) × Worked (state_in l) (columns_in l)
+worked l h = subst (λ (o : Outcome). (o.reply ≡ Ok (state_told o.reply)) × Worked (state_told o.reply) (columns_of o.columns)) (sym (built-is l h))
     (refl, table l)
 
 -- so of the lister's example, in the lister's columns of 1,152 zeros
 abbrev pub worked_listed : Outcome
 worked_listed = loaded (options_of (head_is example)) (given_xs example) (given_ys example) (given_energies example) zeros
 
-pub worked-in-lister : Worked worked_listed.reply.state (columns_of worked_listed.columns)
+pub worked-in-lister : Worked (state_told worked_listed.reply) (columns_of worked_listed.columns)
 unfolding zeros
-worked-in-lister = subst (λ (o : Outcome). Worked o.reply.state (columns_of o.columns)) (sym (example-built zeros))
+worked-in-lister = subst (λ (o : Outcome). Worked (state_told o.reply) (columns_of o.columns)) (sym (example-built zeros))
     (worked zeros refl).1

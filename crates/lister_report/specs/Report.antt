@@ -1,17 +1,18 @@
 -- What the table lister prints for a text, by SCOPE's 'The table lister' and the energies: the refusal 12, where the text is not of its
 -- form; or the refusal of the build; or every line of every table, the finest table first. Definitions only.
-use Rattle.std.specs.Prelude.{List, ◌≡◌, ℕ, ◌+◌, ◌*◌, length, replicate}
+use Rattle.std.specs.Prelude.{List, ◌≡◌, ℕ, ◌+◌, ◌*◌, length, replicate, Result, Ok, Err}
 use Rattle.floats.specs.Numbers.{zero}
 use Rattle.build_tables.specs.declared.Options.{Options}
 use Rattle.build_tables.specs.Entries.{Table}
 use Rattle.build_tables.specs.Rows.{cols}
 use Rattle.build_all_zooms.specs.Zooms.{laid_over}
-use Rattle.supercluster.specs.declared.LoadReply.{LoadReply}
-use Rattle.supercluster.specs.declared.LoadReply.TheVariants.{Done, Options as No-as-Options, Count, Point, Energy, Tables}
-use Rattle.supercluster.specs.Build.{BuildColumns, build_columns, load_number, load_carried, checked, tables_of, Outcome, loaded}
-use Rattle.lister_text.specs.declared.Parsed.TheVariants.{Refused}
+use Rattle.supercluster.specs.Build.{BuildColumns, build_columns, checked, tables_of, Outcome, loaded}
+use Rattle.refusals.specs.declared.Refusal.{Refusal}
+use Rattle.refusals.specs.declared.Refusal.TheVariants.{Text}
+use Rattle.refusals.specs.Refusals.{number_of, carried_of}
+use Rattle.lister_report.specs.declared.ListerColumns.{ListerColumns}
 use Rattle.lister_text.specs.Values.{options_of}
-use Rattle.lister_text.specs.Text.{Input, text, Valid, head_is, PointCols, points_of, parsed_number}
+use Rattle.lister_text.specs.Text.{Input, text, Valid, head_is, PointCols, points_of}
 use Rattle.lister_report.specs.Lines.{line_room, tables_text, refusal_text}
 
 -- the lister's columns: 1,152 entries, and 2,304 index coordinates
@@ -21,24 +22,24 @@ lister_columns =
     let whole = replicate {A = ℕ} 1152 0 in
     build_columns (cols real real whole whole whole whole whole) whole (replicate 2304 zero) whole
 
+-- what such columns hold
+abbrev pub lister_held : ListerColumns → BuildColumns
+lister_held c = build_columns (cols c.x c.y c.seen c.id c.parent c.num c.energy) c.ids c.coords c.near
+
 -- the build of these points: its tables, its reply, and what it leaves
 abbrev pub tables_by : Options → PointCols → List Table
 tables_by o p = tables_of o p.xs p.ys p.energies
 
-abbrev pub checked_by : Options → PointCols → BuildColumns → LoadReply
+abbrev pub checked_by : Options → PointCols → BuildColumns → Result (Unit {0}) Refusal
 checked_by o p l = checked o p.xs p.ys p.energies l
 
 abbrev pub loaded_by : Options → PointCols → BuildColumns → Outcome
 loaded_by o p l = loaded o p.xs p.ys p.energies l
 
 -- what is printed for a build with this reply. Of a text that is never 15: an energy of seven digits is below 2^40
-abbrev pub answer_text : Options → PointCols → LoadReply → List ℕ
-answer_text o p Done = tables_text (o.max_zoom + 1) (tables_by o p)
-answer_text o p No-as-Options = refusal_text (load_number No-as-Options) (load_carried No-as-Options)
-answer_text o p Count = refusal_text (load_number Count) (load_carried Count)
-answer_text o p (Point i) = refusal_text (load_number (Point i)) (load_carried (Point i))
-answer_text o p (Energy i) = refusal_text (load_number (Energy i)) (load_carried (Energy i))
-answer_text o p Tables = refusal_text (load_number Tables) (load_carried Tables)
+abbrev pub answer_text : Options → PointCols → Result (Unit {0}) Refusal → List ℕ
+answer_text o p (Ok d) = tables_text (o.max_zoom + 1) (tables_by o p)
+answer_text o p (Err e) = refusal_text (number_of e) (carried_of e)
 
 -- how many bytes that is at the most
 abbrev pub answer_room : ℕ
@@ -54,7 +55,7 @@ lines_of i = build_text (options_of (head_is i)) (points_of i)
 
 -- and where there is no input
 abbrev pub refused_line : List ℕ
-refused_line = refusal_text (parsed_number Refused) 0
+refused_line = refusal_text (number_of Text) (carried_of Text)
 
 -- what the lister is lent: the columns of the build, and room for the answer
 pub record Lending : Type 0 where

@@ -9,7 +9,7 @@ pub mod Values
 -- Text: SCOPE's text of the table lister, with the line of each point's energy: the writing of an input, key=value line by line, and what
 -- it is to read a text.
 pub mod Text
--- Lent: the columns that points are read into, in a contract, each named once.
+-- Lent: the columns that points are read into, in a contract.
 pub mod Lent
 -- What is true of these: laws, and what contracts below the surface of lister_text cite beside them.
 pub mod laws

@@ -1,10 +1,11 @@
 -- SCOPE's text of the table lister, with the line of each point's energy: the writing of an input, key=value line by line, and what it is
 -- to read a text. Definitions only.
-use Rattle.std.specs.Prelude.{List, [], ◌∷◌, ◌++◌, map, ◌≡◌, ℕ, ◌+◌, ◌≤◌, length, take, Float}
+use Rattle.std.specs.Prelude.{List, [], ◌∷◌, ◌++◌, map, ◌≡◌, ℕ, ◌+◌, ◌≤◌, length, take, Float, Result, Ok, Err}
 use Rattle.std.proofs.lemmas.List.Edits.{sets}
 use Rattle.lister_text.specs.declared.Head.{Head}
-use Rattle.lister_text.specs.declared.Parsed.{Parsed}
-use Rattle.lister_text.specs.declared.Parsed.TheVariants.{Read, Refused}
+use Rattle.lister_text.specs.declared.LampText.{LampText}
+use Rattle.refusals.specs.declared.Refusal.{Refusal}
+use Rattle.refusals.specs.declared.Refusal.TheVariants.{Text}
 use Rattle.lister_text.specs.Bytes.{bytes}
 use Rattle.lister_text.specs.Digits.{decimal_of}
 use Rattle.lister_text.specs.Values.{coord_of}
@@ -46,12 +47,6 @@ wh_key = bytes "wh="
 -- a line: the key with its `=`, the number, the line's end
 unfoldable pub line : List ℕ → ℕ → List ℕ
 line key v = key ++ (decimal_of 7 v ++ (10 ∷ []))
-
--- a point: where it is, in 65,536ths, and its energy in watt-hours
-pub record LampText : Type 0 where
-  pub x : ℕ
-  pub y : ℕ
-  pub wh : ℕ
 
 pub record Input : Type 0 where
   pub min_zoom : ℕ
@@ -184,11 +179,7 @@ pub record Refuses (s : List ℕ) (c c' : PointCols) : Type 0 where
   pub none : (i : Input) → Valid i → s ≡ text i → ⊥
   pub same : c' ≡ c
 
--- SCOPE's number of a reply; 0 where there is no refusal
-abbrev pub parsed_number : Parsed → ℕ
-parsed_number (Read h) = 0
-parsed_number Refused = 12
-
-abbrev pub Parsing : List ℕ → PointCols → Parsed → PointCols → Type 0
-Parsing s c (Read h) c' = Reads s c h c'
-Parsing s c Refused c' = Refuses s c c'
+-- the only refusal is that of a text, 12
+abbrev pub Parsing : List ℕ → PointCols → Result Head Refusal → PointCols → Type 0
+Parsing s c (Ok h) c' = Reads s c h c'
+Parsing s c (Err e) c' = (e ≡ Text) × Refuses s c c'

@@ -1,11 +1,10 @@
 -- What the numbers of a text stand for: a coordinate, and the options of a build. Definitions only.
-use Rattle.std.specs.Prelude.{false, ℕ, pos, Float}
+use Rattle.std.specs.Prelude.{false, ℕ, pos, Float, Some}
 use Rattle.std.specs.Float.{binary64}
 use Rattle.std.specs.Float.Ieee.{of_int, div}
 use Rattle.floats.specs.Numbers.{zero, one, pow16}
 use Rattle.range.specs.declared.CoordinateSystem.{CoordinateSystem}
 use Rattle.range.specs.declared.CoordinateSystem.TheVariants.{Cartesian}
-use Rattle.range.specs.declared.Setting.TheVariants.{Given}
 use Rattle.build_tables.specs.declared.Options.{Options}
 use Rattle.lister_text.specs.declared.Head.{Head}
 
@@ -19,7 +18,7 @@ coord_of k = div binary64 (whole_of k) pow16
 
 -- Cartesian with offset 0 and scale 1
 abbrev pub unit_system : CoordinateSystem
-unit_system = Cartesian (record { min_x = zero; min_y = zero; max_x = one; max_y = one; offset = Given zero; scale = Given one })
+unit_system = Cartesian (record { min_x = zero; min_y = zero; max_x = one; max_y = one; offset = Some zero; scale = Some one })
 
 abbrev pub options_of : Head → Options
 options_of h =

@@ -3,27 +3,21 @@
 // were. Nothing is asked of the caller. Assumed: nothing.
 #![tactic(auto)]
 
-ghost use Rattle.std.specs.Prelude.{◌≡◌, ◌<◌, ◌≤◌, drop};
-ghost use Rattle.lister_text.specs.laws.Scan.{starts_with, more_text, number_of, line_of, value_in};
-ghost use Rattle.lister_text.specs.laws.Form.{head_of_text, count_in, point_of, points_ok, filled_form};
+ghost use Rattle.std.specs.Prelude.{◌≡◌, ◌<◌, ◌≤◌, length, drop, IfSome};
+ghost use Rattle.lister_text.specs.laws.Scan.{came_to, more_text, number_of, line_of, byte_at};
+ghost use Rattle.lister_text.specs.laws.Form.{head_of_text, point_of, points_ok, filled_form};
 ghost use Rattle.lister_text.specs.Values.{coord_of, options_of};
 ghost use Rattle.lister_text.specs.Text.{Parsing};
-ghost use Rattle.lister_text.specs.Lent.{lent_points_mut};
+ghost use Rattle.lister_text.specs.Lent.{held_lamps};
 
 use build_tables::Options;
-use range::{CoordinateSystem, DataRange, Setting};
+use range::{CoordinateSystem, DataRange};
+use refusals::Refusal;
 
 // A place in the text.
 #[derive(Clone, Copy)]
 pub struct Cursor {
     pub at: usize,
-}
-
-// A line's number and the place past the line, or no such line.
-#[derive(Clone, Copy)]
-pub enum Value {
-    Number { v: u32, next: Cursor },
-    Bad,
 }
 
 // The numbers of the first seven lines, and the place past these.
@@ -39,196 +33,161 @@ pub struct Head {
     pub next: Cursor,
 }
 
-// What a text says, or refusal 12.
+// The numbers of a point's lines: where it is, in 65,536ths, and its energy in watt-hours.
 #[derive(Clone, Copy)]
-pub enum Parsed {
-    Read(Head),
-    Refused,
+pub struct LampText {
+    pub x: u32,
+    pub y: u32,
+    pub wh: u32,
 }
 
-// The numbers of a point's lines and the place past these, or no such lines.
+// The columns that points are read into.
 #[derive(Clone, Copy)]
-pub enum WrittenPoint {
-    Stands {
-        x: u32,
-        y: u32,
-        wh: u32,
-        next: Cursor,
-    },
-    Missing,
+pub struct LampColumns {
+    pub xs: [f64; 1152],
+    pub ys: [f64; 1152],
+    pub energies: [u64; 1152],
 }
 
-fn wide(x: u8) -> u32
-    ensures { result ≡ x }
-{
-    x as u32
+// A text, and the place in it that is read next.
+#[derive(Clone, Copy)]
+struct Reader<'a> {
+    text: &'a [u8],
+    at: usize,
+    ghost within: { at ≤ length text.now },
 }
 
-// Whether the key stands at `at`.
-fn starts(s: &[u8], at: usize, key: &[u8]) -> bool
-    ensures { result ≡ starts_with key.now (drop at s.now) }
-{
-    let mut i = 0;
-    let mut p = at;
-    while i < key.len() {
-        if s.len() <= p {
-            return false;
-        }
-        if s[p] != key[i] {
-            return false;
-        }
-        i += 1;
-        p += 1;
+// What each method reads it steps past. Where it answers `None` the place may have moved.
+impl Reader<'_> {
+    // The next byte.
+    fn byte(&mut self) -> Option<u8>
+        ensures text { self.new.text ≡ self.old.text }
+        ensures read { came_to result self.new.at ≡ byte_at self.old.at (drop self.old.at self.old.text.now) }
+    {
+        let c = *self.text.get(self.at)?;
+        self.at += 1;
+        Some(c)
     }
-    true
-}
 
-// The rest of a number whose first digit is read, up to its line's end: no digit after a 0, at most seven digits.
-fn more(s: &[u8], from: usize, first: u32) -> Value
-    requires { first < 10 }
-    ensures { result ≡ more_text first from (drop from s.now) }
-{
-    let mut at = from;
-    let mut v = first;
-    while at < s.len() {
-        let c = s[at];
-        at += 1;
-        if c == 10 {
-            return Value::Number {
-                v,
-                next: Cursor { at },
+    // The rest of a number whose first digit is read, up to its line's end: no digit after a 0, at most seven digits.
+    fn more(&mut self, first: u32) -> Option<u32>
+        requires { first < 10 }
+        ensures text { self.new.text ≡ self.old.text }
+        ensures read { came_to result self.new.at ≡ more_text first self.old.at (drop self.old.at self.old.text.now) }
+    {
+        let mut v = first;
+        loop {
+            let c = self.byte()?;
+            if c == b'\n' {
+                return Some(v);
+            }
+            if !c.is_ascii_digit() {
+                return None;
+            }
+            if v < 1 {
+                return None;
+            }
+            if 999999 < v {
+                return None;
+            }
+            v = v * 10 + (c - b'0') as u32;
+        }
+    }
+
+    // A number and its line's end.
+    fn number(&mut self) -> Option<u32>
+        ensures text { self.new.text ≡ self.old.text }
+        ensures read { came_to result self.new.at ≡ number_of self.old.at (drop self.old.at self.old.text.now) }
+    {
+        let c = self.byte()?;
+        if !c.is_ascii_digit() {
+            return None;
+        }
+        self.more((c - b'0') as u32)
+    }
+
+    // The line key=value, its value at most max.
+    fn line(&mut self, key: &[u8], max: u32) -> Option<u32>
+        ensures text { self.new.text ≡ self.old.text }
+        ensures read { came_to result self.new.at ≡ line_of self.old.text.now self.old.at key.now max }
+        ensures most { IfSome result (λ v. v ≤ max) }
+    {
+        if !self.text[self.at..].starts_with(key) {
+            return None;
+        }
+        self.at += key.len();
+        let v = self.number()?;
+        if max < v {
+            return None;
+        }
+        Some(v)
+    }
+
+    // The first seven lines, at the start of the text.
+    #[tactic(auto, unfolding(crate::specs::laws::Form::head_of_text))]
+    fn head(&mut self) -> Option<Head>
+        requires { self.old.at ≡ 0 }
+        ensures text { self.new.text ≡ self.old.text }
+        ensures read { result ≡ head_of_text self.old.text.now }
+        ensures next { IfSome result (λ h. (h.count ≤ 1152) × (self.new.at ≡ h.next.at)) }
+    {
+        let min_zoom = self.line(b"min_zoom=", 255)?;
+        let max_zoom = self.line(b"max_zoom=", 255)?;
+        let min_points = self.line(b"min_points=", 255)?;
+        let radius = self.line(b"radius=", 9999999)?;
+        let extent = self.line(b"extent=", 9999999)?;
+        let node_size = self.line(b"node_size=", 9999999)?;
+        let count = self.line(b"count=", 1152)?;
+        Some(Head {
+            min_zoom: min_zoom as u8,
+            max_zoom: max_zoom as u8,
+            min_points: min_points as u8,
+            radius,
+            extent,
+            node_size,
+            count,
+            next: Cursor { at: self.at },
+        })
+    }
+
+    // The lines of a point.
+    #[tactic(auto, unfolding(crate::specs::laws::Form::point_of))]
+    fn point(&mut self) -> Option<LampText>
+        ensures text { self.new.text ≡ self.old.text }
+        ensures read { came_to result self.new.at ≡ point_of self.old.text.now self.old.at }
+    {
+        let x = self.line(b"x=", 9999999)?;
+        let y = self.line(b"y=", 9999999)?;
+        let wh = self.line(b"wh=", 9999999)?;
+        Some(LampText { x, y, wh })
+    }
+
+    // Whether n points stand here, and then nothing. They are read twice, here and in `fill`: a text that is refused writes no column.
+    fn points_ok(&mut self, n: u32) -> bool
+        ensures { result ≡ points_ok n self.old.text.now self.old.at }
+    {
+        for _ in 0..n {
+            let Some(_) = self.point() else {
+                return false;
             };
         }
-        if c < 48 {
-            return Value::Bad;
-        }
-        if 57 < c {
-            return Value::Bad;
-        }
-        if v < 1 {
-            return Value::Bad;
-        }
-        if 999999 < v {
-            return Value::Bad;
-        }
-        v = v * 10 + wide(c - 48);
+        self.at == self.text.len()
     }
-    Value::Bad
-}
 
-// A number and its line's end.
-fn number(s: &[u8], at: usize) -> Value
-    ensures { result ≡ number_of at (drop at s.now) }
-{
-    if s.len() <= at {
-        return Value::Bad;
-    }
-    let c = s[at];
-    if c < 48 {
-        return Value::Bad;
-    }
-    if 57 < c {
-        return Value::Bad;
-    }
-    more(s, at + 1, wide(c - 48))
-}
-
-// The line key=value at the cursor, its value at most max.
-fn line(s: &[u8], from: Cursor, key: &[u8], max: u32) -> Value
-    ensures { (result ≡ line_of s.now from.at key.now max) × value_in max result }
-{
-    let at = from.at;
-    if s.len() < at {
-        return Value::Bad;
-    }
-    if !starts(s, at, key) {
-        return Value::Bad;
-    }
-    match number(s, at + key.len()) {
-        Value::Number { v, next } => {
-            if v <= max {
-                Value::Number { v, next }
-            } else {
-                Value::Bad
-            }
+    // Writes the n points that stand here to the columns.
+    fn fill(&mut self, n: u32, lamps: &mut LampColumns)
+        requires { n ≤ 1152 }
+        ensures { held_lamps lamps.new ≡ filled_form n self.old.text.now self.old.at 0 (held_lamps lamps.old) }
+    {
+        for i in 0..n as usize {
+            let Some(p) = self.point() else {
+                return;
+            };
+            lamps.xs[i] = coordinate(p.x);
+            lamps.ys[i] = coordinate(p.y);
+            lamps.energies[i] = p.wh as u64;
         }
-        Value::Bad => Value::Bad,
     }
-}
-
-// The first seven lines.
-fn read_head(s: &[u8]) -> Parsed
-    ensures { (result ≡ head_of_text s.now) × count_in result }
-{
-    let Value::Number { v: a, next: c1 } = line(s, Cursor { at: 0 }, b"min_zoom=", 255) else {
-        return Parsed::Refused;
-    };
-    let Value::Number { v: b, next: c2 } = line(s, c1, b"max_zoom=", 255) else {
-        return Parsed::Refused;
-    };
-    let Value::Number { v: p, next: c3 } = line(s, c2, b"min_points=", 255) else {
-        return Parsed::Refused;
-    };
-    let Value::Number { v: r, next: c4 } = line(s, c3, b"radius=", 9999999) else {
-        return Parsed::Refused;
-    };
-    let Value::Number { v: e, next: c5 } = line(s, c4, b"extent=", 9999999) else {
-        return Parsed::Refused;
-    };
-    let Value::Number { v: n, next: c6 } = line(s, c5, b"node_size=", 9999999) else {
-        return Parsed::Refused;
-    };
-    let Value::Number { v: k, next: c7 } = line(s, c6, b"count=", 1152) else {
-        return Parsed::Refused;
-    };
-    Parsed::Read(Head {
-        min_zoom: a as u8,
-        max_zoom: b as u8,
-        min_points: p as u8,
-        radius: r,
-        extent: e,
-        node_size: n,
-        count: k,
-        next: c7,
-    })
-}
-
-// The lines of a point.
-fn read_point(s: &[u8], from: Cursor) -> WrittenPoint
-    ensures { result ≡ point_of s.now from.at }
-{
-    let Value::Number { v: x, next: c1 } = line(s, from, b"x=", 9999999) else {
-        return WrittenPoint::Missing;
-    };
-    let Value::Number { v: y, next: c2 } = line(s, c1, b"y=", 9999999) else {
-        return WrittenPoint::Missing;
-    };
-    let Value::Number { v: wh, next: c3 } = line(s, c2, b"wh=", 9999999) else {
-        return WrittenPoint::Missing;
-    };
-    WrittenPoint::Stands { x, y, wh, next: c3 }
-}
-
-// Whether n points stand at the cursor, and then nothing.
-fn points_ok(s: &[u8], from: Cursor, n: u32) -> bool
-    ensures { result ≡ points_ok n s.now from.at }
-{
-    let mut at = from.at;
-    let mut left = n;
-    while 0 < left {
-        let WrittenPoint::Stands {
-            x: _,
-            y: _,
-            wh: _,
-            next,
-        } = read_point(s, Cursor { at })
-        else {
-            return false;
-        };
-        at = next.at;
-        left -= 1;
-    }
-    at == s.len()
 }
 
 // A coordinate: so many 65,536ths.
@@ -238,56 +197,21 @@ pub fn coordinate(k: u32) -> f64
     k as f64 / 65536.0
 }
 
-// Writes the n points at the cursor to the columns.
-fn fill(
-    s: &[u8],
-    from: Cursor,
-    n: u32,
-    xs: &mut [f64; 1152],
-    ys: &mut [f64; 1152],
-    energies: &mut [u64; 1152],
-)
-    requires { n ≤ 1152 }
-    ensures { let c = lent_points_mut xs ys energies in c.exit ≡ filled_form n s.now from.at 0 c.entry }
-{
-    let mut at = from.at;
-    let mut left = n;
-    let mut i: usize = 0;
-    while 0 < left {
-        let WrittenPoint::Stands { x, y, wh, next } = read_point(s, Cursor { at }) else {
-            return;
-        };
-        xs[i] = coordinate(x);
-        ys[i] = coordinate(y);
-        energies[i] = wh as u64;
-        at = next.at;
-        i += 1;
-        left -= 1;
-    }
-}
-
 // Reads a text: its numbers, and its points into the columns; or refuses it, and writes nothing.
-pub fn parse(
-    s: &[u8],
-    xs: &mut [f64; 1152],
-    ys: &mut [f64; 1152],
-    energies: &mut [u64; 1152],
-) -> Parsed
-    ensures { let c = lent_points_mut xs ys energies in Parsing s.now c.entry result c.exit }
+pub fn parse(s: &[u8], lamps: &mut LampColumns) -> Result<Head, Refusal>
+    ensures { Parsing s.now (held_lamps lamps.old) result (held_lamps lamps.new) }
 {
     if 65536 < s.len() {
-        return Parsed::Refused;
+        return Err(Refusal::Text);
     }
-    let Parsed::Read(h) = read_head(s) else {
-        return Parsed::Refused;
-    };
-    let c = h.next;
-    let n = h.count;
-    if !points_ok(s, c, n) {
-        return Parsed::Refused;
+    let mut reader = Reader { text: s, at: 0 };
+    let h = reader.head().ok_or(Refusal::Text)?;
+    let mut ahead = reader;
+    if !ahead.points_ok(h.count) {
+        return Err(Refusal::Text);
     }
-    fill(s, c, n, xs, ys, energies);
-    Parsed::Read(h)
+    reader.fill(h.count, lamps);
+    Ok(h)
 }
 
 // The options that a text asks for: Cartesian, with offset 0 and scale 1.
@@ -307,8 +231,8 @@ pub fn options(h: Head) -> Options
                 min_y: 0.0,
                 max_x: 1.0,
                 max_y: 1.0,
-                offset: Setting::Given(0.0),
-                scale: Setting::Given(1.0),
+                offset: Some(0.0),
+                scale: Some(1.0),
             },
         },
         longitude_strips_only: false,

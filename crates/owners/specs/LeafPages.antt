@@ -1,11 +1,10 @@
 -- #112, leaf pages that join up: the page k of a size is what `leaves` answers with the size as limit and k * size as offset. What is
 -- so of the pages of one size, of one cluster, is the record LeafPages, over a state and its columns. It is a field of Owners, so that
 -- `owners::load` ensures it of every build that it accepts, of every cluster and every size of 1 or more. Definitions only.
-use Rattle.std.specs.Prelude.{◌≡◌, true, List, [], ◌++◌, ℕ, ◌+◌, ◌-◌, ◌*◌, ◌<◌, ◌≤◌, min, length, drop}
+use Rattle.std.specs.Prelude.{Ok, ◌≡◌, true, List, [], ◌++◌, ℕ, ◌+◌, ◌-◌, ◌*◌, ◌<◌, ◌≤◌, min, length, drop}
 use Rattle.build_tables.specs.declared.State.{State}
 use Rattle.build_tables.specs.Entries.{entry}
 use Rattle.law_groups.specs.Sums.{count, range}
-use Rattle.ask_base.specs.declared.Answer.TheVariants.{Listed}
 use Rattle.ask_base.specs.Asked.{Asked, refused, told, answer_of, column_of}
 use Rattle.build_tables.specs.Room.{Columns}
 use Rattle.ask_base.specs.Columns.{table_at}
@@ -61,7 +60,7 @@ pub record LeafPages (s : State) (c : Columns) (own : ℕ → ℕ) (z j size : �
   -- in a column that is long enough for a page, as long as the size or as the count, the page is answered whole, and stands at the front
   -- before what the column held
   pub stands : (offset : ℕ) (out : List ℕ) → min size (num_at s c z j) ≤ length out
-      → (answer_of (page_asked s c z j size offset) (length out) ≡ Listed (length (lamps_of_cluster s c z j size offset)))
+      → (answer_of (page_asked s c z j size offset) (length out) ≡ Ok (length (lamps_of_cluster s c z j size offset)))
       × (column_of (page_asked s c z j size offset) out
       ≡ lamps_of_cluster s c z j size offset ++ drop (length (lamps_of_cluster s c z j size offset)) out)
   -- each lamp of the cluster stands on exactly one page, once, and that page is one of those that reach the count

@@ -2,11 +2,10 @@
 -- `load` replies and leaves them and as a question is lent them: their tables, `table_at s c z` from the finest, max_zoom + 1, down to
 -- min_zoom, and what `leaves` answers of them. That it holds of every accepted build is shown in Proved, and is what this crate's `load`
 -- ensures. Definitions only.
-use Rattle.std.specs.Prelude.{◌≡◌, ◌↔◌, true, List, ◌++◌, ℕ, suc, ◌+◌, ◌^◌, ◌<◌, ◌≤◌, eqb, length, get_or, take, drop}
+use Rattle.std.specs.Prelude.{Ok, ◌≡◌, ◌↔◌, true, List, ◌++◌, ℕ, suc, ◌+◌, ◌^◌, ◌<◌, ◌≤◌, eqb, length, get_or, take, drop}
 use Rattle.build_tables.specs.declared.State.{State}
 use Rattle.build_tables.specs.Entries.{entry}
 use Rattle.law_groups.specs.Sums.{gate, one_if, sum, count, range}
-use Rattle.ask_base.specs.declared.Answer.TheVariants.{Listed}
 use Rattle.ask_base.specs.Asked.{told, answer_of, column_of}
 use Rattle.build_tables.specs.Room.{Columns}
 use Rattle.ask_base.specs.Columns.{table_at}
@@ -42,7 +41,7 @@ pub record Leaves (s : State) (c : Columns) (own : ℕ → ℕ) (z j limit : ℕ
   pub owned : Owned s.count own j lamps
   -- given room: in a column at least as long as the count they stand at the front, before what it held, and their number is answered
   pub room : (out : List ℕ) → num_at s c z j ≤ length out
-      → (answer_of (page_asked s c z j limit 0) (length out) ≡ Listed (num_at s c z j))
+      → (answer_of (page_asked s c z j limit 0) (length out) ≡ Ok (num_at s c z j))
       × (column_of (page_asked s c z j limit 0) out ≡ lamps ++ drop (num_at s c z j) out)
 
 -- own z l is the place in table z of the one owner of the lamp l; ws are the energies that the build was given, by lamp

@@ -1,20 +1,17 @@
 -- Posting a reading (#110): one lamp's figure replaced in the energies of all its owners, without a new build; for every input.
 -- Definitions only.
-use Rattle.std.specs.Prelude.{Bool, true, cond, ◌&&◌, List, ℕ, zero, suc, ◌+◌, ◌-◌, ◌^◌, leb, ltb, eqb, length, get_or, set}
+use Rattle.std.specs.Prelude.{Bool, true, cond, ◌&&◌, List, ℕ, zero, suc, ◌+◌, ◌-◌, ◌^◌, leb, ltb, eqb, length, get_or, set, Result, Ok, Err}
 use Rattle.build_tables.specs.declared.State.{State}
 use Rattle.build_tables.specs.Options.{table_count}
 use Rattle.build_tables.specs.State.{start_of, len_of}
-use Rattle.supercluster.specs.Build.{most_energy, unless_refused}
+use Rattle.supercluster.specs.Build.{most_energy}
 use Rattle.ask_owner.specs.Asked.{owners_reach, owner_spot}
-use Rattle.posting.specs.declared.PostReply.{PostReply}
-use Rattle.posting.specs.declared.PostReply.TheVariants.{Done, Lamp, Energy, Spoiled}
+use Rattle.refusals.specs.declared.Refusal.{Refusal}
+use Rattle.refusals.specs.declared.Refusal.TheVariants.{Lamp, Energy, Spoiled}
 
--- SCOPE's number of a reply; 0 where there is no refusal
-abbrev pub post_number : PostReply → ℕ
-post_number Done = 0
-post_number Lamp = 16
-post_number Energy = 15
-post_number Spoiled = 11
+-- done, or a refusal; a figure that is too large is refused with its lamp
+abbrev pub PostReply : Type 0
+PostReply = Result (Unit {0}) Refusal
 
 -- the place of a lamp's owner in the table of zoom z, by the owner column
 abbrev pub owner_by : State → List ℕ → ℕ → ℕ → ℕ
@@ -69,7 +66,7 @@ all_mend s owners lamp figure energy =
 unfoldable pub post_asked : State → List ℕ → List ℕ → ℕ → ℕ → PostReply
 post_asked s energy owners lamp figure =
     cond (owners_reach s (length energy) (length owners)) (cond (ltb lamp s.count) (cond (leb figure most_energy)
-    (cond (all_mend s owners lamp figure energy) Done Spoiled) Energy) Lamp) Spoiled
+    (cond (all_mend s owners lamp figure energy) (Ok tt) (Err Spoiled)) (Err (Energy lamp))) (Err Lamp)) (Err Spoiled)
 
 -- the reply, and what it leaves in the energy column
 pub record Posted : Type 0 where
@@ -79,9 +76,14 @@ pub record Posted : Type 0 where
 abbrev pub posting : PostReply → List ℕ → Posted
 posting r energy = record { reply = r; energy = energy }
 
+-- the energies: mended, where nothing is refused, and otherwise as they were
+abbrev pub kept : PostReply → List ℕ → List ℕ → List ℕ
+kept (Ok tt) after energy = after
+kept (Err e) after energy = energy
+
 -- what `post` replies and leaves, for every input: every owner's sum mended, where nothing is refused
 unfoldable pub posted : State → List ℕ → List ℕ → ℕ → ℕ → Posted
 posted s energy owners lamp figure =
     let r = post_asked s energy owners lamp figure in
     let after = mended s owners lamp (figure_of s energy lamp) figure energy (table_count s.options) in
-    posting r (unless_refused (post_number r) after energy)
+    posting r (kept r after energy)

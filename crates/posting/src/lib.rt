@@ -7,151 +7,137 @@ ghost use Rattle.build_tables.specs.Options.{table_count};
 ghost use Rattle.build_tables.specs.laws.Sound.{Stands};
 ghost use Rattle.supercluster.specs.Build.{most_energy};
 ghost use Rattle.ask_owner.specs.laws.Reach.{Spotted};
-ghost use Rattle.posting.specs.Post.{post_number, owner_by, takes, mends, mendable, mended_at, mended, posting, posted};
+ghost use Rattle.posting.specs.Post.{owner_by, takes, mends, mendable, mended_at, mended, posting, posted};
 ghost use Rattle.posting.specs.laws.Mends.{Ready};
 
 use build_tables::State;
+use refusals::Refusal;
 
-// The reply, in SCOPE's words: done, or a refusal.
+// A lamp of a build, and its figure: as it was before, and as it is to be.
 #[derive(Clone, Copy)]
-pub enum PostReply {
-    Done,
-    Lamp,
-    Energy,
-    Spoiled,
-}
-
-impl PostReply {
-    // SCOPE's number of the reply, 0 where there is no refusal.
-    pub fn number(self) -> u32
-        ensures { result ≡ post_number self }
-    {
-        match self {
-            PostReply::Done => 0,
-            PostReply::Lamp => 16,
-            PostReply::Energy => 15,
-            PostReply::Spoiled => 11,
-        }
-    }
-}
-
-fn wide(x: u32) -> usize
-    ensures { result ≡ x }
-{
-    x as usize
-}
-
-// The place of the lamp's owner in the table of zoom z.
-fn owner_by(s: State, owners: &[u32], lamp: u32, z: usize) -> usize
-    requires { Spotted s (length owners.now) lamp z }
-    ensures { result ≡ owner_by s owners.now lamp z }
-{
-    let at = ask_owner::spot(s, lamp, z);
-    wide(owners[at])
-}
-
-// Whether a sum has the old figure in it, and fits with the new one.
-fn takes(before: u64, figure: u64, v: u64) -> bool
-    ensures { result ≡ takes before figure v }
-{
-    if v < before {
-        return false;
-    }
-    v - before <= 18446744073709551615 - figure
-}
-
-// Whether the table of zoom z can be mended.
-fn mends(
-    s: State,
-    energy: &[u64],
-    owners: &[u32],
+struct Correction<'a> {
+    state: &'a State,
+    owners: &'a [u32],
     lamp: u32,
     before: u64,
     figure: u64,
-    z: usize,
-) -> bool
-    requires { Spotted s (length owners.now) lamp z × Stands s (length energy.now) z }
-    ensures { result ≡ mends s owners.now lamp before figure energy.now z }
-{
-    let p = owner_by(s, owners, lamp, z);
-    if build_tables::len_of(s, z) <= p {
-        return false;
-    }
-    takes(before, figure, energy[build_tables::start_of(s, z) + p])
 }
 
-// Whether each table can be mended.
-fn all_mend(s: State, energy: &[u64], owners: &[u32], lamp: u32, before: u64, figure: u64) -> bool
-    requires { Ready s (length energy.now) (length owners.now) lamp }
-    ensures { result ≡ mendable s owners.now lamp before figure energy.now (table_count s.options) }
-{
-    let o = s.options;
-    let low = o.min_zoom as usize;
-    let mut z = o.max_zoom as usize + 2;
-    while low < z {
-        z = z - 1;
-        if !mends(s, energy, owners, lamp, before, figure, z) {
+impl Correction<'_> {
+    // The place of the lamp's owner in the table of zoom z.
+    fn owner_at(&self, z: usize) -> usize
+        requires { let w = self.now in Spotted w.state.now (length w.owners.now) w.lamp z }
+        ensures { let w = self.now in result ≡ owner_by w.state.now w.owners.now w.lamp z }
+    {
+        self.owners[ask_owner::spot(self.state, self.lamp, z)] as usize
+    }
+
+    // Whether a sum has the old figure in it, and fits with the new one.
+    fn takes(&self, v: u64) -> bool
+        ensures { result ≡ takes self.now.before self.now.figure v }
+    {
+        self.before <= v && v - self.before <= u64::MAX - self.figure
+    }
+
+    // Whether the table of zoom z can be mended.
+    fn mends(&self, energy: &[u64], z: usize) -> bool
+        requires { let w = self.now in Spotted w.state.now (length w.owners.now) w.lamp z × Stands w.state.now (length energy.now) z }
+        ensures { let w = self.now in result ≡ mends w.state.now w.owners.now w.lamp w.before w.figure energy.now z }
+    {
+        let p = self.owner_at(z);
+        if build_tables::len_of(*self.state, z) <= p {
             return false;
         }
+        self.takes(energy[build_tables::start_of(*self.state, z) + p])
     }
-    true
-}
 
-// Mends the sum of the lamp's owner in the table of zoom z.
-fn mend(s: State, energy: &mut [u64], owners: &[u32], lamp: u32, before: u64, figure: u64, z: usize)
-    requires { Spotted s (length owners.now) lamp z × Stands s (length energy.old) z
-        × (mends s owners.now lamp before figure energy.old z ≡ true) }
-    ensures { energy.new ≡ mended_at s owners.now lamp before figure energy.old z }
-{
-    let at = build_tables::start_of(s, z) + owner_by(s, owners, lamp, z);
-    energy[at] = energy[at] - before + figure;
-}
+    // Whether each table can be mended.
+    fn all_mend(&self, energy: &[u64]) -> bool
+        requires { let w = self.now in Ready w.state.now (length energy.now) (length w.owners.now) w.lamp }
+        ensures { let w = self.now in
+            result ≡ mendable w.state.now w.owners.now w.lamp w.before w.figure energy.now (table_count w.state.now.options) }
+    {
+        let o = self.state.options;
+        for z in (o.min_zoom as usize..o.max_zoom as usize + 2).rev() {
+            if !self.mends(energy, z) {
+                return false;
+            }
+        }
+        true
+    }
 
-// Mends each table.
-fn mend_all(s: State, energy: &mut [u64], owners: &[u32], lamp: u32, before: u64, figure: u64)
-    requires { Ready s (length energy.old) (length owners.now) lamp
-        × (mendable s owners.now lamp before figure energy.old (table_count s.options) ≡ true) }
-    ensures { energy.new ≡ mended s owners.now lamp before figure energy.old (table_count s.options) }
-{
-    let o = s.options;
-    let low = o.min_zoom as usize;
-    let mut z = o.max_zoom as usize + 2;
-    while low < z {
-        z = z - 1;
-        mend(s, energy, owners, lamp, before, figure, z);
+    // Mends the sum of the lamp's owner in the table of zoom z.
+    fn mend(&self, energy: &mut [u64], z: usize)
+        requires { let w = self.now in Spotted w.state.now (length w.owners.now) w.lamp z × Stands w.state.now (length energy.old) z
+            × (mends w.state.now w.owners.now w.lamp w.before w.figure energy.old z ≡ true) }
+        ensures { let w = self.now in energy.new ≡ mended_at w.state.now w.owners.now w.lamp w.before w.figure energy.old z }
+    {
+        let at = build_tables::start_of(*self.state, z) + self.owner_at(z);
+        energy[at] = energy[at] - self.before + self.figure;
+    }
+
+    // Mends each table.
+    fn mend_all(&self, energy: &mut [u64])
+        requires { let w = self.now in Ready w.state.now (length energy.old) (length w.owners.now) w.lamp
+            × (mendable w.state.now w.owners.now w.lamp w.before w.figure energy.old (table_count w.state.now.options) ≡ true) }
+        ensures { let w = self.now in
+            energy.new ≡ mended w.state.now w.owners.now w.lamp w.before w.figure energy.old (table_count w.state.now.options) }
+    {
+        let o = self.state.options;
+        for z in (o.min_zoom as usize..o.max_zoom as usize + 2).rev() {
+            self.mend(energy, z);
+        }
     }
 }
 
 // What is replied to a lamp of the build and a figure that is taken.
-fn settle(s: State, energy: &mut [u64], owners: &[u32], lamp: u32, figure: u64) -> PostReply
-    requires { Ready s (length energy.old) (length owners.now) lamp × (figure ≤ most_energy) }
-    ensures { posting result energy.new ≡ posted s energy.old owners.now lamp figure }
+fn settle(
+    s: &State,
+    energy: &mut [u64],
+    owners: &[u32],
+    lamp: u32,
+    figure: u64,
+) -> Result<(), Refusal>
+    requires { Ready s.now (length energy.old) (length owners.now) lamp × (figure ≤ most_energy) }
+    ensures { posting result energy.new ≡ posted s.now energy.old owners.now lamp figure }
 {
     let o = s.options;
     let top = o.max_zoom as usize + 1;
-    if owner_by(s, owners, lamp, top) != wide(lamp) {
-        return PostReply::Spoiled;
+    let w = Correction {
+        state: s,
+        owners,
+        lamp,
+        before: energy[build_tables::start_of(*s, top) + lamp as usize],
+        figure,
+    };
+    if w.owner_at(top) != lamp as usize {
+        return Err(Refusal::Spoiled);
     }
-    let before = energy[build_tables::start_of(s, top) + wide(lamp)];
-    if !all_mend(s, energy, owners, lamp, before, figure) {
-        return PostReply::Spoiled;
+    if !w.all_mend(energy) {
+        return Err(Refusal::Spoiled);
     }
-    mend_all(s, energy, owners, lamp, before, figure);
-    PostReply::Done
+    w.mend_all(energy);
+    Ok(())
 }
 
 // Replaces the figure of a lamp: its own energy in the finest table, and in every other table that of its owner.
-pub fn post(s: State, energy: &mut [u64], owners: &[u32], lamp: u32, figure: u64) -> PostReply
+pub fn post(
+    s: State,
+    energy: &mut [u64],
+    owners: &[u32],
+    lamp: u32,
+    figure: u64,
+) -> Result<(), Refusal>
     ensures { posting result energy.new ≡ posted s energy.old owners.now lamp figure }
 {
-    if !ask_owner::reaches(s, energy.len(), owners.len()) {
-        return PostReply::Spoiled;
+    if !ask_owner::reaches(&s, energy.len(), owners.len()) {
+        return Err(Refusal::Spoiled);
     }
     if s.count <= lamp {
-        return PostReply::Lamp;
+        return Err(Refusal::Lamp);
     }
     if supercluster::MOST_ENERGY < figure {
-        return PostReply::Energy;
+        return Err(Refusal::Energy(lamp as usize));
     }
-    settle(s, energy, owners, lamp, figure)
+    settle(&s, energy, owners, lamp, figure)
 }

@@ -2,11 +2,10 @@
 -- and a point is converted as its coordinate system says. Each operation rounds once, on all floats. Definitions only.
 use Rattle.std.specs.Prelude.{Bool, true, cond, ◌&&◌, Float}
 use Rattle.std.specs.Float.{binary64}
+use Rattle.std.specs.Option.{unwrap_or}
 use Rattle.std.specs.Float.Ieee.{is_nan, lt, add, sub, mul, div}
 use Rattle.std.specs.Float.Ieee.Scale.{finite}
 use Rattle.floats.specs.Numbers.{zero, half, float}
-use Rattle.range.specs.declared.Setting.{Setting}
-use Rattle.range.specs.declared.Setting.TheVariants.{Given, Derived}
 use Rattle.range.specs.declared.DataRange.{DataRange}
 use Rattle.range.specs.declared.CoordinateSystem.{CoordinateSystem}
 use Rattle.range.specs.declared.CoordinateSystem.TheVariants.{LatLng, Cartesian}
@@ -19,18 +18,13 @@ smaller_of a b = cond (is_nan a) b (cond (lt b a) b a)
 abbrev pub larger_of : Float → Float → Float
 larger_of a b = cond (is_nan a) b (cond (lt a b) b a)
 
--- the number that is given, or else the one that is derived
-abbrev pub given_or : Setting → Float → Float
-given_or (Given v) d = v
-given_or Derived d = d
-
 -- the offset: the smaller minimum, where none is given
 unfoldable pub offset_of : DataRange → Float
-offset_of d = given_or d.offset (smaller_of d.min_x d.min_y)
+offset_of d = unwrap_or d.offset (smaller_of d.min_x d.min_y)
 
 -- the scale: the larger maximum less the offset, where none is given
 unfoldable pub scale_of : DataRange → Float
-scale_of d = given_or d.scale (sub binary64 (larger_of d.max_x d.max_y) (offset_of d))
+scale_of d = unwrap_or d.scale (sub binary64 (larger_of d.max_x d.max_y) (offset_of d))
 
 -- (v - offset) / scale
 unfoldable pub normalized : DataRange → Float → Float

@@ -1,27 +1,20 @@
 // The range module: what stands between a caller's coordinates and the numbers from 0 to 1 that the tables hold.
-// The names are the Rust's range.rs, with its Option fields and its CoordinateSystem as enums that carry the floats.
+// The names are the Rust's range.rs.
 #![tactic(auto)]
 
 ghost use Rattle.std.specs.Prelude.{◌≡◌, ◌&&◌};
 ghost use Rattle.range.specs.Range.{smaller_of, larger_of, offset_of, scale_of, normalized, denormalized, in_bounds, converted};
 ghost use Rattle.range.specs.Range.{system_in_bounds};
 
-// An offset or a scale: given by the caller, or derived from the range.
-#[derive(Clone, Copy)]
-pub enum Setting {
-    Given(f64),
-    Derived,
-}
-
-// The range of the incoming data of a Cartesian coordinate system.
+// The range of the incoming data of a Cartesian coordinate system. An offset or a scale that is not given is derived from it.
 #[derive(Clone, Copy)]
 pub struct DataRange {
     pub min_x: f64,
     pub min_y: f64,
     pub max_x: f64,
     pub max_y: f64,
-    pub offset: Setting,
-    pub scale: Setting,
+    pub offset: Option<f64>,
+    pub scale: Option<f64>,
 }
 
 // Longitude in degrees with y from 0 to 1 as the caller converted it; or Cartesian with a range.
@@ -38,31 +31,18 @@ pub struct Point {
     pub y: f64,
 }
 
-// The smaller of two numbers; where one of them is NaN, the other.
+// The smaller of two numbers; where one of them is NaN, the other. std's `min` leaves open which of 0 and -0 it gives.
 fn smaller(a: f64, b: f64) -> f64
     ensures { result ≡ smaller_of a b }
 {
-    if floats::is_nan(a) {
-        return b;
-    }
-    if b < a { b } else { a }
+    if floats::is_nan(a) || b < a { b } else { a }
 }
 
 // The larger of two numbers; where one of them is NaN, the other.
 fn larger(a: f64, b: f64) -> f64
     ensures { result ≡ larger_of a b }
 {
-    if floats::is_nan(a) {
-        return b;
-    }
-    if a < b { b } else { a }
-}
-
-// Whether both hold.
-fn both(a: bool, b: bool) -> bool
-    ensures { result ≡ (a && b) }
-{
-    if a { b } else { false }
+    if floats::is_nan(a) || a < b { b } else { a }
 }
 
 impl DataRange {
@@ -83,21 +63,14 @@ impl DataRange {
     fn offset(self) -> f64
         ensures { result ≡ offset_of self }
     {
-        let setting = self.offset;
-        match setting {
-            Setting::Given(v) => v,
-            Setting::Derived => smaller(self.min_x, self.min_y),
-        }
+        self.offset.unwrap_or(smaller(self.min_x, self.min_y))
     }
 
     fn scale(self) -> f64
         ensures { result ≡ scale_of self }
     {
-        let setting = self.scale;
-        match setting {
-            Setting::Given(v) => v,
-            Setting::Derived => larger(self.max_x, self.max_y) - self.offset(),
-        }
+        let derived = larger(self.max_x, self.max_y) - self.offset();
+        self.scale.unwrap_or(derived)
     }
 
     // Whether the four numbers, the offset and the scale are finite and the scale is above 0.
@@ -108,7 +81,7 @@ impl DataRange {
         let maxs = floats::both_finite(self.max_x, self.max_y);
         let scale = self.scale();
         let settings = floats::both_finite(self.offset(), scale);
-        both(both(mins, maxs), both(settings, 0.0 < scale))
+        (mins & maxs) & (settings & (0.0 < scale))
     }
 }
 

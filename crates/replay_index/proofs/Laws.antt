@@ -7,14 +7,14 @@ use mathlib.Core.Path.{◌≡◌, refl, sym, subst}
 use borrow.Author.Tests.{lt-ltb, le-ltb, eq-eqb, ne_eqb}
 use lib.ListN.{length, get_or}
 use lib.Ieee.{Float}
-use Rattle.kdwalk.specs.declared.Step.{Step}
+use Rattle.std.specs.Prelude.{Result}
+use Rattle.std.specs.Result.{is_ok}
 use Rattle.kdslots.specs.declared.Query.{Query}
-use Rattle.kdbush.specs.declared.BuildReply.{BuildReply}
-use Rattle.kdbush.specs.declared.SearchReply.{SearchReply}
+use Rattle.refusals.specs.declared.Refusal.{Refusal}
 use Rattle.kdbush.specs.Reply.{index_checked, built, searched, column_after}
-use Rattle.kdwalk.specs.Reply.{first_step, after_step}
+use Rattle.kdwalk.specs.Reply.{Step, first_step, after_step}
 use Rattle.kdsort.specs.Cols.{index_cols}
-use Rattle.replay_vectors.specs.Same.{same_places, same_floats, done_is}
+use Rattle.replay_vectors.specs.Same.{same_places, same_floats}
 use Rattle.replay_index.specs.Same.{builds_to, found_is, index_lists_to, slot_of, over_is, walked_slots, walks_to}
 
 -- a walk of m steps, before its step i, and the slot that this step has
@@ -49,7 +49,7 @@ unfolding walked_slots
 walk_ends next ids want m i step h = let z : m - i ≡ 0 = omega arith in rw z refl
 
 -- a query's list: a reply that is not the one expected, and one that is
-module _ (q : Query) (size n : ℕ) (ids : List ℕ) (co : List Float) (m : ℕ) (want out : List ℕ) (r : SearchReply)
+module _ (q : Query) (size n : ℕ) (ids : List ℕ) (co : List Float) (m : ℕ) (want out : List ℕ) (r : Result ℕ Refusal)
     (e : r ≡ searched q size n ids co (length out)) where
   pub lists-none : found_is r m ≡ false → false ≡ index_lists_to q size n ids co m want out
   unfolding index_lists_to
@@ -61,13 +61,13 @@ module _ (q : Query) (size n : ℕ) (ids : List ℕ) (co : List Float) (m : ℕ)
   lists-some h o f b g = rw (sym e, h, sym f) g
 
 -- a build: refused, with other ids, and with the ids expected
-module _ (size : ℕ) (xs ys : List Float) (wi : List ℕ) (wc : List Float) (ids : List ℕ) (co : List Float) (r : BuildReply)
+module _ (size : ℕ) (xs ys : List Float) (wi : List ℕ) (wc : List Float) (ids : List ℕ) (co : List Float) (r : Result (Unit {0}) Refusal)
     (e : r ≡ index_checked size xs ys (index_cols ids co)) where
-  pub builds-none : done_is r ≡ false → false ≡ builds_to size xs ys wi wc ids co
+  pub builds-none : is_ok r ≡ false → false ≡ builds_to size xs ys wi wc ids co
   unfolding builds_to
   builds-none h = rw (sym e, h) refl
 
-  module _ (h : done_is r ≡ true) (i : List ℕ) (c : List Float) (f : index_cols i c ≡ built size xs ys (index_cols ids co)) where
+  module _ (h : is_ok r ≡ true) (i : List ℕ) (c : List Float) (f : index_cols i c ≡ built size xs ys (index_cols ids co)) where
     pub builds-other : same_places wi i ≡ false → false ≡ builds_to size xs ys wi wc ids co
     unfolding builds_to
     builds-other g = rw (sym f) (rw (sym e, h, g) refl)

@@ -6,9 +6,9 @@
 #![tactic(auto)]
 
 ghost use Rattle.replay_lister.specs.Prints.{prints_is};
-ghost use Rattle.replay_vectors.specs.Scores.{ending_is};
 
-use replay_vectors::{Count, Ending, First, Function, Pattern, Score, Verdict, Word};
+use lister_report::ListerColumns;
+use replay_vectors::{Function, Malformed, Verdict};
 
 // Standard input.
 const STDIN_FILENO: i32 = 0;
@@ -17,99 +17,38 @@ const STDIN_FILENO: i32 = 0;
 fn prints(text: &[u8], want: &[u8]) -> bool
     ensures { prints_is text.now want.now result }
 {
-    let mut x = [0.0f64; 1152];
-    let mut y = [0.0f64; 1152];
-    let mut seen = [0u8; 1152];
-    let mut id = [0u32; 1152];
-    let mut parent = [0u32; 1152];
-    let mut num = [0u32; 1152];
-    let mut energy = [0u64; 1152];
-    let mut ids = [0u32; 1152];
-    let mut coords = [0.0f64; 2304];
-    let mut near = [0u32; 1152];
+    let mut columns = ListerColumns::new();
     let mut out = [0u8; 156672];
-    let k = lister_report::report(
-        text,
-        &mut x,
-        &mut y,
-        &mut seen,
-        &mut id,
-        &mut parent,
-        &mut num,
-        &mut energy,
-        &mut ids,
-        &mut coords,
-        &mut near,
-        &mut out,
-    );
-    replay_vectors::same_bytes(want, &out[..k])
+    let k = lister_report::report(text, &mut columns, &mut out);
+    want == &out[..k]
 }
 
-// Fills the column from standard input. Whether there was enough.
-fn fill(column: &mut [u8]) -> bool {
-    io::read_full(STDIN_FILENO, column) == column.len()
+// Fills the column from standard input.
+fn fill(column: &mut [u8]) -> Result<(), Malformed> {
+    if io::read_full(STDIN_FILENO, column) == column.len() {
+        Ok(())
+    } else {
+        Err(Malformed)
+    }
 }
 
 // Replays a case whose text and whose expected lines, of these lengths, are the next bytes.
-fn replay_case(text: &mut [u8], want: &mut [u8]) -> Verdict {
-    if !fill(text) {
-        return Verdict::Malformed;
-    }
-    if !fill(want) {
-        return Verdict::Malformed;
-    }
-    if prints(text, want) {
-        return Verdict::Agrees;
-    }
-    Verdict::Differs(Function::Report)
+fn replay_text(text: &mut [u8], want: &mut [u8]) -> Result<Verdict, Malformed> {
+    fill(text)?;
+    fill(want)?;
+    Ok(replay_vectors::judged(prints(text, want), Function::Report))
 }
 
-// Replays the case that begins with this number.
-fn replay_from(bits: u64) -> Verdict {
-    let Count::Is(n) = replay_vectors::count_of(bits, 65537) else {
-        return Verdict::Malformed;
-    };
-    let Pattern::Bits(rest) = replay_vectors::next_bits(true) else {
-        return Verdict::Malformed;
-    };
-    let Count::Is(m) = replay_vectors::count_of(rest, 156672) else {
-        return Verdict::Malformed;
-    };
+// Replays the case that begins with this number, the length of its text.
+fn replay_case(bits: u64) -> Result<Verdict, Malformed> {
+    let n = replay_vectors::count_of(bits, 65537)?;
+    let m = replay_vectors::count_of(replay_vectors::next_bits(true)?, 156672)?;
     let mut text = [0u8; 65537];
     let mut want = [0u8; 156672];
-    replay_case(&mut text[..n], &mut want[..m])
+    replay_text(&mut text[..n], &mut want[..m])
 }
 
-// Replays the next case.
-fn next_case() -> Verdict {
-    match replay_vectors::next_word() {
-        Word::Inner(bits) => replay_from(bits),
-        Word::Last(bits) => Verdict::Malformed,
-        Word::Bad => Verdict::Malformed,
-        Word::End => Verdict::End,
-    }
-}
-
-// Replays every case.
-fn replay_all() -> Ending
-    ensures { ending_is result }
-{
-    let mut score = Score {
-        cases: 0,
-        differences: 0,
-        first: First::Nothing,
-    };
-    while score.cases <= replay_vectors::MOST {
-        match next_case() {
-            Verdict::Agrees => score = score.agreed(),
-            Verdict::Differs(function) => score = score.differed(function),
-            Verdict::Malformed => return Ending::Malformed(score.cases + 1),
-            Verdict::End => return Ending::Finished(score),
-        }
-    }
-    Ending::TooMany
-}
-
+// Replays standard input, and writes how that ended.
 fn main() {
-    replay_vectors::say_ending(replay_all());
+    replay_vectors::say_ending(replay_vectors::replay_words(replay_case));
 }

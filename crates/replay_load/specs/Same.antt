@@ -1,27 +1,32 @@
 -- What the comparisons are: of a build's reply, state and columns with what is expected. Definitions only.
-use Rattle.std.specs.Prelude.{ℕ, Bool, true, false, ◌&&◌, List, ◌++◌, eqb, length, drop, replicate, Float}
+use Rattle.std.specs.Prelude.{ℕ, Bool, true, false, ◌&&◌, List, ◌++◌, eqb, length, drop, replicate, Float, Result, Ok, Err, Option, Some, None}
 use Rattle.std.specs.Bool.{beq}
 use Rattle.replay_vectors.specs.Words.{agreeing}
 use Rattle.replay_vectors.specs.Same.{same_places, same_floats}
-use Rattle.range.specs.declared.Setting.{Setting}
-use Rattle.range.specs.declared.Setting.TheVariants.{Given, Derived}
 use Rattle.range.specs.declared.DataRange.{DataRange}
 use Rattle.range.specs.declared.CoordinateSystem.{CoordinateSystem}
 use Rattle.range.specs.declared.CoordinateSystem.TheVariants.{LatLng, Cartesian}
 use Rattle.build_tables.specs.declared.Options.{Options}
 use Rattle.build_tables.specs.declared.State.{State}
-use Rattle.supercluster.specs.Build.{BuildColumns, Outcome, load_number, loaded}
+use Rattle.build_tables.specs.Lent.{tables_held}
+use Rattle.refusals.specs.declared.Refusal.{Refusal}
+use Rattle.supercluster.specs.Build.{BuildColumns, build_columns, Outcome, loaded}
+use Rattle.replay_load.specs.declared.Wanted.{Wanted}
 
 -- a column with zeros in its first n
 abbrev pub zeros_in : ℕ → List ℕ → List ℕ
 zeros_in n l = replicate n 0 ++ drop n l
 
+-- the columns that are expected
+abbrev pub wanted : Wanted → BuildColumns
+wanted w = build_columns (tables_held w.tables).table w.tables.ids.now w.tables.coords.now w.near.now
+
 -- both derived, or both given as the same number
-abbrev pub same_setting : Setting → Setting → Bool
-same_setting (Given v) (Given w) = agreeing v w
-same_setting (Given v) Derived = false
-same_setting Derived (Given w) = false
-same_setting Derived Derived = true
+abbrev pub same_setting : Option Float → Option Float → Bool
+same_setting (Some v) (Some w) = agreeing v w
+same_setting (Some v) None = false
+same_setting None (Some w) = false
+same_setting None None = true
 
 -- the same four numbers, offset and scale
 unfoldable pub same_range : DataRange → DataRange → Bool
@@ -53,13 +58,18 @@ same_options a b =
 unfoldable pub same_state : Options → ℕ → List ℕ → List ℕ → State → Bool
 same_state o n starts lens s = same_places starts s.starts && same_places lens s.lens && eqb n s.count && same_options o s.options
 
+-- a build is not refused, and its state is that expected
+abbrev pub state_is : Options → ℕ → List ℕ → List ℕ → Result State Refusal → Bool
+state_is o n starts lens (Ok s) = same_state o n starts lens s
+state_is o n starts lens (Err e) = false
+
 -- what a build replied and left: it was not refused, and its state and its columns are those expected, to their ends
 unfoldable pub agrees_with : Options → ℕ → List ℕ → List ℕ → BuildColumns → Outcome → Bool
 agrees_with o n starts lens want got =
     let w = want.table in
     let g = got.columns in
     let t = g.table in
-    eqb (load_number got.reply.reply) 0 && same_state o n starts lens got.reply.state
+    state_is o n starts lens got.reply
     && same_floats w.x t.x && same_floats w.y t.y && same_places w.seen t.seen
     && same_places w.id t.id && same_places w.parent t.parent
     && same_places w.num t.num && same_places w.energy t.energy

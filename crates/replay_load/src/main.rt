@@ -11,23 +11,32 @@
 #![tactic(auto)]
 
 ghost use Rattle.std.specs.Prelude.{◌≡◌, ◌*◌, ◌≤◌, length};
-ghost use Rattle.replay_vectors.specs.Scores.{ending_is};
 ghost use Rattle.build_tables.specs.laws.Rows.{Even};
-ghost use Rattle.build_tables.specs.Lent.{given, given_mut};
-ghost use Rattle.supercluster.specs.Lent.{lent_all, lent_all_mut};
-ghost use Rattle.replay_load.specs.Same.{same_setting, same_range, same_system, same_options, same_state, loads_to, zeros_in};
+ghost use Rattle.build_tables.specs.Lent.{held_mut, SameColumns};
+ghost use Rattle.supercluster.specs.Lent.{columns_held};
+ghost use Rattle.replay_load.specs.Same.{same_setting, same_range, same_system, same_options, same_state, state_is};
+ghost use Rattle.replay_load.specs.Same.{loads_to, zeros_in, wanted};
 
-use build_tables::{Entry, Options, State};
-use range::{CoordinateSystem, DataRange, Setting};
-use replay_options::Chosen;
-use replay_vectors::{Byte, Count, Ending, First, Function, Pattern, Place, Score, Verdict, Word};
-use supercluster::Loaded;
+use build_tables::{EntriesMut, Entry, Options, State, Tables, TablesMut};
+use range::{CoordinateSystem, DataRange};
+use refusals::Refusal;
+use replay_vectors::{Function, Malformed, Verdict};
+use supercluster::Points;
 
-// An entry, or words that are none.
+// What is built: the points, by these options.
 #[derive(Clone, Copy)]
-enum Given {
-    Entry(Entry),
-    Bad,
+struct Task<'a> {
+    options: Options,
+    points: Points<'a>,
+}
+
+// What is expected of it: where the table of each zoom starts and how long it is, and what stands in every column.
+#[derive(Clone, Copy)]
+struct Wanted<'a> {
+    starts: &'a [u32],
+    lens: &'a [u32],
+    tables: Tables<'a>,
+    near: &'a [u32],
 }
 
 // What the columns hold before they are written: nothing that a build writes there.
@@ -38,84 +47,54 @@ const OLD_BYTE: u8 = 0xa5;
 const OLD_LONG: u64 = 0xa5a5_a5a5_a5a5_a5a5;
 
 // Reads an entry.
-fn read_entry() -> Given {
-    let Pattern::Bits(x) = replay_vectors::next_bits(false) else {
-        return Given::Bad;
-    };
-    let Pattern::Bits(y) = replay_vectors::next_bits(false) else {
-        return Given::Bad;
-    };
-    let Byte::Is(seen) = replay_vectors::next_byte(false) else {
-        return Given::Bad;
-    };
-    let Place::Is(id) = replay_vectors::next_place(false) else {
-        return Given::Bad;
-    };
-    let Place::Is(parent) = replay_vectors::next_place(false) else {
-        return Given::Bad;
-    };
-    let Place::Is(num) = replay_vectors::next_place(false) else {
-        return Given::Bad;
-    };
-    let Pattern::Bits(energy) = replay_vectors::next_bits(false) else {
-        return Given::Bad;
-    };
-    Given::Entry(Entry {
-        x: replay_vectors::float_of(x),
-        y: replay_vectors::float_of(y),
-        seen,
-        id,
-        parent,
-        num,
-        energy,
+fn read_entry() -> Result<Entry, Malformed> {
+    Ok(Entry {
+        x: replay_vectors::next(false)?,
+        y: replay_vectors::next(false)?,
+        seen: replay_vectors::next(false)?,
+        id: replay_vectors::next(false)?,
+        parent: replay_vectors::next(false)?,
+        num: replay_vectors::next(false)?,
+        energy: replay_vectors::next(false)?,
     })
 }
 
 // Reads the m entries that the tables are expected to have, and the slots of their indexes.
 fn read_entries(
     m: usize,
-    x: &mut [f64],
-    y: &mut [f64],
-    seen: &mut [u8],
-    id: &mut [u32],
-    parent: &mut [u32],
-    num: &mut [u32],
-    energy: &mut [u64],
+    t: &mut EntriesMut<'_>,
     ids: &mut [u32],
     coords: &mut [f64],
-) -> bool
-    requires { let c = given_mut x y seen id parent num energy in
+) -> Result<(), Malformed>
+    requires { let c = held_mut t.old in
         Even c × (m ≤ length c.x) × (m ≤ length ids.old) × (2 * m ≤ length coords.old) }
+    ensures lent { SameColumns t.old t.new }
 {
-    let mut good = true;
-    let mut i = 0;
-    while i < m {
-        let Given::Entry(e) = read_entry() else {
-            return false;
-        };
-        build_tables::put_entry(x, y, seen, id, parent, num, energy, i, e);
-        good = good & replay_vectors::read_slot(ids, coords, i);
-        i += 1;
+    for i in 0..m {
+        t.put(i, read_entry()?);
+        let slot = replay_vectors::next_slot()?;
+        ids[i] = slot.id;
+        coords[2 * i] = slot.x;
+        coords[2 * i + 1] = slot.y;
     }
-    good
+    Ok(())
 }
 
 // Reads where the table of each zoom from min_zoom to max_zoom + 1 starts, and how long it is; the last length ends its line.
-fn read_tables(min_zoom: usize, max_zoom: usize, starts: &mut [u32], lens: &mut [u32]) -> bool
-    requires { (max_zoom ≤ 30) × (32 ≤ length starts.old) × (32 ≤ length lens.old) }
+fn read_tables(
+    min_zoom: usize,
+    max_zoom: usize,
+    starts: &mut [u32; 32],
+    lens: &mut [u32; 32],
+) -> Result<(), Malformed>
+    requires { max_zoom ≤ 30 }
 {
     let end = max_zoom + 1;
-    let mut z = min_zoom;
-    while z <= end {
-        if !replay_vectors::read_place(starts, z, false) {
-            return false;
-        }
-        if !replay_vectors::read_place(lens, z, z == end) {
-            return false;
-        }
-        z += 1;
+    for z in min_zoom..=end {
+        starts[z] = replay_vectors::next(false)?;
+        lens[z] = replay_vectors::next(z == end)?;
     }
-    true
+    Ok(())
 }
 
 // Zeros in the first n.
@@ -123,164 +102,117 @@ fn clear(n: usize, near: &mut [u32])
     requires { n ≤ length near.old }
     ensures { near.new ≡ zeros_in n near.old }
 {
-    let mut i = 0;
-    while i < n {
-        near[i] = 0;
-        i += 1;
-    }
+    near[..n].fill(0);
 }
 
 // Whether both are derived, or both given as the same number.
-fn same_setting(a: Setting, b: Setting) -> bool
+fn same_setting(a: Option<f64>, b: Option<f64>) -> bool
     ensures { result ≡ same_setting a b }
 {
-    match a {
-        Setting::Given(v) => match b {
-            Setting::Given(w) => replay_vectors::agree(v, w),
-            Setting::Derived => false,
-        },
-        Setting::Derived => match b {
-            Setting::Given(w) => false,
-            Setting::Derived => true,
-        },
+    match (a, b) {
+        (Some(v), Some(w)) => replay_vectors::agree(v, w),
+        (None, None) => true,
+        _ => false,
     }
 }
 
 // Whether two ranges are the same.
+#[tactic(auto, unfolding(crate::specs::Same::same_range))]
 fn same_range(a: DataRange, b: DataRange) -> bool
     ensures { result ≡ same_range a b }
 {
-    let offset = a.offset;
-    let other_offset = b.offset;
-    let scale = a.scale;
-    let other_scale = b.scale;
     replay_vectors::agree(a.min_x, b.min_x)
-        & replay_vectors::agree(a.min_y, b.min_y)
-        & replay_vectors::agree(a.max_x, b.max_x)
-        & replay_vectors::agree(a.max_y, b.max_y)
-        & same_setting(offset, other_offset)
-        & same_setting(scale, other_scale)
+        && replay_vectors::agree(a.min_y, b.min_y)
+        && replay_vectors::agree(a.max_x, b.max_x)
+        && replay_vectors::agree(a.max_y, b.max_y)
+        && same_setting(a.offset, b.offset)
+        && same_setting(a.scale, b.scale)
 }
 
 // Whether both are longitude, or both Cartesian with the same range.
 fn same_system(a: CoordinateSystem, b: CoordinateSystem) -> bool
     ensures { result ≡ same_system a b }
 {
-    match a {
-        CoordinateSystem::LatLng => match b {
-            CoordinateSystem::LatLng => true,
-            CoordinateSystem::Cartesian { range } => false,
-        },
-        CoordinateSystem::Cartesian { range } => match b {
-            CoordinateSystem::LatLng => false,
-            CoordinateSystem::Cartesian { range: other } => same_range(range, other),
-        },
+    match (a, b) {
+        (CoordinateSystem::LatLng, CoordinateSystem::LatLng) => true,
+        (CoordinateSystem::Cartesian { range }, CoordinateSystem::Cartesian { range: other }) => {
+            same_range(range, other)
+        }
+        _ => false,
     }
 }
 
 // Whether two options are the same.
+#[tactic(auto, unfolding(crate::specs::Same::same_options))]
 fn same_options(a: Options, b: Options) -> bool
     ensures { result ≡ same_options a b }
 {
-    let system = a.coordinate_system;
-    let other = b.coordinate_system;
     (a.min_zoom == b.min_zoom)
-        & (a.max_zoom == b.max_zoom)
-        & (a.min_points == b.min_points)
-        & (a.node_size == b.node_size)
-        & (a.longitude_strips_only == b.longitude_strips_only)
-        & replay_vectors::agree(a.radius, b.radius)
-        & replay_vectors::agree(a.extent, b.extent)
-        & same_system(system, other)
+        && (a.max_zoom == b.max_zoom)
+        && (a.min_points == b.min_points)
+        && (a.node_size == b.node_size)
+        && (a.longitude_strips_only == b.longitude_strips_only)
+        && replay_vectors::agree(a.radius, b.radius)
+        && replay_vectors::agree(a.extent, b.extent)
+        && same_system(a.coordinate_system, b.coordinate_system)
 }
 
 // Whether the tables of a state start where they are expected to, and are as long, and it has the number of points and the options as
-// given.
+// given. Each comparison is made, by `&`, so that the proof has them in a row.
 fn same_state(o: Options, n: usize, starts: &[u32], lens: &[u32], s: State) -> bool
     ensures { result ≡ same_state o n starts.now lens.now s }
 {
-    let a = s.starts;
-    let b = s.lens;
-    let made = s.options;
-    replay_vectors::same_places(starts, &a)
-        & replay_vectors::same_places(lens, &b)
-        & (n == s.count as usize)
-        & same_options(o, made)
+    let State {
+        options,
+        count,
+        starts: made,
+        lens: long,
+    } = s;
+    (starts == &made[..]) & (lens == &long[..]) & (n == count as usize) & same_options(o, options)
+}
+
+// Whether a build is not refused, and its state is as expected.
+fn is_built(
+    o: Options,
+    n: usize,
+    starts: &[u32],
+    lens: &[u32],
+    reply: Result<State, Refusal>,
+) -> bool
+    ensures { result ≡ state_is o n starts.now lens.now reply }
+{
+    match reply {
+        Ok(s) => same_state(o, n, starts, lens, s),
+        Err(_) => false,
+    }
 }
 
 // Builds the tables of points in lent columns, and says whether that is not refused, and its state and its columns are
-// those expected, to their ends.
-fn loads(
-    o: Options,
-    xs: &[f64],
-    ys: &[f64],
-    energies: &[u64],
-    starts: &[u32],
-    lens: &[u32],
-    want_x: &[f64],
-    want_y: &[f64],
-    want_seen: &[u8],
-    want_id: &[u32],
-    want_parent: &[u32],
-    want_num: &[u32],
-    want_energy: &[u64],
-    want_ids: &[u32],
-    want_coords: &[f64],
-    want_near: &[u32],
-    x: &mut [f64],
-    y: &mut [f64],
-    seen: &mut [u8],
-    id: &mut [u32],
-    parent: &mut [u32],
-    num: &mut [u32],
-    energy: &mut [u64],
-    ids: &mut [u32],
-    coords: &mut [f64],
-    near: &mut [u32],
-) -> bool
-    ensures { let want = lent_all want_x want_y want_seen want_id want_parent want_num want_energy
-        want_ids want_coords want_near in
-        let l = lent_all_mut x y seen id parent num energy ids coords near in
-        result ≡ loads_to o xs.now ys.now energies.now starts.now lens.now want.entry l.entry }
+// those expected, to their ends. Each comparison is made, by `&`, as in `same_state`.
+fn loads(task: &Task<'_>, want: &Wanted<'_>, t: &mut TablesMut<'_>) -> bool
+    ensures { let k = task.now in
+        let p = k.points in
+        let w = want.now in
+        result ≡ loads_to k.options p.xs.now p.ys.now p.energies.now w.starts.now w.lens.now (wanted w) (columns_held t.old) }
 {
-    let built = supercluster::load(
-        o, xs, ys, energies, x, y, seen, id, parent, num, energy, ids, coords, near,
-    );
-    let reply = built.reply;
-    let state = built.state;
-    (reply.number() == 0)
-        & same_state(o, xs.len(), starts, lens, state)
-        & replay_vectors::same_floats(want_x, x)
-        & replay_vectors::same_floats(want_y, y)
-        & replay_vectors::same_bytes(want_seen, seen)
-        & replay_vectors::same_places(want_id, id)
-        & replay_vectors::same_places(want_parent, parent)
-        & replay_vectors::same_places(want_num, num)
-        & replay_vectors::same_numbers(want_energy, energy)
-        & replay_vectors::same_places(want_ids, ids)
-        & replay_vectors::same_floats(want_coords, coords)
-        & replay_vectors::same_places(want_near, near)
+    let o = task.options;
+    let reply = supercluster::load(o, &task.points, t);
+    let w = &want.tables;
+    is_built(o, task.points.xs.len(), want.starts, want.lens, reply)
+        & replay_vectors::same_floats(w.x, t.x)
+        & replay_vectors::same_floats(w.y, t.y)
+        & (w.seen == &*t.seen)
+        & (w.id == &*t.id)
+        & (w.parent == &*t.parent)
+        & (w.num == &*t.num)
+        & (w.energy == &*t.energy)
+        & (w.ids == &*t.ids)
+        & replay_vectors::same_floats(w.coords, t.coords)
+        & (want.near == &*t.near)
 }
 
 // Builds the tables of points in columns of old contents, and says whether that comes out as expected.
-fn replay_load(
-    o: Options,
-    xs: &[f64],
-    ys: &[f64],
-    energies: &[u64],
-    starts: &[u32],
-    lens: &[u32],
-    want_x: &[f64],
-    want_y: &[f64],
-    want_seen: &[u8],
-    want_id: &[u32],
-    want_parent: &[u32],
-    want_num: &[u32],
-    want_energy: &[u64],
-    want_ids: &[u32],
-    want_coords: &[f64],
-    want_near: &[u32],
-) -> Verdict {
+fn replay_load(task: &Task<'_>, want: &Wanted<'_>) -> Verdict {
     let mut x = [-1.5; 1152];
     let mut y = [-1.5; 1152];
     let mut seen = [OLD_BYTE; 1152];
@@ -291,86 +223,49 @@ fn replay_load(
     let mut ids = [OLD; 1152];
     let mut coords = [-1.5; 2304];
     let mut near = [OLD; 1152];
-    if loads(
-        o,
-        xs,
-        ys,
-        energies,
-        starts,
-        lens,
-        want_x,
-        want_y,
-        want_seen,
-        want_id,
-        want_parent,
-        want_num,
-        want_energy,
-        want_ids,
-        want_coords,
-        want_near,
-        &mut x,
-        &mut y,
-        &mut seen,
-        &mut id,
-        &mut parent,
-        &mut num,
-        &mut energy,
-        &mut ids,
-        &mut coords,
-        &mut near,
-    ) {
-        return Verdict::Agrees;
-    }
-    Verdict::Differs(Function::Load)
+    let mut t = TablesMut {
+        x: &mut x,
+        y: &mut y,
+        seen: &mut seen,
+        id: &mut id,
+        parent: &mut parent,
+        num: &mut num,
+        energy: &mut energy,
+        ids: &mut ids,
+        coords: &mut coords,
+        near: &mut near,
+    };
+    replay_vectors::judged(loads(task, want, &mut t), Function::Load)
 }
 
 // Reads where the tables that are expected start and how long they are, and builds the points.
 fn replay_state(
-    o: Options,
+    task: &Task<'_>,
     min_zoom: usize,
     max_zoom: usize,
-    xs: &[f64],
-    ys: &[f64],
-    energies: &[u64],
-    x: &[f64],
-    y: &[f64],
-    seen: &[u8],
-    id: &[u32],
-    parent: &[u32],
-    num: &[u32],
-    energy: &[u64],
-    ids: &[u32],
-    coords: &[f64],
-) -> Verdict
-    requires { (max_zoom ≤ 30) × (length xs.now ≤ 64) }
+    tables: &Tables<'_>,
+) -> Result<Verdict, Malformed>
+    requires { (max_zoom ≤ 30) × (length task.now.points.xs.now ≤ 64) }
 {
     let mut near = [OLD; 1152];
     let mut starts = [0u32; 32];
     let mut lens = [0u32; 32];
-    if !read_tables(min_zoom, max_zoom, &mut starts, &mut lens) {
-        return Verdict::Malformed;
-    }
-    clear(xs.len() + xs.len(), &mut near);
-    replay_load(
-        o, xs, ys, energies, &starts, &lens, x, y, seen, id, parent, num, energy, ids, coords,
-        &near,
-    )
+    read_tables(min_zoom, max_zoom, &mut starts, &mut lens)?;
+    clear(2 * task.points.xs.len(), &mut near);
+    let want = Wanted {
+        starts: &starts,
+        lens: &lens,
+        tables: *tables,
+        near: &near,
+    };
+    Ok(replay_load(task, &want))
 }
 
 // Reads what is expected of a build of points, and builds them.
-fn replay_tables(
-    o: Options,
-    min_zoom: usize,
-    max_zoom: usize,
-    xs: &[f64],
-    ys: &[f64],
-    energies: &[u64],
-) -> Verdict
-    requires { (max_zoom ≤ 30) × (length xs.now ≤ 64) }
+fn replay_tables(task: &Task<'_>, min_zoom: usize, max_zoom: usize) -> Result<Verdict, Malformed>
+    requires { (max_zoom ≤ 30) × (length task.now.points.xs.now ≤ 64) }
 {
-    let Count::Is(m) = replay_vectors::next_count(1152, false) else {
-        return Verdict::Malformed;
-    };
+    let m = replay_vectors::next_count(1152, false)?;
     let mut x = [-1.5; 1152];
     let mut y = [-1.5; 1152];
     let mut seen = [OLD_BYTE; 1152];
@@ -380,96 +275,64 @@ fn replay_tables(
     let mut energy = [OLD_LONG; 1152];
     let mut ids = [OLD; 1152];
     let mut coords = [-1.5; 2304];
-    if !read_entries(
-        m,
-        &mut x,
-        &mut y,
-        &mut seen,
-        &mut id,
-        &mut parent,
-        &mut num,
-        &mut energy,
-        &mut ids,
-        &mut coords,
-    ) {
-        return Verdict::Malformed;
-    }
-    replay_state(
-        o, min_zoom, max_zoom, xs, ys, energies, &x, &y, &seen, &id, &parent, &num, &energy, &ids,
-        &coords,
-    )
+    let mut entries = EntriesMut {
+        x: &mut x,
+        y: &mut y,
+        seen: &mut seen,
+        id: &mut id,
+        parent: &mut parent,
+        num: &mut num,
+        energy: &mut energy,
+    };
+    read_entries(m, &mut entries, &mut ids, &mut coords)?;
+    let tables = Tables {
+        x: &x,
+        y: &y,
+        seen: &seen,
+        id: &id,
+        parent: &parent,
+        num: &num,
+        energy: &energy,
+        ids: &ids,
+        coords: &coords,
+    };
+    replay_state(task, min_zoom, max_zoom, &tables)
 }
 
 // Reads the options, past the two zooms, and the points of a case, and replays it.
-fn replay_points(min_zoom: usize, max_zoom: usize) -> Verdict
+fn replay_points(min_zoom: usize, max_zoom: usize) -> Result<Verdict, Malformed>
     requires { (min_zoom ≤ max_zoom) × (max_zoom ≤ 30) }
 {
-    let Chosen::Options(o) = replay_options::read_options(min_zoom as u8, max_zoom as u8) else {
-        return Verdict::Malformed;
-    };
-    let Count::Is(n) = replay_vectors::next_count(64, false) else {
-        return Verdict::Malformed;
-    };
+    let options = replay_options::read_options(min_zoom as u8, max_zoom as u8)?;
+    let n = replay_vectors::next_count(64, false)?;
     if 1152 < (max_zoom - min_zoom + 2) * n {
-        return Verdict::Malformed;
+        return Err(Malformed);
     }
     let mut xs = [0.0; 64];
     let mut ys = [0.0; 64];
     let mut energies = [0u64; 64];
-    if !replay_vectors::read_points(n, &mut xs, &mut ys) {
-        return Verdict::Malformed;
-    }
-    if !replay_vectors::read_numbers(n, &mut energies) {
-        return Verdict::Malformed;
-    }
-    replay_tables(o, min_zoom, max_zoom, &xs[..n], &ys[..n], &energies[..n])
+    replay_vectors::read_points(&mut xs[..n], &mut ys[..n])?;
+    replay_vectors::read_values(false, &mut energies[..n])?;
+    let points = Points {
+        xs: &xs[..n],
+        ys: &ys[..n],
+        energies: &energies[..n],
+    };
+    let task = Task { options, points };
+    replay_tables(&task, min_zoom, max_zoom)
 }
 
 // Replays the case that begins with this word.
-fn replay_case(bits: u64) -> Verdict {
-    let Count::Is(min_zoom) = replay_vectors::count_of(bits, 30) else {
-        return Verdict::Malformed;
-    };
-    let Count::Is(max_zoom) = replay_vectors::next_count(30, false) else {
-        return Verdict::Malformed;
-    };
+fn replay_case(bits: u64) -> Result<Verdict, Malformed> {
+    let min_zoom = replay_vectors::count_of(bits, 30)?;
+    let max_zoom = replay_vectors::next_count(30, false)?;
     if max_zoom < min_zoom {
-        return Verdict::Malformed;
+        return Err(Malformed);
     }
     replay_points(min_zoom, max_zoom)
 }
 
-// Replays the next case of standard input.
-fn next_case() -> Verdict {
-    match replay_vectors::next_word() {
-        Word::Inner(bits) => replay_case(bits),
-        Word::Last(bits) => Verdict::Malformed,
-        Word::Bad => Verdict::Malformed,
-        Word::End => Verdict::End,
-    }
-}
-
-// Replays every line of standard input, one past the most at the utmost.
-fn replay_all() -> Ending
-    ensures { ending_is result }
-{
-    let mut score = Score {
-        cases: 0,
-        differences: 0,
-        first: First::Nothing,
-    };
-    while score.cases <= replay_vectors::MOST {
-        match next_case() {
-            Verdict::Agrees => score = score.agreed(),
-            Verdict::Differs(function) => score = score.differed(function),
-            Verdict::Malformed => return Ending::Malformed(score.cases + 1),
-            Verdict::End => return Ending::Finished(score),
-        }
-    }
-    Ending::TooMany
-}
-
 // Replays standard input, and writes how that ended.
 fn main() {
-    replay_vectors::say_ending(replay_all());
+    replay_vectors::say_ending(replay_vectors::replay_words(replay_case));
 }

@@ -11,109 +11,50 @@ ghost use Rattle.std.specs.Prelude.{◌≡◌, eqb};
 ghost use Rattle.build_tables.specs.Given.{setting_of};
 
 use build_tables::Options;
-use range::{DataRange, Setting};
-use replay_vectors::{Byte, Count, Pattern};
-
-// An offset or a scale, or words that are none.
-#[derive(Clone, Copy)]
-enum Settled {
-    Setting(Setting),
-    Bad,
-}
-
-// The range of a case, or words that are none.
-#[derive(Clone, Copy)]
-enum Ranged {
-    Range(DataRange),
-    Bad,
-}
-
-// The options of a case, or words that are none.
-#[derive(Clone, Copy)]
-pub enum Chosen {
-    Options(Options),
-    Bad,
-}
+use range::{CoordinateSystem, DataRange};
+use replay_vectors::Malformed;
 
 // The offset or the scale of a case, by the word before it: 1 where it is given.
-fn setting_of(word: usize, v: f64) -> Setting
+fn setting_of(word: usize, v: f64) -> Option<f64>
     ensures { result ≡ setting_of (eqb word 1) v }
 {
     build_tables::setting(word == 1, v)
 }
 
 // Reads an offset or a scale.
-fn read_setting() -> Settled {
-    let Count::Is(word) = replay_vectors::next_count(1, false) else {
-        return Settled::Bad;
-    };
-    let Pattern::Bits(bits) = replay_vectors::next_bits(false) else {
-        return Settled::Bad;
-    };
-    Settled::Setting(setting_of(word, replay_vectors::float_of(bits)))
+fn read_setting() -> Result<Option<f64>, Malformed> {
+    let word = replay_vectors::next_count(1, false)?;
+    Ok(setting_of(word, replay_vectors::next(false)?))
 }
 
 // Reads a range.
-fn read_range() -> Ranged {
-    let Pattern::Bits(a) = replay_vectors::next_bits(false) else {
-        return Ranged::Bad;
-    };
-    let Pattern::Bits(b) = replay_vectors::next_bits(false) else {
-        return Ranged::Bad;
-    };
-    let Pattern::Bits(c) = replay_vectors::next_bits(false) else {
-        return Ranged::Bad;
-    };
-    let Pattern::Bits(d) = replay_vectors::next_bits(false) else {
-        return Ranged::Bad;
-    };
-    let Settled::Setting(offset) = read_setting() else {
-        return Ranged::Bad;
-    };
-    let Settled::Setting(scale) = read_setting() else {
-        return Ranged::Bad;
-    };
-    Ranged::Range(DataRange {
-        min_x: replay_vectors::float_of(a),
-        min_y: replay_vectors::float_of(b),
-        max_x: replay_vectors::float_of(c),
-        max_y: replay_vectors::float_of(d),
-        offset,
-        scale,
+fn read_range() -> Result<DataRange, Malformed> {
+    Ok(DataRange {
+        min_x: replay_vectors::next(false)?,
+        min_y: replay_vectors::next(false)?,
+        max_x: replay_vectors::next(false)?,
+        max_y: replay_vectors::next(false)?,
+        offset: read_setting()?,
+        scale: read_setting()?,
     })
 }
 
+// Reads whether the coordinates are Cartesian, and their range.
+fn read_system() -> Result<CoordinateSystem, Malformed> {
+    let cartesian = replay_vectors::next_count(1, false)?;
+    Ok(build_tables::system(cartesian == 1, read_range()?))
+}
+
 // Reads the options after the two zooms.
-pub fn read_options(min_zoom: u8, max_zoom: u8) -> Chosen {
-    let Byte::Is(min_points) = replay_vectors::next_byte(false) else {
-        return Chosen::Bad;
-    };
-    let Pattern::Bits(radius) = replay_vectors::next_bits(false) else {
-        return Chosen::Bad;
-    };
-    let Pattern::Bits(extent) = replay_vectors::next_bits(false) else {
-        return Chosen::Bad;
-    };
-    let Pattern::Bits(node_size) = replay_vectors::next_bits(false) else {
-        return Chosen::Bad;
-    };
-    let Count::Is(cartesian) = replay_vectors::next_count(1, false) else {
-        return Chosen::Bad;
-    };
-    let Ranged::Range(range) = read_range() else {
-        return Chosen::Bad;
-    };
-    let Count::Is(strips) = replay_vectors::next_count(1, false) else {
-        return Chosen::Bad;
-    };
-    Chosen::Options(Options {
+pub fn read_options(min_zoom: u8, max_zoom: u8) -> Result<Options, Malformed> {
+    Ok(Options {
         min_zoom,
         max_zoom,
-        min_points,
-        radius: replay_vectors::float_of(radius),
-        extent: replay_vectors::float_of(extent),
-        node_size: node_size as usize,
-        coordinate_system: build_tables::system(cartesian == 1, range),
-        longitude_strips_only: strips == 1,
+        min_points: replay_vectors::next(false)?,
+        radius: replay_vectors::next(false)?,
+        extent: replay_vectors::next(false)?,
+        node_size: replay_vectors::next_bits(false)? as usize,
+        coordinate_system: read_system()?,
+        longitude_strips_only: replay_vectors::next_count(1, false)? == 1,
     })
 }

@@ -1,14 +1,11 @@
 -- What it says that a question agrees: the stored reply and the stored columns are those of the definition, and none else. Assumes nothing.
-use Rattle.std.specs.Prelude.{true, ◌&&◌, List, ◌≡◌, refl, ℕ, eqb, ℤ, length}
+use Rattle.std.specs.Prelude.{true, ◌&&◌, List, ◌≡◌, refl, ℕ, eqb, ℤ, length, Result}
 use Rattle.std.proofs.Common.{ap, ◌∙◌, eqb-true, eq-eqb}
 use Rattle.kdslots.specs.laws.Bounds.{and_both}
-use Rattle.ask_base.specs.declared.Answer.{Answer}
-use Rattle.ask_base.specs.Answers.{answer_number, answer_carried}
+use Rattle.refusals.specs.declared.Refusal.{Refusal}
+use Rattle.refusals.specs.Refusals.{number, carried}
 use Rattle.ask_base.specs.Asked.{Asked, answer_of, column_of}
-use Rattle.ask_cluster.specs.declared.Expansion.{Expansion}
-use Rattle.ask_cluster.specs.Expansion.{expansion_number, expansion_carried}
-use Rattle.ask_tile_table.specs.declared.Tally.{Tally}
-use Rattle.ask_tile_table.specs.Tally.{tally_number, tally_value}
+use Rattle.ask_cluster.specs.Expansion.{Expansion}
 use Rattle.ask_tile.specs.Asked.{TileOutcome}
 use Rattle.replay_vectors.specs.Same.{same_places, same_longs}
 use Rattle.replay_vectors.specs.Equal.{places-equal, places-self, longs-equal, longs-self}
@@ -19,35 +16,37 @@ use Rattle.replay_questions.specs.Same.{same_reply, same_tile, lists_to, zooms_t
 abbrev pub reply_of : ℕ → ℕ → Reply
 reply_of n k = record { number = n; carried = k }
 
-abbrev pub answer_reply : Answer → Reply
-answer_reply a = reply_of (answer_number a) (answer_carried a)
+-- that of an answer, an expansion zoom or a tally
+abbrev pub answer_reply : Result ℕ Refusal → Reply
+answer_reply a = reply_of (number a) (carried a)
 
-reply-one : (r : Reply) (n k : ℕ) → same_reply r n k ≡ true → r ≡ reply_of n k
+reply-one : (r : Reply) (a : Result ℕ Refusal) → same_reply r a ≡ true → r ≡ answer_reply a
 unfolding same_reply
-reply-one r n k e =
-    let w = and_both (eqb r.number n) (eqb r.carried k) e in
-    ap (λ (v : ℕ). reply_of v r.carried) (eqb-true r.number n w.0) ∙ ap (λ (v : ℕ). reply_of n v) (eqb-true r.carried k w.1)
+reply-one r a e =
+    let w = and_both (eqb r.number (number a)) (eqb r.carried (carried a)) e in
+    ap (λ (v : ℕ). reply_of v r.carried) (eqb-true r.number (number a) w.0)
+    ∙ ap (λ (v : ℕ). reply_of (number a) v) (eqb-true r.carried (carried a) w.1)
 
-reply-self : (n k : ℕ) → same_reply (reply_of n k) n k ≡ true
+reply-self : (a : Result ℕ Refusal) → same_reply (answer_reply a) a ≡ true
 unfolding same_reply
-reply-self n k = rw (eq-eqb n n refl) (eq-eqb k k refl)
+reply-self a = rw (eq-eqb (number a) (number a) refl) (eq-eqb (carried a) (carried a) refl)
 
 -- an expansion zoom, and a tally
-pub zoom-one : (r : Reply) (e : Expansion) → zooms_to r e ≡ true → r ≡ reply_of (expansion_number e) (expansion_carried e)
+pub zoom-one : (r : Reply) (e : Expansion) → zooms_to r e ≡ true → r ≡ answer_reply e
 unfolding zooms_to
-zoom-one r e = reply-one r (expansion_number e) (expansion_carried e)
+zoom-one r e = reply-one r e
 
-pub zoom-self : (e : Expansion) → zooms_to (reply_of (expansion_number e) (expansion_carried e)) e ≡ true
+pub zoom-self : (e : Expansion) → zooms_to (answer_reply e) e ≡ true
 unfolding zooms_to
-zoom-self e = reply-self (expansion_number e) (expansion_carried e)
+zoom-self e = reply-self e
 
-pub sum_one : (r : Reply) (t : Tally) → sums_to r t ≡ true → r ≡ reply_of (tally_number t) (tally_value t)
+pub sum_one : (r : Reply) (t : Result ℕ Refusal) → sums_to r t ≡ true → r ≡ answer_reply t
 unfolding sums_to
-sum_one r t = reply-one r (tally_number t) (tally_value t)
+sum_one r t = reply-one r t
 
-pub sum_self : (t : Tally) → sums_to (reply_of (tally_number t) (tally_value t)) t ≡ true
+pub sum_self : (t : Result ℕ Refusal) → sums_to (answer_reply t) t ≡ true
 unfolding sums_to
-sum_self t = reply-self (tally_number t) (tally_value t)
+sum_self t = reply-self t
 
 -- a question that lists
 pub lists-one : (r : Reply) (want : List ℕ) (a : Asked) (out : List ℕ) → lists_to r want a out ≡ true
@@ -55,29 +54,25 @@ pub lists-one : (r : Reply) (want : List ℕ) (a : Asked) (out : List ℕ) → l
 unfolding lists_to
 lists-one r want a out e =
     let v = answer_of a (length out) in
-    let w = and_both (same_reply r (answer_number v) (answer_carried v)) (same_places want (column_of a out)) e in
-    (reply-one r (answer_number v) (answer_carried v) w.0, places-equal want (column_of a out) w.1)
+    let w = and_both (same_reply r v) (same_places want (column_of a out)) e in
+    (reply-one r v w.0, places-equal want (column_of a out) w.1)
 
 pub lists-self : (a : Asked) (out : List ℕ) → lists_to (answer_reply (answer_of a (length out))) (column_of a out) a out ≡ true
 unfolding lists_to
-lists-self a out =
-    let v = answer_of a (length out) in
-    rw (reply-self (answer_number v) (answer_carried v)) (places-self (column_of a out))
+lists-self a out = rw (reply-self (answer_of a (length out))) (places-self (column_of a out))
 
 -- a tile
 pub tile-one : (r : Reply) (want : List ℕ) (wx wy : List ℤ) (o : TileOutcome) → tiles_to r want wx wy o ≡ true
     → (r ≡ answer_reply o.answer) × (want ≡ o.places) × (wx ≡ o.xs) × (wy ≡ o.ys)
 unfolding tiles_to same_tile
 tile-one r want wx wy o e =
-    let n = answer_number o.answer in
-    let k = answer_carried o.answer in
-    let w = and_both (same_reply r n k) (same_tile want wx wy o.places o.xs o.ys) e in
+    let w = and_both (same_reply r o.answer) (same_tile want wx wy o.places o.xs o.ys) e in
     let u = and_both (same_places want o.places && same_longs wx o.xs) (same_longs wy o.ys) w.1 in
     let v = and_both (same_places want o.places) (same_longs wx o.xs) u.0 in
-    (reply-one r n k w.0, places-equal want o.places v.0, longs-equal wx o.xs v.1, longs-equal wy o.ys u.1)
+    (reply-one r o.answer w.0, places-equal want o.places v.0, longs-equal wx o.xs v.1, longs-equal wy o.ys u.1)
 
 pub tile-self : (o : TileOutcome) → tiles_to (answer_reply o.answer) o.places o.xs o.ys o ≡ true
 unfolding tiles_to same_tile
 tile-self o =
-    rw (reply-self (answer_number o.answer) (answer_carried o.answer))
+    rw (reply-self o.answer)
     (rw (places-self o.places) (rw (longs-self o.xs) (longs-self o.ys)))

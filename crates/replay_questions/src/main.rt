@@ -16,19 +16,24 @@
 
 ghost use Rattle.std.specs.Prelude.{◌≡◌, ◌≤◌, length};
 ghost use Rattle.ask_base.specs.Asked.{answer_of, column_of};
-ghost use Rattle.build_tables.specs.Lent.{lent_columns};
+ghost use Rattle.build_tables.specs.Lent.{tables_held};
 ghost use Rattle.ask_cluster.specs.Expansion.{zoom_of};
 ghost use Rattle.ask_tile.specs.Asked.{tiled};
 ghost use Rattle.ask_tile.specs.Tallied.{tallied};
-ghost use Rattle.replay_vectors.specs.Scores.{ending_is};
 ghost use Rattle.replay_questions.specs.Same.{asked_of, question_of, same_reply, same_tile, lists_to, zooms_to, tiles_to, sums_to};
 
 use ask_base::Answer;
-use build_tables::{Options, State};
-use replay_options::Chosen;
-use replay_vectors::{
-    Byte, Count, Ending, First, Function, Pattern, Place, Question, Score, Verdict, Word,
-};
+use build_tables::{Options, State, Tables};
+use kdbush::Index;
+use refusals::Refusal;
+use replay_vectors::{Function, Malformed, Question, Verdict};
+
+// What is asked: a state, and the columns that are given with it.
+#[derive(Clone, Copy)]
+struct Build<'a> {
+    state: State,
+    tables: Tables<'a>,
+}
 
 // A question that lists places, or lamps.
 #[derive(Clone, Copy)]
@@ -54,25 +59,11 @@ enum Listing {
     },
 }
 
-// Such a question, or words that are none.
-#[derive(Clone, Copy)]
-enum Asked {
-    Listing(Listing),
-    Bad,
-}
-
 // A reply as it is stored: its number, 0 where nothing is refused, and what it carries.
-#[derive(Clone, Copy)]
+#[derive(Clone, Copy, PartialEq, Eq)]
 struct Reply {
     number: u32,
     carried: u64,
-}
-
-// A reply, or words that are none.
-#[derive(Clone, Copy)]
-enum Told {
-    Reply(Reply),
-    Bad,
 }
 
 // A tile.
@@ -83,11 +74,12 @@ struct Tile {
     y: u32,
 }
 
-// A tile, or words that are none.
+// The three columns that are expected of a tile.
 #[derive(Clone, Copy)]
-enum Named {
-    Tile(Tile),
-    Bad,
+struct Wanted<'a> {
+    places: &'a [u32],
+    x: &'a [i64],
+    y: &'a [i64],
 }
 
 // What the output columns hold before they are written: nothing that a question writes there.
@@ -95,44 +87,30 @@ const OLD: u32 = 0xa5a5_a5a5;
 
 const OLD_LONG: i64 = 0x5a5a_5a5a_5a5a_5a5a;
 
-fn wide(x: u8) -> u64
-    ensures { result ≡ x }
+// Whether what is stored is SCOPE's number of a reply, and what it carries.
+#[tactic(auto, unfolding(crate::specs::Same::same_reply))]
+fn same_reply(want: Reply, got: Result<u64, Refusal>) -> bool
+    ensures { result ≡ same_reply want got }
 {
-    x as u64
-}
-
-fn long(x: usize) -> u64
-    ensures { result ≡ x }
-{
-    x as u64
-}
-
-// Whether a reply's number and what it carries are those expected.
-fn same_reply(want: Reply, number: u32, carried: u64) -> bool
-    ensures { result ≡ same_reply want number carried }
-{
-    (want.number == number) & (want.carried == carried)
+    match got {
+        Ok(carried) => want == Reply { number: 0, carried },
+        Err(e) => {
+            let carried = e.carried() as u64;
+            let number = e.number();
+            want == Reply { number, carried }
+        }
+    }
 }
 
 // Asks a question that lists.
-fn ask(
-    q: Listing,
-    s: State,
-    x: &[f64],
-    y: &[f64],
-    seen: &[u8],
-    id: &[u32],
-    parent: &[u32],
-    num: &[u32],
-    energy: &[u64],
-    ids: &[u32],
-    coords: &[f64],
-    out: &mut [u32],
-) -> Answer
-    ensures { let c = lent_columns x y seen id parent num energy ids coords in
-        let a = asked_of q s c in
+fn ask(q: Listing, b: &Build<'_>, out: &mut [u32]) -> Answer
+    ensures { let a = asked_of q b.now.state (tables_held b.now.tables) in
         (result ≡ answer_of a (length out.old)) × (out.new ≡ column_of a out.old) }
 {
+    let s = b.state;
+    let t = &b.tables;
+    let Tables { ids, coords, .. } = b.tables;
+    let index = Index { ids, coords };
     match q {
         Listing::Box {
             zoom,
@@ -140,255 +118,127 @@ fn ask(
             least_y,
             east,
             greatest_y,
-        } => { ask_box::list_box(s, ids, coords, zoom, west, least_y, east, greatest_y, out) }
-        Listing::Ring {
-            zoom,
-            x: cx,
-            y: cy,
-            radius,
-        } => { ask_box::list_ring(s, ids, coords, zoom, cx, cy, radius, out) }
-        Listing::Children(cid) => {
-            ask_cluster::children(
-                s, x, y, seen, id, parent, num, energy, ids, coords, cid, out,
-            )
+        } => ask_box::list_box(s, &index, zoom, west, least_y, east, greatest_y, out),
+        Listing::Ring { zoom, x, y, radius } => {
+            ask_box::list_ring(s, &index, zoom, x, y, radius, out)
         }
-        Listing::Leaves {
-            id: cid,
-            limit,
-            offset,
-        } => {
-            ask_cluster::leaves(
-                s, x, y, seen, id, parent, num, energy, ids, coords, cid, limit, offset, out,
-            )
+        Listing::Children(id) => ask_cluster::children(s, t, id, out),
+        Listing::Leaves { id, limit, offset } => {
+            ask_cluster::leaves(s, t, id, limit, offset, out)
         }
     }
 }
 
-// Whether a question that lists is answered as expected, and leaves the column expected.
-fn lists(
-    q: Listing,
-    s: State,
-    x: &[f64],
-    y: &[f64],
-    seen: &[u8],
-    id: &[u32],
-    parent: &[u32],
-    num: &[u32],
-    energy: &[u64],
-    ids: &[u32],
-    coords: &[f64],
-    reply: Reply,
-    want: &[u32],
-    out: &mut [u32],
-) -> bool
-    ensures { let c = lent_columns x y seen id parent num energy ids coords in
-        result ≡ lists_to reply want.now (asked_of q s c) out.old }
+// Whether a question that lists is answered as expected, and leaves the column expected. Here and for a tile each comparison is made, by
+// `&`, so that the proof has them in a row.
+fn lists(q: Listing, b: &Build<'_>, reply: Reply, want: &[u32], out: &mut [u32]) -> bool
+    ensures { result ≡ lists_to reply want.now (asked_of q b.now.state (tables_held b.now.tables)) out.old }
 {
-    let a = ask(q, s, x, y, seen, id, parent, num, energy, ids, coords, out);
-    same_reply(reply, a.number(), long(a.carried())) & replay_vectors::same_places(want, out)
+    let a = ask(q, b, out);
+    same_reply(reply, a.map(|k| k as u64)) & (want == &*out)
 }
 
 // Whether the expansion zoom of a cluster is the one expected.
-fn finds_zoom(
-    s: State,
-    x: &[f64],
-    y: &[f64],
-    seen: &[u8],
-    id: &[u32],
-    parent: &[u32],
-    num: &[u32],
-    energy: &[u64],
-    ids: &[u32],
-    coords: &[f64],
-    cid: u32,
-    reply: Reply,
-) -> bool
-    ensures { let c = lent_columns x y seen id parent num energy ids coords in
-        result ≡ zooms_to reply (zoom_of s c cid) }
+fn finds_zoom(b: &Build<'_>, id: u32, reply: Reply) -> bool
+    ensures { result ≡ zooms_to reply (zoom_of b.now.state (tables_held b.now.tables) id) }
 {
-    let e = ask_cluster::expansion_zoom(s, x, y, seen, id, parent, num, energy, ids, coords, cid);
-    same_reply(reply, e.number(), wide(e.carried()))
+    let e = ask_cluster::expansion_zoom(b.state, &b.tables, id);
+    same_reply(reply, e.map(|z| z as u64))
 }
 
 // Whether the tally of a tile is the one expected.
-fn adds_up(
-    s: State,
-    x: &[f64],
-    y: &[f64],
-    seen: &[u8],
-    id: &[u32],
-    parent: &[u32],
-    num: &[u32],
-    energy: &[u64],
-    ids: &[u32],
-    coords: &[f64],
-    t: Tile,
-    reply: Reply,
-) -> bool
-    ensures { let c = lent_columns x y seen id parent num energy ids coords in
-        result ≡ sums_to reply (tallied s c t.z t.x t.y) }
+#[tactic(auto, unfolding(crate::specs::Same::sums_to))]
+fn adds_up(b: &Build<'_>, tile: Tile, reply: Reply) -> bool
+    ensures { result ≡ sums_to reply (tallied b.now.state (tables_held b.now.tables) tile.z tile.x tile.y) }
 {
-    let a = ask_tile::tally(
-        s, x, y, seen, id, parent, num, energy, ids, coords, t.z, t.x, t.y,
-    );
-    same_reply(reply, a.number(), a.value())
+    let sum = ask_tile::tally(b.state, &b.tables, tile.z, tile.x, tile.y);
+    same_reply(reply, sum)
 }
 
 // Whether the three columns of a tile are those expected, to their ends.
-fn same_tile(
-    want: &[u32],
-    want_x: &[i64],
-    want_y: &[i64],
-    places: &[u32],
-    px: &[i64],
-    py: &[i64],
-) -> bool
-    ensures { result ≡ same_tile want.now want_x.now want_y.now places.now px.now py.now }
+fn same_tile(want: &Wanted<'_>, places: &[u32], px: &[i64], py: &[i64]) -> bool
+    ensures { let w = want.now in
+        result ≡ same_tile w.places.now w.x.now w.y.now places.now px.now py.now }
 {
-    replay_vectors::same_places(want, places)
-        & replay_vectors::same_longs(want_x, px)
-        & replay_vectors::same_longs(want_y, py)
+    (want.places == places) & (want.x == px) & (want.y == py)
 }
 
 // Whether a tile is answered as expected, and leaves the columns expected.
 fn lists_tile(
-    s: State,
-    x: &[f64],
-    y: &[f64],
-    seen: &[u8],
-    id: &[u32],
-    parent: &[u32],
-    num: &[u32],
-    energy: &[u64],
-    ids: &[u32],
-    coords: &[f64],
-    t: Tile,
+    b: &Build<'_>,
+    tile: Tile,
     reply: Reply,
-    want: &[u32],
-    want_x: &[i64],
-    want_y: &[i64],
+    want: &Wanted<'_>,
     places: &mut [u32],
     px: &mut [i64],
     py: &mut [i64],
 ) -> bool
-    ensures { let c = lent_columns x y seen id parent num energy ids coords in
-        let a = tiled s c t.z t.x t.y places.old px.old py.old in
-        result ≡ tiles_to reply want.now want_x.now want_y.now a }
+    ensures { let w = want.now in
+        let a = tiled b.now.state (tables_held b.now.tables) tile.z tile.x tile.y places.old px.old py.old in
+        result ≡ tiles_to reply w.places.now w.x.now w.y.now a }
 {
-    let a = ask_tile::tile(
-        s, x, y, seen, id, parent, num, energy, ids, coords, t.z, t.x, t.y, places, px, py,
-    );
-    same_reply(reply, a.number(), long(a.carried()))
-        & same_tile(want, want_x, want_y, places, px, py)
+    let a = ask_tile::tile(b.state, &b.tables, tile.z, tile.x, tile.y, places, px, py);
+    same_reply(reply, a.map(|k| k as u64)) & same_tile(want, places, px, py)
 }
 
 // Reads a reply; what it carries ends its line where `last`.
-fn read_reply(last: bool) -> Told {
-    let Place::Is(number) = replay_vectors::next_place(false) else {
-        return Told::Bad;
-    };
-    let Pattern::Bits(carried) = replay_vectors::next_bits(last) else {
-        return Told::Bad;
-    };
-    Told::Reply(Reply { number, carried })
+fn read_reply(last: bool) -> Result<Reply, Malformed> {
+    Ok(Reply {
+        number: replay_vectors::next(false)?,
+        carried: replay_vectors::next(last)?,
+    })
 }
 
 // Reads the numbers of a box.
-fn read_box() -> Asked {
-    let Byte::Is(zoom) = replay_vectors::next_byte(false) else {
-        return Asked::Bad;
-    };
-    let Pattern::Bits(west) = replay_vectors::next_bits(false) else {
-        return Asked::Bad;
-    };
-    let Pattern::Bits(least_y) = replay_vectors::next_bits(false) else {
-        return Asked::Bad;
-    };
-    let Pattern::Bits(east) = replay_vectors::next_bits(false) else {
-        return Asked::Bad;
-    };
-    let Pattern::Bits(greatest_y) = replay_vectors::next_bits(false) else {
-        return Asked::Bad;
-    };
-    Asked::Listing(Listing::Box {
-        zoom,
-        west: replay_vectors::float_of(west),
-        least_y: replay_vectors::float_of(least_y),
-        east: replay_vectors::float_of(east),
-        greatest_y: replay_vectors::float_of(greatest_y),
+fn read_box() -> Result<Listing, Malformed> {
+    Ok(Listing::Box {
+        zoom: replay_vectors::next(false)?,
+        west: replay_vectors::next(false)?,
+        least_y: replay_vectors::next(false)?,
+        east: replay_vectors::next(false)?,
+        greatest_y: replay_vectors::next(false)?,
     })
 }
 
 // Reads the numbers of a ring.
-fn read_ring() -> Asked {
-    let Byte::Is(zoom) = replay_vectors::next_byte(false) else {
-        return Asked::Bad;
-    };
-    let Pattern::Bits(x) = replay_vectors::next_bits(false) else {
-        return Asked::Bad;
-    };
-    let Pattern::Bits(y) = replay_vectors::next_bits(false) else {
-        return Asked::Bad;
-    };
-    let Pattern::Bits(radius) = replay_vectors::next_bits(false) else {
-        return Asked::Bad;
-    };
-    Asked::Listing(Listing::Ring {
-        zoom,
-        x: replay_vectors::float_of(x),
-        y: replay_vectors::float_of(y),
-        radius: replay_vectors::float_of(radius),
+fn read_ring() -> Result<Listing, Malformed> {
+    Ok(Listing::Ring {
+        zoom: replay_vectors::next(false)?,
+        x: replay_vectors::next(false)?,
+        y: replay_vectors::next(false)?,
+        radius: replay_vectors::next(false)?,
     })
 }
 
-// Reads the id of a question for children.
-fn read_children() -> Asked {
-    let Place::Is(id) = replay_vectors::next_place(false) else {
-        return Asked::Bad;
-    };
-    Asked::Listing(Listing::Children(id))
-}
-
 // Reads the numbers of a question for leaves.
-fn read_leaves() -> Asked {
-    let Place::Is(id) = replay_vectors::next_place(false) else {
-        return Asked::Bad;
-    };
-    let Place::Is(limit) = replay_vectors::next_place(false) else {
-        return Asked::Bad;
-    };
-    let Place::Is(offset) = replay_vectors::next_place(false) else {
-        return Asked::Bad;
-    };
-    Asked::Listing(Listing::Leaves { id, limit, offset })
-}
-
-// Reads a question that lists, of this kind.
-fn read_listing(kind: usize) -> Asked {
-    if kind == 0 {
-        return read_box();
-    }
-    if kind == 1 {
-        return read_ring();
-    }
-    if kind == 2 {
-        return read_children();
-    }
-    read_leaves()
+fn read_leaves() -> Result<Listing, Malformed> {
+    Ok(Listing::Leaves {
+        id: replay_vectors::next(false)?,
+        limit: replay_vectors::next(false)?,
+        offset: replay_vectors::next(false)?,
+    })
 }
 
 // Reads a tile.
-fn read_tile() -> Named {
-    let Byte::Is(z) = replay_vectors::next_byte(false) else {
-        return Named::Bad;
-    };
-    let Place::Is(x) = replay_vectors::next_place(false) else {
-        return Named::Bad;
-    };
-    let Place::Is(y) = replay_vectors::next_place(false) else {
-        return Named::Bad;
-    };
-    Named::Tile(Tile { z, x, y })
+fn read_tile() -> Result<Tile, Malformed> {
+    Ok(Tile {
+        z: replay_vectors::next(false)?,
+        x: replay_vectors::next(false)?,
+        y: replay_vectors::next(false)?,
+    })
+}
+
+// Reads which question is asked.
+fn read_question() -> Result<Question, Malformed> {
+    Ok(match replay_vectors::next_count(6, false)? {
+        0 => Question::Box,
+        1 => Question::Ring,
+        2 => Question::Children,
+        3 => Question::Leaves,
+        4 => Question::Expansion,
+        5 => Question::Tile,
+        _ => Question::Tally,
+    })
 }
 
 // The name of a question that lists.
@@ -396,457 +246,150 @@ fn question_of(q: Listing) -> Question
     ensures { result ≡ question_of q }
 {
     match q {
-        Listing::Box {
-            zoom,
-            west,
-            least_y,
-            east,
-            greatest_y,
-        } => Question::Box,
-        Listing::Ring { zoom, x, y, radius } => Question::Ring,
-        Listing::Children(id) => Question::Children,
-        Listing::Leaves { id, limit, offset } => Question::Leaves,
+        Listing::Box { .. } => Question::Box,
+        Listing::Ring { .. } => Question::Ring,
+        Listing::Children(_) => Question::Children,
+        Listing::Leaves { .. } => Question::Leaves,
     }
 }
 
 // The verdict on a question.
 fn judged(agrees: bool, question: Question) -> Verdict {
-    if agrees {
-        return Verdict::Agrees;
-    }
-    Verdict::Differs(Function::Asked(question))
+    replay_vectors::judged(agrees, Function::Asked(question))
 }
 
-// Reads what is expected of a question that lists into a column of so many, and asks it.
-fn replay_listed(
-    q: Listing,
-    s: State,
-    x: &[f64],
-    y: &[f64],
-    seen: &[u8],
-    id: &[u32],
-    parent: &[u32],
-    num: &[u32],
-    energy: &[u64],
-    ids: &[u32],
-    coords: &[f64],
-    room: usize,
-    last: bool,
-) -> Verdict
-    requires { room ≤ 64 }
-{
-    let Told::Reply(reply) = read_reply(false) else {
-        return Verdict::Malformed;
-    };
-    let Count::Is(m) = replay_vectors::next_count(room, last) else {
-        return Verdict::Malformed;
-    };
+// Reads what is expected of a question that lists, and asks it.
+fn replay_listing(q: Listing, b: &Build<'_>, last: bool) -> Result<Verdict, Malformed> {
+    let room = replay_vectors::next_count(64, false)?;
+    let reply = read_reply(false)?;
+    let m = replay_vectors::next_count(room, last)?;
     let mut want = [OLD; 64];
-    if !replay_vectors::read_places(m, last, &mut want) {
-        return Verdict::Malformed;
-    }
+    replay_vectors::read_values(last, &mut want[..m])?;
     let mut out = [OLD; 64];
-    judged(
-        lists(
-            q,
-            s,
-            x,
-            y,
-            seen,
-            id,
-            parent,
-            num,
-            energy,
-            ids,
-            coords,
-            reply,
-            &want[..room],
-            &mut out[..room],
-        ),
-        question_of(q),
-    )
-}
-
-// Reads a question that lists, of this kind, and asks it.
-fn replay_listing(
-    kind: usize,
-    s: State,
-    x: &[f64],
-    y: &[f64],
-    seen: &[u8],
-    id: &[u32],
-    parent: &[u32],
-    num: &[u32],
-    energy: &[u64],
-    ids: &[u32],
-    coords: &[f64],
-    last: bool,
-) -> Verdict {
-    let Asked::Listing(q) = read_listing(kind) else {
-        return Verdict::Malformed;
-    };
-    let Count::Is(room) = replay_vectors::next_count(64, false) else {
-        return Verdict::Malformed;
-    };
-    replay_listed(
-        q, s, x, y, seen, id, parent, num, energy, ids, coords, room, last,
-    )
+    let agrees = lists(q, b, reply, &want[..room], &mut out[..room]);
+    Ok(judged(agrees, question_of(q)))
 }
 
 // Reads a question for an expansion zoom, and asks it.
-fn replay_zoom(
-    s: State,
-    x: &[f64],
-    y: &[f64],
-    seen: &[u8],
-    id: &[u32],
-    parent: &[u32],
-    num: &[u32],
-    energy: &[u64],
-    ids: &[u32],
-    coords: &[f64],
-    last: bool,
-) -> Verdict {
-    let Place::Is(cid) = replay_vectors::next_place(false) else {
-        return Verdict::Malformed;
-    };
-    let Told::Reply(reply) = read_reply(last) else {
-        return Verdict::Malformed;
-    };
-    judged(
-        finds_zoom(
-            s, x, y, seen, id, parent, num, energy, ids, coords, cid, reply,
-        ),
-        Question::Expansion,
-    )
+fn replay_zoom(b: &Build<'_>, last: bool) -> Result<Verdict, Malformed> {
+    let id = replay_vectors::next(false)?;
+    let reply = read_reply(last)?;
+    Ok(judged(finds_zoom(b, id, reply), Question::Expansion))
 }
 
 // Reads a question for a tally, and asks it.
-fn replay_tally(
-    s: State,
-    x: &[f64],
-    y: &[f64],
-    seen: &[u8],
-    id: &[u32],
-    parent: &[u32],
-    num: &[u32],
-    energy: &[u64],
-    ids: &[u32],
-    coords: &[f64],
-    last: bool,
-) -> Verdict {
-    let Named::Tile(t) = read_tile() else {
-        return Verdict::Malformed;
-    };
-    let Told::Reply(reply) = read_reply(last) else {
-        return Verdict::Malformed;
-    };
-    judged(
-        adds_up(
-            s, x, y, seen, id, parent, num, energy, ids, coords, t, reply,
-        ),
-        Question::Tally,
-    )
+fn replay_tally(b: &Build<'_>, last: bool) -> Result<Verdict, Malformed> {
+    let tile = read_tile()?;
+    let reply = read_reply(last)?;
+    Ok(judged(adds_up(b, tile, reply), Question::Tally))
 }
 
-// Asks for a tile in columns of these lengths, with old contents.
-fn ask_tile(
-    s: State,
-    x: &[f64],
-    y: &[f64],
-    seen: &[u8],
-    id: &[u32],
-    parent: &[u32],
-    num: &[u32],
-    energy: &[u64],
-    ids: &[u32],
-    coords: &[f64],
-    t: Tile,
-    reply: Reply,
-    want: &[u32],
-    want_x: &[i64],
-    want_y: &[i64],
-) -> Verdict
-    requires { (length want.now ≤ 64) × (length want_x.now ≤ 64) × (length want_y.now ≤ 64) }
+// Asks for a tile in columns as long as those expected, with old contents.
+fn ask_tile(b: &Build<'_>, tile: Tile, reply: Reply, want: &Wanted<'_>) -> bool
+    requires { let w = want.now in (length w.places.now ≤ 64) × (length w.x.now ≤ 64) × (length w.y.now ≤ 64) }
 {
     let mut places = [OLD; 64];
     let mut px = [OLD_LONG; 64];
     let mut py = [OLD_LONG; 64];
-    let room = want.len();
-    let room_x = want_x.len();
-    let room_y = want_y.len();
-    judged(
-        lists_tile(
-            s,
-            x,
-            y,
-            seen,
-            id,
-            parent,
-            num,
-            energy,
-            ids,
-            coords,
-            t,
-            reply,
-            want,
-            want_x,
-            want_y,
-            &mut places[..room],
-            &mut px[..room_x],
-            &mut py[..room_y],
-        ),
-        Question::Tile,
-    )
-}
-
-// Reads what is expected of a tile into columns of so many, and asks for it.
-fn replay_tiled(
-    s: State,
-    x: &[f64],
-    y: &[f64],
-    seen: &[u8],
-    id: &[u32],
-    parent: &[u32],
-    num: &[u32],
-    energy: &[u64],
-    ids: &[u32],
-    coords: &[f64],
-    t: Tile,
-    room: usize,
-    room_x: usize,
-    room_y: usize,
-    last: bool,
-) -> Verdict
-    requires { (room ≤ 64) × (room_x ≤ 64) × (room_y ≤ 64) }
-{
-    let Told::Reply(reply) = read_reply(false) else {
-        return Verdict::Malformed;
-    };
-    let Count::Is(m) = replay_vectors::next_count(
-        build_room::less(room, build_room::less(room_x, room_y)),
-        last,
-    ) else {
-        return Verdict::Malformed;
-    };
-    let mut want = [OLD; 64];
-    let mut want_x = [OLD_LONG; 64];
-    let mut want_y = [OLD_LONG; 64];
-    if !replay_vectors::read_places(m, false, &mut want) {
-        return Verdict::Malformed;
-    }
-    if !replay_vectors::read_longs(m, false, &mut want_x) {
-        return Verdict::Malformed;
-    }
-    if !replay_vectors::read_longs(m, last, &mut want_y) {
-        return Verdict::Malformed;
-    }
-    ask_tile(
-        s,
-        x,
-        y,
-        seen,
-        id,
-        parent,
-        num,
-        energy,
-        ids,
-        coords,
-        t,
+    lists_tile(
+        b,
+        tile,
         reply,
-        &want[..room],
-        &want_x[..room_x],
-        &want_y[..room_y],
+        want,
+        &mut places[..want.places.len()],
+        &mut px[..want.x.len()],
+        &mut py[..want.y.len()],
     )
 }
 
-// Reads a question for a tile, and asks it.
-fn replay_tile(
-    s: State,
-    x: &[f64],
-    y: &[f64],
-    seen: &[u8],
-    id: &[u32],
-    parent: &[u32],
-    num: &[u32],
-    energy: &[u64],
-    ids: &[u32],
-    coords: &[f64],
-    last: bool,
-) -> Verdict {
-    let Named::Tile(t) = read_tile() else {
-        return Verdict::Malformed;
+// Reads a question for a tile, and what is expected of it into columns of so many, and asks it.
+fn replay_tile(b: &Build<'_>, last: bool) -> Result<Verdict, Malformed> {
+    let tile = read_tile()?;
+    let room = replay_vectors::next_count(64, false)?;
+    let room_x = replay_vectors::next_count(64, false)?;
+    let room_y = replay_vectors::next_count(64, false)?;
+    let reply = read_reply(false)?;
+    let m = replay_vectors::next_count(room.min(room_x).min(room_y), last)?;
+    let mut places = [OLD; 64];
+    let mut px = [OLD_LONG; 64];
+    let mut py = [OLD_LONG; 64];
+    replay_vectors::read_values(false, &mut places[..m])?;
+    replay_vectors::read_values(false, &mut px[..m])?;
+    replay_vectors::read_values(last, &mut py[..m])?;
+    let want = Wanted {
+        places: &places[..room],
+        x: &px[..room_x],
+        y: &py[..room_y],
     };
-    let Count::Is(room) = replay_vectors::next_count(64, false) else {
-        return Verdict::Malformed;
-    };
-    let Count::Is(room_x) = replay_vectors::next_count(64, false) else {
-        return Verdict::Malformed;
-    };
-    let Count::Is(room_y) = replay_vectors::next_count(64, false) else {
-        return Verdict::Malformed;
-    };
-    replay_tiled(
-        s, x, y, seen, id, parent, num, energy, ids, coords, t, room, room_x, room_y, last,
-    )
+    Ok(judged(ask_tile(b, tile, reply, &want), Question::Tile))
 }
 
 // Reads a question, and asks it. The last question ends its line.
-fn replay_question(
-    s: State,
-    x: &[f64],
-    y: &[f64],
-    seen: &[u8],
-    id: &[u32],
-    parent: &[u32],
-    num: &[u32],
-    energy: &[u64],
-    ids: &[u32],
-    coords: &[f64],
-    last: bool,
-) -> Verdict {
-    let Count::Is(kind) = replay_vectors::next_count(6, false) else {
-        return Verdict::Malformed;
-    };
-    if kind < 4 {
-        return replay_listing(
-            kind, s, x, y, seen, id, parent, num, energy, ids, coords, last,
-        );
-    }
-    if kind == 4 {
-        return replay_zoom(s, x, y, seen, id, parent, num, energy, ids, coords, last);
-    }
-    if kind == 5 {
-        return replay_tile(s, x, y, seen, id, parent, num, energy, ids, coords, last);
-    }
-    replay_tally(s, x, y, seen, id, parent, num, energy, ids, coords, last)
-}
-
-// Reads and asks the questions of a case, to the end of its line also where one differs.
-fn replay_questions(
-    s: State,
-    x: &[f64],
-    y: &[f64],
-    seen: &[u8],
-    id: &[u32],
-    parent: &[u32],
-    num: &[u32],
-    energy: &[u64],
-    ids: &[u32],
-    coords: &[f64],
-) -> Verdict {
-    let Count::Is(k) = replay_vectors::next_count(64, true) else {
-        return Verdict::Malformed;
-    };
-    let mut verdict = Verdict::Agrees;
-    let mut i = 0;
-    while i < k {
-        match replay_question(
-            s,
-            x,
-            y,
-            seen,
-            id,
-            parent,
-            num,
-            energy,
-            ids,
-            coords,
-            i + 1 == k,
-        ) {
-            Verdict::Agrees => {}
-            Verdict::Differs(function) => verdict = replay_vectors::earlier(verdict, function),
-            Verdict::Malformed => return Verdict::Malformed,
-            Verdict::End => return Verdict::Malformed,
+fn replay_question(b: &Build<'_>, last: bool) -> Result<Verdict, Malformed> {
+    match read_question()? {
+        Question::Box => replay_listing(read_box()?, b, last),
+        Question::Ring => replay_listing(read_ring()?, b, last),
+        Question::Children => {
+            replay_listing(Listing::Children(replay_vectors::next(false)?), b, last)
         }
-        i += 1;
+        Question::Leaves => replay_listing(read_leaves()?, b, last),
+        Question::Expansion => replay_zoom(b, last),
+        Question::Tile => replay_tile(b, last),
+        Question::Tally => replay_tally(b, last),
     }
-    verdict
 }
 
-// Reads the columns of energies and of the index, and then the questions.
-fn replay_index(
-    s: State,
-    x: &[f64],
-    y: &[f64],
-    seen: &[u8],
-    id: &[u32],
-    parent: &[u32],
-    num: &[u32],
-) -> Verdict {
-    let mut energy = [0u64; 64];
-    let mut ids = [0u32; 64];
-    let mut coords = [0.0; 128];
-    let Count::Is(a) = replay_vectors::next_numbers(&mut energy) else {
-        return Verdict::Malformed;
-    };
-    let Count::Is(b) = replay_vectors::next_places(&mut ids) else {
-        return Verdict::Malformed;
-    };
-    let Count::Is(c) = replay_vectors::next_floats(&mut coords) else {
-        return Verdict::Malformed;
-    };
-    replay_questions(
-        s,
-        x,
-        y,
-        seen,
-        id,
-        parent,
-        num,
-        &energy[..a],
-        &ids[..b],
-        &coords[..c],
-    )
+// Reads and asks the questions of a case, to the end of its line also where one differs: the first that does stays.
+fn replay_questions(b: &Build<'_>) -> Result<Verdict, Malformed> {
+    let k = replay_vectors::next_count(64, true)?;
+    let mut verdict = Ok(());
+    for i in 0..k {
+        verdict = verdict.and(replay_question(b, i + 1 == k)?);
+    }
+    Ok(verdict)
 }
 
-// Reads the columns of ids, parents and nums, and then the rest.
-fn replay_ids(s: State, x: &[f64], y: &[f64], seen: &[u8]) -> Verdict {
-    let mut id = [0u32; 64];
-    let mut parent = [0u32; 64];
-    let mut num = [0u32; 64];
-    let Count::Is(a) = replay_vectors::next_places(&mut id) else {
-        return Verdict::Malformed;
-    };
-    let Count::Is(b) = replay_vectors::next_places(&mut parent) else {
-        return Verdict::Malformed;
-    };
-    let Count::Is(c) = replay_vectors::next_places(&mut num) else {
-        return Verdict::Malformed;
-    };
-    replay_index(s, x, y, seen, &id[..a], &parent[..b], &num[..c])
-}
-
-// Reads the columns of coordinates and marks, and then the rest.
-fn replay_columns(s: State) -> Verdict {
+// Reads the nine columns, and then the questions.
+fn replay_columns(state: State) -> Result<Verdict, Malformed> {
     let mut x = [0.0; 64];
     let mut y = [0.0; 64];
     let mut seen = [0u8; 64];
-    let Count::Is(a) = replay_vectors::next_floats(&mut x) else {
-        return Verdict::Malformed;
+    let mut id = [0u32; 64];
+    let mut parent = [0u32; 64];
+    let mut num = [0u32; 64];
+    let mut energy = [0u64; 64];
+    let mut ids = [0u32; 64];
+    let mut coords = [0.0; 128];
+    let xs = replay_vectors::next_values(&mut x)?;
+    let ys = replay_vectors::next_values(&mut y)?;
+    let marks = replay_vectors::next_values(&mut seen)?;
+    let names = replay_vectors::next_values(&mut id)?;
+    let parents = replay_vectors::next_values(&mut parent)?;
+    let nums = replay_vectors::next_values(&mut num)?;
+    let energies = replay_vectors::next_values(&mut energy)?;
+    let slots = replay_vectors::next_values(&mut ids)?;
+    let points = replay_vectors::next_values(&mut coords)?;
+    let tables = Tables {
+        x: &x[..xs],
+        y: &y[..ys],
+        seen: &seen[..marks],
+        id: &id[..names],
+        parent: &parent[..parents],
+        num: &num[..nums],
+        energy: &energy[..energies],
+        ids: &ids[..slots],
+        coords: &coords[..points],
     };
-    let Count::Is(b) = replay_vectors::next_floats(&mut y) else {
-        return Verdict::Malformed;
-    };
-    let Count::Is(c) = replay_vectors::next_bytes(&mut seen) else {
-        return Verdict::Malformed;
-    };
-    replay_ids(s, &x[..a], &y[..b], &seen[..c])
+    replay_questions(&Build { state, tables })
 }
 
 // Reads the state of a build by these options, and then the rest.
-fn replay_state(options: Options) -> Verdict {
-    let Place::Is(count) = replay_vectors::next_place(false) else {
-        return Verdict::Malformed;
-    };
+fn replay_state(options: Options) -> Result<Verdict, Malformed> {
+    let count = replay_vectors::next(false)?;
     let mut starts = [0u32; 32];
     let mut lens = [0u32; 32];
-    if !replay_vectors::read_places(build_tables::ZOOMS as usize, false, &mut starts) {
-        return Verdict::Malformed;
-    }
-    if !replay_vectors::read_places(build_tables::ZOOMS as usize, false, &mut lens) {
-        return Verdict::Malformed;
-    }
+    replay_vectors::read_values(false, &mut starts)?;
+    replay_vectors::read_values(false, &mut lens)?;
     replay_columns(State {
         options,
         count,
@@ -856,50 +399,13 @@ fn replay_state(options: Options) -> Verdict {
 }
 
 // Replays the case that begins with this word.
-fn replay_case(bits: u64) -> Verdict {
-    let Count::Is(min_zoom) = replay_vectors::count_of(bits, 255) else {
-        return Verdict::Malformed;
-    };
-    let Byte::Is(max_zoom) = replay_vectors::next_byte(false) else {
-        return Verdict::Malformed;
-    };
-    let Chosen::Options(options) = replay_options::read_options(min_zoom as u8, max_zoom) else {
-        return Verdict::Malformed;
-    };
-    replay_state(options)
-}
-
-// Replays the next case of standard input.
-fn next_case() -> Verdict {
-    match replay_vectors::next_word() {
-        Word::Inner(bits) => replay_case(bits),
-        Word::Last(bits) => Verdict::Malformed,
-        Word::Bad => Verdict::Malformed,
-        Word::End => Verdict::End,
-    }
-}
-
-// Replays every line of standard input, one past the most at the utmost.
-fn replay_all() -> Ending
-    ensures { ending_is result }
-{
-    let mut score = Score {
-        cases: 0,
-        differences: 0,
-        first: First::Nothing,
-    };
-    while score.cases <= replay_vectors::MOST {
-        match next_case() {
-            Verdict::Agrees => score = score.agreed(),
-            Verdict::Differs(function) => score = score.differed(function),
-            Verdict::Malformed => return Ending::Malformed(score.cases + 1),
-            Verdict::End => return Ending::Finished(score),
-        }
-    }
-    Ending::TooMany
+fn replay_case(bits: u64) -> Result<Verdict, Malformed> {
+    let min_zoom = replay_vectors::count_of(bits, 255)? as u8;
+    let max_zoom = replay_vectors::next(false)?;
+    replay_state(replay_options::read_options(min_zoom, max_zoom)?)
 }
 
 // Replays standard input, and writes how that ended.
 fn main() {
-    replay_vectors::say_ending(replay_all());
+    replay_vectors::say_ending(replay_vectors::replay_words(replay_case));
 }

@@ -13,7 +13,7 @@ use lib.ListN.{length, get_or, length-append, get_or-append}
 use lib.Seq.{get_or_at}
 use Rattle.io.specs.Digits.{hex_digit_ascii, last_digits}
 use Rattle.replay_vectors.specs.Words.{digit_is, Spelt}
-use Rattle.replay_vectors.specs.declared.Digit.TheVariants.{Value, Bad}
+use Rattle.std.specs.Prelude.{Some, None}
 
 -- the characters of 0 to 9, and those of a to f
 glyph-low : (d : ℕ) → d < 10 → hex_digit_ascii d ≡ 48 + d
@@ -22,10 +22,10 @@ glyph-low d h = simp (lt-ltb d 10 h)
 glyph-high : (d : ℕ) → 10 ≤ d → hex_digit_ascii d ≡ 87 + d
 glyph-high d h = simp (le-ltb d 10 h)
 
-pub digit_low : (c : ℕ) → 48 ≤ c → c ≤ 57 → digit_is c (Value (c - 48))
+pub digit_low : (c : ℕ) → 48 ≤ c → c ≤ 57 → digit_is c (Some (c - 48))
 digit_low c h l = (omega arith, glyph-low (c - 48) (omega arith) ∙ omega arith)
 
-pub digit-high : (c : ℕ) → 97 ≤ c → c ≤ 102 → digit_is c (Value (c - 97 + 10))
+pub digit-high : (c : ℕ) → 97 ≤ c → c ≤ 102 → digit_is c (Some (c - 97 + 10))
 digit-high c h l = (omega arith, glyph-high (c - 97 + 10) (omega arith) ∙ omega arith)
 
 -- a character outside both is no digit's
@@ -43,7 +43,7 @@ outside c d h e n false t =
     let l : 10 ≤ d = ltb-false d 10 t in
     ⊎_elim (λ a. omega arith) (λ w. ⊎_elim (λ a. omega arith) (λ a. omega arith) w) n
 
-pub digit-none : (c : ℕ) → (c < 48) ⊎ (((57 < c) × (c < 97)) ⊎ (102 < c)) → digit_is c Bad
+pub digit-none : (c : ℕ) → (c < 48) ⊎ (((57 < c) × (c < 97)) ⊎ (102 < c)) → digit_is c None
 unfolding Outside
 digit-none c n d h e = outside c d h e n (ltb d 10) refl
 
@@ -100,5 +100,5 @@ digits-at (suc k) n i l =
     (eq-or-lt_of_le {n = i} {m = k} (omega arith))
 
 -- where one of sixteen bytes is no digit's, they spell no number
-pub spelt-bad : (s : List ℕ) (at i : ℕ) → i < 16 → digit_is (get_or s (at + i) 0) Bad → (n : ℕ) → Spelt s at 16 n → ⊥
+pub spelt-bad : (s : List ℕ) (at i : ℕ) → i < 16 → digit_is (get_or s (at + i) 0) None → (n : ℕ) → Spelt s at 16 n → ⊥
 spelt-bad s at i l bad n p = let w = digits-at 16 n i l in bad w.0 w.1.0 (w.1.1 ∙ sym (p.same i l))

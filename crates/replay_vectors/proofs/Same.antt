@@ -1,41 +1,42 @@
--- Laws of the comparisons of columns, over plain values. Assumes nothing.
-use Prim.Native.Nat.{ℕ, zero, suc, ◌+◌, ◌≤◌, ◌<◌}
-use native.Mathlib.Nat.{not-suc-le-zero, eq-or-lt_of_le}
-use native.Mathlib.Numerals.{add-one}
+-- Laws of the comparison of two columns of floats, over plain values. Assumes nothing.
+use Prim.Native.Nat.{ℕ, zero, suc}
 use native.Mathlib.Omega.{arith}
 use mathlib.Core.Bool.{Bool, true, false, ◌&&◌}
-use mathlib.Core.Logic.{⊎_elim}
-use mathlib.Core.Path.{◌≡◌, refl, subst}
+use mathlib.Core.List.{List, [], ◌∷◌}
+use mathlib.Core.Path.{◌≡◌, refl, ap, ◌∙◌}
 use borrow.Author.Tests.{eq-eqb, ne_eqb}
 use lib.Dec.{eqb}
+use lib.ListN.{length}
+use lib.Ieee.{Float}
+use Rattle.std.specs.List.{list_all, zip}
 use Rattle.floats.specs.laws.Table.{upto}
+use Rattle.replay_vectors.specs.Words.{agreeing}
+use Rattle.replay_vectors.specs.Same.{float_at, same_floats}
 
-and-false : (b : Bool) → (b && false) ≡ false
-and-false true = refl
-and-false false = refl
+swap : (a b c : Bool) → (a && (b && c)) ≡ (b && (a && c))
+swap true b c = refl
+swap false true c = refl
+swap false false c = refl
 
--- one more that passes
-pub upto-more : (f : ℕ → Bool) (i : ℕ) → upto f i ≡ true → f i ≡ true → upto f (i + 1) ≡ true
-upto-more f i p h = rw (add-one i) (simp (h, p))
+-- the first position before the others
+upto-front : (f : ℕ → Bool) (k : ℕ) → upto f (suc k) ≡ (f 0 && upto (λ i. f (suc i)) k)
+upto-front f zero = refl
+upto-front f (suc k) =
+    ap (λ (b : Bool). f (suc k) && b) (upto-front f k) ∙ swap (f (suc k)) (f 0) (upto (λ i. f (suc i)) k)
 
--- one that does not
-upto-fails : (f : ℕ → Bool) (k i : ℕ) → i < k → f i ≡ false → upto f k ≡ false
-upto-fails f zero i l h = absurd (not-suc-le-zero l)
-upto-fails f (suc k) i l h =
-    ⊎_elim
-    (λ e. let g : f k ≡ false = subst (λ (j : ℕ). f j ≡ false) e h in simp g)
-    (λ m. rw (upto-fails f k i m h) (and-false (f k)))
-    (eq-or-lt_of_le {n = i} {m = k} (omega arith))
+-- the pairs of two columns of one length agree where the columns do at each position
+pairs : (a b : List Float) → length a ≡ length b → list_all (λ p. agreeing p.0 p.1) (zip a b) ≡ upto (float_at a b) (length a)
+pairs [] b e = refl
+pairs (x ∷ a) [] e = let z : ⊥ = omega arith in absurd z
+pairs (x ∷ a) (y ∷ b) e =
+    let d : length a ≡ length b = omega arith in
+    rw (upto-front (float_at (x ∷ a) (y ∷ b)) (length a)) (ap (λ (t : Bool). agreeing x y && t) (pairs a b d))
 
--- columns of n and of m entries: of other lengths, not the same at one position, and the same at each
-module _ (n m : ℕ) (f : ℕ → Bool) where
-  pub columns-none : (n ≡ m → ⊥) → (eqb n m && upto f n) ≡ false
-  columns-none h = simp (ne_eqb _ _ h)
+module _ (a b : List Float) where
+  pub floats-pairs : (r : Bool) → length a ≡ length b → r ≡ list_all (λ p. agreeing p.0 p.1) (zip a b) → r ≡ same_floats a b
+  unfolding same_floats
+  floats-pairs r e h = rw (eq-eqb (length a) (length b) e) (h ∙ pairs a b e)
 
-  pub columns-fail : (i : ℕ) → n ≡ m → i < n → f i ≡ false → (eqb n m && upto f n) ≡ false
-  columns-fail i e l h = simp (eq-eqb _ _ e, upto-fails f n i l h)
-
-  pub columns-all : (i : ℕ) → n ≡ m → n ≤ i → i ≤ n → upto f i ≡ true → (eqb n m && upto f n) ≡ true
-  columns-all i e a b p =
-      let s : i ≡ n = omega arith in
-      simp (eq-eqb _ _ e, subst (λ (j : ℕ). upto f j ≡ true) s p)
+  pub floats-other : (length a ≡ length b → ⊥) → eqb (length a) (length b) ≡ same_floats a b
+  unfolding same_floats
+  floats-other h = rw (ne_eqb (length a) (length b) h) refl

@@ -1,10 +1,7 @@
--- What the comparisons are that replays share: of columns with those expected, and of a build's reply with one that is not a refusal.
--- Definitions only.
-use Rattle.std.specs.Prelude.{ℕ, Bool, true, false, ◌&&◌, List, eqb, length, get_or, ℤ, pos, negsuc, Float}
+-- What the comparisons are that replays share: of columns with those expected. Definitions only.
+use Rattle.std.specs.Prelude.{ℕ, Bool, false, ◌&&◌, List, eqb, length, get_or, ℤ, pos, negsuc, Float}
 use Rattle.std.specs.Float.{nan}
 use Rattle.floats.specs.laws.Table.{upto}
-use Rattle.kdbush.specs.declared.BuildReply.{BuildReply}
-use Rattle.kdbush.specs.declared.BuildReply.TheVariants.{Done, Options, Count, Point, Tables}
 use Rattle.replay_vectors.specs.Words.{agreeing}
 
 abbrev pub place_at : List ℕ → List ℕ → ℕ → Bool
@@ -32,11 +29,3 @@ same_longs want got = eqb (length want) (length got) && upto (long_at want got) 
 
 unfoldable pub same_floats : List Float → List Float → Bool
 same_floats want got = eqb (length want) (length got) && upto (float_at want got) (length want)
-
--- a build that is not refused
-abbrev pub done_is : BuildReply → Bool
-done_is Done = true
-done_is Options = false
-done_is Count = false
-done_is (Point i) = false
-done_is Tables = false

@@ -5,21 +5,18 @@ use Rattle.std.specs.Prelude.{Bool, true, false, cond, ◌&&◌, List, [], ◌�
 use Rattle.range.specs.declared.CoordinateSystem.{CoordinateSystem}
 use Rattle.range.specs.declared.Point.{Point}
 use Rattle.range.specs.Range.{converted}
-use Rattle.kdbush.specs.declared.Outside.{Outside}
-use Rattle.kdbush.specs.declared.Outside.TheVariants.{At, Nothing}
+use Rattle.std.specs.Prelude.{Option, Some, None, Result, Ok, Err}
+use Rattle.refusals.specs.declared.Refusal.{Refusal}
+use Rattle.refusals.specs.declared.Refusal.TheVariants.{Options as No-as-Options, Count, Point as No-as-Point, Energy, Tables}
 use Rattle.kdbush.specs.Reply.{pair_ok, first_outside}
 use Rattle.build_tables.specs.declared.Options.{Options}
 use Rattle.build_tables.specs.declared.State.{State}
 use Rattle.build_tables.specs.declared.Entry.{Entry}
 use Rattle.build_tables.specs.Options.{options_ok, table_count}
-use Rattle.build_tables.specs.State.{new_state}
 use Rattle.build_tables.specs.Entries.{Table, never, unset, xs_of, ys_of, seen_of, ids_of, parents_of, nums_of, energies_of}
 use Rattle.build_tables.specs.Rows.{Cols, cols, each2}
 use Rattle.build_tables.specs.Room.{columns, room_of}
 use Rattle.build_all_zooms.specs.Zooms.{zoom_plan, run_zooms, zooms_of, joined, joined_ids, joined_co, laid_over, starts, lens}
-use Rattle.supercluster.specs.declared.LoadReply.{LoadReply}
-use Rattle.supercluster.specs.declared.LoadReply.TheVariants.{Done, Options as No-as-Options, Count, Point as No-as-Point, Energy, Tables}
-use Rattle.supercluster.specs.declared.Loaded.{Loaded}
 
 -- ---- the tables
 
@@ -93,82 +90,57 @@ abbrev pub most_energy : ℕ
 most_energy = 1099511627776
 
 -- the first point from i on that has more
-unfoldable pub first_over : List ℕ → ℕ → Outside
-first_over [] i = Nothing
-first_over (w ∷ ws) i = elim (leb w most_energy) [ true ↦ first_over ws (suc i) | false ↦ At i ]
+unfoldable pub first_over : List ℕ → ℕ → Option ℕ
+first_over [] i = None
+first_over (w ∷ ws) i = elim (leb w most_energy) [ true ↦ first_over ws (suc i) | false ↦ Some i ]
 
 -- 3 with the point, where one is outside; otherwise what the next tests give
-abbrev pub pointed : Outside → LoadReply → LoadReply
-pointed (At i) r = No-as-Point i
-pointed Nothing r = r
+abbrev pub pointed : Option ℕ → Result (Unit {0}) Refusal → Result (Unit {0}) Refusal
+pointed (Some i) r = Err (No-as-Point i)
+pointed None r = r
 
 -- 15 with the point, where one has too much; otherwise what the next tests give
-abbrev pub weighed : Outside → LoadReply → LoadReply
-weighed (At i) r = Energy i
-weighed Nothing r = r
+abbrev pub weighed : Option ℕ → Result (Unit {0}) Refusal → Result (Unit {0}) Refusal
+weighed (Some i) r = Err (Energy i)
+weighed None r = r
 
 -- refusals 1, 2, 3, 15, 4, in this order
-abbrev pub ordered : Bool → Bool → Outside → Outside → Bool → LoadReply
+abbrev pub ordered : Bool → Bool → Option ℕ → Option ℕ → Bool → Result (Unit {0}) Refusal
 ordered options count points energies room =
-    cond options (cond count (pointed points (weighed energies (cond room Done Tables))) Count) No-as-Options
+    cond options (cond count (pointed points (weighed energies (cond room (Ok tt) (Err Tables)))) (Err Count)) (Err No-as-Options)
 
 -- 1 to 1,048,576 points, with as many ys and energies as xs
 abbrev pub triple_ok : List Float → List Float → List ℕ → Bool
 triple_ok xs ys ws = pair_ok xs ys && eqb (length ws) (length xs)
 
 -- what is tested of each, in columns with room for so many entries
-abbrev pub checked_in : Options → List Float → List Float → List ℕ → ℕ → LoadReply
+abbrev pub checked_in : Options → List Float → List Float → List ℕ → ℕ → Result (Unit {0}) Refusal
 checked_in o xs ys ws room =
     let ps = converted_all o.coordinate_system xs ys in
     ordered (options_ok o) (triple_ok xs ys ws) (first_outside (map (λ p. p.x) ps) (map (λ p. p.y) ps) 0) (first_over ws 0)
     (leb (need o (length xs)) room)
 
-unfoldable pub checked : Options → List Float → List Float → List ℕ → BuildColumns → LoadReply
+unfoldable pub checked : Options → List Float → List Float → List ℕ → BuildColumns → Result (Unit {0}) Refusal
 checked o xs ys ws l = checked_in o xs ys ws (room_in l)
-
--- the number of a reply, SCOPE's, and what it carries
-abbrev pub load_number : LoadReply → ℕ
-load_number Done = 0
-load_number No-as-Options = 1
-load_number Count = 2
-load_number (No-as-Point i) = 3
-load_number (Energy i) = 15
-load_number Tables = 4
-
-abbrev pub load_carried : LoadReply → ℕ
-load_carried Done = 0
-load_carried No-as-Options = 0
-load_carried Count = 0
-load_carried (No-as-Point i) = i
-load_carried (Energy i) = i
-load_carried Tables = 0
 
 -- what a reply with this number leaves of a column: 0 writes it, a refusal does not
 abbrev pub unless_refused : ℕ → List ℕ → List ℕ → List ℕ
 unless_refused zero written old = written
 unless_refused (suc n) written old = old
 
--- a reply beside its state, and what it leaves in the columns
+-- a reply, its state where it is no refusal, and what it leaves in the columns
 pub record Outcome : Type 0 where
-  pub reply : Loaded
+  pub reply : Result State Refusal
   pub columns : BuildColumns
 
-abbrev pub outcome : Loaded → BuildColumns → Outcome
+abbrev pub outcome : Result State Refusal → BuildColumns → Outcome
 outcome b l = record { reply = b; columns = l }
 
--- beside a refusal stand the options as given and no tables, and no column is written
-abbrev pub refused_build : Options → LoadReply → BuildColumns → Outcome
-refused_build o r l = outcome (record { reply = r; state = new_state o 0 }) l
-
-abbrev pub by_reply : Options → List Float → List Float → List ℕ → BuildColumns → LoadReply → Outcome
-by_reply o xs ys ws l Done =
-    outcome (record { reply = Done; state = built_state o (length xs) (tables_of o xs ys ws) })
-    (written o.node_size (length xs) (tables_of o xs ys ws) l)
-by_reply o xs ys ws l No-as-Options = refused_build o No-as-Options l
-by_reply o xs ys ws l Count = refused_build o Count l
-by_reply o xs ys ws l (No-as-Point i) = refused_build o (No-as-Point i) l
-by_reply o xs ys ws l (Energy i) = refused_build o (Energy i) l
-by_reply o xs ys ws l Tables = refused_build o Tables l
+-- a refusal writes no column
+abbrev pub by_reply : Options → List Float → List Float → List ℕ → BuildColumns → Result (Unit {0}) Refusal → Outcome
+by_reply o xs ys ws l (Ok d) =
+    outcome (Ok (built_state o (length xs) (tables_of o xs ys ws))) (written o.node_size (length xs) (tables_of o xs ys ws) l)
+by_reply o xs ys ws l (Err e) = outcome (Err e) l
 
 -- what `load` replies and leaves, for every input
 unfoldable pub loaded : Options → List Float → List Float → List ℕ → BuildColumns → Outcome

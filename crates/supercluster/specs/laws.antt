@@ -15,6 +15,5 @@ pub mod Load
 pub mod Right
 -- Held: the tables that a state says stand in the rows.
 pub mod Held
--- Replies: any two outcomes that meet the contract of `load` are equal: the reply, the state and every column; and so are any two numbers
--- of a reply, and any two that it carries.
+-- Replies: any two outcomes that meet the contract of `load` are equal: the reply, its state and every column.
 pub mod Replies

@@ -3,100 +3,49 @@
 #![tactic(auto)]
 
 ghost use Rattle.std.specs.Prelude.{◌≡◌, map, ◌+◌, ◌*◌, ◌≤◌, leb, length, replicate};
-ghost use Rattle.kdsort.specs.Lent.{lent_index_mut};
+ghost use Rattle.kdsort.specs.Lent.{index_held_mut, SameIndex};
 ghost use Rattle.kdbush.specs.Reply.{first_outside};
 ghost use Rattle.build_tables.specs.Rows.{rows};
 ghost use Rattle.build_tables.specs.laws.Rows.{Even};
-ghost use Rattle.build_tables.specs.Lent.{given_mut, lent_cols_mut};
+ghost use Rattle.build_tables.specs.Lent.{held_mut, SameColumns, SameTables};
 ghost use Rattle.build_tables.specs.Options.{options_ok};
-ghost use Rattle.build_tables.specs.State.{new_state};
 ghost use Rattle.build_all_zooms.specs.Zooms.{laid_over};
 ghost use Rattle.supercluster.specs.Build.{converted_all, finest, written, built_state, tables_of, need, first_over, triple_ok};
-ghost use Rattle.supercluster.specs.Build.{ordered, load_number, load_carried, outcome, loaded};
-ghost use Rattle.supercluster.specs.Lent.{given_all_mut, lent_all_mut};
+ghost use Rattle.supercluster.specs.Build.{ordered, outcome, loaded};
+ghost use Rattle.supercluster.specs.Lent.{columns_held, given_all_mut, lent_all_mut};
 ghost use Rattle.supercluster.specs.laws.Ready.{Accepted, Made, first_state};
 ghost use Rattle.supercluster.specs.laws.Load.{Holds};
 
-use build_tables::{Entry, Options, State};
-use kdbush::Outside;
+use build_tables::{EntriesMut, Entry, Options, State, TablesMut};
+use kdsort::IndexMut;
 use range::{CoordinateSystem, Point};
+use refusals::Refusal;
+
+// What a build is of: the coordinates and the energies of its points. Each is of any length: a build of others than as many is refused.
+#[derive(Clone, Copy)]
+pub struct Points<'a> {
+    pub xs: &'a [f64],
+    pub ys: &'a [f64],
+    pub energies: &'a [u64],
+}
 
 // The largest energy of a point, in watt-hours: 2^40.
 pub const MOST_ENERGY: u64 = 1099511627776;
 
-// The reply of a build: refusals 1, 2, 3, 15 and 4, in this order. Two of them carry the first such point.
-#[derive(Clone, Copy)]
-pub enum LoadReply {
-    Done,
-    Options,
-    Count,
-    Point(usize),
-    Energy(usize),
-    Tables,
-}
-
-impl LoadReply {
-    // The number of the reply, 0 where there is no refusal.
-    pub fn number(self) -> u32
-        ensures { result ≡ load_number self }
-    {
-        match self {
-            LoadReply::Done => 0,
-            LoadReply::Options => 1,
-            LoadReply::Count => 2,
-            LoadReply::Point(_) => 3,
-            LoadReply::Energy(_) => 15,
-            LoadReply::Tables => 4,
-        }
-    }
-
-    // What the reply carries, 0 where it carries nothing.
-    pub fn carried(self) -> usize
-        ensures { result ≡ load_carried self }
-    {
-        match self {
-            LoadReply::Done => 0,
-            LoadReply::Options => 0,
-            LoadReply::Count => 0,
-            LoadReply::Point(i) => i,
-            LoadReply::Energy(i) => i,
-            LoadReply::Tables => 0,
-        }
-    }
-}
-
-// The reply of a build, and beside it its state: of no tables, where it is refused.
-#[derive(Clone, Copy)]
-pub struct Loaded {
-    pub reply: LoadReply,
-    pub state: State,
-}
-
 // The finest table: the converted points in order.
-fn fill(
-    c: CoordinateSystem,
-    xs: &[f64],
-    ys: &[f64],
-    energies: &[u64],
-    x: &mut [f64],
-    y: &mut [f64],
-    seen: &mut [u8],
-    id: &mut [u32],
-    parent: &mut [u32],
-    num: &mut [u32],
-    energy: &mut [u64],
-)
-    requires { let t = given_mut x y seen id parent num energy in
-        let n = length xs.now in
-        Even t × (length ys.now ≡ n) × (n ≤ length t.x) × (n ≤ 1048576) × (length energies.now ≡ n) }
-    ensures { let t = lent_cols_mut x y seen id parent num energy in
-        rows t.exit ≡ laid_over (finest (converted_all c xs.now ys.now) energies.now 0) (rows t.entry) }
+fn fill(c: CoordinateSystem, points: &Points<'_>, t: &mut EntriesMut<'_>)
+    requires { let r = held_mut t.old in
+        let p = points.now in
+        let n = length p.xs.now in
+        Even r × (length p.ys.now ≡ n) × (n ≤ length r.x) × (n ≤ 1048576) × (length p.energies.now ≡ n) }
+    ensures rows { let p = points.now in
+        rows (held_mut t.new) ≡ laid_over (finest (converted_all c p.xs.now p.ys.now) p.energies.now 0) (rows (held_mut t.old)) }
+    ensures lent { SameColumns t.old t.new }
 {
-    let mut place = 0;
-    while place < xs.len() {
+    for place in 0..points.xs.len() {
         let p = c.convert(Point {
-            x: xs[place],
-            y: ys[place],
+            x: points.xs[place],
+            y: points.ys[place],
         });
         let e = Entry {
             x: p.x,
@@ -105,23 +54,20 @@ fn fill(
             id: place as u32,
             parent: build_tables::UNSET,
             num: 1,
-            energy: energies[place],
+            energy: points.energies[place],
         };
-        build_tables::put_entry(x, y, seen, id, parent, num, energy, place, e);
-        place += 1;
+        t.put(place, e);
     }
 }
 
 // Zeros. What is zero already is not written, so that memory that was lent and never written to is not taken up.
-fn clear(a: &mut [u32])
-    ensures { a.new ≡ replicate (length a.old) 0 }
+fn clear(near: &mut [u32])
+    ensures { near.new ≡ replicate (length near.old) 0 }
 {
-    let mut i = 0;
-    while i < a.len() {
-        if a[i] != 0 {
-            a[i] = 0;
+    for word in near.iter_mut() {
+        if *word != 0 {
+            *word = 0;
         }
-        i += 1;
     }
 }
 
@@ -142,50 +88,37 @@ fn first_state(o: Options, n: usize) -> State
 // The build, in columns that just hold it.
 fn build_in(
     o: Options,
-    xs: &[f64],
-    ys: &[f64],
-    energies: &[u64],
-    x: &mut [f64],
-    y: &mut [f64],
-    seen: &mut [u8],
-    id: &mut [u32],
-    parent: &mut [u32],
-    num: &mut [u32],
-    energy: &mut [u64],
-    ids: &mut [u32],
-    coords: &mut [f64],
+    points: &Points<'_>,
+    t: &mut EntriesMut<'_>,
+    index: &mut IndexMut<'_>,
     near: &mut [u32],
 ) -> State
-    requires { let t = given_mut x y seen id parent num energy in
-        let px = xs.now in
-        let n = length px in
-        Even t × Accepted o px ys.now energies.now × (length t.x ≡ need o n) × (length ids.old ≡ need o n)
-        × (length coords.old ≡ need o n * 2)
-        × (length near.old ≡ n + n) }
-    ensures { let t = lent_cols_mut x y seen id parent num energy in
-        let i = lent_index_mut ids coords in
-        Made o xs.now ys.now energies.now result (rows t.entry) (rows t.exit)
-        i.entry.ids i.exit.ids i.entry.co i.exit.co near.new }
+    requires { let p = points.now in
+        let n = length p.xs.now in
+        let c = held_mut t.old in
+        let i = index_held_mut index.old in
+        Even c × Accepted o p.xs.now p.ys.now p.energies.now × (length c.x ≡ need o n) × (length i.ids ≡ need o n)
+        × (length i.co ≡ need o n * 2) × (length near.old ≡ n + n) }
+    ensures made { let p = points.now in
+        let i = index_held_mut index.old in
+        let j = index_held_mut index.new in
+        Made o p.xs.now p.ys.now p.energies.now result (rows (held_mut t.old)) (rows (held_mut t.new)) i.ids j.ids i.co j.co near.new }
+    ensures lent { SameColumns t.old t.new }
+    ensures index { SameIndex index.old index.new }
 {
-    let n = xs.len();
-    let c = o.coordinate_system;
-    let size = o.node_size;
-    fill(c, xs, ys, energies, x, y, seen, id, parent, num, energy);
-    build_all_zooms::index_part(x, y, ids, coords, size, 0, n);
+    let n = points.xs.len();
+    fill(o.coordinate_system, points, t);
+    build_all_zooms::index_part(t, index, o.node_size, 0, n);
     let s = first_state(o, n);
-    let st = build_all_zooms::run_zooms(
-        x, y, seen, id, parent, num, energy, ids, coords, near, s, n as u32,
-    );
+    let st = build_all_zooms::run_zooms(t, index, near, s, n as u32);
     clear(near);
     st
 }
 
-// The build, in the fronts of the columns.
-fn build_all(
+// The same, of columns lent one by one: what is left behind a part is known only where its columns are whole parameters.
+fn build_columns(
     o: Options,
-    xs: &[f64],
-    ys: &[f64],
-    energies: &[u64],
+    points: &Points<'_>,
     x: &mut [f64],
     y: &mut [f64],
     seen: &mut [u8],
@@ -197,24 +130,59 @@ fn build_all(
     coords: &mut [f64],
     near: &mut [u32],
 ) -> State
-    requires { let l = given_all_mut x y seen id parent num energy ids coords near in
-        let px = xs.now in
-        Accepted o px ys.now energies.now × Holds (need o (length px)) l }
-    ensures { let l = lent_all_mut x y seen id parent num energy ids coords near in
-        let px = xs.now in
-        let n = length px in
-        let ts = tables_of o px ys.now energies.now in
+    requires { let p = points.now in
+        let n = length p.xs.now in
+        let l = given_all_mut x y seen id parent num energy ids coords near in
+        Even l.table × Accepted o p.xs.now p.ys.now p.energies.now × (length l.table.x ≡ need o n) × (length l.ids ≡ need o n)
+        × (length l.coords ≡ need o n * 2) × (length l.near ≡ n + n) }
+    ensures { let p = points.now in
+        let l = lent_all_mut x y seen id parent num energy ids coords near in
+        Made o p.xs.now p.ys.now p.energies.now result (rows l.entry.table) (rows l.exit.table) l.entry.ids l.exit.ids
+        l.entry.coords l.exit.coords l.exit.near }
+{
+    let mut t = EntriesMut {
+        x,
+        y,
+        seen,
+        id,
+        parent,
+        num,
+        energy,
+    };
+    let mut index = IndexMut { ids, coords };
+    build_in(o, points, &mut t, &mut index, near)
+}
+
+// The build, in the fronts of the columns.
+// The columns are lent one by one: of a struct behind `&mut` no parts of several fields can be lent at once.
+fn build_fronts(
+    o: Options,
+    points: &Points<'_>,
+    x: &mut [f64],
+    y: &mut [f64],
+    seen: &mut [u8],
+    id: &mut [u32],
+    parent: &mut [u32],
+    num: &mut [u32],
+    energy: &mut [u64],
+    ids: &mut [u32],
+    coords: &mut [f64],
+    near: &mut [u32],
+) -> State
+    requires { let p = points.now in
+        let l = given_all_mut x y seen id parent num energy ids coords near in
+        Accepted o p.xs.now p.ys.now p.energies.now × Holds (need o (length p.xs.now)) l }
+    ensures { let p = points.now in
+        let l = lent_all_mut x y seen id parent num energy ids coords near in
+        let n = length p.xs.now in
+        let ts = tables_of o p.xs.now p.ys.now p.energies.now in
         (result ≡ built_state o n ts) × (l.exit ≡ written o.node_size n ts l.entry) }
 {
-    let n = xs.len();
-    let w = n + n;
+    let n = points.xs.len();
     let m = build_tables::table_count(o) * n;
-    let c = m * 2;
-    build_in(
+    build_columns(
         o,
-        xs,
-        ys,
-        energies,
+        points,
         &mut x[..m],
         &mut y[..m],
         &mut seen[..m],
@@ -223,137 +191,92 @@ fn build_all(
         &mut num[..m],
         &mut energy[..m],
         &mut ids[..m],
-        &mut coords[..c],
-        &mut near[..w],
+        &mut coords[..m * 2],
+        &mut near[..n + n],
     )
 }
 
 // The first point that is outside [0,1], or no number, once it is converted.
-fn first_outside(c: CoordinateSystem, xs: &[f64], ys: &[f64]) -> Outside
-    requires { length ys.now ≡ length xs.now }
-    ensures { let ps = converted_all c xs.now ys.now in
+fn first_outside(c: CoordinateSystem, points: &Points<'_>) -> Option<usize>
+    requires { length points.now.ys.now ≡ length points.now.xs.now }
+    ensures { let ps = converted_all c points.now.xs.now points.now.ys.now in
         result ≡ first_outside (map (λ p. p.x) ps) (map (λ p. p.y) ps) 0 }
 {
-    let mut i = 0;
-    while i < xs.len() {
-        let p = c.convert(Point { x: xs[i], y: ys[i] });
+    for i in 0..points.xs.len() {
+        let p = c.convert(Point {
+            x: points.xs[i],
+            y: points.ys[i],
+        });
         if !floats::in_unit(p.x) {
-            return Outside::At(i);
+            return Some(i);
         }
         if !floats::in_unit(p.y) {
-            return Outside::At(i);
+            return Some(i);
         }
-        i += 1;
     }
-    Outside::Nothing
+    None
 }
 
 // The first energy that is too large: above 2^40.
-fn first_over(energies: &[u64]) -> Outside
+fn first_over(energies: &[u64]) -> Option<usize>
     ensures { result ≡ first_over energies.now 0 }
 {
-    let mut i = 0;
-    while i < energies.len() {
-        if MOST_ENERGY < energies[i] {
-            return Outside::At(i);
+    for (i, &energy) in energies.iter().enumerate() {
+        if MOST_ENERGY < energy {
+            return Some(i);
         }
-        i += 1;
     }
-    Outside::Nothing
+    None
 }
 
-// The refusal of a build, if there is one, for columns of these lengths.
-fn check(o: Options, xs: &[f64], ys: &[f64], energies: &[u64], room: usize) -> LoadReply
-    ensures { let px = xs.now in
-        let py = ys.now in
-        let ws = energies.now in
+// The refusal of a build, if there is one, for columns with room for so many entries: 1, 2, 3, 15 and 4, in this order. Two of them carry
+// the first such point.
+fn check(o: Options, points: &Points<'_>, room: usize) -> Result<(), Refusal>
+    ensures { let p = points.now in
+        let px = p.xs.now in
+        let py = p.ys.now in
+        let ws = p.energies.now in
         let ps = converted_all o.coordinate_system px py in
         result ≡ ordered (options_ok o) (triple_ok px py ws) (first_outside (map (λ p. p.x) ps) (map (λ p. p.y) ps) 0)
         (first_over ws 0) (leb (need o (length px)) room) }
 {
     if !o.is_in_bounds() {
-        return LoadReply::Options;
+        return Err(Refusal::Options);
     }
-    let n = xs.len();
+    let n = points.xs.len();
     if n < 1 {
-        return LoadReply::Count;
+        return Err(Refusal::Count);
     }
     if kdslots::MOST_POINTS < n {
-        return LoadReply::Count;
+        return Err(Refusal::Count);
     }
-    if ys.len() != n {
-        return LoadReply::Count;
+    if points.ys.len() != n {
+        return Err(Refusal::Count);
     }
-    if energies.len() != n {
-        return LoadReply::Count;
+    if points.energies.len() != n {
+        return Err(Refusal::Count);
     }
-    let c = o.coordinate_system;
-    if let Outside::At(i) = first_outside(c, xs, ys) {
-        return LoadReply::Point(i);
+    if let Some(i) = first_outside(o.coordinate_system, points) {
+        return Err(Refusal::Point(i));
     }
-    if let Outside::At(i) = first_over(energies) {
-        return LoadReply::Energy(i);
+    if let Some(i) = first_over(points.energies) {
+        return Err(Refusal::Energy(i));
     }
     if room < build_tables::table_count(o) * n {
-        return LoadReply::Tables;
+        return Err(Refusal::Tables);
     }
-    LoadReply::Done
+    Ok(())
 }
 
-// What stands beside a refusal: no tables.
-fn refused(o: Options, reply: LoadReply) -> Loaded
-    ensures { (result.reply ≡ reply) × (result.state ≡ new_state o 0) }
+// Builds the tables of the points and their indexes in the lent columns, or refuses.
+pub fn load(o: Options, points: &Points<'_>, t: &mut TablesMut<'_>) -> Result<State, Refusal>
+    ensures value { let p = points.now in
+        outcome result (columns_held t.new) ≡ loaded o p.xs.now p.ys.now p.energies.now (columns_held t.old) }
+    ensures lent { SameTables t.old t.new }
 {
-    let state = build_tables::new_state(o, 0);
-    Loaded { reply, state }
-}
-
-// Builds the tables of the points (xs[i], ys[i]) and their indexes in the lent columns, or refuses.
-pub fn load(
-    o: Options,
-    xs: &[f64],
-    ys: &[f64],
-    energies: &[u64],
-    x: &mut [f64],
-    y: &mut [f64],
-    seen: &mut [u8],
-    id: &mut [u32],
-    parent: &mut [u32],
-    num: &mut [u32],
-    energy: &mut [u64],
-    ids: &mut [u32],
-    coords: &mut [f64],
-    near: &mut [u32],
-) -> Loaded
-    ensures { let l = lent_all_mut x y seen id parent num energy ids coords near in
-        outcome result l.exit ≡ loaded o xs.now ys.now energies.now l.entry }
-{
-    let room = build_room::room_all(
-        x.len(),
-        y.len(),
-        seen.len(),
-        id.len(),
-        parent.len(),
-        num.len(),
-        energy.len(),
-        ids.len(),
-        coords.len(),
-        near.len(),
+    check(o, points, build_room::room_all(t))?;
+    let state = build_fronts(
+        o, points, t.x, t.y, t.seen, t.id, t.parent, t.num, t.energy, t.ids, t.coords, t.near,
     );
-    match check(o, xs, ys, energies, room) {
-        LoadReply::Done => {
-            let state = build_all(
-                o, xs, ys, energies, x, y, seen, id, parent, num, energy, ids, coords, near,
-            );
-            Loaded {
-                reply: LoadReply::Done,
-                state,
-            }
-        }
-        LoadReply::Options => refused(o, LoadReply::Options),
-        LoadReply::Count => refused(o, LoadReply::Count),
-        LoadReply::Point(i) => refused(o, LoadReply::Point(i)),
-        LoadReply::Energy(i) => refused(o, LoadReply::Energy(i)),
-        LoadReply::Tables => refused(o, LoadReply::Tables),
-    }
+    Ok(state)
 }

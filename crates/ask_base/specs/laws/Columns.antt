@@ -5,8 +5,8 @@ use Rattle.std.proofs.Common.{ap, sym, ◌∙◌, subst, arith, get_or-take, get
 use Rattle.build_tables.specs.declared.State.{State}
 use Rattle.build_tables.specs.State.{start_of, len_of}
 use Rattle.build_tables.specs.laws.Sound.{Stands}
-use Rattle.build_tables.specs.Rows.{Cols, rows}
-use Rattle.build_tables.specs.laws.Rows.{rows-length, Even, each, each_same}
+use Rattle.build_tables.specs.Rows.{Cols, rows, each}
+use Rattle.build_tables.specs.laws.Rows.{rows-length, Even, each_same}
 use Rattle.build_tables.specs.Room.{Columns, index_room, room_of}
 use Rattle.build_tables.specs.laws.Roomy.{Roomy, each-roomy, room-index, index-roomy}
 use Rattle.build_tables.specs.Columns.{part}

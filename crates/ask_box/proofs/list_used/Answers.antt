@@ -1,35 +1,22 @@
--- `list_used` meets its contract: the table of the zoom used is listed. Assumes nothing.
-use mathlib.Core.Path.{ap, ◌∙◌}
-use lib.ListN.{length}
-use Rattle.ask_base.specs.Asked.{Asked, answer_of, column_of}
-use Rattle.ask_box_plan.specs.laws.Queries.{queries_of}
-use Rattle.ask_box.specs.laws.Standing.{used-small, at-used}
-use Rattle.ask_box.proofs.Used.{listed-used}
+-- `list_used` meets its contract: the table of the zoom used stands in the columns, and its index may be searched. Assumes nothing.
+use Rattle.ask_box.specs.laws.Standing.{used-small, used-standing, used-index}
 use Rattle.ask_box.proofs.list_used.Goals as goal
 
-pub start_of-requires : goal.start_of-requires
-start_of-requires c =
+pub index_at-part-requires : goal.index_at-part-requires
+index_at-part-requires c =
     let a = c.args in
-    used-small a.s a.ids.now a.coords.now a.zoom c.requires _ c.zoom_used-z.ensures
+    let i = a.index.now in
+    rw c.zoom_used-z.ensures (used-standing a.s.now i.ids.now i.coords.now a.zoom c.requires)
 
 pub len_of-requires : goal.len_of-requires
 len_of-requires c =
     let a = c.args in
-    used-small a.s a.ids.now a.coords.now a.zoom c.requires _ c.zoom_used-z.ensures
+    let i = a.index.now in
+    used-small a.s.now i.ids.now i.coords.now a.zoom c.requires _ c.zoom_used-z.ensures
 
-pub list_at-requires : goal.list_at-requires
-list_at-requires c =
-    let h = (let a = c.args in
-    at-used a.s a.ids.now a.coords.now a.zoom c.requires _ _ _ c.zoom_used-z.ensures
-    c.start_of.ensures c.len_of.ensures) in
-    record { n_in_bounds = h.0; coords_value = h.1 }
-
-pub returns : goal.returns
-returns c =
+pub list_plan-requires : goal.list_plan-requires
+list_plan-requires c =
     let a = c.args in
-    let e = listed-used a.s a.ids.now a.coords.now a.zoom _ _ _ (queries_of a.p) c.zoom_used-z.ensures
-    c.start_of.ensures c.len_of.ensures in (
-      c.list_at.ensures.0 ∙ ap (λ (x : Asked). answer_of x (length a.out.now)) e,
-      c.list_at.ensures.1
-          ∙ ap (λ (x : Asked). column_of x a.out.now) e,
-    )
+    let i = a.index.now in
+    let e = c.index_at-part.ensures in
+    rw (e.ids, e.coords, c.len_of.ensures, c.zoom_used-z.ensures) (used-index a.s.now i.ids.now i.coords.now a.zoom c.requires)

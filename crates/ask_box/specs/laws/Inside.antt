@@ -1,7 +1,7 @@
 -- Of an index that is built from its table: a Cartesian box lists exactly the entries inside, each once, and each of them lies within
 -- [0,1]; so does a box of longitudes that is not split, and each half of one that is; and a ring lists exactly the entries that pass the
 -- distance test. No such question is refused for a place past the table. Assumes nothing.
-use Rattle.std.specs.Prelude.{◌≡◌, true, false, ℕ, ◌<◌, length, get_or, Float}
+use Rattle.std.specs.Prelude.{◌≡◌, true, false, ℕ, ◌<◌, length, get_or, Float, Ok}
 use Rattle.std.proofs.Math.Path.{ap}
 use Rattle.std.proofs.Common.{◌∙◌, subst}
 use mathlib.Core.List.{List, [], ◌∷◌, ◌++◌, append-nil, flat_map}
@@ -15,7 +15,6 @@ use Rattle.kdsort.specs.Cols.{IndexCols, index_cols}
 use Rattle.kdsort.specs.Tree.{Index}
 use Rattle.kdslots.specs.declared.Query.{Query}
 use Rattle.kdslots.specs.declared.Query.TheVariants.{Range, Within}
-use Rattle.kdbush.specs.declared.BuildReply.TheVariants.{Done}
 use Rattle.kdslots.specs.Query.{passes_q, query_ok}
 use Rattle.kdbush.specs.Reply.{found, index_checked, built}
 use Rattle.kdslots.specs.laws.Members.{In, Distinct}
@@ -43,7 +42,7 @@ pub record Indexed (s : State) (ids : List ℕ) (co : List Float) (z : ℕ) (xs 
 
 -- so it is where `kdbush::build` was accepted for them
 pub built-indexed : (s : State) (ids : List ℕ) (co : List Float) (z : ℕ) (xs ys : List Float) (l : IndexCols) → length xs ≡ len_of s z
-    → index_checked s.options.node_size xs ys l ≡ Done
+    → index_checked s.options.node_size xs ys l ≡ Ok tt
     → built s.options.node_size xs ys l ≡ index_cols (ids_at s ids z) (coords_at s co z) → Indexed s ids co z xs ys
 built-indexed s ids co z xs ys l h e f =
     let size = s.options.node_size in

@@ -1,6 +1,6 @@
 -- Two searches one after the other are a walk over their joined places: how it ends, how many it counts, and what the column holds when
 -- the second search is lent what the first has left of it. Assumes nothing.
-use Rattle.std.specs.Prelude.{◌≡◌, refl, Bool, true, false, List, [], ◌∷◌, ◌++◌, ℕ, zero, suc, ◌+◌, ◌-◌, ◌≤◌, min, ltb, length, take, drop, Float}
+use Rattle.std.specs.Prelude.{◌≡◌, refl, Bool, true, false, List, [], ◌∷◌, ◌++◌, ℕ, zero, suc, ◌+◌, ◌-◌, ◌≤◌, min, ltb, length, take, drop, Float, Ok, Err}
 use Rattle.std.proofs.Common.{sym, ap, ◌∙◌, true≢false, append-nil, arith, length-drop, length-append, drop_of_length-le}
 use Rattle.std.proofs.Math.Seq.{drop-nil}
 use Rattle.kdslots.specs.declared.Query.{Query}
@@ -10,28 +10,27 @@ use Rattle.kdbush.specs.Run.{sound, whole, filled}
 use Rattle.kdbush.specs.Reply.{found}
 use Rattle.kdslots.specs.laws.Intervals.{answers-length}
 use Rattle.build_tables.specs.laws.Columns.{from_part, from-drop, back}
-use Rattle.ask_base.specs.declared.Answer.TheVariants.{Spoiled}
-use Rattle.ask_base.specs.Answers.{fitted}
+use Rattle.refusals.specs.declared.Refusal.{Refusal}
+use Rattle.refusals.specs.declared.Refusal.TheVariants.{Spoiled}
+use Rattle.ask_base.specs.Answers.{Answer, fitted}
 use Rattle.ask_base.specs.Asked.{answer_of, column_of}
 use Rattle.ask_base.specs.laws.Filled.{filled_none}
-use Rattle.ask_box.specs.declared.Part.{Part}
-use Rattle.ask_box.specs.declared.Part.TheVariants.{All, Past}
 use Rattle.ask_box.specs.Lists.{walked}
 
 -- ---- one search
 
--- how one search came out: k places, or that one is past the table
-abbrev pub part_of : Bool → ℕ → Part
-part_of true k = All k
-part_of false k = Past
+-- how one search came out: k places, or refusal 11 where one is past the table
+abbrev pub part_of : Bool → ℕ → Answer
+part_of true k = Ok k
+part_of false k = Err Spoiled
 
-pub part-all : (b : Bool) (k j : ℕ) → All j ≡ part_of b k → (b ≡ true) × (j ≡ k)
+pub part-all : (b : Bool) (k j : ℕ) → Ok j ≡ part_of b k → (b ≡ true) × (j ≡ k)
 part-all true k j e = (refl, cc)
-part-all false k j e = absurd (let z : ◌≡◌ {A = ℕ} 0 1 = cc in omega arith)
+part-all false k j e = cc
 
-pub part-past : (b : Bool) (k : ℕ) → Past ≡ part_of b k → b ≡ false
-part-past true k e = absurd (let z : ◌≡◌ {A = ℕ} 0 1 = cc in omega arith)
-part-past false k e = refl
+pub part-past : (b : Bool) (k : ℕ) (x : Refusal) → Err x ≡ part_of b k → (b ≡ false) × (x ≡ Spoiled)
+part-past true k x e = cc
+part-past false k x e = (refl, cc)
 
 -- a search finds each slot at most once
 pub found-length : (q : Query) (size n : ℕ) (ids : List ℕ) (co : List Float) → length (found q size n ids co) ≤ n
@@ -97,7 +96,7 @@ filled-back s a b out e =
 
 module _ (n : ℕ) (a b out : List ℕ) where
   -- the first search meets a place past the table
-  pub first_past : whole n a ≡ false → (Spoiled ≡ answer_of (walked n (a ++ b)) (length out))
+  pub first_past : whole n a ≡ false → (Err Spoiled ≡ answer_of (walked n (a ++ b)) (length out))
       × (filled (sound n a) out ≡ column_of (walked n (a ++ b)) out)
   first_past e = let w = whole-stops n a b e in (rw w.0, rw w.1)
 
@@ -113,7 +112,7 @@ module _ (n : ℕ) (a b out : List ℕ) where
       came = rw (whole-sound n a e, (whole-goes n a b e).1) (filled-back s a (sound n b) out f)
 
       -- the second search meets a place past the table
-      pub second_past : whole n b ≡ false → (Spoiled ≡ answer_of (walked n (a ++ b)) (length out))
+      pub second_past : whole n b ≡ false → (Err Spoiled ≡ answer_of (walked n (a ++ b)) (length out))
           × (back s (filled (sound n a) out) (filled (sound n b) (from_part s (filled (sound n a) out))) ≡ column_of (walked n (a ++ b)) out)
       second_past g = (rw ((whole-goes n a b e).0 ∙ g), came)
 

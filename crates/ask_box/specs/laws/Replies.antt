@@ -5,7 +5,7 @@ use Rattle.floats.specs.laws.Replies.{same-reply}
 use Rattle.build_tables.specs.declared.Options.{Options}
 use Rattle.build_tables.specs.declared.State.{State}
 use Rattle.build_tables.specs.Options.{zoom_used}
-use Rattle.ask_base.specs.declared.Answer.{Answer}
+use Rattle.ask_base.specs.Answers.{Answer}
 use Rattle.ask_base.specs.Asked.{answer_of, column_of}
 use Rattle.ask_box.specs.Lists.{ring_asked, box_asked}
 

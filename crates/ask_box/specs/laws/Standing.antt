@@ -7,7 +7,7 @@ use Rattle.build_tables.specs.Options.{zoom_used}
 use Rattle.build_tables.specs.State.{start_of, len_of}
 use Rattle.build_tables.specs.Columns.{part}
 use Rattle.build_tables.specs.Sound.{state_ok}
-use Rattle.build_tables.specs.laws.Sound.{given, used-stands}
+use Rattle.build_tables.specs.laws.Sound.{Stands, given, used-stands}
 use Rattle.build_tables.specs.Room.{index_room}
 use Rattle.build_tables.specs.laws.Roomy.{index-roomy}
 use Rattle.ask_base.specs.Columns.{ids_at, coords_at}
@@ -18,10 +18,15 @@ module _ (s : State) (ids : List ℕ) (co : List Float) (zoom : ℕ) where
   used = zoom_used s.options zoom
 
   module _ (e : state_ok s (index_room ids co) ≡ true) where
+    -- it stands in them
+    pub used-standing : Stands s (index_room ids co) used × (used < 32)
+    used-standing = used-stands s (index_room ids co) e zoom
+
     used-held : (start_of s used + len_of s used ≤ length ids) × (2 * (start_of s used + len_of s used) ≤ length co)
     used-held = index-roomy ids co (start_of s used + len_of s used) (used-stands s (index_room ids co) e zoom).0.ends
 
-    used-index : index_ok s.options.node_size (len_of s used) (ids_at s ids used) (coords_at s co used) ≡ true
+    -- and its part of them may be searched
+    pub used-index : index_ok s.options.node_size (len_of s used) (ids_at s ids used) (coords_at s co used) ≡ true
     used-index =
         let g = given s (index_room ids co) e in
         let w = (used-stands s (index_room ids co) e zoom).0 in

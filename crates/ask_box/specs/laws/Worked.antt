@@ -1,6 +1,6 @@
 -- Boxes worked from the definitions: one whose first half grows to the whole row, so that an entry is listed twice; and 11 in the walk
 -- comes before 10. Assumes nothing.
-use Rattle.std.specs.Prelude.{◌≡◌, refl, true, false, ℕ, set, replicate, Float}
+use Rattle.std.specs.Prelude.{◌≡◌, refl, true, false, ℕ, set, replicate, Float, Err}
 use mathlib.Core.List.{List, [], ◌∷◌, flat_map}
 use Rattle.std.specs.Float.Ieee.{le, lt, eq, neg, round, sum, add, sub, div, rem, of_int}
 use Rattle.floats.specs.Numbers.{zero, half, one, float}
@@ -14,7 +14,7 @@ use Rattle.kdbush.specs.Run.{places, sound, whole}
 use Rattle.build_tables.specs.declared.State.{State}
 use Rattle.build_tables.specs.Options.{options_ok}
 use Rattle.build_tables.specs.Sound.{packed, state_ok}
-use Rattle.ask_base.specs.declared.Answer.TheVariants.{NoRoom, Box, Spoiled}
+use Rattle.refusals.specs.declared.Refusal.TheVariants.{NoRoom, Box, Spoiled}
 use Rattle.ask_base.specs.Asked.{refused, told, answer_of, column_of}
 use Rattle.ask_box_plan.specs.Rule.{half_circle, wrapped, new_west, new_east, plan_of}
 use Rattle.ask_box_plan.specs.laws.Worked.{west, east}
@@ -57,7 +57,7 @@ unfolding box_asked flat_map plan_of new_west new_east wrapped converted mercato
 worked-box = refl
 
 -- a column of six is told that there are seven, and has the first six
-pub worked-room : answer_of (box_asked state ids coords 9 west zero east one) 6 ≡ NoRoom 7
+pub worked-room : answer_of (box_asked state ids coords 9 west zero east one) 6 ≡ Err (NoRoom 7)
 worked-room = rw worked-box
 
 pub worked-column : column_of (box_asked state ids coords 9 west zero east one) (replicate 6 9) ≡ 0 ∷ 1 ∷ 2 ∷ 3 ∷ 4 ∷ 0 ∷ []
@@ -72,7 +72,7 @@ unfolding box_asked flat_map plan_of new_west new_east wrapped converted mercato
     options_ok system_in_bounds places slots scanned shape split sound whole
 worked-spoilt = refl
 
-pub worked-spoilt-room : answer_of (box_asked state spoilt coords 9 west zero east one) 2 ≡ Spoiled
+pub worked-spoilt-room : answer_of (box_asked state spoilt coords 9 west zero east one) 2 ≡ Err Spoiled
 worked-spoilt-room = rw worked-spoilt
 
 -- a y above 1 is refused 9; a column of five places is too short for the tables, and that comes first

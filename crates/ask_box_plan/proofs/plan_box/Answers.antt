@@ -22,9 +22,9 @@ returns-then-r c =
 
 pub returns-in-Cartesian : goal.returns-in-Cartesian
 unfolding plan_of
-returns-in-Cartesian c = simp (c.in-Cartesian.is, c.box_of-q.ensures)
+returns-in-Cartesian c = simp (c.in-Cartesian.is, c.box_of.ensures)
 
 pub returns-else-r : goal.returns-else-r
 unfolding plan_of
 returns-else-r c =
-    simp (c.in-LatLng.is, sym c.rule-r.ensures.0, sym c.rule-r.ensures.1, c.if-r.false, c.box_of-q-in-LatLng.ensures)
+    simp (c.in-LatLng.is, sym c.rule-r.ensures.0, sym c.rule-r.ensures.1, c.if-r.false, c.box_of-in-LatLng.ensures)

@@ -145,7 +145,7 @@ square-fine r f a b =
 
 -- the slots of the ring around the entry o of zoom z's table
 abbrev pub slots_around : State → Columns → ℕ → ℕ → List ℕ
-slots_around s c z o = slots_of (ring_of s (table_at s c z) z o) c.coords
+slots_around s c z o = slots_of (ring_of s c z o)
 
 -- in columns that have room for the state's tables
 module _ (s : State) (c : Columns) (cap z o : ℕ) (r : Reached s cap z o) (h : cap ≤ room_of c) where

@@ -1,104 +1,59 @@
 -- `ask_cluster::children` meets its contract: the id leads to a refusal, or to a ring, whose children are the answer. Assumes nothing.
-use mathlib.Core.Path.{refl}
-use Rattle.build_tables.specs.laws.Roomy.{each-roomy}
-use Rattle.build_tables.specs.Lent.{given_columns}
-use Rattle.ask_child_walk.specs.laws.Next.{ring-room}
-use Rattle.ask_cluster.proofs.Led.{Led, reached, Looked}
+use Rattle.std.proofs.lemmas.Result.{err_from_is_err_and}
+use Rattle.build_tables.specs.Lent.{tables_held}
+use Rattle.ask_base.specs.laws.Around.{ring_held}
+use Rattle.ask_cluster.proofs.Led.{Led, reached, Looked, looked}
 use Rattle.ask_cluster.proofs.GivesChildren.{children-refused, gives-spoiled, gives_none, gives-some}
 use Rattle.ask_cluster.proofs.children.Goals as goal
+
+pub returns-in_err-at : goal.returns-in_err-at
+returns-in_err-at c =
+    let a = c.args in
+    let l = tables_held a.t.now in
+    let q : Led a.s l a.cid c.room.result c.find_target.result = record { room = c.room.ensures; target = c.find_target.ensures } in
+    let p = err_from_is_err_and c.from_residual.result c.from_residual.ensures.1 in
+    rw (p.1, p.2) (children-refused q _ c.in_err-at.was a.out.now)
 
 pub ring_of-g-requires : goal.ring_of-g-requires
 ring_of-g-requires c =
     let a = c.args in
-    let l = given_columns a.x a.y a.seen a.id a.parent a.num a.energy a.ids a.coords in
-    let q : Led a.s l a.cid c.room-cap.result c.find_target.result =
-    record { room = c.room-cap.ensures; target = c.find_target.ensures } in
-    let r = reached q c.in-At.table c.in-At.origin c.in-At.is in
-    record { reached = r.0; roomy = each-roomy l _ r.1 }
+    let l = tables_held a.t.now in
+    let q : Led a.s l a.cid c.room.result c.find_target.result = record { room = c.room.ensures; target = c.find_target.ensures } in
+    reached q c.in_ok-at.at c.in_ok-at.was
 
-pub list_kids-requires : goal.list_kids-requires
-list_kids-requires c =
+pub returns-in_err-k : goal.returns-in_err-k
+returns-in_err-k c =
     let a = c.args in
-    let l = given_columns a.x a.y a.seen a.id a.parent a.num a.energy a.ids a.coords in
-    let q : Led a.s l a.cid c.room-cap.result c.find_target.result =
-    record { room = c.room-cap.ensures; target = c.find_target.ensures } in
-    let r = reached q c.in-At.table c.in-At.origin c.in-At.is in
-    ring-room a.s l _ _ _ c.ring_of-g.result r.0 r.1 c.ring_of-g.ensures
+    let l = tables_held a.t.now in
+    let q : Led a.s l a.cid c.room.result c.find_target.result = record { room = c.room.ensures; target = c.find_target.ensures } in
+    let g = c.ring_of-g in
+    let k = c.list_kids in
+    let o = c.in_ok-at.at in
+    let w : Looked a.s l a.cid o.table o.place a.out.now k.result k.new.out =
+    looked a.s l a.cid o.table o.place (reached q o c.in_ok-at.was) (ring_held g.result) g.ensures a.out.now k.result k.new.out k.ensures in
+    let p = err_from_is_err_and c.from_residual-in_err-k.result c.from_residual-in_err-k.ensures.1 in
+    rw (p.1, p.2) (gives-spoiled q o c.in_ok-at.was w _ c.in_err-k.was)
 
 pub returns-then-k-eq0 : goal.returns-then-k-eq0
 returns-then-k-eq0 c =
     let a = c.args in
-    let l = given_columns a.x a.y a.seen a.id a.parent a.num a.energy a.ids a.coords in
-    let q : Led a.s l a.cid c.room-cap.result c.find_target.result =
-    record { room = c.room-cap.ensures; target = c.find_target.ensures } in
-    let z = c.in-At.table in
-    let o = c.in-At.origin in
+    let l = tables_held a.t.now in
+    let q : Led a.s l a.cid c.room.result c.find_target.result = record { room = c.room.ensures; target = c.find_target.ensures } in
     let g = c.ring_of-g in
     let k = c.list_kids in
-    let w : Looked a.s l a.cid z o g.result a.out.now k.result k.new.out = record {
-      cap = c.room-cap.result;
-      reach = reached q z o c.in-At.is;
-      ring = g.ensures;
-      listed = k.ensures;
-    } in
-    gives_none q c.in-At.is w c.in-All.k c.in-All.is c.if-k-eq0.true
+    let o = c.in_ok-at.at in
+    let w : Looked a.s l a.cid o.table o.place a.out.now k.result k.new.out =
+    looked a.s l a.cid o.table o.place (reached q o c.in_ok-at.was) (ring_held g.result) g.ensures a.out.now k.result k.new.out k.ensures in
+    gives_none q o c.in_ok-at.was w c.in_ok-k.k c.in_ok-k.was c.if-k-eq0.true
 
-pub returns-in-Spoiled : goal.returns-in-Spoiled
-returns-in-Spoiled c =
+pub returns : goal.returns
+returns c =
     let a = c.args in
-    let l = given_columns a.x a.y a.seen a.id a.parent a.num a.energy a.ids a.coords in
-    let q : Led a.s l a.cid c.room-cap.result c.find_target.result =
-    record { room = c.room-cap.ensures; target = c.find_target.ensures } in
-    children-refused q _ _ c.in-Spoiled.is refl a.out.now
-
-pub returns-in-NoTree : goal.returns-in-NoTree
-returns-in-NoTree c =
-    let a = c.args in
-    let l = given_columns a.x a.y a.seen a.id a.parent a.num a.energy a.ids a.coords in
-    let q : Led a.s l a.cid c.room-cap.result c.find_target.result =
-    record { room = c.room-cap.ensures; target = c.find_target.ensures } in
-    children-refused q _ _ c.in-NoTree.is refl a.out.now
-
-pub returns-in-NoCluster : goal.returns-in-NoCluster
-returns-in-NoCluster c =
-    let a = c.args in
-    let l = given_columns a.x a.y a.seen a.id a.parent a.num a.energy a.ids a.coords in
-    let q : Led a.s l a.cid c.room-cap.result c.find_target.result =
-    record { room = c.room-cap.ensures; target = c.find_target.ensures } in
-    children-refused q _ _ c.in-NoCluster.is refl a.out.now
-
-pub returns-in-Spoiled-list_kids : goal.returns-in-Spoiled-list_kids
-returns-in-Spoiled-list_kids c =
-    let a = c.args in
-    let l = given_columns a.x a.y a.seen a.id a.parent a.num a.energy a.ids a.coords in
-    let q : Led a.s l a.cid c.room-cap.result c.find_target.result =
-    record { room = c.room-cap.ensures; target = c.find_target.ensures } in
-    let z = c.in-At.table in
-    let o = c.in-At.origin in
+    let l = tables_held a.t.now in
+    let q : Led a.s l a.cid c.room.result c.find_target.result = record { room = c.room.ensures; target = c.find_target.ensures } in
     let g = c.ring_of-g in
     let k = c.list_kids in
-    let w : Looked a.s l a.cid z o g.result a.out.now k.result k.new.out = record {
-      cap = c.room-cap.result;
-      reach = reached q z o c.in-At.is;
-      ring = g.ensures;
-      listed = k.ensures;
-    } in
-    gives-spoiled q c.in-At.is w c.in-Spoiled-list_kids.is
-
-pub returns-else-k-eq0 : goal.returns-else-k-eq0
-returns-else-k-eq0 c =
-    let a = c.args in
-    let l = given_columns a.x a.y a.seen a.id a.parent a.num a.energy a.ids a.coords in
-    let q : Led a.s l a.cid c.room-cap.result c.find_target.result =
-    record { room = c.room-cap.ensures; target = c.find_target.ensures } in
-    let z = c.in-At.table in
-    let o = c.in-At.origin in
-    let g = c.ring_of-g in
-    let k = c.list_kids in
-    let w : Looked a.s l a.cid z o g.result a.out.now k.result k.new.out = record {
-      cap = c.room-cap.result;
-      reach = reached q z o c.in-At.is;
-      ring = g.ensures;
-      listed = k.ensures;
-    } in
-    gives-some q c.in-At.is w c.in-All.k c.in-All.is c.if-k-eq0.false c.fit.result c.fit.ensures
+    let o = c.in_ok-at.at in
+    let w : Looked a.s l a.cid o.table o.place a.out.now k.result k.new.out =
+    looked a.s l a.cid o.table o.place (reached q o c.in_ok-at.was) (ring_held g.result) g.ensures a.out.now k.result k.new.out k.ensures in
+    gives-some q o c.in_ok-at.was w c.in_ok-k.k c.in_ok-k.was c.if-k-eq0.false c.fit.result c.fit.ensures

@@ -3,12 +3,11 @@
 use Rattle.std.specs.Prelude.{◌≡◌, List, ℕ}
 use Rattle.floats.specs.laws.Replies.{same-reply}
 use Rattle.build_tables.specs.declared.State.{State}
-use Rattle.ask_base.specs.declared.Answer.{Answer}
+use Rattle.ask_base.specs.Answers.{Answer}
 use Rattle.ask_base.specs.Asked.{answer_of, column_of}
 use Rattle.build_tables.specs.Room.{Columns}
-use Rattle.ask_cluster.specs.declared.Expansion.{Expansion}
 use Rattle.ask_cluster.specs.Children.{children_of}
-use Rattle.ask_cluster.specs.Expansion.{expansion_number, expansion_carried, zoom_of}
+use Rattle.ask_cluster.specs.Expansion.{Expansion, zoom_of}
 use Rattle.ask_cluster.specs.Leaves.{leaves_of}
 
 pub children-replies : (s : State) (c : Columns) (id room : ℕ) (r t : Answer) → r ≡ answer_of (children_of s c id) room
@@ -22,17 +21,11 @@ children-columns s c id out u v = same-reply
 pub expansion-replies : (s : State) (c : Columns) (id : ℕ) (r t : Expansion) → r ≡ zoom_of s c id → t ≡ zoom_of s c id → r ≡ t
 expansion-replies s c id r t = same-reply
 
-pub leaves-replies : (s : State) (c : Columns) (id limit offset room : ℕ) (r t : Answer) → r ≡ answer_of (leaves_of s c id limit offset) room
+pub leaves-replies : (s : State) (c : Columns) (id limit offset room : ℕ) (r t : Answer)
+    → r ≡ answer_of (leaves_of s c id limit offset) room
     → t ≡ answer_of (leaves_of s c id limit offset) room → r ≡ t
 leaves-replies s c id limit offset room r t = same-reply
 
 pub leaves-columns : (s : State) (c : Columns) (id limit offset : ℕ) (out u v : List ℕ) → u ≡ column_of (leaves_of s c id limit offset) out
     → v ≡ column_of (leaves_of s c id limit offset) out → u ≡ v
 leaves-columns s c id limit offset out u v = same-reply
-
--- the methods of an expansion
-pub number-replies : (e : Expansion) (r t : ℕ) → r ≡ expansion_number e → t ≡ expansion_number e → r ≡ t
-number-replies e r t = same-reply
-
-pub carried-replies : (e : Expansion) (r t : ℕ) → r ≡ expansion_carried e → t ≡ expansion_carried e → r ≡ t
-carried-replies e r t = same-reply

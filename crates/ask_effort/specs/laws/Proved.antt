@@ -1,6 +1,6 @@
 -- #102 holds of every state and all columns: `stated-effort`. The tests of the question find what the box without an effort lists
 -- (`unlimited-box`); the rest is said of any tests. Assumes nothing.
-use Rattle.std.specs.Prelude.{◌≡◌, refl, Bool, true, false, cond, not, ◌⊎◌, List, [], ℕ, ◌*◌, ◌≤◌, ◌<◌, leb, length, Float}
+use Rattle.std.specs.Prelude.{◌≡◌, refl, Bool, true, false, cond, not, ◌⊎◌, List, [], ℕ, ◌*◌, ◌≤◌, ◌<◌, leb, length, Float, Ok, Err}
 use Rattle.std.proofs.Common.{sym, ap, ◌∙◌, subst, ⊎_elim, arith, le-ltb, ltb-true, ltb-false}
 use Rattle.range.specs.declared.CoordinateSystem.{CoordinateSystem}
 use Rattle.kdslots.specs.declared.Query.{Query}
@@ -10,9 +10,8 @@ use Rattle.build_tables.specs.Options.{zoom_used}
 use Rattle.build_tables.specs.State.{len_of}
 use Rattle.build_tables.specs.Sound.{state_ok}
 use Rattle.build_tables.specs.laws.Sound.{used-stands}
-use Rattle.ask_base.specs.declared.Answer.{Answer}
-use Rattle.ask_base.specs.declared.Answer.TheVariants.{Listed as Answer-as-Listed, NoRoom as Answer-as-NoRoom}
-use Rattle.ask_base.specs.declared.Answer.TheVariants.{Box as Answer-as-Box, Spoiled as Answer-as-Spoiled}
+use Rattle.refusals.specs.declared.Refusal.{Refusal}
+use Rattle.refusals.specs.declared.Refusal.TheVariants.{Box as Refusal-as-Box, NoRoom as Refusal-as-NoRoom, Spoiled as Refusal-as-Spoiled}
 use Rattle.ask_base.specs.Answers.{fitted as plainly}
 use Rattle.ask_base.specs.Asked.{Asked, refused, told, answer_of}
 use Rattle.build_tables.specs.Room.{index_room}
@@ -22,8 +21,8 @@ use Rattle.ask_box_plan.specs.laws.Queries.{plan-short}
 use Rattle.ask_box.specs.Lists.{walked, listed_at, box_asked}
 use Rattle.ask_box.specs.laws.Joined.{whole-sound}
 use Rattle.ask_effort_tests.specs.declared.Effort.{Effort}
-use Rattle.ask_effort_tests.specs.declared.EffortReply.{EffortReply}
-use Rattle.ask_effort_tests.specs.declared.EffortReply.TheVariants.{Found, Box, NoRoom, Spoiled}
+use Rattle.ask_effort_tests.specs.declared.EffortRefusal.{EffortRefusal}
+use Rattle.ask_effort_tests.specs.declared.EffortRefusal.TheVariants.{Box, NoRoom, Spoiled}
 use Rattle.ask_effort_tests.specs.Trials.{Mark, hits, trials, items}
 use Rattle.ask_effort_tests.specs.Reply.{effort_carried, effort_of, effort_fitted, answer}
 use Rattle.ask_effort_tests.specs.laws.Promise.{not_stopped, given-begin, given-of-all, trials-found, trials-most}
@@ -39,9 +38,9 @@ module _ (n : ℕ) (ms : List Mark) where
   carries a room c = go (whole n (items a ms)) refl (leb (length (items a ms)) room) c
     where
       go : (b : Bool) → whole n (items a ms) ≡ b → (f : Bool)
-          → Carries (cond b (cond f (Found (effort_of a ms)) (NoRoom (effort_of a ms))) Spoiled)
+          → Carries (cond b (cond f (Ok (effort_of a ms)) (Err (NoRoom (effort_of a ms)))) (Err Spoiled))
           → (whole n (items a ms) ≡ true)
-          × (effort_carried (cond b (cond f (Found (effort_of a ms)) (NoRoom (effort_of a ms))) Spoiled) ≡ effort_of a ms)
+          × (effort_carried (cond b (cond f (Ok (effort_of a ms)) (Err (NoRoom (effort_of a ms)))) (Err Spoiled)) ≡ effort_of a ms)
       go true e true c = (e, refl)
       go true e false c = (e, refl)
       go false e f c = absurd (⊎_elim (λ h. omega (arith, h)) (λ h. omega (arith, h)) c)
@@ -55,19 +54,19 @@ module _ (n : ℕ) (ms : List Mark) where
     full-reply room = go (whole n (hits ms)) refl
       where
         by-room : (f : Bool)
-            → plain (cond f (Found (effort_of a ms)) (NoRoom (effort_of a ms)))
-            ≡ cond f (Answer-as-Listed (length (items a ms))) (Answer-as-NoRoom (length (items a ms)))
+            → plain (cond f (Ok (effort_of a ms)) (Err (NoRoom (effort_of a ms))))
+            ≡ cond f (Ok (length (items a ms))) (Err (Refusal-as-NoRoom (length (items a ms))))
         by-room true = refl
         by-room false = refl
 
         go : (b : Bool) → whole n (hits ms) ≡ b → plain (answer n ms a room) ≡ answer_of (walked n (hits ms)) room
         go true e =
-            ap (λ (b : Bool). plain (cond b (effort_fitted (effort_of a ms) room) Spoiled)) (ap (whole n) all-items ∙ e)
+            ap (λ (b : Bool). plain (cond b (effort_fitted (effort_of a ms) room) (Err Spoiled))) (ap (whole n) all-items ∙ e)
             ∙ by-room (leb (length (items a ms)) room)
             ∙ ap (λ (l : List ℕ). plainly (length l) room) (all-items ∙ sym (whole-sound n (hits ms) e))
             ∙ sym (ap (λ (b : Bool). answer_of (told b (sound n (hits ms))) room) e)
         go false e =
-            ap (λ (b : Bool). plain (cond b (effort_fitted (effort_of a ms) room) Spoiled)) (ap (whole n) all-items ∙ e)
+            ap (λ (b : Bool). plain (cond b (effort_fitted (effort_of a ms) room) (Err Spoiled))) (ap (whole n) all-items ∙ e)
             ∙ sym (ap (λ (b : Bool). answer_of (told b (sound n (hits ms))) room) e)
 
   stated-sought : (count : ℕ) → length ms ≤ 2 * count → Stated (told n ms) (walked n (hits ms)) count
@@ -89,10 +88,10 @@ module _ (n : ℕ) (ms : List Mark) where
 nothing-carried : (k : ℕ) → 0 < k → (k ≡ 10 → ⊥) → (k ≡ 0) ⊎ (k ≡ 10) → ⊥
 nothing-carried k h g c = ⊎_elim (λ e. omega arith) g c
 
-no-list : (r : Answer) (ok : Bool) (l : List ℕ) → refused r ≡ told ok l → ⊥
+no-list : (r : Refusal) (ok : Bool) (l : List ℕ) → refused r ≡ told ok l → ⊥
 no-list r ok l e = let z : ◌≡◌ {A = ℕ} 0 1 = cc in omega arith
 
-stated-refused : (r : EffortReply) (q : Answer) (count : ℕ) → plain r ≡ q → (Carries r → ⊥) → Stated (refused r) (refused q) count
+stated-refused : (r : EffortRefusal) (q : Refusal) (count : ℕ) → plain (Err r) ≡ Err q → (Carries (Err r) → ⊥) → Stated (refused r) (refused q) count
 stated-refused r q count p none =
     record {
       items = λ a room c. absurd (none c);
@@ -143,8 +142,8 @@ stated-effort st ids co zoom west least east greatest = go (state_ok st (index_r
 
     go : (a : Bool) → state_ok st (index_room ids co) ≡ a → (b : Bool)
         → Stated (cond (not a) (refused Spoiled) (cond (not b) (refused Box) (sought_at st ids co (used st ids co zoom) qs)))
-        (cond (not a) (refused Answer-as-Spoiled)
-        (cond (not b) (refused Answer-as-Box) (listed_at st ids co (used st ids co zoom) qs))) st.count
-    go false g b = stated-refused Spoiled Answer-as-Spoiled st.count refl (λ c. nothing-carried 11 (omega arith) (λ h. omega arith) c)
-    go true g false = stated-refused Box Answer-as-Box st.count refl (λ c. nothing-carried 9 (omega arith) (λ h. omega arith) c)
+        (cond (not a) (refused Refusal-as-Spoiled)
+        (cond (not b) (refused Refusal-as-Box) (listed_at st ids co (used st ids co zoom) qs))) st.count
+    go false g b = stated-refused Spoiled Refusal-as-Spoiled st.count refl (λ c. nothing-carried 11 (omega arith) (λ h. omega arith) c)
+    go true g false = stated-refused Box Refusal-as-Box st.count refl (λ c. nothing-carried 9 (omega arith) (λ h. omega arith) c)
     go true g true = stated-plan st ids co zoom g qs (plan-short c west least east greatest)

@@ -1,7 +1,7 @@
 -- A box within an effort worked from the definitions: the tests of both halves of a box that is split in one count, in the order
 -- of the search; where it stops, where it has just enough, what is judged for 10, and a slot past the table that spoils it only where it
 -- is come to. Assumes nothing.
-use Rattle.std.specs.Prelude.{◌≡◌, refl, true, false, ℕ, set, replicate, Float}
+use Rattle.std.specs.Prelude.{◌≡◌, refl, true, false, ℕ, set, replicate, Float, Ok, Err}
 use mathlib.Core.List.{List, [], ◌∷◌, flat_map}
 use Rattle.std.specs.Float.Ieee.{le, lt, eq, neg, round, sum, add, sub, div, rem, of_int}
 use Rattle.floats.specs.Numbers.{zero, half, one, float}
@@ -15,7 +15,7 @@ use Rattle.build_tables.specs.Options.{options_ok}
 use Rattle.build_tables.specs.Sound.{packed, state_ok}
 use Rattle.ask_box_plan.specs.Rule.{half_circle, wrapped, new_west, new_east, plan_of}
 use Rattle.ask_box_plan.specs.laws.Worked.{west, east}
-use Rattle.ask_effort_tests.specs.declared.EffortReply.TheVariants.{Found, Box, NoRoom, Spoiled}
+use Rattle.ask_effort_tests.specs.declared.EffortRefusal.TheVariants.{Box, NoRoom, Spoiled}
 use Rattle.ask_effort_tests.specs.Trials.{mark, marks, hits}
 use Rattle.ask_base.specs.Asked.{refused, told}
 use Rattle.ask_effort.specs.Effort.{EffortAsked, effort_reply_of, effort_column_of, effort_asked}
@@ -60,16 +60,16 @@ unfolding effort_asked flat_map plan_of new_west new_east wrapped converted merc
 worked-tests = refl
 
 -- six tests reach into the second half, and find nothing there
-pub worked-stopped : effort_reply_of (asked ids) 6 9 ≡ Found (record { items = 5; tested = 6; stopped = true })
+pub worked-stopped : effort_reply_of (asked ids) 6 9 ≡ Ok (record { items = 5; tested = 6; stopped = true })
 unfolding hits whole
 worked-stopped = rw worked-tests
 
 -- eight are just enough
-pub worked-enough : effort_reply_of (asked ids) 8 9 ≡ Found (record { items = 7; tested = 8; stopped = false })
+pub worked-enough : effort_reply_of (asked ids) 8 9 ≡ Ok (record { items = 7; tested = 8; stopped = false })
 unfolding hits whole
 worked-enough = rw worked-tests
 
-pub worked-none : effort_reply_of (asked ids) 0 9 ≡ Found (record { items = 0; tested = 0; stopped = true })
+pub worked-none : effort_reply_of (asked ids) 0 9 ≡ Ok (record { items = 0; tested = 0; stopped = true })
 unfolding hits whole
 worked-none = rw worked-tests
 
@@ -78,11 +78,11 @@ unfolding hits sound
 worked-column = rw worked-tests
 
 -- a column of six: the six items of seven tests fit, and the seven of eight do not
-pub worked-fits : effort_reply_of (asked ids) 7 6 ≡ Found (record { items = 6; tested = 7; stopped = true })
+pub worked-fits : effort_reply_of (asked ids) 7 6 ≡ Ok (record { items = 6; tested = 7; stopped = true })
 unfolding hits whole
 worked-fits = rw worked-tests
 
-pub worked-room : effort_reply_of (asked ids) 8 6 ≡ NoRoom (record { items = 7; tested = 8; stopped = false })
+pub worked-room : effort_reply_of (asked ids) 8 6 ≡ Err (NoRoom (record { items = 7; tested = 8; stopped = false }))
 unfolding hits whole
 worked-room = rw worked-tests
 
@@ -96,11 +96,11 @@ unfolding effort_asked flat_map plan_of new_west new_east wrapped converted merc
     options_ok system_in_bounds slots scanned shape split marks
 worked-spoilt = refl
 
-pub worked-before : effort_reply_of (asked spoilt) 4 9 ≡ Found (record { items = 4; tested = 4; stopped = true })
+pub worked-before : effort_reply_of (asked spoilt) 4 9 ≡ Ok (record { items = 4; tested = 4; stopped = true })
 unfolding hits whole
 worked-before = rw worked-spoilt
 
-pub worked-come-to : (effort_reply_of (asked spoilt) 5 9 ≡ Spoiled)
+pub worked-come-to : (effort_reply_of (asked spoilt) 5 9 ≡ Err Spoiled)
     × (effort_column_of (asked spoilt) 5 (replicate 6 9) ≡ 2 ∷ 3 ∷ 4 ∷ 0 ∷ 9 ∷ 9 ∷ [])
 unfolding hits whole sound
 worked-come-to = rw worked-spoilt (refl, refl)

@@ -1,46 +1,41 @@
--- `put` meets its contract, by its six ways out. Assumes nothing.
+-- `put` meets its contract, by its ways out. Assumes nothing.
+use Rattle.std.proofs.Common.{refl, sym, ◌∙◌, get_or}
 use borrow.Author.Tests.{eq-eqb, ne_eqb, lt-ltb, le-ltb}
-use mathlib.Core.Path.{refl, sym, ◌∙◌}
-use native.Mathlib.Omega.{arith}
-use lib.ListN.{get_or}
 use Rattle.kdslots.specs.Slots.{over}
-use Rattle.ask_effort_tests.proofs.Turns.{put_is, put-past}
+use Rattle.ask_effort_tests.proofs.Turns.{same_went, put_is, put-past}
 use Rattle.ask_effort_tests.proofs.put.Goals as goal
+use Rattle.ask_effort_tests.proofs.put.Goals.{then-at-out, else-at-out}
 
-pub returns-then-s : goal.returns-then-s
-returns-then-s c =
+pub returns-then-at-eq0 : goal.returns-then-at-eq0
+returns-then-at-eq0 c =
     let a = c.args in
-    put_is (over a.q a.coords.now) a.ids.now a.n a.i a.s a.out.now c.if-s.true refl refl refl
+    let s = a.s.now in
+    put_is (over s.query s.coords.now) a.ids.now s.n a.i a.at a.out.now (eq-eqb _ _ c.if-at-eq0.true) refl refl
 
-pub returns-then-s-eq0 : goal.returns-then-s-eq0
-returns-then-s-eq0 c =
+pub returns-then-not-tests : goal.returns-then-not-tests
+returns-then-not-tests c =
     let a = c.args in
-    put_is (over a.q a.coords.now) a.ids.now a.n a.i a.s a.out.now c.if-s.false
-    (eq-eqb _ _ c.if-s-eq0.true) refl refl
+    let s = a.s.now in
+    put_is (over s.query s.coords.now) a.ids.now s.n a.i a.at a.out.now (ne_eqb _ _ c.if-at-eq0.false)
+    (sym c.tests.ensures ∙ c.if-not-tests.true) refl
 
-pub returns-then-not-test_at : goal.returns-then-not-test_at
-returns-then-not-test_at c =
+pub returns-then-s-p : goal.returns-then-s-p
+returns-then-s-p c =
     let a = c.args in
-    put_is (over a.q a.coords.now) a.ids.now a.n a.i a.s a.out.now c.if-s.false (ne_eqb _ _ c.if-s-eq0.false)
-    (sym c.test_at.ensures ∙ c.if-not-test_at.true) refl
-
-pub returns-then-n-wide : goal.returns-then-n-wide
-returns-then-n-wide c =
-    let a = c.args in
-    put_is (over a.q a.coords.now) a.ids.now a.n a.i a.s a.out.now c.if-s.false (ne_eqb _ _ c.if-s-eq0.false)
-    (sym c.test_at.ensures ∙ c.if-not-test_at.false)
-    (le-ltb (get_or a.ids.now a.i 0) a.n (omega (arith, c.wide.ensures)))
-
-pub returns-then-at-out : goal.returns-then-at-out
-returns-then-at-out c =
-    let a = c.args in
-    put_is (over a.q a.coords.now) a.ids.now a.n a.i a.s a.out.now c.if-s.false (ne_eqb _ _ c.if-s-eq0.false)
-    (sym c.test_at.ensures ∙ c.if-not-test_at.false)
-    (lt-ltb (get_or a.ids.now a.i 0) a.n (omega (arith, c.wide.ensures)))
+    let s = a.s.now in
+    put_is (over s.query s.coords.now) a.ids.now s.n a.i a.at a.out.now (ne_eqb _ _ c.if-at-eq0.false)
+    (sym c.tests.ensures ∙ c.if-not-tests.false) (le-ltb (get_or a.ids.now a.i 0) s.n c.if-s-p.true)
 
 pub returns : goal.returns
 returns c =
     let a = c.args in
-    put-past (over a.q a.coords.now) a.ids.now a.n a.i a.s a.out.now c.if-s.false (ne_eqb _ _ c.if-s-eq0.false)
-    (sym c.test_at.ensures ∙ c.if-not-test_at.false)
-    (lt-ltb (get_or a.ids.now a.i 0) a.n (omega (arith, c.wide.ensures))) c.if-at-out.false
+    let s = a.s.now in
+    let o = over s.query s.coords.now in
+    let low = lt-ltb (get_or a.ids.now a.i 0) s.n c.if-s-p.false in
+    elim c.if-at-out.branch [
+      | then-at-out w ↦ same_went refl w.out-is
+          ∙ put_is o a.ids.now s.n a.i a.at a.out.now (ne_eqb _ _ c.if-at-eq0.false) (sym c.tests.ensures ∙ c.if-not-tests.false) low
+      | else-at-out w ↦ same_went refl w.out-is
+          ∙ put-past o a.ids.now s.n a.i a.at a.out.now (ne_eqb _ _ c.if-at-eq0.false) (sym c.tests.ensures ∙ c.if-not-tests.false) low
+          w.if-at-out.false
+    ]

@@ -1,23 +1,25 @@
 -- How a search with an allowance ends, without going test by test. Assumes nothing.
-use Rattle.std.specs.Prelude.{Bool, true, false, ◌≡◌, refl, List, [], ◌∷◌, ◌++◌, ℕ, zero, suc, ◌+◌, ◌-◌, ◌≤◌, min, ltb, length, set}
+use Rattle.std.specs.Prelude.{Bool, true, false, ◌≡◌, refl, List, [], ◌∷◌, ◌++◌, ℕ, zero, suc, ◌+◌, ◌-◌, ◌≤◌, min, ltb, length, set, Result, Ok, Err, IfOk}
 use Rattle.std.proofs.Common.{sym, ap, ap₂, ◌∙◌, append-nil, append_assoc, arith, lt-ltb, le-ltb, ltb-true, ltb-false, length-append}
 use Rattle.std.proofs.Math.Dec.{eqb-suc-zero}
 use Rattle.kdbush.specs.Run.{sound, whole, filled}
 use Rattle.ask_base.specs.laws.Filled.{filled_none, filled_next}
 use Rattle.ask_effort_tests.specs.declared.Spent.{Spent}
+use Rattle.ask_effort_tests.specs.declared.End.{End}
+use Rattle.ask_effort_tests.specs.declared.End.TheVariants.{Stopped, Spoiled}
 use Rattle.ask_effort_tests.specs.Trials.{Mark, mark, hits, items}
 use Rattle.ask_effort_tests.specs.Reply.{answer, column}
-use Rattle.ask_effort_tests.specs.laws.Spend.{Went, went_tests, fresh, settled_tests, spoilt, made_tests, due, then_spent, spend}
-use Rattle.ask_effort_tests.specs.laws.Spend.{spend-over, spend-sum}
+use Rattle.ask_effort_tests.specs.laws.Spend.{Went, went_tests, fresh, settled_tests, made_tests, due, then_spent, spend, spend-sum}
 
 -- a search that has found k and has the allowance b
 abbrev from : ℕ → ℕ → Spent
-from k b = record { found = k; left = b; over = false; spoiled = false }
+from k b = record { found = k; left = b }
 
 -- how far it came, if no place is past the table: it found k, l is left of the allowance, and d says whether a test is due
 abbrev end_with : Bool → ℕ → ℕ → Bool → List ℕ → Went
-end_with true k l d out = went_tests (record { found = k; left = l; over = d; spoiled = false }) out
-end_with false k l d out = went_tests spoilt out
+end_with true k l false out = went_tests (Ok (from k l)) out
+end_with true k l true out = went_tests (Err (Stopped k)) out
+end_with false k l d out = went_tests (Err Spoiled) out
 
 -- so after the tests ms with the allowance b, where the places `done` were found before
 abbrev end_of : ℕ → List ℕ → ℕ → List Mark → List ℕ → Went
@@ -50,20 +52,19 @@ spend-end n done zero [] out = no_more done 0 (0 - 0) false (ltb 0 0) out (omega
 spend-end n done (suc b) [] out =
     no_more done (suc b) (suc b - 0) false (ltb (suc b) 0) out (omega arith) (sym (le-ltb (suc b) 0 (omega arith)))
 spend-end n done zero (mark v p ∷ ms) out =
-    spend-over n ms (record { found = length done; left = 0; over = true; spoiled = false }) (filled done out) refl
-    ∙ no_more done 0 (0 - suc (length ms)) true (ltb 0 (suc (length ms))) out (omega arith) (sym (lt-ltb 0 (suc (length ms)) (omega arith)))
+    no_more done 0 (0 - suc (length ms)) true (ltb 0 (suc (length ms))) out (omega arith) (sym (lt-ltb 0 (suc (length ms)) (omega arith)))
 spend-end n done (suc b) (mark false p ∷ ms) out =
     let e : suc b - 1 ≡ b = omega arith in
     let w = whole n (items b ms) in
     let k = length (done ++ items b ms) in
     let o = filled (done ++ sound n (items b ms)) out in
-    ap (λ (z : Bool). then_spent (due false z false (ltb p n) p (from (length done) (suc b)) (filled done out)) (λ t o. spend n ms t o))
+    ap (λ (z : Bool). then_spent (due z false (ltb p n) p (from (length done) (suc b)) (filled done out)) (λ t o. spend n ms t o))
     (eqb-suc-zero b)
     ∙ ap (λ (k : ℕ). spend n ms (from (length done) k) (filled done out)) e ∙ spend-end n done b ms out
     ∙ same w k k (b - length ms) (suc b - suc (length ms)) (ltb b (length ms)) (ltb (suc b) (suc (length ms))) o o refl (omega arith)
     (ltb-suc b (length ms)) refl
 spend-end n done (suc b) (mark true p ∷ ms) out =
-    ap (λ (z : Bool). then_spent (due false z true (ltb p n) p (from (length done) (suc b)) (filled done out)) (λ t o. spend n ms t o))
+    ap (λ (z : Bool). then_spent (due z true (ltb p n) p (from (length done) (suc b)) (filled done out)) (λ t o. spend n ms t o))
     (eqb-suc-zero b)
     ∙ go (ltb p n) refl (spend-end n (done ++ (p ∷ [])) b ms out)
   where
@@ -85,8 +86,7 @@ spend-end n done (suc b) (mark true p ∷ ms) out =
         (ap length (joined (items b ms))) (omega arith) (ltb-suc b (length ms))
         (ap (λ (x : List ℕ). filled x out) (joined (sound n (items b ms)))))
     go false f h =
-        rw (f, whole, sound)
-        (spend-over n ms spoilt (filled done out) refl ∙ ap (λ (x : List ℕ). went_tests spoilt (filled x out)) (sym (append-nil done)))
+        rw (f, whole, sound) (ap (λ (x : List ℕ). went_tests (Err Spoiled) (filled x out)) (sym (append-nil done)))
 
 -- ---- a whole search
 
@@ -94,26 +94,35 @@ spend-end n done (suc b) (mark true p ∷ ms) out =
 made-tests : (a k : ℕ) → a - (a - k) ≡ min a k
 made-tests a k = omega arith
 
-pub ends : (n a : ℕ) (ms : List Mark) (r : Spent) (out o : List ℕ) (room : ℕ) → went_tests r o ≡ spend n ms (fresh a) out
+pub ends : (n a : ℕ) (ms : List Mark) (r : Result Spent End) (out o : List ℕ) (room : ℕ) → went_tests r o ≡ spend n ms (fresh a) out
     → (settled_tests r a room ≡ answer n ms a room) × (o ≡ column n ms a out)
 ends n a ms r out o room e =
-    go (whole n (items a ms)) refl (e ∙ ap (spend n ms (fresh a)) (sym (filled_none out)) ∙ spend-end n [] a ms out)
+    go (whole n (items a ms)) (ltb a (length ms)) refl refl (e ∙ ap (spend n ms (fresh a)) (sym (filled_none out)) ∙ spend-end n [] a ms out)
   where
-    go : (w : Bool) → whole n (items a ms) ≡ w → went_tests r o ≡ end_of n [] a ms out
+    go : (w d : Bool) → whole n (items a ms) ≡ w → ltb a (length ms) ≡ d → went_tests r o ≡ end_of n [] a ms out
         → (settled_tests r a room ≡ answer n ms a room) × (o ≡ column n ms a out)
-    go true g f =
-        let h : went_tests r o ≡ end_with true (length (items a ms)) (a - length ms) (ltb a (length ms))
-        (filled (sound n (items a ms)) out) = rw g at f in
-        let x : r ≡ record { found = length (items a ms); left = a - length ms; over = ltb a (length ms); spoiled = false } = cc in
+    go true false g k f =
+        let h : went_tests r o ≡ end_with true (length (items a ms)) (a - length ms) false (filled (sound n (items a ms)) out) =
+        rw (g, k) at f in
+        let x : r ≡ Ok (from (length (items a ms)) (a - length ms)) = cc in
         let y : o ≡ filled (sound n (items a ms)) out = cc in
-        (ap (λ (s : Spent). settled_tests s a room) x ∙ rw (g, made-tests), y)
-    go false g f =
+        (ap (λ (s : Result Spent End). settled_tests s a room) x ∙ rw (g, k, made-tests), y)
+    go true true g k f =
+        let h : went_tests r o ≡ end_with true (length (items a ms)) (a - length ms) true (filled (sound n (items a ms)) out) =
+        rw (g, k) at f in
+        let x : r ≡ Err (Stopped (length (items a ms))) = cc in
+        let y : o ≡ filled (sound n (items a ms)) out = cc in
+        let all : min a (length ms) ≡ a = omega (arith, ltb-true a (length ms) k) in
+        (ap (λ (s : Result Spent End). settled_tests s a room) x ∙ rw (g, k, all), y)
+    go false d g k f =
         let h : went_tests r o ≡ end_with false (length (items a ms)) (a - length ms) (ltb a (length ms))
         (filled (sound n (items a ms)) out) = rw g at f in
-        let x : r ≡ spoilt = cc in
+        let x : r ≡ Err Spoiled = cc in
         let y : o ≡ filled (sound n (items a ms)) out = cc in
-        (ap (λ (s : Spent). settled_tests s a room) x ∙ rw g, y)
+        (ap (λ (s : Result Spent End). settled_tests s a room) x ∙ rw g, y)
 
 -- what is left is no more than the allowance
-pub left-small : (n a : ℕ) (ms : List Mark) (r : Spent) (out o : List ℕ) → went_tests r o ≡ spend n ms (fresh a) out → r.left ≤ a
-left-small n a ms r out o e = omega (arith, spend-sum n ms (fresh a) r out o e)
+pub left-small : (n a : ℕ) (ms : List Mark) (r : Result Spent End) (out o : List ℕ) → went_tests r o ≡ spend n ms (fresh a) out
+    → IfOk r (λ s. s.left ≤ a)
+left-small n a ms (Ok s) out o e = omega (arith, spend-sum n ms (fresh a) s out o e)
+left-small n a ms (Err x) out o e = tt

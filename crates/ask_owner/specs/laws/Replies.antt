@@ -2,16 +2,8 @@
 use Rattle.std.specs.Prelude.{◌≡◌, List, ℕ}
 use Rattle.floats.specs.laws.Replies.{same-reply}
 use Rattle.build_tables.specs.declared.State.{State}
-use Rattle.ask_owner.specs.declared.OwnerReply.{OwnerReply}
-use Rattle.ask_owner.specs.Asked.{owner_number, owner_carried, owner_asked}
+use Rattle.ask_owner.specs.Asked.{OwnerReply, owner_asked}
 
 pub owner-replies : (s : State) (owners : List ℕ) (lamp zoom : ℕ) (r t : OwnerReply) → r ≡ owner_asked s owners lamp zoom
     → t ≡ owner_asked s owners lamp zoom → r ≡ t
 owner-replies s owners lamp zoom r t = same-reply
-
--- the methods of a reply
-pub number-replies : (e : OwnerReply) (r t : ℕ) → r ≡ owner_number e → t ≡ owner_number e → r ≡ t
-number-replies e r t = same-reply
-
-pub carried-replies : (e : OwnerReply) (r t : ℕ) → r ≡ owner_carried e → t ≡ owner_carried e → r ≡ t
-carried-replies e r t = same-reply

@@ -1,43 +1,21 @@
--- `ask_tile::tally_lent` meets its contract: each return is one of its ends. Assumes nothing.
-use Rattle.std.proofs.Common.{◌≡◌, true, ℕ, refl, sym, ap, ◌∙◌}
-use Rattle.build_tables.specs.State.{state_of}
-use Rattle.build_tables.specs.Sound.{state_ok}
-use Rattle.build_tables.specs.Room.{room_of}
-use Rattle.build_tables.specs.Lent.{given_columns}
-use Rattle.ask_tile_table.specs.Tile.{is_tile}
-use Rattle.ask_tile_table.specs.laws.Framed.{tile-is}
-use Rattle.ask_tile.specs.laws.Ends.{tally-spoiled, tally-no-tile, tally-summed}
+-- `ask_tile::tally_lent` meets its contract: the tally of the tile that is asked for is the state's. Assumes nothing.
+use Rattle.std.proofs.Common.{◌≡◌, Err, ap, ◌∙◌, rules}
+use Rattle.build_tables.specs.Lent.{tables_held}
+use Rattle.ask_tile.specs.Asked.{whole_state}
+use Rattle.ask_tile.specs.laws.Ends.{sum_of, tally-asked}
 use Rattle.ask_tile.proofs.tally_lent.Goals as goal
 
-pub returns-then-not-is_sound_by : goal.returns-then-not-is_sound_by
-returns-then-not-is_sound_by c =
+pub returns-in_err-r : goal.returns-in_err-r
+returns-in_err-r c =
     let a = c.args in
-    let s = state_of a.options a.count a.starts.now a.lens.now in
-    let k = given_columns a.x a.y a.seen a.id a.parent a.num a.energy a.ids a.coords in
-    tally-spoiled s k a.z a.tx a.ty (sym (c.is_sound_by.ensures ∙ ap (state_ok s) c.room.ensures) ∙ c.if-not-is_sound_by.true)
-
-pub returns-then-not-is_tile : goal.returns-then-not-is_tile
-returns-then-not-is_tile c =
-    let a = c.args in
-    let s = state_of a.options a.count a.starts.now a.lens.now in
-    let k = given_columns a.x a.y a.seen a.id a.parent a.num a.energy a.ids a.coords in
-    let sound : state_ok s (room_of k) ≡ true = sym (c.is_sound_by.ensures ∙ ap (state_ok s) c.room.ensures) ∙ c.if-not-is_sound_by.false in
-    tally-no-tile s k a.z a.tx a.ty sound (sym (c.is_tile.ensures ∙ ap (λ (q : ℕ). is_tile q a.tx a.ty) c.wide.ensures) ∙ c.if-not-is_tile.true)
-
-pub tally_used-r-requires : goal.tally_used-r-requires
-tally_used-r-requires c =
-    let a = c.args in
-    let s = state_of a.options a.count a.starts.now a.lens.now in
-    let k = given_columns a.x a.y a.seen a.id a.parent a.num a.energy a.ids a.coords in
-    let sound : state_ok s (room_of k) ≡ true = sym (c.is_sound_by.ensures ∙ ap (state_ok s) c.room.ensures) ∙ c.if-not-is_sound_by.false in
-    let within : is_tile a.z a.tx a.ty ≡ true = sym (c.is_tile.ensures ∙ ap (λ (q : ℕ). is_tile q a.tx a.ty) c.wide.ensures) ∙ c.if-not-is_tile.false in
-    record { asked = (sound, tile-is a.z a.tx a.ty within); arrays = (refl, refl) }
+    let e : c.from_residual-in_err-r.result ≡ Err c.in_err-r.field-0.0 = search rules in
+    let s = whole_state a.s.now in
+    e ∙ ap (sum_of s (tables_held a.t.now) a.z a.x a.y) c.in_err-r.ensures
+    ∙ tally-asked s (tables_held a.t.now) a.z a.x a.y c.in_ok-ask.field-0 c.in_ok-ask.ensures
 
 pub returns : goal.returns
 returns c =
     let a = c.args in
-    let s = state_of a.options a.count a.starts.now a.lens.now in
-    let k = given_columns a.x a.y a.seen a.id a.parent a.num a.energy a.ids a.coords in
-    let sound : state_ok s (room_of k) ≡ true = sym (c.is_sound_by.ensures ∙ ap (state_ok s) c.room.ensures) ∙ c.if-not-is_sound_by.false in
-    let within : is_tile a.z a.tx a.ty ≡ true = sym (c.is_tile.ensures ∙ ap (λ (q : ℕ). is_tile q a.tx a.ty) c.wide.ensures) ∙ c.if-not-is_tile.false in
-    c.sum_of.ensures ∙ tally-summed s k a.z a.tx a.ty sound within c.tally_used-r.result c.tally_used-r.ensures
+    let s = whole_state a.s.now in
+    ap (sum_of s (tables_held a.t.now) a.z a.x a.y) c.in_ok-r.ensures
+    ∙ tally-asked s (tables_held a.t.now) a.z a.x a.y c.in_ok-ask.field-0 c.in_ok-ask.ensures

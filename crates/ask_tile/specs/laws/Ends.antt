@@ -1,27 +1,30 @@
 -- How a tile ends: the three columns, lent as far as the shortest of them reaches, hold the first items afterwards, and then what they
 -- held; and the answer is SCOPE's, by how far the listing came. Assumes nothing.
-use Rattle.std.specs.Prelude.{◌≡◌, refl, Bool, true, false, List, [], ◌∷◌, ◌++◌, map, ℕ, zero, suc, min, ◌≤◌, length, set, take, drop, ℤ}
-use Rattle.std.proofs.Common.{sym, ap, ◌∙◌, arith}
+use Rattle.std.specs.Prelude.{◌≡◌, refl, Bool, true, false, cond, Result, Ok, Err, List, [], ◌∷◌, ◌++◌, map, ℕ, zero, suc, min, ◌≤◌, length, set, take, drop, ℤ}
+use Rattle.std.proofs.Common.{sym, ap, ap₂, ◌∙◌, arith}
 use Rattle.std.proofs.lemmas.List.{length-map}
 use Rattle.std.proofs.lemmas.List.Edits.{sets}
 use Rattle.kdbush.specs.Run.{filled}
 use Rattle.build_tables.specs.declared.State.{State}
 use Rattle.build_tables.specs.Sound.{state_ok}
-use Rattle.ask_base.specs.declared.Answer.{Answer}
-use Rattle.ask_base.specs.declared.Answer.TheVariants.{Tile, Spoiled as No}
-use Rattle.ask_base.specs.Asked.{told}
+use Rattle.build_tables.specs.Entries.{Table}
+use Rattle.refusals.specs.declared.Refusal.{Refusal}
+use Rattle.refusals.specs.declared.Refusal.TheVariants.{Tile, Spoiled}
+use Rattle.ask_base.specs.Answers.{Answer}
+use Rattle.ask_base.specs.Asked.{refused, told}
 use Rattle.ask_base.specs.laws.Filled.{filled_none}
 use Rattle.build_tables.specs.Room.{Columns, room_of}
 use Rattle.ask_tile_table.specs.declared.Item.{Item}
-use Rattle.ask_tile_table.specs.declared.Ran.{Ran}
-use Rattle.ask_tile_table.specs.declared.Ran.TheVariants.{All, Spoiled}
 use Rattle.ask_tile_table.specs.declared.Running.{Running}
-use Rattle.ask_tile_table.specs.declared.Tally.TheVariants.{Tile as Tally-as-Tile, Spoiled as Tally-as-Spoiled}
-use Rattle.ask_tile_table.specs.Tile.{is_tile, tile_listed, whole_tile, tile_items, item_at}
+use Rattle.ask_tile_table.specs.declared.asked.AskedTile.{AskedTile}
+use Rattle.ask_tile_table.specs.laws.Asked.{table_of, asked_visits}
+use Rattle.ask_tile_table.specs.laws.Added.{asked_tally}
+use Rattle.ask_tile_table.specs.Tile.{Visit, is_tile, tile_listed, whole_tile, tile_items, item_at}
 use Rattle.ask_tile_table.specs.laws.Runs.{left_runs, run_tile, ran_of, run_is}
 use Rattle.ask_tile_table.specs.Tally.{weight_in}
 use Rattle.ask_tile_table.specs.laws.Counting.{running_of}
 use Rattle.ask_tile.specs.Tallied.{tally_sum, tallied}
+use Rattle.ask_tile.specs.laws.Used.{Asks}
 use Rattle.ask_tile.specs.Asked.{table_for, visits_for, TileAsked, tile_asked, some_of, tile_answer_of, shortest, tile_outcome, outcome_of}
 use Rattle.ask_tile.specs.Asked.{tiled}
 
@@ -53,9 +56,9 @@ module _ {A : Type 0} where
 -- ---- the answer
 
 -- by how far the listing came
-abbrev pub finish : Ran → ℕ → Answer
-finish (All k) room = some_of k room
-finish Spoiled room = No
+abbrev pub finish : Result ℕ Refusal → ℕ → Answer
+finish (Ok k) room = some_of k room
+finish (Err e) room = Err e
 
 finish-is : (b : Bool) (l : List Item) (k room : ℕ) → k ≡ length l → finish (ran_of b k) room ≡ tile_answer_of (told b l) room
 finish-is true l k room e = ap (λ (n : ℕ). some_of n room) e
@@ -73,16 +76,11 @@ unfolding tile_asked
 asked_is s c z x y e f = rw (e, f)
 
 module _ (s : State) (c : Columns) (z x y : ℕ) (places : List ℕ) (xs ys : List ℤ) where
-  pub ends-spoiled : state_ok s (room_of c) ≡ false → tile_outcome No places xs ys ≡ tiled s c z x y places xs ys
-  unfolding tile_asked
-  ends-spoiled e = rw e
-
-  pub ends-no-tile : state_ok s (room_of c) ≡ true → is_tile z x y ≡ false → tile_outcome Tile places xs ys ≡ tiled s c z x y places xs ys
-  unfolding tile_asked
-  ends-no-tile e f = rw (e, f)
+  pub ends-refused : (e : Refusal) → tile_asked s c z x y ≡ refused e → tile_outcome (Err e) places xs ys ≡ tiled s c z x y places xs ys
+  ends-refused e h = ap (λ (k : TileAsked). outcome_of k places xs ys) (sym h)
 
   pub ends-listed : state_ok s (room_of c) ≡ true → is_tile z x y ≡ true → (room : ℕ) → room ≡ shortest places xs ys
-      → (r : Ran) (o : List ℕ) (a b : List ℤ)
+      → (r : Result ℕ Refusal) (o : List ℕ) (a b : List ℤ)
       → left_runs r o a b ≡ run_tile (table_for s c z) 0 (visits_for s c z x y) (take room places) (take room xs) (take room ys)
       → tile_outcome (finish r room) (o ++ drop room places) (a ++ drop room xs) (b ++ drop room ys) ≡ tiled s c z x y places xs ys
   ends-listed e f room q r o a b h =
@@ -92,7 +90,7 @@ module _ (s : State) (c : Columns) (z x y : ℕ) (places : List ℕ) (xs ys : Li
       let w = run_is t vs (take room places) (take room xs) (take room ys) r o a b h in
       let m = room_fits (length places) (length xs) (length ys) in
       let A : finish r room ≡ tile_answer_of (told (whole_tile t vs) l) room =
-      ap (λ (k : Ran). finish k room) w.0
+      ap (λ (k : Result ℕ Refusal). finish k room) w.0
       ∙ finish-is (whole_tile t vs) l (length (tile_listed t vs)) room (sym (length-map (tile_listed t vs) (item_at t))) in
       let P : o ++ drop room places ≡ filled (take room (map (λ i. i.place) l)) places =
       ap (λ (k : List ℕ). k ++ drop room places) w.1 ∙ first-items room (map (λ i. i.place) l) places (omega (arith, m)) in
@@ -102,19 +100,44 @@ module _ (s : State) (c : Columns) (z x y : ℕ) (places : List ℕ) (xs ys : Li
       ap (λ (k : List ℤ). k ++ drop room ys) w.3 ∙ first-items room (map (λ i. i.y) l) ys (omega (arith, m)) in
       rw (A, P, X, Y, q) (ap (λ (k : TileAsked). outcome_of k places xs ys) (sym (asked_is s c z x y e f)))
 
+  -- of the tile that is asked for
+  pub ends-asked : (t : AskedTile) → Asks s c z x y t → (room : ℕ) → room ≡ shortest places xs ys
+      → (r : Result ℕ Refusal) (o : List ℕ) (a b : List ℤ)
+      → left_runs r o a b ≡ run_tile (table_of t) 0 (asked_visits t) (take room places) (take room xs) (take room ys)
+      → tile_outcome (finish r room) (o ++ drop room places) (a ++ drop room xs) (b ++ drop room ys) ≡ tiled s c z x y places xs ys
+  ends-asked t k room q r o a b h =
+      ends-listed k.sound k.tile room q r o a b (h
+      ∙ ap (λ (vs : List Visit). run_tile (table_of t) 0 vs (take room places) (take room xs) (take room ys)) k.visits
+      ∙ ap (λ (w : Table). run_tile w 0 (visits_for s c z x y) (take room places) (take room xs) (take room ys)) k.table)
+
 -- ---- the ends of a tally
 
 module _ (s : State) (c : Columns) (z x y : ℕ) where
-  pub tally-spoiled : state_ok s (room_of c) ≡ false → Tally-as-Spoiled ≡ tallied s c z x y
-  unfolding tallied
-  tally-spoiled e = rw e
+  -- refused by the state, and where there is no such tile
+  pub refused-spoiled : state_ok s (room_of c) ≡ false → (tile_asked s c z x y ≡ refused Spoiled) × (tallied s c z x y ≡ Err Spoiled)
+  unfolding tile_asked tallied
+  refused-spoiled e = rw e (refl, refl)
 
-  pub tally-no-tile : state_ok s (room_of c) ≡ true → is_tile z x y ≡ false → Tally-as-Tile ≡ tallied s c z x y
-  unfolding tallied
-  tally-no-tile e f = rw (e, f)
+  pub refused-no-tile : state_ok s (room_of c) ≡ true → is_tile z x y ≡ false
+      → (tile_asked s c z x y ≡ refused Tile) × (tallied s c z x y ≡ Err Tile)
+  unfolding tile_asked tallied
+  refused-no-tile e f = rw (e, f) (refl, refl)
 
-  pub tally-summed : state_ok s (room_of c) ≡ true → is_tile z x y ≡ true → (r : Running)
-      → r ≡ running_of (weight_in z x y) (table_for s c z) (visits_for s c z x y)
-      → tally_sum r.whole r.sum ≡ tallied s c z x y
+  -- the sum of a tally that went to its end
+  abbrev pub sum_of : Result Running Refusal → Result ℕ Refusal
+  sum_of (Ok r) = Ok r.sum
+  sum_of (Err e) = Err e
+
+  sum-is : (b : Bool) (k u : ℕ) → sum_of (cond b (Ok (record { count = k; sum = u })) (Err Spoiled)) ≡ tally_sum b u
+  sum-is true k u = refl
+  sum-is false k u = refl
+
+  pub tally-summed : state_ok s (room_of c) ≡ true → is_tile z x y ≡ true
+      → sum_of (running_of (weight_in z x y) (table_for s c z) (visits_for s c z x y)) ≡ tallied s c z x y
   unfolding tallied
-  tally-summed e f r h = rw (e, f) (ap (λ (q : Running). tally_sum q.whole q.sum) h)
+  tally-summed e f = rw (e, f) (sum-is (whole_tile (table_for s c z) (visits_for s c z x y)) _ _)
+
+  pub tally-asked : (t : AskedTile) → Asks s c z x y t → sum_of (asked_tally t) ≡ tallied s c z x y
+  tally-asked t k =
+      ap₂ (λ (w : Table) (vs : List Visit). sum_of (running_of (weight_in t.z t.x t.y) w vs)) k.table k.visits
+      ∙ rw (k.same-z, k.same-x, k.same-y) (tally-summed k.sound k.tile)

@@ -1,26 +1,20 @@
 -- `ask_tile_table::add_once` meets its contract: a bit that is not set is added. Assumes nothing.
-use Rattle.std.proofs.Common.{ℕ, ◌+◌, ◌/◌, ◌%◌, refl, sym, ap, ◌∙◌, get_or, arith}
+use Rattle.std.proofs.Common.{◌/◌, ◌%◌, refl, sym, ◌∙◌, get_or, arith}
 use Rattle.ask_tile_table.specs.laws.Marks.{unmarked, mark-is, bit-fits}
 use Rattle.ask_tile_table.proofs.add_once.Goals as goal
-
-pub returns-then-is_marked : goal.returns-then-is_marked
-returns-then-is_marked c = rw (sym c.is_marked.ensures ∙ c.if-is_marked.true) (refl, refl, omega arith)
 
 pub overflow_add-marks : goal.overflow_add-marks
 overflow_add-marks c =
     let a = c.args in
     let h = bit-fits (get_or a.marks.now (a.q / 8) 0) (a.q % 8) (omega arith) (omega arith)
     (unmarked a.marks.now a.q (sym c.is_marked.ensures ∙ c.if-is_marked.false)) in
-    omega (arith, h, c.bit-b.ensures)
-
-pub overflow_add-result : goal.overflow_add-result
-overflow_add-result c = omega (arith, c.wide.ensures, c.ranges.num.fits, c.requires)
+    omega (arith, h, c.bit.ensures)
 
 pub returns : goal.returns
 returns c =
     let a = c.args in
     rw (sym c.is_marked.ensures ∙ c.if-is_marked.false) (
-      ap (λ (n : ℕ). a.sum + n) c.wide.ensures,
-      mark-is a.marks.now a.q c.bit-b.result c.bit-b.ensures,
-      omega (arith, c.wide.ensures, c.ranges.num.fits),
+      refl,
+      mark-is a.marks.now a.q c.bit.result c.bit.ensures,
+      omega (arith, c.ranges.num.fits),
     )

@@ -2,32 +2,40 @@
 -- it was counted before, and the tally is the sum over the distinct places. Where marks are few, a place has that of its remainder: one
 -- that is not marked was not counted before; where it is marked, or many are counted, the tally ends unsure. Where it is sure, it is the
 -- sum over the distinct places too. Assumes nothing.
-use Rattle.std.specs.Prelude.{◌≡◌, Bool, cond, ◌&&◌, ◌||◌, ℕ, ◌+◌, ◌%◌, leb, ltb, length, get_or}
+use Rattle.std.specs.Prelude.{◌≡◌, Bool, cond, ◌&&◌, ◌||◌, Result, Ok, Err, IfOk, ℕ, ◌+◌, ◌*◌, ◌%◌, ◌≤◌, leb, ltb, length}
 use Rattle.std.proofs.Math.Path.{refl}
 use Rattle.std.proofs.Common.{sym, ap, ◌∙◌}
 use Rattle.std.proofs.Math.Bool.{true, false}
 use mathlib.Core.List.{List, [], ◌∷◌, ◌++◌, map}
 use Rattle.floats.specs.Unit.{in01}
-use Rattle.kdbush.specs.Run.{places}
 use Rattle.kdslots.specs.laws.Bounds.{and_both}
+use Rattle.refusals.specs.declared.Refusal.{Refusal}
+use Rattle.refusals.specs.declared.Refusal.TheVariants.{Spoiled}
 use Rattle.build_tables.specs.declared.Entry.{Entry}
 use Rattle.build_tables.specs.Entries.{Table, entry}
 use Rattle.ask_tile_table.specs.declared.TileSearch.{TileSearch}
 use Rattle.ask_tile_table.specs.declared.Running.{Running}
+use Rattle.ask_tile_table.specs.declared.Cut.{Cut}
+use Rattle.ask_tile_table.specs.declared.Cut.TheVariants.{Unlisted, Unsure}
 use Rattle.ask_tile_table.specs.Tile.{Visit, visits_of, listable, tile_listed, whole_tile}
 use Rattle.ask_tile_table.specs.laws.Marks.{marked_places, mark_place}
 use Rattle.ask_tile_table.specs.Tally.{tally_of}
 
--- whether everything was tallied, whether the marks could tell, how many are listed, their tally, and the marks
+-- a tally on its way, or what cuts it short, beside the marks
 pub data HeldMarks : Type 0 where
-  held_marks : Bool → Bool → ℕ → ℕ → List ℕ → HeldMarks
-
-abbrev pub held_marks_of : Running → List ℕ → HeldMarks
-held_marks_of r m = held_marks r.whole r.sure r.count r.sum m
+  held_marks : Result Running Cut → List ℕ → HeldMarks
 
 -- the marks, by a contract that says what is held
-abbrev pub marks_held : {a b : Bool} {k s : ℕ} {m : List ℕ} {h : HeldMarks} → held_marks a b k s m ≡ h → List ℕ
+abbrev pub marks_held : {r : Result Running Cut} {m : List ℕ} {h : HeldMarks} → held_marks r m ≡ h → List ℕ
 marks_held {m = m} e = m
+
+-- so many are listed, with this sum
+abbrev pub running : ℕ → ℕ → Running
+running k s = record { count = k; sum = s }
+
+-- a tally of at most n, whose sum the nums allow
+abbrev pub Within : ℕ → Result Running Cut → Type 0
+Within n r = IfOk r (λ a. (a.count ≤ n) × (a.sum ≤ a.count * 4294967295))
 
 -- the places of visits
 abbrev pub places_in : List Visit → List ℕ
@@ -64,23 +72,23 @@ marking_place q m = cond (marked_places m q) m (mark_place m q)
 -- the places one after the other, k listed before with the tally s. The first that cannot be listed ends it, and so does the first in
 -- doubt.
 unfoldable pub counted : Bool → (Entry → ℕ) → Table → ℕ → ℕ → List ℕ → List ℕ → HeldMarks
-counted few w t k s [] m = held_marks true true k s m
+counted few w t k s [] m = held_marks (Ok (running k s)) m
 counted few w t k s (p ∷ ps) m =
     elim (listable t p) [
       | true ↦
           elim (doubt few k (marked_places m (mark_of few p))) [
-            | true ↦ held_marks false false k s m
+            | true ↦ held_marks (Err Unsure) m
             | false ↦ counted few w t (k + 1) (added (w (entry t p)) (mark_of few p) s m) ps (marking_place (mark_of few p) m)
           ]
-      | false ↦ held_marks false true k s m
+      | false ↦ held_marks (Err Unlisted) m
     ]
 
 -- ---- one after the other
 
 -- what follows, where it goes on
 abbrev onward : HeldMarks → (ℕ → ℕ → List ℕ → HeldMarks) → HeldMarks
-onward (held_marks true c k s m) f = f k s m
-onward (held_marks false c k s m) f = held_marks false c k s m
+onward (held_marks (Ok r) m) f = f r.count r.sum m
+onward (held_marks (Err e) m) f = held_marks (Err e) m
 
 module _ (few : Bool) (w : Entry → ℕ) (t : Table) where
   counted-append : (k s : ℕ) (ps qs m : List ℕ)
@@ -100,84 +108,52 @@ module _ (few : Bool) (w : Entry → ℕ) (t : Table) where
       go true e false d h = rw (e, counted) (rw d h)
       go false e d f h = rw (e, counted)
 
-  pub counted-more : (k s : ℕ) (ps qs m : List ℕ) (a : Running) (o : List ℕ) → a.whole ≡ true → held_marks_of a o ≡ counted few w t k s ps m
+  pub counted-more : (k s : ℕ) (ps qs m : List ℕ) (a : Running) (o : List ℕ) → held_marks (Ok a) o ≡ counted few w t k s ps m
       → counted few w t k s (ps ++ qs) m ≡ counted few w t a.count a.sum qs o
-  counted-more k s ps qs m a o g e =
-      let f : held_marks true a.sure a.count a.sum o ≡ counted few w t k s ps m = rw g at e in
-      rw (counted-append, ← f)
+  counted-more k s ps qs m a o e = rw (counted-append, ← e)
 
-  pub counted-ends : (k s : ℕ) (ps qs m : List ℕ) (a : Running) (o : List ℕ) → a.whole ≡ false → held_marks_of a o ≡ counted few w t k s ps m
-      → held_marks_of a o ≡ counted few w t k s (ps ++ qs) m
-  counted-ends k s ps qs m a o g e =
-      let f : held_marks false a.sure a.count a.sum o ≡ counted few w t k s ps m = rw g at e in
-      rw (counted-append, ← f, g)
-
-  -- what goes on is sure
-  abbrev settled : HeldMarks → Bool
-  settled (held_marks true c k s m) = c
-  settled (held_marks false c k s m) = true
-
-  all_settled : (k s : ℕ) (ps m : List ℕ) → settled (counted few w t k s ps m) ≡ true
-  unfolding counted
-  all_settled k s [] m = refl
-  all_settled k s (p ∷ ps) m =
-      go (listable t p) refl (doubt few k (marked_places m (mark_of few p))) refl
-      (all_settled (k + 1) (added (w (entry t p)) (mark_of few p) s m) ps (marking_place (mark_of few p) m))
-    where
-      go : (b : Bool) → listable t p ≡ b → (d : Bool) → doubt few k (marked_places m (mark_of few p)) ≡ d
-          → settled (counted few w t (k + 1) (added (w (entry t p)) (mark_of few p) s m) ps (marking_place (mark_of few p) m)) ≡ true
-          → settled (counted few w t k s (p ∷ ps) m) ≡ true
-      go true e true d h = rw (e, counted) (rw d)
-      go true e false d h = rw (e, counted) (rw d h)
-      go false e d f h = rw (e, counted)
-
-  pub counted-sure : (k s : ℕ) (ps m : List ℕ) (a : Running) (o : List ℕ) → a.whole ≡ true → held_marks_of a o ≡ counted few w t k s ps m
-      → a.sure ≡ true
-  counted-sure k s ps m a o g e =
-      let f : held_marks true a.sure a.count a.sum o ≡ counted few w t k s ps m = rw g at e in
-      ap settled f ∙ all_settled k s ps m
+  pub counted-ends : (k s : ℕ) (ps qs m : List ℕ) (c : Cut) (o : List ℕ) → held_marks (Err c) o ≡ counted few w t k s ps m
+      → held_marks (Err c) o ≡ counted few w t k s (ps ++ qs) m
+  counted-ends k s ps qs m c o e = rw (counted-append, ← e)
 
   -- ---- a place
 
-  pub counted_none : (k s : ℕ) (m : List ℕ) → held_marks true true k s m ≡ counted few w t k s [] m
+  pub counted_none : (k s : ℕ) (m : List ℕ) → held_marks (Ok (running k s)) m ≡ counted few w t k s [] m
   unfolding counted
   counted_none k s m = refl
 
-  pub counted-bad : (k s p : ℕ) (m : List ℕ) → listable t p ≡ false → held_marks false true k s m ≡ counted few w t k s (p ∷ []) m
+  pub counted-bad : (k s p : ℕ) (m : List ℕ) → listable t p ≡ false → held_marks (Err Unlisted) m ≡ counted few w t k s (p ∷ []) m
   unfolding counted
   counted-bad k s p m e = rw (e, counted)
 
   pub counted-doubt : (k s p : ℕ) (m : List ℕ) → listable t p ≡ true → doubt few k (marked_places m (mark_of few p)) ≡ true
-      → held_marks false false k s m ≡ counted few w t k s (p ∷ []) m
+      → held_marks (Err Unsure) m ≡ counted few w t k s (p ∷ []) m
   unfolding counted
   counted-doubt k s p m e d = rw (e, counted) (rw d)
 
   pub counted-one : (k s p : ℕ) (m : List ℕ) → listable t p ≡ true → doubt few k (marked_places m (mark_of few p)) ≡ false
-      → held_marks true true (k + 1) (added (w (entry t p)) (mark_of few p) s m) (marking_place (mark_of few p) m) ≡ counted few w t k s
-      (p ∷ []) m
+      → held_marks (Ok (running (k + 1) (added (w (entry t p)) (mark_of few p) s m))) (marking_place (mark_of few p) m)
+      ≡ counted few w t k s (p ∷ []) m
   unfolding counted
   counted-one k s p m e d = rw (e, counted) (rw d)
 
   -- ---- a turn of the walk
 
-  module _ (ids : List ℕ) (k s : ℕ) (l m : List ℕ) where
+  module _ (k s : ℕ) (l m : List ℕ) where
     -- what is still to be counted, k being listed
     abbrev pub remains : HeldMarks
-    remains = counted few w t k s (places ids l) m
+    remains = counted few w t k s l m
 
-    pub count-end : (a : Running) → a.whole ≡ true → a.sure ≡ true → a.count ≡ k → a.sum ≡ s → l ≡ [] → held_marks_of a m ≡ remains
-    unfolding counted places
-    count-end a g h i j e = rw (g, h, i, j, e)
+    pub count-end : l ≡ [] → held_marks (Ok (running k s)) m ≡ remains
+    unfolding counted
+    count-end e = rw e
 
-    module _ (c : ℕ) (r : List ℕ) (q : l ≡ c ∷ r) (a : Running) (o : List ℕ)
-        (f : held_marks_of a o ≡ counted few w t k s (get_or ids c 0 ∷ []) m) where
-      pub count-stop : a.whole ≡ false → held_marks_of a o ≡ remains
-      unfolding places
-      count-stop g = rw q (counted-ends k s (get_or ids c 0 ∷ []) (places ids r) m a o g f)
+    module _ (p : ℕ) (r : List ℕ) (q : l ≡ p ∷ r) (o : List ℕ) where
+      pub count-stop : (f : Cut) → held_marks (Err f) o ≡ counted few w t k s (p ∷ []) m → held_marks (Err f) o ≡ remains
+      count-stop f g = rw q (counted-ends k s (p ∷ []) r m f o g)
 
-      pub count_next : a.whole ≡ true → counted few w t a.count a.sum (places ids r) o ≡ remains
-      unfolding places
-      count_next g = rw q (sym (counted-more k s (get_or ids c 0 ∷ []) (places ids r) m a o g f))
+      pub count_next : (a : Running) → held_marks (Ok a) o ≡ counted few w t k s (p ∷ []) m → counted few w t a.count a.sum r o ≡ remains
+      count_next a g = rw q (sym (counted-more k s (p ∷ []) r m a o g))
 
 -- only what can be listed is weighed
 pub counted_same : (few : Bool) (w v : Entry → ℕ) → ((e : Entry) → in01 e.x ≡ true → in01 e.y ≡ true → w e ≡ v e)
@@ -203,5 +179,15 @@ counted_same few w v f t k s (p ∷ ps) m =
     go false e d i h = rw (e, counted)
 
 -- what the tally of a list of visits comes to
-abbrev pub running_of : (Entry → ℕ) → Table → List Visit → Running
-running_of w t vs = record { whole = whole_tile t vs; sure = true; count = length (tile_listed t vs); sum = tally_of w t vs }
+abbrev pub running_of : (Entry → ℕ) → Table → List Visit → Result Running Refusal
+running_of w t vs = cond (whole_tile t vs) (Ok (running (length (tile_listed t vs)) (tally_of w t vs))) (Err Spoiled)
+
+-- whether the marks could not tell; and a tally that was sure
+abbrev pub is_unsure : Result Running Cut → Bool
+is_unsure (Ok a) = false
+is_unsure (Err Unlisted) = false
+is_unsure (Err Unsure) = true
+
+abbrev pub settled : Result Running Cut → Result Running Refusal
+settled (Ok a) = Ok a
+settled (Err c) = Err Spoiled

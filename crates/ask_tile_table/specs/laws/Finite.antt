@@ -25,7 +25,9 @@ use Rattle.kdslots.specs.Bounds.{coords_ok}
 use Rattle.kdwalk.specs.Reply.{walk}
 use Rattle.build_tables.specs.declared.Options.{Options}
 use Rattle.build_tables.specs.laws.Bounds.{InBounds}
-use Rattle.ask_tile_table.specs.Tile.{margin, side, edge, least, greatest, here, east_strip, west_strip}
+use Rattle.ask_tile_table.specs.declared.RowEnd.{RowEnd}
+use Rattle.ask_tile_table.specs.declared.RowEnd.TheVariants.{East, West}
+use Rattle.ask_tile_table.specs.Tile.{margin, side, edge, least, greatest, here, east_strip, west_strip, strip_search}
 use Rattle.ask_tile_table.specs.laws.Framed.{IsTile, float-most, below-side}
 
 -- a walk by a query of finite numbers, over an index that may be searched, is the whole answer
@@ -232,3 +234,7 @@ module _ (o : Options) (b : InBounds o) where
     west-fine =
         query-fine zero (least o z y) (edge o z) (greatest o z y)
         tt (least-finite z t.z-to y t.y-to) (edge-finite z t.z-to) (greatest-finite z t.z-to y t.y-to)
+
+    pub strip-fine : (end : RowEnd) → query_ok (strip_search end o z x y).query ≡ true
+    strip-fine East = east-fine
+    strip-fine West = west-fine

@@ -1,6 +1,6 @@
 -- A tile's searches give each entry in [0,1] a place that `round_away` takes: the scale is a power of the table, the extent is within
 -- SCOPE's bounds, and x and y are from -1 to 2 ^ 31. Assumes nothing.
-use Rattle.std.specs.Prelude.{◌≡◌, refl, Bool, true, ℕ, ◌^◌, ◌≤◌, ◌<◌, T, leb, ltb, Float}
+use Rattle.std.specs.Prelude.{◌≡◌, refl, Bool, true, false, Option, Some, None, ⊤, ℕ, ◌^◌, ◌≤◌, ◌<◌, T, leb, ltb, Float}
 use Rattle.std.proofs.Common.{sym, subst, le_of_lt, le_trans, pow_mono, leb-true, ltb-true}
 use Rattle.std.specs.Float.{binary64}
 use Rattle.std.specs.Float.Ieee.{le, neg, sub, mul}
@@ -13,7 +13,9 @@ use Rattle.kdslots.specs.laws.Bounds.{and_both}
 use Rattle.build_tables.specs.declared.Options.{Options}
 use Rattle.build_tables.specs.laws.Bounds.{InBounds}
 use Rattle.ask_tile_table.specs.declared.TileSearch.{TileSearch}
-use Rattle.ask_tile_table.specs.Tile.{is_tile, side, strip, here, east_strip, west_strip}
+use Rattle.ask_tile_table.specs.declared.RowEnd.{RowEnd}
+use Rattle.ask_tile_table.specs.declared.RowEnd.TheVariants.{East, West}
+use Rattle.ask_tile_table.specs.Tile.{is_tile, side, strip, here, east_strip, west_strip, made_if, has_strip, strip_search, strip_at}
 
 pub record Framed (g : TileSearch) : Type 0 where
   pub z : ℕ
@@ -25,6 +27,11 @@ pub record Framed (g : TileSearch) : Type 0 where
   pub x-most : T (le g.x pow31)
   pub y-least : T (le (neg one) g.y)
   pub y-most : T (le g.y pow31)
+
+-- the same of a search that a tile may lack
+abbrev pub FramedIf : Option TileSearch → Type 0
+FramedIf None = ⊤
+FramedIf (Some g) = Framed g
 
 -- what is rounded is within 2 ^ 48 either way
 pub fits : (g : TileSearch) (c v : Float) → Framed g → In01 c → T (le (neg one) v) → T (le v pow31)
@@ -58,8 +65,8 @@ pub below-side : (z n : ℕ) → z ≤ 31 → n < 2 ^ z → n ≤ 2 ^ 31
 below-side z n h k = le_trans (le_of_lt k) (pow_mono h)
 
 module _ (o : Options) (z x y : ℕ) (b : InBounds o) (t : IsTile z x y) where
-  framed : (made : Bool) (a c v : Float) → T (le (neg one) v) → T (le v pow31) → Framed (strip o z y made a c v)
-  framed made a c v l r = record {
+  framed : (a c v : Float) → T (le (neg one) v) → T (le v pow31) → Framed (strip o z y a c v)
+  framed a c v l r = record {
     z = z;
     small = t.z-to;
     scale = refl;
@@ -73,12 +80,23 @@ module _ (o : Options) (z x y : ℕ) (b : InBounds o) (t : IsTile z x y) where
 
   pub here-framed : Framed (here o z x y)
   unfolding here
-  here-framed = framed _ _ _ (float x) (float-least x) (float-most x (below-side z x t.z-to t.x-to))
+  here-framed = framed _ _ (float x) (float-least x) (float-most x (below-side z x t.z-to t.x-to))
 
   pub east-framed : Framed (east_strip o z x y)
   unfolding east_strip
-  east-framed = framed _ _ _ (side z) (float-least (2 ^ z)) (float-most (2 ^ z) (pow_mono t.z-to))
+  east-framed = framed _ _ (side z) (float-least (2 ^ z)) (float-most (2 ^ z) (pow_mono t.z-to))
 
   pub west-framed : Framed (west_strip o z x y)
   unfolding west_strip
-  west-framed = framed _ _ _ (neg one) (unfold le neg in tt) (unfold le neg in tt)
+  west-framed = framed _ _ (neg one) (unfold le neg in tt) (unfold le neg in tt)
+
+  if-made : (made : Bool) (g : TileSearch) → Framed g → FramedIf (made_if made g)
+  if-made true g f = f
+  if-made false g f = tt
+
+  search-framed : (end : RowEnd) → Framed (strip_search end o z x y)
+  search-framed East = east-framed
+  search-framed West = west-framed
+
+  pub strip-framed : (end : RowEnd) → FramedIf (strip_at end o z x y)
+  strip-framed end = if-made (has_strip end o z x) (strip_search end o z x y) (search-framed end)

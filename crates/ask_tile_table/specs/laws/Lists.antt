@@ -24,7 +24,7 @@ use Rattle.build_tables.specs.laws.Bounds.{InBounds}
 use Rattle.build_tables.specs.Entries.{Table, entry, none, xs_of, ys_of}
 use Rattle.ask_tile_table.specs.declared.TileSearch.{TileSearch}
 use Rattle.ask_tile_table.specs.declared.Item.{Item}
-use Rattle.ask_tile_table.specs.Tile.{Visit, visits_of, visits, visited, here, east_strip, west_strip, listable}
+use Rattle.ask_tile_table.specs.Tile.{Visit, visits_of, visits, visited, here, east_strip, has_east, west_strip, has_west, listable}
 use Rattle.ask_tile_table.specs.Tile.{tile_listed, whole_tile, item_of}
 use Rattle.ask_tile_table.specs.Tile.{item_at, tile_items}
 use Rattle.ask_tile_table.specs.laws.Framed.{IsTile}
@@ -99,17 +99,18 @@ module _ (t : Table) (placed : (p : ℕ) → p < length t → In01 (entry t p).x
         (subst (λ (n : ℕ). AllBelow n (found g.query o.node_size n S.ids S.co)) long
         (answered-below o.node_size (xs_of t) (ys_of t) s S I g.query))
 
-    whole_of : (g : TileSearch) → g.node_size ≡ o.node_size → whole_tile t (visits g t S.ids S.co) ≡ true
-    whole_of g e = whole_below g _ (below-when (length t) g.made (found g.query g.node_size (length t) S.ids S.co)
+    whole_of : (made : Bool) (g : TileSearch) → g.node_size ≡ o.node_size → whole_tile t (visits made g t S.ids S.co) ≡ true
+    whole_of made g e = whole_below g _ (below-when (length t) made (found g.query g.node_size (length t) S.ids S.co)
         (below g e))
 
     -- everything that is found can be listed
     pub tile-whole : (z x y : ℕ) → whole_tile t (visited o z x y t S.ids S.co) ≡ true
     unfolding visited here east_strip west_strip
     tile-whole z x y =
-        whole_append t (visits (here o z x y) t S.ids S.co) _ (whole_of (here o z x y) refl)
-        (whole_append t (visits (east_strip o z x y) t S.ids S.co) (visits (west_strip o z x y) t S.ids S.co)
-        (whole_of (east_strip o z x y) refl) (whole_of (west_strip o z x y) refl))
+        whole_append t (visits true (here o z x y) t S.ids S.co) _ (whole_of true (here o z x y) refl)
+        (whole_append t (visits (has_east o x) (east_strip o z x y) t S.ids S.co)
+        (visits (has_west o z x) (west_strip o z x y) t S.ids S.co)
+        (whole_of (has_east o x) (east_strip o z x y) refl) (whole_of (has_west o z x) (west_strip o z x y) refl))
 
     -- what passes the tile's own range is found
     here-finds : (z x y p : ℕ) → p < length t → passes_q (here o z x y).query (entry t p).x (entry t p).y ≡ true
@@ -128,8 +129,8 @@ module _ (t : Table) (placed : (p : ℕ) → p < length t → In01 (entry t p).x
     unfolding visited here
     tile-lists z x y b w p h i =
         let m = here-finds z x y p h (inside-passes o z x y b w (entry t p).x (entry t p).y i) in
-        let A = visits (here o z x y) t S.ids S.co in
-        let R = visits (east_strip o z x y) t S.ids S.co ++ visits (west_strip o z x y) t S.ids S.co in
+        let A = visits true (here o z x y) t S.ids S.co in
+        let R = visits (has_east o x) (east_strip o z x y) t S.ids S.co ++ visits (has_west o z x) (west_strip o z x y) t S.ids S.co in
         let a : Lists (item_of (here o z x y) p (entry t p)) (tile_items t A) =
         subst (λ (l : List ℕ). Lists (item_of (here o z x y) p (entry t p)) (tile_items t (visits_of (here o z x y) l))) (sym m.2)
         (lists_at t (here o z x y) m.0 p m.1) in

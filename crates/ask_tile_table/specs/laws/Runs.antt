@@ -1,19 +1,19 @@
 -- What listing leaves: the reply beside the three columns, an item at a time. It is the items before the first that cannot be listed,
 -- stored one after the other, and whether there is none such. Assumes nothing.
-use Rattle.std.specs.Prelude.{◌≡◌, refl, Bool, true, false, List, [], ◌∷◌, ◌++◌, map, ℕ, suc, ◌+◌, ◌≤◌, length, set, ℤ}
+use Rattle.std.specs.Prelude.{◌≡◌, refl, Bool, true, false, List, [], ◌∷◌, ◌++◌, map, ℕ, suc, ◌+◌, ◌≤◌, length, set, ℤ, Result, Ok, Err}
 use Rattle.std.proofs.Common.{ap, ◌∙◌, arith, add-zero, add-one}
 use Rattle.std.proofs.lemmas.List.Edits.{sets}
+use Rattle.refusals.specs.declared.Refusal.{Refusal}
+use Rattle.refusals.specs.declared.Refusal.TheVariants.{Spoiled}
 use Rattle.build_tables.specs.Entries.{Table}
-use Rattle.ask_tile_table.specs.declared.Ran.{Ran}
-use Rattle.ask_tile_table.specs.declared.Ran.TheVariants.{All, Spoiled}
 use Rattle.ask_tile_table.specs.Tile.{Visit, listable, tile_listed, whole_tile, item_at, tile_items}
 
 -- a reply beside what the columns hold
 pub data Left : Type 0 where
-  left_runs : Ran → List ℕ → List ℤ → List ℤ → Left
+  left_runs : Result ℕ Refusal → List ℕ → List ℤ → List ℤ → Left
 
 -- each column, by a contract that says what is left in all three
-module _ {r : Ran} {o : List ℕ} {a b : List ℤ} {l : Left} where
+module _ {r : Result ℕ Refusal} {o : List ℕ} {a b : List ℤ} {l : Left} where
   abbrev pub out_left : left_runs r o a b ≡ l → List ℕ
   out_left e = o
 
@@ -26,17 +26,17 @@ module _ {r : Ran} {o : List ℕ} {a b : List ℤ} {l : Left} where
 -- the visits one after the other, k listed before: the item of each goes to its position, if a column reaches so far. The first that
 -- cannot be listed ends it.
 unfoldable pub run_tile : Table → ℕ → List Visit → List ℕ → List ℤ → List ℤ → Left
-run_tile t k [] out xs ys = left_runs (All k) out xs ys
+run_tile t k [] out xs ys = left_runs (Ok k) out xs ys
 run_tile t k (v ∷ vs) out xs ys =
     elim (listable t v.place) [
       | true ↦ run_tile t (k + 1) vs (set out k (item_at t v).place) (set xs k (item_at t v).x) (set ys k (item_at t v).y)
-      | false ↦ left_runs Spoiled out xs ys
+      | false ↦ left_runs (Err Spoiled) out xs ys
     ]
 
 -- what follows, where nothing was spoiled
-abbrev pub next_run : Ran → List ℕ → List ℤ → List ℤ → (ℕ → List ℕ → List ℤ → List ℤ → Left) → Left
-next_run (All k) out xs ys f = f k out xs ys
-next_run Spoiled out xs ys f = left_runs Spoiled out xs ys
+abbrev pub next_run : Result ℕ Refusal → List ℕ → List ℤ → List ℤ → (ℕ → List ℕ → List ℤ → List ℤ → Left) → Left
+next_run (Ok k) out xs ys f = f k out xs ys
+next_run (Err e) out xs ys f = left_runs (Err e) out xs ys
 
 abbrev pub then_runs : Left → (ℕ → List ℕ → List ℤ → List ℤ → Left) → Left
 then_runs (left_runs r out xs ys) f = next_run r out xs ys f
@@ -59,24 +59,24 @@ run-append t k (v ∷ vs) ws out xs ys =
 
 -- the first part ends well, and the rest follows; or it does not, and that is the end
 pub run_more : (t : Table) (k j : ℕ) (vs ws : List Visit) (out o : List ℕ) (xs ys a b : List ℤ)
-    → left_runs (All j) o a b ≡ run_tile t k vs out xs ys
+    → left_runs (Ok j) o a b ≡ run_tile t k vs out xs ys
     → run_tile t k (vs ++ ws) out xs ys ≡ run_tile t j ws o a b
 run_more t k j vs ws out o xs ys a b e = rw (run-append, ← e)
 
-pub run_ends : (t : Table) (k : ℕ) (vs ws : List Visit) (out o : List ℕ) (xs ys a b : List ℤ)
-    → left_runs Spoiled o a b ≡ run_tile t k vs out xs ys
-    → left_runs Spoiled o a b ≡ run_tile t k (vs ++ ws) out xs ys
-run_ends t k vs ws out o xs ys a b e = rw (run-append, ← e)
+pub run_ends : (t : Table) (k : ℕ) (vs ws : List Visit) (out o : List ℕ) (xs ys a b : List ℤ) (f : Refusal)
+    → left_runs (Err f) o a b ≡ run_tile t k vs out xs ys
+    → left_runs (Err f) o a b ≡ run_tile t k (vs ++ ws) out xs ys
+run_ends t k vs ws out o xs ys a b f e = rw (run-append, ← e)
 
 -- ---- the same, without the run
 
 -- the reply: how many there are, or that one is spoiled
-abbrev pub ran_of : Bool → ℕ → Ran
-ran_of true k = All k
-ran_of false k = Spoiled
+abbrev pub ran_of : Bool → ℕ → Result ℕ Refusal
+ran_of true k = Ok k
+ran_of false k = Err Spoiled
 
 -- the items of visits, stored from k on
-abbrev stored : Table → Ran → ℕ → List Visit → List ℕ → List ℤ → List ℤ → Left
+abbrev stored : Table → Result ℕ Refusal → ℕ → List Visit → List ℕ → List ℤ → List ℤ → Left
 stored t r k vs out xs ys = left_runs r (sets out k (map (λ i. i.place) (tile_items t vs))) (sets xs k (map (λ i. i.x) (tile_items t vs)))
     (sets ys k (map (λ i. i.y) (tile_items t vs)))
 
@@ -103,7 +103,7 @@ run-sets t k (v ∷ vs) out xs ys =
         (set out k (item_at t v).place) (set xs k (item_at t v).x) (set ys k (item_at t v).y)) (add-one k))
     go false e h = rw (e, run_tile, whole_tile, tile_listed)
 
-pub run_is : (t : Table) (vs : List Visit) (out : List ℕ) (xs ys : List ℤ) (r : Ran) (o : List ℕ) (a b : List ℤ)
+pub run_is : (t : Table) (vs : List Visit) (out : List ℕ) (xs ys : List ℤ) (r : Result ℕ Refusal) (o : List ℕ) (a b : List ℤ)
     → left_runs r o a b ≡ run_tile t 0 vs out xs ys
     → (r ≡ ran_of (whole_tile t vs) (length (tile_listed t vs))) × (o ≡ sets out 0 (map (λ i. i.place) (tile_items t (tile_listed t vs))))
     × (a ≡ sets xs 0 (map (λ i. i.x) (tile_items t (tile_listed t vs)))) × (b ≡ sets ys 0 (map (λ i. i.y) (tile_items t (tile_listed t vs))))
@@ -123,17 +123,17 @@ listed-length t (v ∷ vs) = go (listable t v.place) refl (listed-length t vs)
     go true e h = rw (e, tile_listed) (omega arith)
     go false e h = rw (e, tile_listed) (omega arith)
 
-abbrev count_of : Ran → ℕ
-count_of (All k) = k
-count_of Spoiled = 0
+abbrev count_of : Result ℕ Refusal → ℕ
+count_of (Ok k) = k
+count_of (Err e) = 0
 
 count-of : (b : Bool) (k : ℕ) → count_of (ran_of b k) ≤ k
 count-of true k = omega arith
 count-of false k = omega arith
 
 pub run-count : (t : Table) (k j : ℕ) (vs : List Visit) (out o : List ℕ) (xs ys a b : List ℤ)
-    → left_runs (All j) o a b ≡ run_tile t k vs out xs ys → j ≤ k + length vs
+    → left_runs (Ok j) o a b ≡ run_tile t k vs out xs ys → j ≤ k + length vs
 run-count t k j vs out o xs ys a b e =
-    let f : left_runs (All j) o a b ≡ _ = e ∙ run-sets t k vs out xs ys in
-    let g : All j ≡ ran_of (whole_tile t vs) (k + length (tile_listed t vs)) = cc in
+    let f : left_runs (Ok j) o a b ≡ _ = e ∙ run-sets t k vs out xs ys in
+    let g : Ok j ≡ ran_of (whole_tile t vs) (k + length (tile_listed t vs)) = cc in
     omega (arith, ap count_of g, count-of (whole_tile t vs) (k + length (tile_listed t vs)), listed-length t vs)

@@ -1,51 +1,69 @@
 -- A tile's three searches, one after the other, are what the tile finds: each walk goes over its whole answer, and what one leaves the
 -- next goes on from. Assumes nothing.
-use Rattle.std.specs.Prelude.{◌≡◌, refl, Bool, true, false, ◌&&◌, ◌||◌, List, ◌++◌, ℕ, ◌+◌, ◌^◌, ◌≤◌, eqb, length, ℤ, Float}
+use Rattle.std.specs.Prelude.{◌≡◌, refl, Bool, true, false, ◌&&◌, ◌||◌, List, ◌++◌, Option, Some, Ok, Err, ℕ, ◌+◌, ◌^◌, ◌≤◌, eqb, length, ℤ, Float}
 use Rattle.std.proofs.Common.{sym, ap, ◌∙◌, subst, append-nil, arith}
 use Rattle.kdslots.specs.Bounds.{coords_ok}
+use Rattle.kdslots.specs.Query.{query_ok}
+use Rattle.refusals.specs.declared.Refusal.{Refusal}
 use Rattle.build_tables.specs.declared.Options.{Options}
-use Rattle.build_tables.specs.laws.Bounds.{InBounds}
 use Rattle.build_tables.specs.Entries.{Table}
+use Rattle.build_tables.specs.Lent.{held}
+use Rattle.build_tables.specs.laws.Rows.{rows-length}
+use Rattle.ask_tile_table.specs.declared.asked.AskedTile.{AskedTile}
+use Rattle.ask_tile_table.specs.declared.RowEnd.{RowEnd}
+use Rattle.ask_tile_table.specs.declared.RowEnd.TheVariants.{East, West}
 use Rattle.ask_tile_table.specs.declared.TileSearch.{TileSearch}
-use Rattle.ask_tile_table.specs.declared.Ran.{Ran}
-use Rattle.ask_tile_table.specs.declared.Ran.TheVariants.{All, Spoiled}
-use Rattle.ask_tile_table.specs.Tile.{Visit, here, east_strip, west_strip, visits, visited, wraps}
-use Rattle.ask_tile_table.specs.laws.Framed.{Framed, IsTile, here-framed, east-framed, west-framed}
-use Rattle.ask_tile_table.specs.laws.Finite.{here-fine, east-fine, west-fine}
+use Rattle.ask_tile_table.specs.Tile.{Visit, here, east_strip, west_strip, has_strip, strip_search, strip_at, made_if, visits, visited, wraps}
+use Rattle.ask_tile_table.specs.laws.Framed.{FramedIf, here-framed, strip-framed}
+use Rattle.ask_tile_table.specs.laws.Finite.{here-fine, strip-fine}
 use Rattle.ask_tile_table.specs.laws.Runs.{Left, left_runs, run_tile, run_more, run_ends, run-count}
 use Rattle.ask_tile_table.specs.laws.Turns.{walked_turns, walked-length, walked_whole}
+use Rattle.ask_tile_table.specs.laws.Asked.{table_of, walked_of, asked_visits, asked-searchable}
 
 -- ---- each search: it may be made, and its walk is whole
 
-module _ (o : Options) (z x y : ℕ) (b : InBounds o) (w : IsTile z x y) (g : TileSearch) where
-  pub here-may : g ≡ here o z x y → Framed g
-  here-may e = subst Framed (sym e) (here-framed o z x y b w)
+module _ (a : AskedTile) where
+  abbrev pub own_search : Option TileSearch
+  own_search = Some (here a.options a.z a.x a.y)
 
-  pub east-may : g ≡ east_strip o z x y → Framed g
-  east-may e = subst Framed (sym e) (east-framed o z x y b w)
+  abbrev pub end_search : RowEnd → Option TileSearch
+  end_search end = strip_at end a.options a.z a.x a.y
 
-  pub west-may : g ≡ west_strip o z x y → Framed g
-  west-may e = subst Framed (sym e) (west-framed o z x y b w)
+  pub own-may : (g : Option TileSearch) → g ≡ own_search → FramedIf g
+  own-may g e = subst FramedIf (sym e) (here-framed a.options a.z a.x a.y a.in_bounds a.is_tile)
 
-  module _ (t : Table) (n : ℕ) (ids : List ℕ) (co : List Float) (l : length t ≡ n)
-      (ok : coords_ok o.node_size n (length co) ≡ true) where
-    long : coords_ok o.node_size (length t) (length co) ≡ true
-    long = ap (λ (k : ℕ). coords_ok o.node_size k (length co)) l ∙ ok
+  pub end-may : (end : RowEnd) (g : Option TileSearch) → g ≡ end_search end → FramedIf g
+  end-may end g e = subst FramedIf (sym e) (strip-framed a.options a.z a.x a.y a.in_bounds a.is_tile end)
 
-    of : (h : TileSearch) → g ≡ h → walked_turns h (length t) ids co ≡ visits h t ids co → walked_turns g n ids co ≡ visits h t ids co
-    of h e q = ap (λ (s : TileSearch). walked_turns s n ids co) e ∙ ap (λ (k : ℕ). walked_turns h k ids co) (sym l) ∙ q
+  -- a search of the tile's options, by finite numbers
+  whole : (made : Bool) (g : TileSearch) → g.node_size ≡ a.options.node_size → query_ok g.query ≡ true
+      → walked_of a (made_if made g) ≡ visits made g (table_of a) a.table.index.ids.now a.table.index.coords.now
+  whole made g s q =
+      let n = length a.table.entries.x.now in
+      let l : length (table_of a) ≡ n = rows-length (held a.table.entries) in
+      let ok : coords_ok g.node_size (length (table_of a)) (length a.table.index.coords.now) ≡ true = rw s (asked-searchable a _ l) in
+      ap (λ (k : ℕ). walked_turns (made_if made g) k a.table.index.ids.now a.table.index.coords.now) (sym l)
+      ∙ walked_whole made g (table_of a) a.table.index.ids.now a.table.index.coords.now ok q
 
-    pub here-whole : g ≡ here o z x y → walked_turns g n ids co ≡ visits (here o z x y) t ids co
-    unfolding here
-    here-whole e = of (here o z x y) e (walked_whole (here o z x y) t ids co long (here-fine o b z x y w))
+  own-whole : walked_of a own_search ≡ visits true (here a.options a.z a.x a.y) (table_of a) a.table.index.ids.now a.table.index.coords.now
+  unfolding here
+  own-whole = whole true (here a.options a.z a.x a.y) refl (here-fine a.options a.in_bounds a.z a.x a.y a.is_tile)
 
-    pub east-whole : g ≡ east_strip o z x y → walked_turns g n ids co ≡ visits (east_strip o z x y) t ids co
-    unfolding east_strip
-    east-whole e = of (east_strip o z x y) e (walked_whole (east_strip o z x y) t ids co long (east-fine o b z x y w))
+  sized : (end : RowEnd) → (strip_search end a.options a.z a.x a.y).node_size ≡ a.options.node_size
+  unfolding east_strip west_strip
+  sized East = refl
+  sized West = refl
 
-    pub west-whole : g ≡ west_strip o z x y → walked_turns g n ids co ≡ visits (west_strip o z x y) t ids co
-    unfolding west_strip
-    west-whole e = of (west_strip o z x y) e (walked_whole (west_strip o z x y) t ids co long (west-fine o b z x y w))
+  end-whole : (end : RowEnd) → walked_of a (end_search end)
+      ≡ visits (has_strip end a.options a.z a.x) (strip_search end a.options a.z a.x a.y) (table_of a) a.table.index.ids.now
+      a.table.index.coords.now
+  end-whole end = whole (has_strip end a.options a.z a.x) (strip_search end a.options a.z a.x a.y) (sized end)
+      (strip-fine a.options a.in_bounds a.z a.x a.y a.is_tile end)
+
+  -- what the tile finds
+  pub three : asked_visits a ≡ walked_of a own_search ++ (walked_of a (end_search East) ++ walked_of a (end_search West))
+  unfolding visited
+  three = rw (own-whole, end-whole East, end-whole West)
 
 -- ---- a tile that has no strip finds what its own range finds
 
@@ -54,7 +72,7 @@ abbrev pub at_end : Options → ℕ → ℕ → Bool
 at_end o z x = wraps o && (eqb x 0 || eqb (x + 1) (2 ^ z))
 
 pub own_range : (o : Options) (z x y : ℕ) (t : Table) (ids : List ℕ) (co : List Float)
-    → at_end o z x ≡ false → visited o z x y t ids co ≡ visits (here o z x y) t ids co
+    → at_end o z x ≡ false → visited o z x y t ids co ≡ visits true (here o z x y) t ids co
 unfolding visited east_strip west_strip
 own_range o z x y t ids co = go (wraps o) (eqb x 0) (eqb (x + 1) (2 ^ z)) refl refl refl
   where
@@ -62,43 +80,62 @@ own_range o z x y t ids co = go (wraps o) (eqb x 0) (eqb (x + 1) (2 ^ z)) refl r
     none e = let i : ◌≡◌ {A = ℕ} 0 1 = cc in omega arith
 
     go : (w a b : Bool) → wraps o ≡ w → eqb x 0 ≡ a → eqb (x + 1) (2 ^ z) ≡ b → (w && (a || b)) ≡ false
-        → visited o z x y t ids co ≡ visits (here o z x y) t ids co
-    go false a b r p q e = rw r (append-nil (visits (here o z x y) t ids co))
-    go true false false r p q e = rw (r, p, q) (append-nil (visits (here o z x y) t ids co))
+        → visited o z x y t ids co ≡ visits true (here o z x y) t ids co
+    go false a b r p q e = rw r (append-nil (visits true (here o z x y) t ids co))
+    go true false false r p q e = rw (r, p, q) (append-nil (visits true (here o z x y) t ids co))
     go true false true r p q e = absurd (none e)
     go true true b r p q e = absurd (none e)
 
 -- strips that do not run leave the tile its own range, whatever the table and its index hold
 pub no-strips : (o : Options) (z x y : ℕ) (t : Table) (ids : List ℕ) (co : List Float)
-    → wraps o ≡ false → visited o z x y t ids co ≡ visits (here o z x y) t ids co
+    → wraps o ≡ false → visited o z x y t ids co ≡ visits true (here o z x y) t ids co
 no-strips o z x y t ids co e = own_range o z x y t ids co (ap (λ (w : Bool). w && (eqb x 0 || eqb (x + 1) (2 ^ z))) e)
 
 -- ---- three runs, one after the other; each ends the listing, or the next goes on
 
 -- a run that ended well has listed at most n more
-pub listed-few : (t : Table) (k j n : ℕ) (g : TileSearch) (ids : List ℕ) (co : List Float) (r : Ran) (out o : List ℕ) (xs ys a b : List ℤ)
-    → r ≡ All j
-    → left_runs r o a b ≡ run_tile t k (walked_turns g n ids co) out xs ys → j ≤ k + n
-listed-few t k j n g ids co r out o xs ys a b h e =
+pub listed-few : (a : AskedTile) (k j : ℕ) (g : Option TileSearch) (out o : List ℕ) (xs ys p q : List ℤ)
+    → left_runs (Ok j) o p q ≡ run_tile (table_of a) k (walked_of a g) out xs ys → j ≤ k + length a.table.entries.x.now
+listed-few a k j g out o xs ys p q e =
     omega (
       arith,
-      run-count t k j (walked_turns g n ids co) out o xs ys a b (ap (λ (q : Ran). left_runs q o a b) (sym h) ∙ e),
-      walked-length g n ids co,
+      run-count (table_of a) k j (walked_of a g) out o xs ys p q e,
+      walked-length g (length a.table.entries.x.now) a.table.index.ids.now a.table.index.coords.now,
     )
 
-module _ (t : Table) (A B C : List Visit) (out : List ℕ) (xs ys : List ℤ) where
-  pub first_ends : (r : Ran) (o : List ℕ) (a b : List ℤ) → r ≡ Spoiled → left_runs r o a b ≡ run_tile t 0 A out xs ys
-      → left_runs Spoiled o a b ≡ run_tile t 0 (A ++ (B ++ C)) out xs ys
-  first_ends r o a b h e = run_ends t 0 A (B ++ C) out o xs ys a b (rw h at e)
+module _ (a : AskedTile) (out : List ℕ) (xs ys : List ℤ) where
+  -- the run of what a search finds, k being listed
+  abbrev pub run_by : Option TileSearch → ℕ → List ℕ → List ℤ → List ℤ → Left
+  run_by g k o p q = run_tile (table_of a) k (walked_of a g) o p q
 
-  module _ (r : Ran) (k : ℕ) (o : List ℕ) (a b : List ℤ) (h : r ≡ All k) (e : left_runs r o a b ≡ run_tile t 0 A out xs ys) where
-    rest : run_tile t 0 (A ++ (B ++ C)) out xs ys ≡ run_tile t k (B ++ C) o a b
-    rest = run_more t 0 k A (B ++ C) out o xs ys a b (rw h at e)
+  abbrev pub run_all : Left
+  run_all = run_tile (table_of a) 0 (asked_visits a) out xs ys
 
-    pub second-ends : (s : Ran) (p : List ℕ) (u v : List ℤ) → s ≡ Spoiled → left_runs s p u v ≡ run_tile t k B o a b
-        → left_runs Spoiled p u v ≡ run_tile t 0 (A ++ (B ++ C)) out xs ys
-    second-ends s p u v g d = run_ends t k B C o p a b u v (rw g at d) ∙ sym rest
+  abbrev A : List Visit
+  A = walked_of a (own_search a)
 
-    pub third-ends : (s : Ran) (j : ℕ) (p : List ℕ) (u v : List ℤ) → s ≡ All j → left_runs s p u v ≡ run_tile t k B o a b
-        → (w : Left) → w ≡ run_tile t j C p u v → w ≡ run_tile t 0 (A ++ (B ++ C)) out xs ys
-    third-ends s j p u v g d w q = q ∙ sym (run_more t k j B C o p a b u v (rw g at d)) ∙ sym rest
+  abbrev B : List Visit
+  B = walked_of a (end_search a East)
+
+  abbrev C : List Visit
+  C = walked_of a (end_search a West)
+
+  joined : run_tile (table_of a) 0 (A ++ (B ++ C)) out xs ys ≡ run_all
+  joined = ap (λ (vs : List Visit). run_tile (table_of a) 0 vs out xs ys) (sym (three a))
+
+  pub first_ends : (g : Option TileSearch) → g ≡ own_search a → (f : Refusal) (o : List ℕ) (p q : List ℤ)
+      → left_runs (Err f) o p q ≡ run_by g 0 out xs ys → left_runs (Err f) o p q ≡ run_all
+  first_ends g h f o p q e = run_ends (table_of a) 0 A (B ++ C) out o xs ys p q f (rw h at e) ∙ joined
+
+  module _ (g : Option TileSearch) (h : g ≡ own_search a) (k : ℕ) (o : List ℕ) (p q : List ℤ)
+      (e : left_runs (Ok k) o p q ≡ run_by g 0 out xs ys) (s : Option TileSearch) (i : s ≡ end_search a East) where
+    rest : run_tile (table_of a) k (B ++ C) o p q ≡ run_all
+    rest = sym (run_more (table_of a) 0 k A (B ++ C) out o xs ys p q (rw h at e)) ∙ joined
+
+    pub second-ends : (f : Refusal) (u : List ℕ) (v w : List ℤ) → left_runs (Err f) u v w ≡ run_by s k o p q
+        → left_runs (Err f) u v w ≡ run_all
+    second-ends f u v w d = run_ends (table_of a) k B C o u p q v w f (rw i at d) ∙ rest
+
+    pub third-ends : (j : ℕ) (u : List ℕ) (v w : List ℤ) → left_runs (Ok j) u v w ≡ run_by s k o p q
+        → (t : Option TileSearch) → t ≡ end_search a West → (l : Left) → l ≡ run_by t j u v w → l ≡ run_all
+    third-ends j u v w d t m l n = rw m at n ∙ sym (run_more (table_of a) k j B C o u p q v w (rw i at d)) ∙ rest

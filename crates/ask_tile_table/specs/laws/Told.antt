@@ -1,6 +1,6 @@
 -- What is counted with marks is the tally: where each place has a mark of its own always, and where marks are few unless it ended
 -- unsure. Assumes nothing.
-use Rattle.std.specs.Prelude.{◌≡◌, Bool, not, cond, ◌&&◌, ◌||◌, List, [], ◌∷◌, ◌++◌, ℕ, suc, ◌+◌, ◌*◌, ◌/◌, ◌%◌, ◌^◌, ◌≤◌, ◌<◌, leb, ltb, length, get_or, replicate}
+use Rattle.std.specs.Prelude.{◌≡◌, Bool, cond, Result, Ok, Err, ◌&&◌, ◌||◌, List, [], ◌∷◌, ◌++◌, ℕ, suc, ◌+◌, ◌*◌, ◌/◌, ◌%◌, ◌^◌, ◌≤◌, ◌<◌, leb, ltb, length, get_or, replicate}
 use Rattle.std.proofs.Math.Path.{refl}
 use Rattle.std.proofs.Common.{sym, ap, ◌∙◌, arith, add-zero, zero-add, add_assoc, eqb-true, ltb-true}
 use Rattle.std.proofs.Math.Bool.{true, false}
@@ -9,15 +9,18 @@ use Rattle.std.proofs.Math.ListN.{length-set}
 use Rattle.std.proofs.lemmas.List.{length-replicate}
 use Rattle.std.proofs.lemmas.Bool.{eqb-false}
 use Rattle.kdslots.specs.laws.Bounds.{and_both}
+use Rattle.refusals.specs.declared.Refusal.TheVariants.{Spoiled}
 use Rattle.build_tables.specs.declared.Entry.{Entry}
 use Rattle.build_tables.specs.Entries.{Table, entry}
 use Rattle.ask_tile_table.specs.declared.Running.{Running}
+use Rattle.ask_tile_table.specs.declared.Cut.{Cut}
+use Rattle.ask_tile_table.specs.declared.Cut.TheVariants.{Unlisted, Unsure}
 use Rattle.ask_tile_table.specs.Tile.{Visit, listable, tile_listed, whole_tile}
 use Rattle.ask_tile_table.specs.laws.Marks.{marked_places, mark_place, fresh, mark-same, mark-other}
 use Rattle.ask_tile_table.specs.Tally.{member, distinct, total, tally_of}
-use Rattle.ask_tile_table.specs.laws.Counting.{HeldMarks, held_marks, held_marks_of, places_in, places-append, mark_of, marks_for, doubt}
+use Rattle.ask_tile_table.specs.laws.Counting.{HeldMarks, held_marks, running, places_in, places-append, mark_of, marks_for, doubt}
 use Rattle.ask_tile_table.specs.laws.Counting.{added, marking_place, counted}
-use Rattle.ask_tile_table.specs.laws.Counting.{counted-more, counted-ends, running_of}
+use Rattle.ask_tile_table.specs.laws.Counting.{counted-more, counted-ends, running_of, is_unsure, settled}
 
 -- ---- the marks are those of the places counted
 
@@ -96,14 +99,15 @@ module _ (few : Bool) (n : ℕ) (m seen : List ℕ) (p : ℕ) (h : p < n) (e : m
 
 -- whether everything was tallied, how many are listed and their tally; but few marks may leave it unsure
 data Good : Bool → HeldMarks → Bool → ℕ → ℕ → Type 0 where
-  good : {few b : Bool} {k s : ℕ} {m : List ℕ} → Good few (held_marks b true k s m) b k s
-  unsure : {b c : Bool} {k s i u : ℕ} {m : List ℕ} → Good true (held_marks c false k s m) b i u
+  good : {few : Bool} {k s : ℕ} {m : List ℕ} → Good few (held_marks (Ok (running k s)) m) true k s
+  spoiled : {few : Bool} {k s : ℕ} {m : List ℕ} → Good few (held_marks (Err Unlisted) m) false k s
+  unsure : {b : Bool} {i u : ℕ} {m : List ℕ} → Good true (held_marks (Err Unsure) m) b i u
 
-good-is : (few : Bool) (r : Running) (m : List ℕ) (h : HeldMarks) (b : Bool) (i u : ℕ) → held_marks_of r m ≡ h → Good few h b i u
-    → (few && not r.sure) ≡ false
-    → (r.whole ≡ b) × (r.sure ≡ true) × (r.count ≡ i) × (r.sum ≡ u)
-good-is few r m _ b i u e good f = (cc, cc, cc, cc)
-good-is few r m _ b i u e unsure f = absurd (let g : r.sure ≡ false = cc in no (rw g at f))
+good-is : (few : Bool) (r : Result Running Cut) (m : List ℕ) (h : HeldMarks) (b : Bool) (i u : ℕ) → held_marks r m ≡ h → Good few h b i u
+    → (few && is_unsure r) ≡ false → settled r ≡ cond b (Ok (running i u)) (Err Spoiled)
+good-is few r m _ b i u e good f = ap settled (let q : r ≡ Ok (running i u) = cc in q)
+good-is few r m _ b i u e spoiled f = ap settled (let q : r ≡ Err Unlisted = cc in q)
+good-is few r m _ b i u e unsure f = absurd (let q : r ≡ Err Unsure = cc in no (sym (ap is_unsure q) ∙ f))
 
 -- what is counted of vs after k listed with the tally s
 abbrev Counts : Bool → (Entry → ℕ) → Table → ℕ → ℕ → List Visit → List ℕ → List ℕ → Type 0
@@ -160,7 +164,7 @@ counts few w t k s (v ∷ vs) m seen a =
         → (marked_places m (mark_of few v.place) ≡ false → Counts few w t (k + 1) (s + w (entry t v.place)) vs
         (mark_place m (mark_of few v.place)) (v.place ∷ seen))
         → Good few (elim d [
-          | true ↦ held_marks false false k s m
+          | true ↦ held_marks (Err Unsure) m
           | false ↦ counted few w t (k + 1) (added (w (entry t v.place)) (mark_of few v.place) s m) (places_in vs)
               (marking_place (mark_of few v.place) m)
         ])
@@ -168,7 +172,7 @@ counts few w t k s (v ∷ vs) m seen a =
     sifted true d l c f = doubted few d
       where
         doubted : (few : Bool) → doubt few k (marked_places m (mark_of few v.place)) ≡ true → {b : Bool} {i u : ℕ}
-            → Good few (held_marks false false k s m) b i u
+            → Good few (held_marks (Err Unsure) m) b i u
         doubted true d = unsure
         doubted false d = absurd (no (sym d))
     sifted false d l c f = go (marked_places m (mark_of few v.place)) refl d l c f
@@ -179,53 +183,42 @@ counts few w t k s (v ∷ vs) m seen a =
         → Counts few w t k s (v ∷ vs) m seen
     at true e c f = rw (e, counted, whole_tile, tile_listed)
         (sifted (doubt few k (marked_places m (mark_of few v.place))) refl (inside e) c (f (inside e)))
-    at false e c f = rw (e, counted, whole_tile, tile_listed) (rw (add-zero, add-zero) good)
+    at false e c f = rw (e, counted, whole_tile, tile_listed) spoiled
 
 -- from no marks; few may leave it unsure
 pub counted_is : (few : Bool) (w : Entry → ℕ) (t : Table) (z : List ℕ) → Blank few (length t) z
-    → (vs : List Visit) (r : Running) (m : List ℕ)
-    → held_marks_of r m ≡ counted few w t 0 0 (places_in vs) z → (few && not r.sure) ≡ false → r ≡ running_of w t vs
+    → (vs : List Visit) (r : Result Running Cut) (m : List ℕ)
+    → held_marks r m ≡ counted few w t 0 0 (places_in vs) z → (few && is_unsure r) ≡ false → settled r ≡ running_of w t vs
 unfolding tally_of
 counted_is few w t z n vs r m e f =
-    let q = good-is few r m _ _ _ _ e (rw (zero-add, zero-add) at (counts few w t 0 0 vs z [] (agree-blank few (length t) z n))) f in
-    same q.0 q.1 q.2 q.3
-  where
-    same : {b c d g : Bool} {k i s u : ℕ} → b ≡ c → d ≡ g → k ≡ i → s ≡ u
-        → ◌≡◌ {A = Running} (record { whole = b; sure = d; count = k; sum = s }) (record { whole = c; sure = g; count = i; sum = u })
-    same p h q v = cc
+    good-is few r m _ _ _ _ e (rw (zero-add, zero-add) at (counts few w t 0 0 vs z [] (agree-blank few (length t) z n))) f
 
 -- ---- three searches, one after the other
-
--- the tally that a search leaves, from that before it
-abbrev pub After : Bool → (Entry → ℕ) → Table → Running → List Visit → List ℕ → Running → List ℕ → Type 0
-After few w t r vs m a o = held_marks_of a o ≡ counted few w t r.count r.sum (places_in vs) m
 
 module _ (few : Bool) (w : Entry → ℕ) (t : Table) (M : List ℕ) (n : Blank few (length t) M) (A B C : List Visit) where
   joined : places_in (A ++ (B ++ C)) ≡ places_in A ++ (places_in B ++ places_in C)
   joined = places-append A (B ++ C) ∙ ap (λ (l : List ℕ). places_in A ++ l) (places-append B C)
 
   -- a tally that is sure
-  abbrev Is : Running → Type 0
-  Is r = (few && not r.sure) ≡ false → r ≡ running_of w t (A ++ (B ++ C))
+  abbrev pub Sure : Result Running Cut → Type 0
+  Sure r = (few && is_unsure r) ≡ false → settled r ≡ running_of w t (A ++ (B ++ C))
 
-  done : (r : Running) (m : List ℕ) → held_marks_of r m ≡ counted few w t 0 0 (places_in A ++ (places_in B ++ places_in C)) M → Is r
+  done : (r : Result Running Cut) (m : List ℕ) → held_marks r m ≡ counted few w t 0 0 (places_in A ++ (places_in B ++ places_in C)) M
+      → Sure r
   done r m e = counted_is few w t M n (A ++ (B ++ C)) r m (e ∙ ap (λ (l : List ℕ). counted few w t 0 0 l M) (sym joined))
 
   -- it ends with the first, the second or the third
-  module _ (z a : Running) (m : List ℕ) (k : z.count ≡ 0) (s : z.sum ≡ 0) (e : After few w t z A M a m) where
-    one : held_marks_of a m ≡ counted few w t 0 0 (places_in A) M
-    one = rw (k, s) at e
+  pub tally-first : (c : Cut) (m : List ℕ) → held_marks (Err c) m ≡ counted few w t 0 0 (places_in A) M → Sure (Err c)
+  tally-first c m e = done (Err c) m (counted-ends few w t 0 0 (places_in A) (places_in B ++ places_in C) M c m e)
 
-    pub tally-first : a.whole ≡ false → Is a
-    tally-first g = done a m (counted-ends few w t 0 0 (places_in A) (places_in B ++ places_in C) M a m g one)
+  module _ (a : Running) (m : List ℕ) (e : held_marks (Ok a) m ≡ counted few w t 0 0 (places_in A) M) where
+    rest : counted few w t 0 0 (places_in A ++ (places_in B ++ places_in C)) M
+        ≡ counted few w t a.count a.sum (places_in B ++ places_in C) m
+    rest = counted-more few w t 0 0 (places_in A) (places_in B ++ places_in C) M a m e
 
-    module _ (g : a.whole ≡ true) (b : Running) (o : List ℕ) (f : After few w t a B m b o) where
-      rest : counted few w t 0 0 (places_in A ++ (places_in B ++ places_in C)) M
-          ≡ counted few w t a.count a.sum (places_in B ++ places_in C) m
-      rest = counted-more few w t 0 0 (places_in A) (places_in B ++ places_in C) M a m g one
+    pub tally-second : (c : Cut) (o : List ℕ) → held_marks (Err c) o ≡ counted few w t a.count a.sum (places_in B) m → Sure (Err c)
+    tally-second c o f = done (Err c) o (counted-ends few w t a.count a.sum (places_in B) (places_in C) m c o f ∙ sym rest)
 
-      pub tally-second : b.whole ≡ false → Is b
-      tally-second h = done b o (counted-ends few w t a.count a.sum (places_in B) (places_in C) m b o h f ∙ sym rest)
-
-      pub tally-third : b.whole ≡ true → (c : Running) (q : List ℕ) → After few w t b C o c q → Is c
-      tally-third h c q j = done c q (j ∙ sym (counted-more few w t a.count a.sum (places_in B) (places_in C) m b o h f) ∙ sym rest)
+    pub tally-third : (b : Running) (o : List ℕ) → held_marks (Ok b) o ≡ counted few w t a.count a.sum (places_in B) m
+        → (r : Result Running Cut) (q : List ℕ) → held_marks r q ≡ counted few w t b.count b.sum (places_in C) o → Sure r
+    tally-third b o f r q j = done r q (j ∙ sym (counted-more few w t a.count a.sum (places_in B) (places_in C) m b o f) ∙ sym rest)

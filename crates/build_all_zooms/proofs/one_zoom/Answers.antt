@@ -1,11 +1,11 @@
 -- `build_all_zooms::one_zoom` meets its contract: what holds between two zooms gives what the scan and the index ask, and the scan and the
 -- index together advance the tables by one. Assumes nothing.
-use Rattle.std.proofs.Common.{◌≡◌, ℕ, suc, ◌+◌, ◌-◌, ◌*◌, ◌≤◌, List, length, arith, Float}
+use Rattle.std.proofs.Common.{◌≡◌, ℕ, suc, ◌-◌, ◌*◌, ◌≤◌, List, length, arith, Float}
 use Rattle.build_tables.specs.Columns.{part}
 use Rattle.build_tables.specs.Entries.{Table}
-use Rattle.build_tables.specs.Rows.{cols, rows}
-use Rattle.build_tables.specs.laws.Rows.{Kept, even-kept}
-use Rattle.build_tables.specs.Lent.{given_mut}
+use Rattle.build_tables.specs.Lent.{held_mut}
+use Rattle.build_tables.specs.Rows.{rows}
+use Rattle.build_tables.specs.laws.Lent.{same-even}
 use Rattle.build_tables.specs.Radius.{radius_at}
 use Rattle.build_one_zoom.specs.Near.{near_of}
 use Rattle.build_one_zoom.specs.Zoom.{cluster}
@@ -18,40 +18,41 @@ use Rattle.build_all_zooms.specs.laws.Zooming.{Zoomed, z-few, step_room, step-li
 use Rattle.build_all_zooms.specs.laws.Zooming.{made-few, made-body, scanned, inside-made, advanced}
 use Rattle.build_all_zooms.proofs.one_zoom.Goals as goal
 
--- the lent parts of the index's columns
-ids-part : (start len : ℕ) → start + len - start ≡ len
-ids-part start len = omega arith
-
-co-part : (start len : ℕ) → (start + len) * 2 - start * 2 ≡ len * 2
-co-part start len = omega arith
+pub own_index-own-requires : goal.own_index-own-requires
+own_index-own-requires c =
+    let a = c.args in
+    let r = c.requires.3 in
+    let room = step_room (zoom_plan a.o a.n) (length a.t.now.x.now) a.z a.start a.len (rows (held_mut a.t.now)) a.index.now.ids.now
+    a.index.now.coords.now c.requires.2 r in
+    (omega (arith, room, r.ids-long), omega (arith, room, r.co-long), omega (arith, room, r.M-few))
 
 pub zoom_step-d-requires : goal.zoom_step-d-requires
 zoom_step-d-requires c =
     let a = c.args in
     let p = zoom_plan a.o a.n in
-    let m = length a.x.now in
+    let m = length a.t.now.x.now in
     let j = suc (a.z - a.o.min_zoom) in
-    let t = rows (given_mut a.x a.y a.seen a.id a.parent a.num a.energy) in
+    let t = rows (held_mut a.t.now) in
+    let ids = a.index.now.ids.now in
+    let co = a.index.now.coords.now in
     let r = c.requires.3 in
-    let rad = c.radius_at-r in
-    let room = step_room p m a.z a.start a.len t a.ids.now a.coords.now c.requires.2 r in
-    let radius : Radius rad.result
-    = rw rad.ensures (step-radius p m a.z a.start a.len t a.ids.now a.coords.now c.requires.2 r) in (
+    let rad = c.radius_at-radius in
+    let e = c.own_index-own.ensures in
+    let room = step_room p m a.z a.start a.len t ids co c.requires.2 r in
+    let radius : Radius rad.result = rw rad.ensures (step-radius p m a.z a.start a.len t ids co c.requires.2 r) in (
       c.requires.0,
-      rw (ids-part a.start a.len, co-part a.start a.len) (cur-promised p m j a.start a.len t a.ids.now a.coords.now r),
+      rw (e.ids, e.coords) (cur-promised p m j a.start a.len t ids co r),
       radius,
-      step-placed p m a.z a.start a.len t a.ids.now a.coords.now c.requires.2 r,
+      step-placed p m a.z a.start a.len t ids co c.requires.2 r,
       omega (arith, r.len-few, c.requires.1),
       room,
-      step-light p m a.z a.start a.len t a.ids.now a.coords.now c.requires.2 r,
-      omega (arith, room, r.M-few),
+      step-light p m a.z a.start a.len t ids co c.requires.2 r,
       r.len-few,
       r.able.few,
-      z-few p m a.z a.start a.len t a.ids.now a.coords.now c.requires.2 r,
-      rw (ids-part a.start a.len, co-part a.start a.len) (cur-slotted p m j a.start a.len t a.ids.now a.coords.now r),
-      rw (ids-part a.start a.len, co-part a.start a.len)
-          (cur-owned p m j a.start a.len t a.ids.now a.coords.now r rad.result radius.0),
-      step-watts p m a.z a.start a.len t a.ids.now a.coords.now c.requires.2 r,
+      z-few p m a.z a.start a.len t ids co c.requires.2 r,
+      rw (e.ids, e.coords) (cur-slotted p m j a.start a.len t ids co r),
+      rw (e.ids, e.coords) (cur-owned p m j a.start a.len t ids co r rad.result radius.0),
+      step-watts p m a.z a.start a.len t ids co c.requires.2 r,
     )
 
 -- what the scan leaves
@@ -63,12 +64,12 @@ module _ (p : Plan) (M z start len : ℕ) (t : Table) (ids : List ℕ) (co : Lis
   short : d ≤ len
   short = omega (arith, s.count, made-few p M z start len t ids co lz r)
 
--- the columns after the scan
+-- the columns after the scan, by the table's own part of the index
 zoomed-by : (p : Plan) (M z start len : ℕ) (t : Table) (ids : List ℕ) (co : List Float) → p.options.min_zoom ≤ z
     → Running p M (suc (z - p.options.min_zoom)) start len t ids co
-    → (rad : Float) → rad ≡ radius_at p.options.radius p.options.extent z → (t' : Table) (d i c : ℕ) → i ≡ len → c ≡ len * 2
-    → Stepped start len (cluster p.count p.options.min_points z
-    (near_of p.options.node_size len (part start i ids) (part (start * 2) c co) rad) (part start len t)) t t' d
+    → (rad : Float) → rad ≡ radius_at p.options.radius p.options.extent z → (t' : Table) (d : ℕ) (i : List ℕ) (c : List Float)
+    → i ≡ part start len ids → c ≡ part (start * 2) (len * 2) co
+    → Stepped start len (cluster p.count p.options.min_points z (near_of p.options.node_size len i c rad) (part start len t)) t t' d
     → Zoomed p z start len d t t'
 zoomed-by p M z start len t ids co lz r rad e t' d i c ei ec s = scanned p M z start len t ids co lz r rad e t' d (rw (ei, ec) at s)
 
@@ -76,16 +77,19 @@ pub index_part-requires-clause-le_len : goal.index_part-requires-clause-le_len
 index_part-requires-clause-le_len c =
     let a = c.args in
     let p = zoom_plan a.o a.n in
-    let m = length a.x.now in
-    let t = rows (given_mut a.x a.y a.seen a.id a.parent a.num a.energy) in
+    let m = length a.t.now.x.now in
+    let t = rows (held_mut a.t.now) in
+    let ids = a.index.now.ids.now in
+    let co = a.index.now.coords.now in
     let r = c.requires.3 in
     let w = c.zoom_step-d in
-    let came = cols w.new.x w.new.y w.new.seen w.new.id w.new.parent w.new.num w.new.energy in
-    let v = zoomed-by p m a.z a.start a.len t a.ids.now a.coords.now c.requires.2 r c.radius_at-r.result c.radius_at-r.ensures (rows came)
-    w.result _ _ (ids-part a.start a.len) (co-part a.start a.len) w.ensures in
-    let h = short p m a.z a.start a.len t a.ids.now a.coords.now c.requires.2 r (rows came) w.result v in
-    let room = step_room p m a.z a.start a.len t a.ids.now a.coords.now c.requires.2 r in (
-      some p m a.z a.start a.len t a.ids.now a.coords.now c.requires.2 r (rows came) w.result v,
+    let came = held_mut w.new.t in
+    let own = c.own_index-own.ensures in
+    let v = zoomed-by p m a.z a.start a.len t ids co c.requires.2 r c.radius_at-radius.result c.radius_at-radius.ensures (rows came)
+    w.result _ _ own.ids own.coords w.ensures.rows in
+    let h = short p m a.z a.start a.len t ids co c.requires.2 r (rows came) w.result v in
+    let room = step_room p m a.z a.start a.len t ids co c.requires.2 r in (
+      some p m a.z a.start a.len t ids co c.requires.2 r (rows came) w.result v,
       omega (arith, h, r.len-few, r.able.few),
       omega (arith, room, r.M-few),
       r.able.size-from,
@@ -96,17 +100,20 @@ pub index_part-requires-clause-fact : goal.index_part-requires-clause-fact
 index_part-requires-clause-fact c =
     let a = c.args in
     let p = zoom_plan a.o a.n in
-    let m = length a.x.now in
-    let t = rows (given_mut a.x a.y a.seen a.id a.parent a.num a.energy) in
+    let m = length a.t.now.x.now in
+    let t = rows (held_mut a.t.now) in
+    let ids = a.index.now.ids.now in
+    let co = a.index.now.coords.now in
     let r = c.requires.3 in
     let w = c.zoom_step-d in
-    let came = cols w.new.x w.new.y w.new.seen w.new.id w.new.parent w.new.num w.new.energy in
-    let v = zoomed-by p m a.z a.start a.len t a.ids.now a.coords.now c.requires.2 r c.radius_at-r.result c.radius_at-r.ensures (rows came)
-    w.result _ _ (ids-part a.start a.len) (co-part a.start a.len) w.ensures in
-    let h = short p m a.z a.start a.len t a.ids.now a.coords.now c.requires.2 r (rows came) w.result v in
-    let room = step_room p m a.z a.start a.len t a.ids.now a.coords.now c.requires.2 r in (
-      omega (arith, w.auto.x, w.auto.y, c.requires.0.ey),
-      omega (arith, h, room, w.auto.x),
+    let came = held_mut w.new.t in
+    let own = c.own_index-own.ensures in
+    let v = zoomed-by p m a.z a.start a.len t ids co c.requires.2 r c.radius_at-radius.result c.radius_at-radius.ensures (rows came)
+    w.result _ _ own.ids own.coords w.ensures.rows in
+    let h = short p m a.z a.start a.len t ids co c.requires.2 r (rows came) w.result v in
+    let room = step_room p m a.z a.start a.len t ids co c.requires.2 r in (
+      (same-even a.t.now w.new.t w.ensures.lent c.requires.0).ey,
+      omega (arith, h, room, w.ensures.lent.kx),
       omega (arith, h, room, r.ids-long),
       omega (arith, h, room, r.co-long),
     )
@@ -115,47 +122,34 @@ pub index_part-requires-clause-inside : goal.index_part-requires-clause-inside
 index_part-requires-clause-inside c =
     let a = c.args in
     let p = zoom_plan a.o a.n in
-    let m = length a.x.now in
-    let k = given_mut a.x a.y a.seen a.id a.parent a.num a.energy in
-    let t = rows k in
+    let m = length a.t.now.x.now in
+    let t = rows (held_mut a.t.now) in
+    let ids = a.index.now.ids.now in
+    let co = a.index.now.coords.now in
     let r = c.requires.3 in
     let w = c.zoom_step-d in
-    let came = cols w.new.x w.new.y w.new.seen w.new.id w.new.parent w.new.num w.new.energy in
-    let v = zoomed-by p m a.z a.start a.len t a.ids.now a.coords.now c.requires.2 r c.radius_at-r.result c.radius_at-r.ensures (rows came)
-    w.result _ _ (ids-part a.start a.len) (co-part a.start a.len) w.ensures in
-    let kept : Kept k came = record {
-      kx = w.auto.x;
-      ky = w.auto.y;
-      ks = w.auto.seen;
-      ki = w.auto.id;
-      kp = w.auto.parent;
-      kn = w.auto.num;
-      kw = w.auto.energy;
-    } in
-    inside-made p a.z a.start a.len w.result t came (even-kept k came kept c.requires.0) v
-    (made-body p m a.z a.start a.len t a.ids.now a.coords.now c.requires.2 r)
+    let came = held_mut w.new.t in
+    let own = c.own_index-own.ensures in
+    let v = zoomed-by p m a.z a.start a.len t ids co c.requires.2 r c.radius_at-radius.result c.radius_at-radius.ensures (rows came)
+    w.result _ _ own.ids own.coords w.ensures.rows in
+    let e = same-even a.t.now w.new.t w.ensures.lent c.requires.0 in
+    inside-made p a.z a.start a.len w.result t came e v (made-body p m a.z a.start a.len t ids co c.requires.2 r)
 
-pub returns : goal.returns
-returns c =
+pub returns-clause-rows : goal.returns-clause-rows
+returns-clause-rows c =
     let a = c.args in
     let p = zoom_plan a.o a.n in
-    let m = length a.x.now in
-    let k = given_mut a.x a.y a.seen a.id a.parent a.num a.energy in
-    let t = rows k in
+    let m = length a.t.now.x.now in
+    let t = rows (held_mut a.t.now) in
+    let ids = a.index.now.ids.now in
+    let co = a.index.now.coords.now in
     let r = c.requires.3 in
     let w = c.zoom_step-d in
+    let came = held_mut w.new.t in
+    let own = c.own_index-own.ensures in
+    let v = zoomed-by p m a.z a.start a.len t ids co c.requires.2 r c.radius_at-radius.result c.radius_at-radius.ensures (rows came)
+    w.result _ _ own.ids own.coords w.ensures.rows in
     let i = c.index_part in
-    let came = cols w.new.x w.new.y w.new.seen w.new.id w.new.parent w.new.num w.new.energy in
-    let v = zoomed-by p m a.z a.start a.len t a.ids.now a.coords.now c.requires.2 r c.radius_at-r.result c.radius_at-r.ensures (rows came)
-    w.result _ _ (ids-part a.start a.len) (co-part a.start a.len) w.ensures in
-    let kept : Kept k came = record {
-      kx = w.auto.x;
-      ky = w.auto.y;
-      ks = w.auto.seen;
-      ki = w.auto.id;
-      kp = w.auto.parent;
-      kn = w.auto.num;
-      kw = w.auto.energy;
-    } in
-    advanced p a.z a.start a.len w.result t came (even-kept k came kept c.requires.0) v a.ids.now i.new.ids a.coords.now i.new.coords
-    i.ensures.0 i.ensures.1
+    let e = same-even a.t.now w.new.t w.ensures.lent c.requires.0 in
+    let j = i.new.index in
+    advanced p a.z a.start a.len w.result t came e v ids j.ids.now co j.coords.now i.ensures.put.0 i.ensures.put.1

@@ -2,8 +2,8 @@
 use Rattle.std.specs.Prelude.{◌≡◌, ℕ, ◌-◌, ◌≤◌, length, take, drop}
 use Rattle.std.proofs.Common.{ap, sym, ◌∙◌, arith}
 use Rattle.build_tables.specs.Entries.{Table}
-use Rattle.build_tables.specs.Rows.{Cols, rows, each2}
-use Rattle.build_tables.specs.laws.Rows.{Even, Kept, each, each2-first, each2-second}
+use Rattle.build_tables.specs.Rows.{Cols, rows, each2, each}
+use Rattle.build_tables.specs.laws.Rows.{Even, Kept, each2-first, each2-second}
 use Rattle.build_tables.specs.laws.Columns.{from_part, back, take_back, drop-back, rows_take, rows_drop, rows-from}
 use Rattle.build_one_zoom.specs.Zoom.{Scan}
 use Rattle.build_one_zoom.specs.Scanned.{Scanned}

@@ -3,19 +3,19 @@
 use Rattle.std.proofs.Common.{◌≡◌, ◌+◌, ◌<◌, length, set, ap, ◌∙◌, arith}
 use Rattle.build_tables.specs.declared.Entry.{Entry}
 use Rattle.build_tables.specs.Entries.{entry}
-use Rattle.build_tables.specs.Lent.{given_mut}
-use Rattle.build_tables.specs.Rows.{cols, rows}
+use Rattle.build_tables.specs.Lent.{held_mut}
+use Rattle.build_tables.specs.Rows.{rows}
 use Rattle.build_tables.specs.laws.Rows.{rows-length}
 use Rattle.build_one_zoom.specs.laws.Stored.{left-leaves}
 use Rattle.build_one_zoom.proofs.leave_one.Goals as goal
 
-pub returns : goal.returns
-returns c =
+pub returns-clause-rows : goal.returns-clause-rows
+returns-clause-rows c =
     let a = c.args in
-    let k = given_mut a.x a.y a.seen a.id a.parent a.num a.energy in
+    let len = a.zoom.now.len in
+    let k = held_mut a.t.now in
     let t = rows k in
-    let p = c.put_entry.new in
-    let put_is : rows (cols p.x p.y p.seen p.id p.parent p.num p.energy) ≡ set t (a.len + a.done) (entry t a.i)
-    = c.put_entry.ensures ∙ ap (λ (v : Entry). set t (a.len + a.done) v) c.entry_at-e.ensures in
-    let space : a.len + a.done < length t = omega (arith, rows-length k, c.requires.3) in
-    left-leaves t a.len a.done a.i a.z a.near.now c.requires.2 space _ _ (rw put_is at c.copy_near.ensures)
+    let put_is : rows (held_mut c.put.new.self) ≡ set t (len + a.done) (entry t a.i)
+    = c.put.ensures.rows ∙ ap (λ (v : Entry). set t (len + a.done) v) c.at-e.ensures in
+    let space : len + a.done < length t = omega (arith, rows-length k, c.requires.3) in
+    left-leaves t len a.done a.i a.zoom.now.z a.near.now c.requires.2 space _ _ (rw put_is at c.copy_near.ensures.rows)

@@ -1,11 +1,11 @@
 -- `build_one_zoom::visit_one` meets its contract: the total is the definition's, and so is the test of it; each branch is what its function
 -- leaves. Assumes nothing.
-use Rattle.std.proofs.Common.{◌≡◌, Bool, true, false, ℕ, ◌+◌, ◌<◌, ◌≤◌, List, length, take, ap, sym, ◌∙◌, arith, get_or-take}
+use Rattle.std.proofs.Common.{◌≡◌, Bool, true, false, ℕ, ◌+◌, ◌<◌, ◌≤◌, List, length, take, ap, sym, ◌∙◌, subst, ◌^◌, arith, get_or-take}
 use Rattle.kdslots.specs.laws.All.{AllBelow, below-le}
 use Rattle.build_tables.specs.declared.Entry.{Entry}
 use Rattle.build_tables.specs.Entries.{Table, entry, none}
-use Rattle.build_tables.specs.Lent.{given_mut}
-use Rattle.build_tables.specs.Rows.{rows}
+use Rattle.build_tables.specs.Lent.{held_mut}
+use Rattle.build_tables.specs.Rows.{Cols, rows}
 use Rattle.build_tables.specs.laws.Rows.{rows-length}
 use Rattle.build_one_zoom.specs.Scanned.{scan_of}
 use Rattle.build_one_zoom.specs.Zoom.{num_of, more, enough}
@@ -28,36 +28,42 @@ enough-is : (t : Table) (len i total least : ℕ) (e : Entry) (b : Bool) → i <
     → enough (entry (take len t) i).num total least ≡ b
 enough-is t len i total least e b h q r = ap (λ (v : Entry). enough v.num total least) (sym (own_is t len i e h q)) ∙ r
 
+-- the total of the columns as they are lent to be read
+total-lent : (z own total : ℕ) (near : List ℕ) (k c : Cols) → k ≡ c → total ≡ own + more z (rows k) near → total ≡ own + more z (rows c) near
+total-lent z own total near k c e r = r ∙ ap (λ (q : Cols). own + more z (rows q) near) e
+
 pub total_near-total-requires : goal.total_near-total-requires
 total_near-total-requires c =
-    let a = c.args in (
-      c.requires.0,
-      below-le a.len (length a.x.now) a.near.now (omega (arith, c.requires.3)) c.requires.1,
-      rw c.entry_at-e.ensures c.requires.7,
-    )
-
-pub returns-then-is_enough : goal.returns-then-is_enough
-returns-then-is_enough c =
     let a = c.args in
-    let k = given_mut a.x a.y a.seen a.id a.parent a.num a.energy in
+    let k = held_mut a.t.now in
+    subst (λ (q : Cols). AllBelow (length q.x) a.near.now × (c.at-e.result.num + more a.zoom.now.z (rows q) a.near.now < 2 ^ 32))
+    (sym c.lent.ensures)
+    (below-le a.zoom.now.len (length k.x) a.near.now (omega (arith, c.requires.3)) c.requires.1, rw c.at-e.ensures c.requires.4)
+
+pub returns-then-is_enough-clause-rows : goal.returns-then-is_enough-clause-rows
+returns-then-is_enough-clause-rows c =
+    let a = c.args in
+    let z = a.zoom.now in
+    let k = held_mut a.t.now in
     let t = rows k in
     let total = c.total_near-total.result in
-    let l : a.len ≤ length t = omega (arith, c.requires.3, rows-length k) in
-    let e = enough-is t a.len a.i total a.least c.entry_at-e.result true c.requires.2 c.entry_at-e.ensures
+    let l : z.len ≤ length t = omega (arith, c.requires.3, rows-length k) in
+    let e = enough-is t z.len a.i total z.least c.at-e.result true c.requires.2 c.at-e.ensures
     (sym c.is_enough.ensures ∙ c.if-is_enough.true) in
-    let q = total-is t a.len a.z a.i a.near.now c.entry_at-e.result total c.requires.2 l c.requires.1 c.entry_at-e.ensures
-    c.total_near-total.ensures in
-    rw (made_by a.n a.least a.z a.near.now a.i (scan_of a.len a.done t) total q e) c.make_one.ensures
+    let q = total-is t z.len z.z a.i a.near.now c.at-e.result total c.requires.2 l c.requires.1 c.at-e.ensures
+    (total-lent z.z _ total a.near.now _ k c.lent.ensures c.total_near-total.ensures) in
+    rw (made_by z.count z.least z.z a.near.now a.i (scan_of z.len a.done t) total q e) c.make_one.ensures.rows
 
-pub returns : goal.returns
-returns c =
+pub returns-clause-rows : goal.returns-clause-rows
+returns-clause-rows c =
     let a = c.args in
-    let k = given_mut a.x a.y a.seen a.id a.parent a.num a.energy in
+    let z = a.zoom.now in
+    let k = held_mut a.t.now in
     let t = rows k in
     let total = c.total_near-total.result in
-    let l : a.len ≤ length t = omega (arith, c.requires.3, rows-length k) in
-    let e = enough-is t a.len a.i total a.least c.entry_at-e.result false c.requires.2 c.entry_at-e.ensures
+    let l : z.len ≤ length t = omega (arith, c.requires.3, rows-length k) in
+    let e = enough-is t z.len a.i total z.least c.at-e.result false c.requires.2 c.at-e.ensures
     (sym c.is_enough.ensures ∙ c.if-is_enough.false) in
-    let q = total-is t a.len a.z a.i a.near.now c.entry_at-e.result total c.requires.2 l c.requires.1 c.entry_at-e.ensures
-    c.total_near-total.ensures in
-    rw (left_by a.n a.least a.z a.near.now a.i (scan_of a.len a.done t) total q e) c.leave_one.ensures
+    let q = total-is t z.len z.z a.i a.near.now c.at-e.result total c.requires.2 l c.requires.1 c.at-e.ensures
+    (total-lent z.z _ total a.near.now _ k c.lent.ensures c.total_near-total.ensures) in
+    rw (left_by z.count z.least z.z a.near.now a.i (scan_of z.len a.done t) total q e) c.leave_one.ensures.rows

@@ -1,11 +1,12 @@
 -- What is noted of an entry before a table is scanned: nothing, or the very list that `within` answers at its place, where that is the
 -- entry itself or the entry and one other. The notes of a table stand in the column `near` past the places for a list. Assumes nothing.
-use Rattle.std.specs.Prelude.{◌≡◌, Bool, List, [], ◌∷◌, ◌++◌, ℕ, zero, suc, ◌+◌, ◌-◌, ◌*◌, ◌<◌, ◌≤◌, leb, eqb, get_or, set, take, drop, Float}
+use Rattle.std.specs.Prelude.{◌≡◌, Bool, List, [], ◌∷◌, ◌++◌, ℕ, zero, suc, ◌+◌, ◌-◌, ◌*◌, ◌<◌, ◌≤◌, leb, eqb, get_or, set, take, drop, Float, Ok, Err}
 use Rattle.std.proofs.Math.Path.{refl, ap, sym}
-use Rattle.std.proofs.Common.{◌∙◌, subst, arith, add-zero, length-append, get_or-set_same, get_or-set_other, get_or-take}
+use Rattle.std.proofs.Common.{◌∙◌, subst, arith, add-zero, length-append, get_or-set_same, get_or-set_other, get_or-take, length-take-le}
 use Rattle.std.proofs.Math.Bool.{true, false}
 use borrow.Author.Tests.{leb-true, le-leb, eqb-true, eqb-false}
-use Rattle.std.proofs.Math.ListN.{length}
+use Rattle.std.proofs.Math.ListN.{length, get_or-append}
+use Rattle.std.proofs.lemmas.List.{get_or-append_right}
 use Rattle.std.proofs.Math.Seq.{drop-nil, take_all}
 use Rattle.std.specs.Float.{nan}
 use Rattle.kdsort.specs.Cols.{key}
@@ -14,8 +15,9 @@ use Rattle.kdslots.specs.declared.Query.TheVariants.{Within}
 use Rattle.kdslots.specs.Query.{query_ok}
 use Rattle.kdslots.specs.laws.All.{All, AllBelow}
 use Rattle.kdslots.specs.laws.Members.{In}
-use Rattle.kdbush.specs.declared.SearchReply.TheVariants.{Found, Box, NoRoom}
-use Rattle.kdbush.specs.Reply.{found, listed, listed_column, searched, column_after, search_number, search_carried}
+use Rattle.refusals.specs.declared.Refusal.TheVariants.{Box, NoRoom}
+use Rattle.refusals.specs.Refusals.{number, carried}
+use Rattle.kdbush.specs.Reply.{found, listed, listed_column, searched, column_after}
 use Rattle.kdbush.specs.laws.Promise.{Promised, all_whole, all_sound}
 use Rattle.build_tables.specs.declared.Entry.{Entry}
 use Rattle.build_tables.specs.Entries.{Table, entry, none, marked, under}
@@ -83,18 +85,18 @@ module _ (i : ℕ) (l rest : List ℕ) where
 -- ---- a search with room for a few places
 
 module _ (size n : ℕ) (ids : List ℕ) (co : List Float) (P : Promised size n ids co) (q : Query) (out : List ℕ) where
-  few-listed : (b : Bool) → leb (length (found q size n ids co)) (length out) ≡ b → (k : ℕ) → listed q size n ids co (length out) ≡ Found k
+  few-listed : (b : Bool) → leb (length (found q size n ids co)) (length out) ≡ b → (k : ℕ) → listed q size n ids co (length out) ≡ Ok k
       → (k ≡ length (found q size n ids co)) × (k ≤ length out)
   unfolding listed
   few-listed true e k f =
-      let g : Found (length (found q size n ids co)) ≡ Found k =
+      let g : Ok (length (found q size n ids co)) ≡ Ok k =
       rw (P.ok, le-leb n (length ids) P.wide, all_whole n (found q size n ids co) (P.below q), e) at f in
-      let h : k ≡ length (found q size n ids co) = sym (ap search_carried g) in
+      let h : k ≡ length (found q size n ids co) = sym (ap carried g) in
       (h, omega (arith, h, leb-true (length (found q size n ids co)) (length out) e))
   few-listed false e k f =
-      let g : NoRoom (length (found q size n ids co)) ≡ Found k =
+      let g : Err (NoRoom (length (found q size n ids co))) ≡ Ok k =
       rw (P.ok, le-leb n (length ids) P.wide, all_whole n (found q size n ids co) (P.below q), e) at f in
-      absurd (let z : 10 ≡ 0 = ap search_number g in omega (arith, z))
+      absurd (let z : 10 ≡ 0 = ap number g in omega (arith, z))
 
   few-column : length (found q size n ids co) ≤ length out
       → listed_column q size n ids co out ≡ found q size n ids co ++ drop (length (found q size n ids co)) out
@@ -107,19 +109,19 @@ module _ (size n : ℕ) (ids : List ℕ) (co : List Float) (P : Promised size n 
   )
 
   -- where it says how many it found, they are all of them, at the front of the column
-  few-by : (b : Bool) → query_ok q ≡ b → (k : ℕ) → searched q size n ids co (length out) ≡ Found k
+  few-by : (b : Bool) → query_ok q ≡ b → (k : ℕ) → searched q size n ids co (length out) ≡ Ok k
       → (length (found q size n ids co) ≡ k)
       × (column_after q size n ids co out ≡ found q size n ids co ++ drop (length (found q size n ids co)) out)
   unfolding searched column_after
   few-by true e k f =
-      let g : listed q size n ids co (length out) ≡ Found k = rw (P.ok, le-leb n (length ids) P.wide, e) at f in
+      let g : listed q size n ids co (length out) ≡ Ok k = rw (P.ok, le-leb n (length ids) P.wide, e) at f in
       let w = few-listed _ refl k g in
       (sym w.0, rw e (few-column (omega (arith, w.0, w.1))))
   few-by false e k f =
-      let g : Box ≡ Found k = rw (P.ok, le-leb n (length ids) P.wide, e) at f in
-      absurd (let z : 9 ≡ 0 = ap search_number g in omega (arith, z))
+      let g : Err Box ≡ Ok k = rw (P.ok, le-leb n (length ids) P.wide, e) at f in
+      absurd (let z : 9 ≡ 0 = ap number g in omega (arith, z))
 
-  pub few-found : (k : ℕ) → searched q size n ids co (length out) ≡ Found k
+  pub few-found : (k : ℕ) → searched q size n ids co (length out) ≡ Ok k
       → (length (found q size n ids co) ≡ k)
       × (column_after q size n ids co out ≡ found q size n ids co ++ drop (length (found q size n ids co)) out)
   few-found k f = few-by (query_ok q) refl k f
@@ -182,15 +184,16 @@ unfolding Noted
 noted-at at len near notes t i e n h q =
     subst (λ (v : Entry). Tells i (get_or notes (at + i) 0) (near v.x v.y)) (get_or-take len t i none h ∙ q) (n i h)
 
--- one more note is cleared
-pub cleared_more : (at : ℕ) (notes : List ℕ) (i : ℕ) → at + i < length notes → ((j : ℕ) → j < i → get_or notes (at + j) 0 ≡ 0)
-    → (j : ℕ) → j < i + 1 → get_or (set notes (at + i) 0) (at + j) 0 ≡ 0
-cleared_more at notes i h f j k = go (eqb j i) refl
-  where
-    go : (b : Bool) → eqb j i ≡ b → get_or (set notes (at + i) 0) (at + j) 0 ≡ 0
-    go true e = rw (eqb-true j i e) (get_or-set_same notes (at + i) 0 0 h)
-    go false e = get_or-set_other notes (at + i) (at + j) 0 0 (λ q. eqb-false j i e (omega (arith, q)))
-        ∙ f j (let n = eqb-false j i e in omega (arith, k, n))
+-- notes from `at` on that are zeros, as their part of the column is lent and comes back
+pub cleared : (at : ℕ) (notes zeros rest : List ℕ) → at ≤ length notes → ((i : ℕ) → i < length zeros → get_or zeros i 0 ≡ 0) → (i : ℕ)
+    → i < length zeros
+    → get_or (take at notes ++ (zeros ++ rest)) (at + i) 0 ≡ 0
+cleared at notes zeros rest h f i k =
+    let e : at + i - at ≡ i = omega arith in
+    get_or-append_right (take at notes) (zeros ++ rest) at (at + i) 0 (length-take-le at notes h) (omega arith)
+    ∙ ap (λ (j : ℕ). get_or (zeros ++ rest) j 0) e
+    ∙ get_or-append zeros rest 0 i k
+    ∙ f i k
 
 -- one more note
 noted_more : (at len : ℕ) (near : Float → Float → List ℕ) (notes : List ℕ) (t : Table) (p v : ℕ) → at + p < length notes

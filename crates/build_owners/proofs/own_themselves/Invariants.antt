@@ -1,10 +1,7 @@
 -- `build_owners::own_themselves` meets its contract: at the head of the loop the first l lamps own themselves. Assumes nothing.
-use Prim.Native.Nat.{ℕ, ◌-◌, ◌≤◌}
+use Rattle.std.proofs.Common.{ℕ}
 use Rattle.build_owners.specs.laws.Fills.{Wrote}
 use Rattle.build_owners.proofs.own_themselves.Given as goal
 
 abbrev pub invariant-loop-l : goal.invariant-loop-l
-invariant-loop-l l = (l.l ≤ l.n) × Wrote 0 l.l (λ (k : ℕ). k) l.initial.owners l.owners
-
-abbrev pub decreases-loop-l : goal.decreases-loop-l
-decreases-loop-l l = l.n - l.l
+invariant-loop-l l = Wrote 0 l.l (λ (k : ℕ). k) l.initial.owners l.owners

@@ -3,12 +3,19 @@
 -- table is known for each entry of the next, and every place goes where its origin, or it itself, goes. Assumes nothing.
 use Rattle.std.specs.Prelude.{◌≡◌, ◌⊎◌, true, false, cond, List, ℕ, zero, suc, ◌+◌, ◌-◌, ◌<◌, ◌≤◌, eqb, ltb, length, get_or}
 use Rattle.build_tables.specs.declared.Entry.{Entry}
+use Rattle.build_tables.specs.Lent.{held}
+use Rattle.build_tables.specs.Rows.{rows}
+use Rattle.build_owners.specs.declared.Build.{Build}
 use Rattle.build_tables.specs.declared.State.{State}
 use Rattle.build_tables.specs.Entries.{Table, entry, unset}
 use Rattle.build_tables.specs.Ids.{origin_of, table_of}
 use Rattle.build_tables.specs.State.{start_of, len_of}
 use Rattle.supercluster.specs.laws.Held.{held_by}
 use Rattle.build_owners.specs.OwnerColumn.{owner_in}
+
+-- the rows where a build's tables stand
+abbrev pub rows_of : Build → Table
+rows_of b = rows (held b.entries)
 
 -- the id of the origin of the cluster c, in a build of n points whose tables start in the rows R by ss
 abbrev pub origin_id : ℕ → List ℕ → Table → ℕ → ℕ

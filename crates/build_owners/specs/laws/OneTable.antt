@@ -1,7 +1,7 @@
 -- From table z + 1 to table z: what `send` and `climb` are asked holds of a state that is climbable, and what they leave are the owners in
 -- table z. Assumes nothing.
 use Rattle.std.specs.Prelude.{◌≡◌, refl, ◌⊎◌, List, ℕ, suc, ◌+◌, ◌-◌, ◌<◌, ◌≤◌, length, get_or, take, drop}
-use Rattle.std.proofs.Common.{sym, ap, ◌∙◌, subst, le_trans, arith, length-drop, get_or-take, get_or-drop, length-take-le}
+use Rattle.std.proofs.Common.{sym, ap, ◌∙◌, subst, add-one, le_trans, arith, length-drop, get_or-take, get_or-drop, length-take-le}
 use Rattle.build_tables.specs.declared.State.{State}
 use Rattle.build_tables.specs.Entries.{Table, entry, unset}
 use Rattle.build_tables.specs.State.{start_of, len_of}
@@ -29,42 +29,36 @@ module _ (s : State) (R : Table) (z : ℕ) (C : Climbable s R) (lo : s.options.m
   W = C.climbs z lo hi
 
   -- the finer table's part of the column
-  part-long : (k : ℕ) → k ≡ s.count → length (take (at + k - at) (drop at owners)) ≡ s.count
-  part-long k e =
-      let d = length-drop at owners in
-      let n : at + k - at ≡ s.count = omega arith in
-      length-take-le (at + k - at) (drop at owners) (omega arith) ∙ n
+  abbrev part : List ℕ
+  part = take (at + s.count - at) (drop at owners)
 
-  part_at : (k : ℕ) → k ≡ s.count → (l : ℕ) → l < s.count → get_or (take (at + k - at) (drop at owners)) l 0 ≡ finer s R z l
-  part_at k e l h = get_or-take (at + k - at) (drop at owners) l 0 (omega arith) ∙ get_or-drop at owners l 0 ∙ own l h
+  part-long : length part ≡ s.count
+  part-long =
+      let d = length-drop at owners in
+      let n : at + s.count - at ≡ s.count = omega arith in
+      length-take-le (at + s.count - at) (drop at owners) (omega arith) ∙ n
+
+  part_at : (l : ℕ) → l < s.count → get_or part l 0 ≡ finer s R z l
+  part_at l h = get_or-take (at + s.count - at) (drop at owners) l 0 (omega arith) ∙ get_or-drop at owners l 0 ∙ own l h
 
   -- where the entry d of table z is from
-  spot-at : (k : ℕ) → k ≡ s.count → (d : ℕ) → d < len_of s z
-      → get_or (take (at + k - at) (drop at owners)) (lead_at s R z d) 0 ≡ finer s R z (lead_at s R z d)
-  spot-at k e d h = part_at k e (lead_at s R z d) (W.led d h)
+  spot-at : (d : ℕ) → d < len_of s z → get_or part (lead_at s R z d) 0 ≡ finer s R z (lead_at s R z d)
+  spot-at d h = part_at (lead_at s R z d) (W.led d h)
 
-  sends-at : (k m : ℕ) → k ≡ s.count → m ≡ s.count
-      → Sends s.count s.starts R (start_of s z) (len_of s z) (take (at + k - at) (drop at owners)) m
-  sends-at k m e q =
+  pub sends-here : (m : ℕ) → m ≡ s.count → Sends s.count s.starts R (start_of s z) (len_of s z) part m
+  sends-here m q =
       record {
         few = le_trans W.few C.few;
         inside = W.inside;
         small = C.starts-small z lo (omega arith);
         chained = W.chained;
-        led = λ d h. (let a = W.led d h in let b = part-long k e in omega arith);
-        room = λ d h. (let a = spot-at k e d h in let b = W.finer-there (lead_at s R z d) (W.led d h) in let c = W.finer-few in
-            omega arith);
+        led = λ d h. (let a = W.led d h in let b = part-long in omega arith);
+        room = λ d h. (let a = spot-at d h in let b = W.finer-there (lead_at s R z d) (W.led d h) in let c = W.finer-few in omega arith);
         once = λ d f h g v.
             sym (W.owned d h)
-            ∙ owner-same s R z hi (lead_at s R z d) (lead_at s R z f) (sym (spot-at k e d h) ∙ v ∙ spot-at k e f g)
+            ∙ owner-same s R z hi (lead_at s R z d) (lead_at s R z f) (sym (spot-at d h) ∙ v ∙ spot-at f g)
             ∙ W.owned f g;
       }
-
-  pub sends-here : (start len k m : ℕ) → start ≡ start_of s z → len ≡ len_of s z → k ≡ s.count → m ≡ s.count
-      → Sends s.count s.starts R start len (take (at + k - at) (drop at owners)) m
-  sends-here start len k m a b e q =
-      subst (λ (x : ℕ). Sends s.count s.starts R x len (take (at + k - at) (drop at owners)) m) (sym a)
-      (subst (λ (x : ℕ). Sends s.count s.starts R (start_of s z) x (take (at + k - at) (drop at owners)) m) (sym b) (sends-at k m e q))
 
   -- lamp l's owner in table z + 1, among the rows
   sits-at : (m : ℕ) → m ≡ s.count → Sits s.count R (start_of s (suc z)) m owners at
@@ -88,30 +82,21 @@ module _ (s : State) (R : Table) (z : ℕ) (C : Climbable s R) (lo : s.options.m
           ≡ finer s R z (lead_at s R z (owner_on s R z l))
       seat-at l h = ap (λ (k : ℕ). seat_of s.count (entry R (start_of s (suc z) + k)) k) (own l h) ∙ W.seated l h
 
-  pub sits_here : (start m : ℕ) → start ≡ start_of s (suc z) → m ≡ s.count → Sits s.count R start m owners at
-  sits_here start m a q = subst (λ (x : ℕ). Sits s.count R x m owners at) (sym a) (sits-at m q)
+  pub sits_here : (m : ℕ) → m ≡ s.count → Sits s.count R (start_of s (z + 1)) m owners at
+  sits_here m q = subst (λ (y : ℕ). Sits s.count R (start_of s y) m owners at) (sym (add-one z)) (sits-at m q)
 
   -- where it goes
-  next-at : (k : ℕ) (to : List ℕ) → k ≡ s.count
-      → Sent (λ d. get_or (take (at + k - at) (drop at owners)) (lead_from s.count s.starts R (start_of s z) d) 0) (len_of s z) to
+  next-at : (to : List ℕ) → Sent (λ d. get_or part (lead_from s.count s.starts R (start_of s z) d) 0) (len_of s z) to
       → (l : ℕ) → l < s.count → next_owner s.count R (start_of s (suc z)) to owners at l ≡ owner_on s R z l
-  next-at k to e t l h =
+  next-at to t l h =
       let d = owner_on s R z l in
       ap (λ (j : ℕ). get_or to (seat_of s.count (entry R (start_of s (suc z) + j)) j) 0) (own l h)
-      ∙ ap (λ (j : ℕ). get_or to j 0) (W.seated l h ∙ sym (spot-at k e d (W.there l h)))
+      ∙ ap (λ (j : ℕ). get_or to j 0) (W.seated l h ∙ sym (spot-at d (W.there l h)))
       ∙ t d (W.there l h)
 
-  pub climbed-here : (start len k up : ℕ) (to b : List ℕ) → start ≡ start_of s z → len ≡ len_of s z → k ≡ s.count → up ≡ start_of s (suc z)
-      → Sent (λ d. get_or (take (at + k - at) (drop at owners)) (lead_from s.count s.starts R start d) 0) len to
-      → Wrote (at + s.count) s.count (next_owner s.count R up to owners at) owners b
+  pub climbed-here : (to b : List ℕ) → Sent (λ d. get_or part (lead_from s.count s.starts R (start_of s z) d) 0) (len_of s z) to
+      → Wrote (at + s.count) s.count (next_owner s.count R (start_of s (z + 1)) to owners at) owners b
       → Wrote (at + s.count) s.count (owner_on s R z) owners b
-  climbed-here start len k up to b ea el e eu t w =
+  climbed-here to b t w =
       wrote_as (at + s.count) s.count _ (owner_on s R z) owners b w
-      (λ l h. ap (λ (x : ℕ). next_owner s.count R x to owners at l) eu ∙ next-at k to e t' l h)
-    where
-      t' : Sent (λ d. get_or (take (at + k - at) (drop at owners)) (lead_from s.count s.starts R (start_of s z) d) 0) (len_of s z) to
-      t' =
-          subst (λ (x : ℕ). Sent (λ d. get_or (take (at + k - at) (drop at owners)) (lead_from s.count s.starts R x d) 0) (len_of s z) to)
-          ea
-          (subst (λ (x : ℕ). Sent (λ d. get_or (take (at + k - at) (drop at owners)) (lead_from s.count s.starts R start d) 0) x to) el
-          t)
+      (λ l h. ap (λ (y : ℕ). next_owner s.count R (start_of s y) to owners at l) (add-one z) ∙ next-at to t l h)

@@ -33,6 +33,12 @@ module _ (n : ℕ) (ss : List ℕ) (R : Table) where
         same = ap (λ (g : ℕ). lead_of n ss R g (origin_id n ss R c)) (sym e) ∙ sym (lead-cluster n ss R f c h);
       }
 
+  -- where no step is left, the way has ended
+  pub chain-end : (f c : ℕ) → f ≤ 0 → Chain n ss R f c → c < n
+  unfolding Chain
+  chain-end zero c h k = k
+  chain-end (suc f) c h k = absurd (omega arith)
+
 -- ---- with which place a place goes
 
 pub seat-self : (n k : ℕ) (e : Entry) → e.parent ≡ unset → k ≡ seat_of n e k

@@ -5,8 +5,8 @@ use Rattle.std.proofs.Common.{ap, sym, ◌∙◌, append-nil, arith, length-take
 use Rattle.std.specs.Float.{nan}
 use Rattle.build_tables.specs.declared.Entry.{Entry}
 use Rattle.build_tables.specs.Entries.{Table, none, xs_of, ys_of, seen_of, ids_of, parents_of, nums_of, energies_of}
-use Rattle.build_tables.specs.Rows.{Cols, rows}
-use Rattle.build_tables.specs.laws.Rows.{Even, each, each_row, each_same, even-each, rows-length, rows-entry, rows_are, column}
+use Rattle.build_tables.specs.Rows.{Cols, rows, each}
+use Rattle.build_tables.specs.laws.Rows.{Even, each_row, each_same, even-each, rows-length, rows-entry, rows_are, column}
 use Rattle.build_tables.specs.Columns.{part}
 
 pub part-long : {A : Type 0} (a n : ℕ) (l : List A) → a + n ≤ length l → length (part a n l) ≡ n

@@ -1,9 +1,9 @@
 -- What the room of the nine columns says of each of them, and the fronts of columns with room. Assumes nothing.
 use Rattle.std.proofs.Common.{sym, ◌∙◌, arith, length-take-le}
 use Rattle.std.specs.Prelude.{List, ℕ, ◌*◌, ◌/◌, ◌≤◌, min, length, take, Float}
-use Rattle.build_tables.specs.Rows.{Cols}
+use Rattle.build_tables.specs.Rows.{Cols, each}
 use Rattle.build_tables.specs.Room.{Columns, index_room, room_of}
-use Rattle.build_tables.specs.laws.Rows.{Even, each}
+use Rattle.build_tables.specs.laws.Rows.{Even}
 
 -- each column has room for n entries
 pub record Roomy (n : ℕ) (c : Cols) : Type 0 where

@@ -8,20 +8,7 @@ use Rattle.std.proofs.Math.ListN.{get_or-map}
 use Rattle.std.specs.Float.{nan}
 use Rattle.build_tables.specs.declared.Entry.{Entry}
 use Rattle.build_tables.specs.Entries.{Table, entry, none, marked, under}
-use Rattle.build_tables.specs.Rows.{Cols, row, each2, firsts, rows}
-
--- the same done to each column
-abbrev pub each : ((A : Type 0) → List A → List A) → Cols → Cols
-each f c =
-    record {
-      x = f Float c.x;
-      y = f Float c.y;
-      seen = f ℕ c.seen;
-      id = f ℕ c.id;
-      parent = f ℕ c.parent;
-      num = f ℕ c.num;
-      energy = f ℕ c.energy;
-    }
+use Rattle.build_tables.specs.Rows.{Cols, row, each, each2, firsts, rows}
 
 -- an entry stored, field by field
 abbrev pub put_all : Cols → ℕ → Entry → Cols

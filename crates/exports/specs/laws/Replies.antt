@@ -5,9 +5,9 @@ use Rattle.std.specs.Prelude.{◌≡◌, List, ℕ, ℤ, length, Float}
 use Rattle.floats.specs.laws.Replies.{same-reply}
 use Rattle.kdsort.specs.Cols.{IndexCols}
 use Rattle.kdslots.specs.declared.Query.{Query}
-use Rattle.kdbush.specs.Reply.{build_number, build_carried, built, index_checked, search_number, search_carried, searched, column_after}
-use Rattle.kdwalk.specs.declared.Step.{Step}
-use Rattle.kdwalk.specs.Reply.{step_number, first_step, after_step, step_carried}
+use Rattle.refusals.specs.Refusals.{number, carried, refusal_carried}
+use Rattle.kdbush.specs.Reply.{built, index_checked, searched, column_after}
+use Rattle.kdwalk.specs.Reply.{Step, first_step, after_step, step_carried}
 use Rattle.range.specs.declared.DataRange.{DataRange}
 use Rattle.range.specs.Range.{normalized, denormalized}
 use Rattle.build_tables.specs.declared.Options.{Options}
@@ -26,7 +26,7 @@ use Rattle.ask_tile.specs.Asked.{tiled}
 use Rattle.ask_tile.specs.Tallied.{tallied}
 use Rattle.ask_owner.specs.Asked.{owner_asked}
 use Rattle.posting.specs.Post.{posted}
-use Rattle.exports.specs.Told.{Said, zoom_said, tally_said, owner_said, Told, told_of, EffortTold, effort_told_of, TileTold, tile_of}
+use Rattle.exports.specs.Told.{Said, number_said, tally_said, Told, told_of, EffortTold, effort_told_of, TileTold, tile_of}
 use Rattle.exports.specs.Told.{PostTold, post_told_of}
 use Rattle.exports.specs.Laid.{Laid, laid_of}
 use Rattle.exports.specs.Read.{entry_asked, ReadAs, read_of}
@@ -37,7 +37,7 @@ same-told : {A : Type 0} (n k : ℕ) (a : A) (r s c d : ℕ) (u v : A) → (r �
 same-told n k a r s c d u v e f = (same-reply e.0 f.0, same-reply e.1 f.1, same-reply e.2 f.2)
 
 -- and of a step its number and its slot
-same_step : (x : Step) (r s i j : ℕ) → (r ≡ step_number x) × (i ≡ step_carried x) → (s ≡ step_number x) × (j ≡ step_carried x) → (r ≡ s)
+same_step : (x : Step) (r s i j : ℕ) → (r ≡ number x) × (i ≡ step_carried x) → (s ≡ number x) × (j ≡ step_carried x) → (r ≡ s)
     × (i ≡ j)
 same_step x r s i j e f = (same-reply e.0 f.0, same-reply e.1 f.1)
 
@@ -45,26 +45,26 @@ same_step x r s i j e f = (same-reply e.0 f.0, same-reply e.1 f.1)
 
 -- `kdbush_build`
 pub build-replies : (size : ℕ) (xs ys : List Float) (w : IndexCols) (r s c d : ℕ) (u v : IndexCols) → let a = index_checked size xs ys w in
-    (r ≡ build_number a) × (c ≡ build_carried a) × (u ≡ built size xs ys w)
-    → (s ≡ build_number a) × (d ≡ build_carried a) × (v ≡ built size xs ys w) → (r ≡ s) × (c ≡ d) × (u ≡ v)
-build-replies size xs ys w = let a = index_checked size xs ys w in same-told (build_number a) (build_carried a) (built size xs ys w)
+    (r ≡ number a) × (c ≡ refusal_carried a) × (u ≡ built size xs ys w)
+    → (s ≡ number a) × (d ≡ refusal_carried a) × (v ≡ built size xs ys w) → (r ≡ s) × (c ≡ d) × (u ≡ v)
+build-replies size xs ys w = let a = index_checked size xs ys w in same-told (number a) (refusal_carried a) (built size xs ys w)
 
 module _ (q : Query) (size n : ℕ) (co : List Float) where
   -- `kdbush_range`, `kdbush_within`
   pub search-replies : (ids out : List ℕ) (r s c d : ℕ) (u v : List ℕ) → let a = searched q size n ids co (length out) in
-      (r ≡ search_number a) × (c ≡ search_carried a) × (u ≡ column_after q size n ids co out)
-      → (s ≡ search_number a) × (d ≡ search_carried a) × (v ≡ column_after q size n ids co out) → (r ≡ s) × (c ≡ d) × (u ≡ v)
+      (r ≡ number a) × (c ≡ carried a) × (u ≡ column_after q size n ids co out)
+      → (s ≡ number a) × (d ≡ carried a) × (v ≡ column_after q size n ids co out) → (r ≡ s) × (c ≡ d) × (u ≡ v)
   search-replies ids out =
-      let a = searched q size n ids co (length out) in same-told (search_number a) (search_carried a) (column_after q size n ids co out)
+      let a = searched q size n ids co (length out) in same-told (number a) (carried a) (column_after q size n ids co out)
 
   -- `kdbush_range_first`, `kdbush_within_first`
   pub first-replies : (r s i j : ℕ) → let x = first_step q size n co in
-      (r ≡ step_number x) × (i ≡ step_carried x) → (s ≡ step_number x) × (j ≡ step_carried x) → (r ≡ s) × (i ≡ j)
+      (r ≡ number x) × (i ≡ step_carried x) → (s ≡ number x) × (j ≡ step_carried x) → (r ≡ s) × (i ≡ j)
   first-replies = same_step (first_step q size n co)
 
   -- `kdbush_range_after`, `kdbush_within_after`
   pub after-replies : (slot r s i j : ℕ) → let x = after_step q size n co slot in
-      (r ≡ step_number x) × (i ≡ step_carried x) → (s ≡ step_number x) × (j ≡ step_carried x) → (r ≡ s) × (i ≡ j)
+      (r ≡ number x) × (i ≡ step_carried x) → (s ≡ number x) × (j ≡ step_carried x) → (r ≡ s) × (i ≡ j)
   after-replies slot = same_step (after_step q size n co slot)
 
 -- ---- the build, and the questions to it
@@ -98,7 +98,7 @@ module _ (s : State) (c : Columns) (cid : ℕ) where
       → t ≡ told_of (leaves_of s c cid limit skip) out → r ≡ t
   leaves-replies limit skip out r t = same-reply
 
-  pub expansion-replies : (r t : Said) → r ≡ zoom_said (zoom_of s c cid) → t ≡ zoom_said (zoom_of s c cid) → r ≡ t
+  pub expansion-replies : (r t : Said) → r ≡ number_said (zoom_of s c cid) → t ≡ number_said (zoom_of s c cid) → r ≡ t
   expansion-replies r t = same-reply
 
 -- `supercluster_tile`, `supercluster_tally`
@@ -111,8 +111,8 @@ module _ (s : State) (c : Columns) (z x y : ℕ) where
   tally-replies r t = same-reply
 
 -- `supercluster_owner`
-pub owner-replies : (s : State) (owners : List ℕ) (lamp zoom : ℕ) (r t : Said) → r ≡ owner_said (owner_asked s owners lamp zoom)
-    → t ≡ owner_said (owner_asked s owners lamp zoom) → r ≡ t
+pub owner-replies : (s : State) (owners : List ℕ) (lamp zoom : ℕ) (r t : Said) → r ≡ number_said (owner_asked s owners lamp zoom)
+    → t ≡ number_said (owner_asked s owners lamp zoom) → r ≡ t
 owner-replies s owners lamp zoom r t = same-reply
 
 -- `supercluster_post`

@@ -33,7 +33,7 @@ less n h = subst (λ (z : ℤ). SFits w64 z) (sym (minus n h)) (record { sfits =
 pub round_up-requires : goal.round_up-requires
 unfolding of_bits
 round_up-requires c =
-    let h = below c.args.v (subst T (sym c.if-v.true) tt) c.requires.t in
+    let h = below c.args.v (subst T (sym c.if-v.true) tt) c.requires.at_least in
     record { not_negative = h.0; at_most = h.1 }
 
 pub overflow_sub-result : goal.overflow_sub-result
@@ -42,7 +42,7 @@ overflow_sub-result c = less c.round_up.result c.round_up.ensures.upper_bound
 pub round_up-requires-else-v : goal.round_up-requires-else-v
 unfolding of_bits
 round_up-requires-else-v c =
-    record { not_negative = above c.args.v c.if-v.false c.requires.t_2 c.requires.t; at_most = c.requires.t_2 }
+    record { not_negative = above c.args.v c.if-v.false c.requires.at_most c.requires.at_least; at_most = c.requires.at_most }
 
 pub returns-then-v : goal.returns-then-v
 unfolding of_bits
@@ -51,7 +51,7 @@ returns-then-v c =
     let v = c.args.v in
     let s = c.requires in
     to_z-of_z (less n c.round_up.ensures.upper_bound) ∙ minus n c.round_up.ensures.upper_bound ∙ ap (λ (k : ℕ). neg_ℤ (pos k)) c.round_up.ensures.value
-    ∙ sym (away-neg v (neg-fin v s.t s.t_2) (subst T (sym c.if-v.true) tt))
+    ∙ sym (away-neg v (neg-fin v s.at_least s.at_most) (subst T (sym c.if-v.true) tt))
 
 pub returns-else-v : goal.returns-else-v
 unfolding of_bits
@@ -60,4 +60,4 @@ returns-else-v c =
     let v = c.args.v in
     let s = c.requires in
     to_z_pos w64 (lt_of_lt_of_le c.round_up-else-v.ensures.upper_bound (lit≤ tt)) ∙ ap pos c.round_up-else-v.ensures.value
-    ∙ sym (away-pos v (neg-fin v s.t s.t_2) (above v c.if-v.false s.t_2 s.t))
+    ∙ sym (away-pos v (neg-fin v s.at_least s.at_most) (above v c.if-v.false s.at_most s.at_least))

@@ -1,101 +1,114 @@
 -- `kdbush::part` meets its contract: a leaf is scanned; a node is its median, then its right part if it is searched, then its left.
 -- Assumes nothing.
-use Rattle.std.proofs.Common.{◌≡◌, sym, ◌∙◌, List, ℕ, ◌+◌, ◌-◌, arith}
-use Rattle.kdsort.specs.Shape.{shape, mid}
-use Rattle.kdbush.specs.declared.Found.TheVariants.{All, Spoiled}
+use Rattle.std.proofs.Common.{◌≡◌, sym, refl, ap, ◌∙◌, ℕ, ◌+◌, ◌-◌, Some, None, arith}
+use Rattle.kdsort.specs.Shape.{shape}
 use Rattle.kdslots.specs.Slots.{over, when, slots}
 use Rattle.kdbush.specs.laws.Run.{run, ran}
 use Rattle.kdbush.specs.Run.{places}
-use Rattle.kdbush.proofs.Runs.{put_count, part_count, part-leaf, went, skipped, node-put, node-right, node-left}
+use Rattle.kdbush.proofs.Runs.{same_ran, same_part, put_count, part_count, part-leaf, went, skipped, node-put, node-right, node-left}
 use Rattle.kdbush.proofs.+part.Goals as goal
-use Rattle.kdbush.proofs.+part.Goals.{then-right_at+in-All-part, else-right_at}
+use Rattle.kdbush.proofs.+part.Goals.{After-goes_left, then-goes_right+in_ok-k-2, else-goes_right}
 
-pub returns-then-hi-lo : goal.returns-then-hi-lo
-returns-then-hi-lo t c =
+pub returns-then-len-most : goal.returns-then-len-most
+returns-then-len-most t c =
     let a = c.args in
-    part-leaf (over a.q a.coords.now) a.ids.now a.n a.most a.lo a.hi a.axis a.at a.out.now c.scan.result c.scan.new.out c.if-hi-lo.true
-    c.scan.ensures
+    let s = a.s.now in
+    part-leaf (over s.query s.coords.now) a.ids.now s.n (s.node_size + 1) a.v.lo a.v.hi a.v.axis a.at a.out.now c.scan.result c.scan.new.out
+    (omega arith) c.scan.ensures
 
-pub returns-in_default : goal.returns-in_default
-returns-in_default t c =
+pub returns-in_err-k : goal.returns-in_err-k
+returns-in_err-k t c =
     let a = c.args in
-    node-put (over a.q a.coords.now) a.ids.now a.n a.most a.lo a.hi a.axis a.at a.out.now c.if-hi-lo.false c.put.new.out
-    c.in_default.ensures
+    let s = a.s.now in
+    same_ran c.from_residual.ensures refl
+    ∙ node-put (over s.query s.coords.now) a.ids.now s.n (s.node_size + 1) a.v.lo a.v.hi a.v.axis a.at c.median-m.result a.out.now
+    (omega arith) c.median-m.ensures c.put.new.out c.in_err-k.ensures
 
 pub part-requires : goal.part-requires
 part-requires t c =
     let a = c.args in
-    let s = over a.q a.coords.now in
-    let m = mid a.lo a.hi in
-    let k = put_count a.n a.at c.in-All.k a.ids.now m (s.test m) a.out.now c.put.new.out c.in-All.ensures in
+    let s = a.s.now in
+    let m = c.median-m.result in
+    let k = put_count s.n a.at c.in_ok-k.k a.ids.now m ((over s.query s.coords.now).test m) a.out.now c.put.new.out c.in_ok-k.ensures in
     omega (arith, k)
 
-pub returns-in_default-part : goal.returns-in_default-part
-returns-in_default-part t c =
+pub returns-in_err-k-2 : goal.returns-in_err-k-2
+returns-in_err-k-2 t c =
     let a = c.args in
-    let s = over a.q a.coords.now in
-    let m = mid a.lo a.hi in
-    node-right s a.ids.now a.n a.most a.lo a.hi a.axis a.at a.out.now c.if-hi-lo.false c.in-All.k c.put.new.out c.in-All.ensures
-    c.part.new.out
-    (went a.n c.in-All.k a.ids.now (slots s (1 - a.axis) (shape a.most (m + 1) a.hi)) (s.right a.axis m) Spoiled c.put.new.out
-    c.part.new.out (sym c.if-right_at.ensures) c.in_default-part.ensures)
+    let s = a.s.now in
+    let o = over s.query s.coords.now in
+    let most = s.node_size + 1 in
+    let m = c.median-m.result in
+    let k = c.in_ok-k.k in
+    same_ran c.from_residual-in_err-k-2.ensures refl
+    ∙ node-right o a.ids.now s.n most a.v.lo a.v.hi a.v.axis a.at m a.out.now (omega arith) c.median-m.ensures k c.put.new.out
+    c.in_ok-k.ensures c.part.new.out
+    (went s.n k a.ids.now (slots o (1 - a.v.axis) (shape most (m + 1) a.v.hi)) (o.right a.v.axis m) None c.put.new.out c.part.new.out
+    (sym c.if-goes_right.ensures)
+    (same_part o a.ids.now s.n most k None c.put.new.out c.part.new.out (omega arith) (omega arith) (omega arith) c.in_err-k-2.ensures))
 
-ran-eq : {j k : ℕ} {o p : List ℕ} → j ≡ k → o ≡ p → ran (All j) o ≡ ran (All k) p
-ran-eq e f = cc
-
-pub part-requires-then-left_at : goal.part-requires-then-left_at
-part-requires-then-left_at t c =
+-- after the median and the right part, whether that is searched or not
+right : (t : ℕ) (c : After-goes_left t) → let a = c.args in
+    let s = a.s.now in
+    let o = over s.query s.coords.now in
+    let m = c.median-m.result in
+    ran (Some c.if-goes_right.k) c.if-goes_right.out ≡ run s.n c.in_ok-k.k
+    (places a.ids.now (when (o.right a.v.axis m) (slots o (1 - a.v.axis) (shape (s.node_size + 1) (m + 1) a.v.hi)))) c.put.new.out
+right t c =
     let a = c.args in
-    let s = over a.q a.coords.now in
-    let m = mid a.lo a.hi in
-    let rights = slots s (1 - a.axis) (shape a.most (m + 1) a.hi) in
-    let right : ran (All c.if-right_at.j) c.if-right_at.out ≡ run a.n c.in-All.k (places a.ids.now (when (s.right a.axis m) rights)) c.put.new.out =
-    elim c.if-right_at.branch [
-      | then-right_at+in-All-part w ↦ ran-eq w.j-is w.out-is
-          ∙ went a.n c.in-All.k a.ids.now rights (s.right a.axis m) (All w.in-All-part.r) c.put.new.out w.part.new.out
-          (sym c.right_at.ensures ∙ w.if-right_at.true) w.in-All-part.ensures
-      | else-right_at w ↦ ran-eq w.j-is w.out-is
-          ∙ skipped a.n c.in-All.k a.ids.now rights (s.right a.axis m) c.put.new.out (sym c.right_at.ensures ∙ w.if-right_at.false)
-    ] in
-    let k = put_count a.n a.at c.in-All.k a.ids.now m (s.test m) a.out.now c.put.new.out c.in-All.ensures in
-    let j = part_count s (1 - a.axis) a.most (m + 1) a.hi a.n c.in-All.k c.if-right_at.j a.ids.now (s.right a.axis m) c.put.new.out
-    c.if-right_at.out right in
+    let s = a.s.now in
+    let o = over s.query s.coords.now in
+    let most = s.node_size + 1 in
+    let m = c.median-m.result in
+    let k = c.in_ok-k.k in
+    let rights = slots o (1 - a.v.axis) (shape most (m + 1) a.v.hi) in
+    elim c.if-goes_right.branch [
+      | then-goes_right+in_ok-k-2 w ↦ same_ran (ap Some w.k-is) w.out-is
+          ∙ went s.n k a.ids.now rights (o.right a.v.axis m) (Some w.in_ok-k-2.k) c.put.new.out w.part.new.out
+          (sym c.goes_right.ensures ∙ w.if-goes_right.true)
+          (same_part o a.ids.now s.n most k (Some w.in_ok-k-2.k) c.put.new.out w.part.new.out (omega arith) (omega arith) (omega arith)
+          w.in_ok-k-2.ensures)
+      | else-goes_right w ↦ same_ran (ap Some w.k-is) w.out-is
+          ∙ skipped s.n k a.ids.now rights (o.right a.v.axis m) c.put.new.out (sym c.goes_right.ensures ∙ w.if-goes_right.false)
+    ]
+
+pub part-requires-then-goes_left : goal.part-requires-then-goes_left
+part-requires-then-goes_left t c =
+    let a = c.args in
+    let s = a.s.now in
+    let o = over s.query s.coords.now in
+    let m = c.median-m.result in
+    let r = right t (goal.at.part-requires-then-goes_left t c).After-goes_left in
+    let k = put_count s.n a.at c.in_ok-k.k a.ids.now m (o.test m) a.out.now c.put.new.out c.in_ok-k.ensures in
+    let j = part_count o (1 - a.v.axis) (s.node_size + 1) (m + 1) a.v.hi s.n c.in_ok-k.k c.if-goes_right.k a.ids.now
+    (o.right a.v.axis m) c.put.new.out c.if-goes_right.out r in
     omega (arith, k, j)
 
-pub returns-then-left_at : goal.returns-then-left_at
-returns-then-left_at t c =
+pub returns-then-goes_left : goal.returns-then-goes_left
+returns-then-goes_left t c =
     let a = c.args in
-    let s = over a.q a.coords.now in
-    let m = mid a.lo a.hi in
-    let rights = slots s (1 - a.axis) (shape a.most (m + 1) a.hi) in
-    let right : ran (All c.if-right_at.j) c.if-right_at.out ≡ run a.n c.in-All.k (places a.ids.now (when (s.right a.axis m) rights)) c.put.new.out =
-    elim c.if-right_at.branch [
-      | then-right_at+in-All-part w ↦ ran-eq w.j-is w.out-is
-          ∙ went a.n c.in-All.k a.ids.now rights (s.right a.axis m) (All w.in-All-part.r) c.put.new.out w.part.new.out
-          (sym c.right_at.ensures ∙ w.if-right_at.true) w.in-All-part.ensures
-      | else-right_at w ↦ ran-eq w.j-is w.out-is
-          ∙ skipped a.n c.in-All.k a.ids.now rights (s.right a.axis m) c.put.new.out (sym c.right_at.ensures ∙ w.if-right_at.false)
-    ] in
-    node-left s a.ids.now a.n a.most a.lo a.hi a.axis a.at a.out.now c.if-hi-lo.false c.in-All.k c.put.new.out c.in-All.ensures
-    c.if-right_at.j c.if-right_at.out right c.part-then-left_at.result c.part-then-left_at.new.out
-    (went a.n c.if-right_at.j a.ids.now (slots s (1 - a.axis) (shape a.most a.lo m)) (s.left a.axis m) c.part-then-left_at.result
-    c.if-right_at.out c.part-then-left_at.new.out (sym c.if-left_at.ensures) c.part-then-left_at.ensures)
+    let s = a.s.now in
+    let o = over s.query s.coords.now in
+    let most = s.node_size + 1 in
+    let m = c.median-m.result in
+    let x = c.part-then-goes_left.result in
+    let end = c.part-then-goes_left.new.out in
+    node-left o a.ids.now s.n most a.v.lo a.v.hi a.v.axis a.at m a.out.now (omega arith) c.median-m.ensures c.in_ok-k.k c.put.new.out
+    c.in_ok-k.ensures c.if-goes_right.k c.if-goes_right.out (right t (goal.at.returns-then-goes_left t c).After-goes_left) x end
+    (went s.n c.if-goes_right.k a.ids.now (slots o (1 - a.v.axis) (shape most a.v.lo m)) (o.left a.v.axis m) x c.if-goes_right.out end
+    (sym c.if-goes_left.ensures)
+    (same_part o a.ids.now s.n most c.if-goes_right.k x c.if-goes_right.out end (omega arith) (omega arith) (omega arith)
+    c.part-then-goes_left.ensures))
 
 pub returns : goal.returns
 returns t c =
     let a = c.args in
-    let s = over a.q a.coords.now in
-    let m = mid a.lo a.hi in
-    let rights = slots s (1 - a.axis) (shape a.most (m + 1) a.hi) in
-    let right : ran (All c.if-right_at.j) c.if-right_at.out ≡ run a.n c.in-All.k (places a.ids.now (when (s.right a.axis m) rights)) c.put.new.out =
-    elim c.if-right_at.branch [
-      | then-right_at+in-All-part w ↦ ran-eq w.j-is w.out-is
-          ∙ went a.n c.in-All.k a.ids.now rights (s.right a.axis m) (All w.in-All-part.r) c.put.new.out w.part.new.out
-          (sym c.right_at.ensures ∙ w.if-right_at.true) w.in-All-part.ensures
-      | else-right_at w ↦ ran-eq w.j-is w.out-is
-          ∙ skipped a.n c.in-All.k a.ids.now rights (s.right a.axis m) c.put.new.out (sym c.right_at.ensures ∙ w.if-right_at.false)
-    ] in
-    node-left s a.ids.now a.n a.most a.lo a.hi a.axis a.at a.out.now c.if-hi-lo.false c.in-All.k c.put.new.out c.in-All.ensures
-    c.if-right_at.j c.if-right_at.out right (All c.if-right_at.j) c.if-right_at.out
-    (skipped a.n c.if-right_at.j a.ids.now (slots s (1 - a.axis) (shape a.most a.lo m)) (s.left a.axis m) c.if-right_at.out
-    (sym c.if-left_at.ensures))
+    let s = a.s.now in
+    let o = over s.query s.coords.now in
+    let most = s.node_size + 1 in
+    let m = c.median-m.result in
+    node-left o a.ids.now s.n most a.v.lo a.v.hi a.v.axis a.at m a.out.now (omega arith) c.median-m.ensures c.in_ok-k.k c.put.new.out
+    c.in_ok-k.ensures c.if-goes_right.k c.if-goes_right.out (right t (goal.at.returns t c).After-goes_left) (Some c.if-goes_right.k)
+    c.if-goes_right.out
+    (skipped s.n c.if-goes_right.k a.ids.now (slots o (1 - a.v.axis) (shape most a.v.lo m)) (o.left a.v.axis m) c.if-goes_right.out
+    (sym c.if-goes_left.ensures))

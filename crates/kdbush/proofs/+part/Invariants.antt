@@ -3,4 +3,4 @@ use Rattle.std.proofs.Common.{◌-◌}
 use Rattle.kdbush.proofs.+part.Given as goal
 
 abbrev pub decreases-part : goal.decreases-part
-decreases-part l = l.hi - l.lo
+decreases-part l = l.v.hi - l.v.lo

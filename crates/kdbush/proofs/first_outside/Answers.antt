@@ -1,38 +1,33 @@
--- `kdbush::first_outside` meets its contract: what is left of the points has the first one outside. Assumes nothing.
-use Rattle.std.proofs.Common.{sym, ap, ◌∙◌, refl, List, Float, arith, drop}
-use lib.ListN.{drop_of_length-le}
+-- `kdbush::first_outside` meets its contract: the first pair of coordinates that is not within [0,1] is the first point outside.
+-- Assumes nothing.
+use Rattle.std.proofs.Common.{◌≡◌, ◌∙◌, refl, ℕ, suc, List, [], ◌∷◌, Bool, true, false, not, ◌&&◌, Float, rules, tests}
+use Rattle.std.proofs.lemmas.Iterator.{YieldsList-from_slice, YieldsList-from_zip}
+use Rattle.std.proofs.lemmas.Iterator.Search.{position_from_yields_List}
+use Rattle.std.proofs.lemmas.Iterator.Adapters.{position_from-zero}
+use Rattle.std.proofs.Common.{add-one}
+use Rattle.std.specs.List.{position_from, zip}
+use Rattle.floats.specs.Unit.{in01}
 use Rattle.kdbush.specs.Reply.{first_outside}
-use Rattle.kdslots.specs.laws.Bounds.{both_true, first-false, second-false}
-use Rattle.kdbush.proofs.Replies.{outside-step, outside-here}
 use Rattle.kdbush.proofs.first_outside.Goals as goal
 
-pub loop-i-init : goal.loop-i-init
-loop-i-init c = (omega arith, refl)
+-- a point that is outside
+abbrev outside : Float × Float → Bool
+outside p = not (in01 p.0 && in01 p.1)
 
-pub returns-then-not-in_unit : goal.returns-then-not-in_unit
-returns-then-not-in_unit c =
-    let a = c.args in
-    outside-here a.xs.now a.ys.now c.loop-i.i c.loop-i-test.true (omega arith) (first-false _ (sym c.if-not-in_unit.ensures))
-    ∙ sym c.loop-i.invariant.1
-
-pub returns-then-not-in_unit-2 : goal.returns-then-not-in_unit-2
-returns-then-not-in_unit-2 c =
-    let a = c.args in
-    outside-here a.xs.now a.ys.now c.loop-i.i c.loop-i-test.true (omega arith)
-    (second-false (sym c.if-not-in_unit.ensures) (sym c.if-not-in_unit-2.ensures))
-    ∙ sym c.loop-i.invariant.1
-
-pub loop-i-preserved : goal.loop-i-preserved
-loop-i-preserved c =
-    let a = c.args in (
-      omega arith,
-      c.loop-i.invariant.1 ∙ outside-step a.xs.now a.ys.now c.loop-i.i c.loop-i-test.true (omega arith)
-          (both_true (sym c.if-not-in_unit.ensures) (sym c.if-not-in_unit-2.ensures)),
-    )
+first-outside : (xs ys : List Float) (i : ℕ) → position_from outside i (zip xs ys) ≡ first_outside xs ys i
+unfolding first_outside
+first-outside [] ys i = refl
+first-outside (x ∷ xs) [] i = refl
+first-outside (x ∷ xs) (y ∷ ys) i = go (in01 x && in01 y) refl (first-outside xs ys (suc i))
+  where
+    go : (b : Bool) → (in01 x && in01 y) ≡ b → position_from outside (suc i) (zip xs ys) ≡ first_outside xs ys (suc i)
+        → position_from outside i (zip (x ∷ xs) (y ∷ ys)) ≡ first_outside (x ∷ xs) (y ∷ ys) i
+    go true e h = rw (e, first_outside, add-one i) h
+    go false e h = rw (e, first_outside)
 
 pub returns : goal.returns
-unfolding first_outside
 returns c =
     let a = c.args in
-    sym (c.loop-i.invariant.1 ∙ ap (λ (z : List Float). first_outside z (drop c.loop-i.i a.ys.now) c.loop-i.i)
-    (drop_of_length-le a.xs.now c.loop-i-test.false))
+    position_from_yields_List outside c.position.new.self _ c.position.result c.position.ensures.ran
+    (YieldsList-from_zip {s = c.zip.result} (YieldsList-from_slice a.xs.now cc) (YieldsList-from_slice a.ys.now cc)) (λ x b q k. search (rules, tests))
+    ∙ position_from-zero outside (zip a.xs.now a.ys.now) ∙ first-outside a.xs.now a.ys.now 0

@@ -1,28 +1,30 @@
--- `kdbush::put` meets its contract, by its four ways out. Assumes nothing.
-use Rattle.std.proofs.Common.{sym, arith}
+-- `kdbush::put` meets its contract, by its ways out. Assumes nothing.
+use Rattle.std.proofs.Common.{sym, refl, ◌∙◌}
 use Rattle.kdslots.specs.Slots.{over}
-use Rattle.kdbush.proofs.Runs.{put-none, put-spoiled, put-fits, put-past}
+use Rattle.kdbush.proofs.Runs.{same_ran, put-none, put-spoiled, put-fits, put-past}
 use Rattle.kdbush.proofs.put.Goals as goal
+use Rattle.kdbush.proofs.put.Goals.{then-at-out, else-at-out}
 
-pub returns-then-not-test_at : goal.returns-then-not-test_at
-returns-then-not-test_at c =
+pub returns-then-not-tests : goal.returns-then-not-tests
+returns-then-not-tests c =
     let a = c.args in
-    put-none a.n a.at a.ids.now a.i ((over a.q a.coords.now).test a.i) a.out.now (sym c.if-not-test_at.ensures)
+    let s = a.s.now in
+    put-none s.n a.at a.ids.now a.i ((over s.query s.coords.now).test a.i) a.out.now (sym c.if-not-tests.ensures)
 
-pub returns-then-n-wide : goal.returns-then-n-wide
-returns-then-n-wide c =
+pub returns-then-s-p : goal.returns-then-s-p
+returns-then-s-p c =
     let a = c.args in
-    put-spoiled a.n a.at a.ids.now a.i ((over a.q a.coords.now).test a.i) a.out.now (sym c.if-not-test_at.ensures)
-    (omega (arith, c.wide.ensures))
-
-pub returns-then-at-out : goal.returns-then-at-out
-returns-then-at-out c =
-    let a = c.args in
-    put-fits a.n a.at a.ids.now a.i ((over a.q a.coords.now).test a.i) a.out.now (sym c.if-not-test_at.ensures)
-    (omega (arith, c.wide.ensures))
+    let s = a.s.now in
+    put-spoiled s.n a.at a.ids.now a.i ((over s.query s.coords.now).test a.i) a.out.now (sym c.if-not-tests.ensures) c.if-s-p.true
 
 pub returns : goal.returns
 returns c =
     let a = c.args in
-    put-past a.n a.at a.ids.now a.i ((over a.q a.coords.now).test a.i) a.out.now (sym c.if-not-test_at.ensures)
-    (omega (arith, c.wide.ensures)) c.if-at-out.false
+    let s = a.s.now in
+    let t = (over s.query s.coords.now).test a.i in
+    elim c.if-at-out.branch [
+      | then-at-out w ↦ same_ran refl w.out-is
+          ∙ put-fits s.n a.at a.ids.now a.i t a.out.now (sym c.if-not-tests.ensures) c.if-s-p.false
+      | else-at-out w ↦ same_ran refl w.out-is
+          ∙ put-past s.n a.at a.ids.now a.i t a.out.now (sym c.if-not-tests.ensures) c.if-s-p.false w.if-at-out.false
+    ]

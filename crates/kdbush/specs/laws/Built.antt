@@ -1,6 +1,6 @@
 -- A build that is not refused leaves an index of its points: each slot holds one point and each point has one slot, in the order of the
 -- tree, and what lies past them is as it was. Every coordinate in it is from 0 to 1. Assumes nothing.
-use Rattle.std.specs.Prelude.{◌≡◌, refl, Bool, true, false, ◌&&◌, List, [], ◌∷◌, ℕ, zero, suc, ◌*◌, ◌≤◌, ◌<◌, eqb, get_or, Float}
+use Rattle.std.specs.Prelude.{◌≡◌, refl, Bool, true, false, ◌&&◌, List, [], ◌∷◌, ℕ, zero, suc, ◌*◌, ◌≤◌, ◌<◌, eqb, get_or, Float, Option, Some, None, Ok}
 use Rattle.std.proofs.Common.{sym, subst, arith}
 use borrow.Author.Tests.{leb-true, eqb-true, le-leb, eq-eqb}
 use Rattle.std.proofs.Math.Dec.{leb}
@@ -13,9 +13,6 @@ use Rattle.kdsort.specs.Cols.{IndexCols}
 use Rattle.kdsort.specs.Sort.{indexed}
 use Rattle.kdsort.specs.Tree.{Points, Index}
 use Rattle.kdsort.specs.laws.Indexes.{indexed-ok}
-use Rattle.kdbush.specs.declared.BuildReply.TheVariants.{Done}
-use Rattle.kdbush.specs.declared.Outside.{Outside}
-use Rattle.kdbush.specs.declared.Outside.TheVariants.{At, Nothing}
 use Rattle.kdslots.specs.Bounds.{node_size_ok, count_ok}
 use Rattle.kdslots.specs.laws.Bounds.{and_both, size_is, count-is}
 use Rattle.kdbush.specs.Reply.{pair_ok, first_outside, in_order, index_checked, built}
@@ -32,7 +29,7 @@ pub record AcceptedIndex (size : ℕ) (xs ys : List Float) (s : IndexCols) : Typ
   pub co-room : 2 * length xs ≤ length s.co
 
 -- where no point is outside, each is inside
-pub none-outside : (xs ys : List Float) (i : ℕ) → first_outside xs ys i ≡ Nothing → length ys ≡ length xs → (p : ℕ) → p < length xs
+pub none-outside : (xs ys : List Float) (i : ℕ) → first_outside xs ys i ≡ None → length ys ≡ length xs → (p : ℕ) → p < length xs
     → In01 (get_or xs p nan) × In01 (get_or ys p nan)
 unfolding first_outside
 none-outside [] ys i e l p h = absurd (omega arith)
@@ -40,21 +37,21 @@ none-outside (x ∷ xs) [] i e l p h = absurd (omega arith)
 none-outside (x ∷ xs) (y ∷ ys) i e l p h = go (in01 x && in01 y) refl p h (λ f k q. none-outside xs ys (suc i) f (omega arith) k q)
   where
     go : (b : Bool) → (in01 x && in01 y) ≡ b → (p : ℕ) → p < suc (length xs)
-        → (first_outside xs ys (suc i) ≡ Nothing → (k : ℕ) → k < length xs → In01 (get_or xs k nan) × In01 (get_or ys k nan))
+        → (first_outside xs ys (suc i) ≡ None → (k : ℕ) → k < length xs → In01 (get_or xs k nan) × In01 (get_or ys k nan))
         → In01 (get_or (x ∷ xs) p nan) × In01 (get_or (y ∷ ys) p nan)
     go true f zero h r = let w = and_both (in01 x) (in01 y) f in (in01→In01 x (yes_of w.0), in01→In01 y (yes_of w.1))
     go true f (suc k) h r = r (rw (f, first_outside) at e) k (omega arith)
-    go false f p h r = let g : At i ≡ Nothing = rw (f, first_outside) at e in absurd (let z : ◌≡◌ {A = ℕ} 0 1 = cc in omega arith)
+    go false f p h r = let g : Some i ≡ None = rw (f, first_outside) at e in absurd (let z : ◌≡◌ {A = ℕ} 0 1 = cc in omega arith)
 
--- a reply of Done passed every test
-pub done-tests : (a b : Bool) (o : Outside) (c : Bool) → in_order a b o c ≡ Done → (a ≡ true) × (b ≡ true) × (o ≡ Nothing) × (c ≡ true)
-done-tests true true Nothing true e = (refl, refl, refl, refl)
-done-tests true true Nothing false e = absurd (let z : ◌≡◌ {A = ℕ} 0 1 = cc in omega arith)
-done-tests true true (At i) c e = absurd (let z : ◌≡◌ {A = ℕ} 0 1 = cc in omega arith)
+-- a reply of `Ok` passed every test
+pub done-tests : (a b : Bool) (o : Option ℕ) (c : Bool) → in_order a b o c ≡ Ok tt → (a ≡ true) × (b ≡ true) × (o ≡ None) × (c ≡ true)
+done-tests true true None true e = (refl, refl, refl, refl)
+done-tests true true None false e = absurd (let z : ◌≡◌ {A = ℕ} 0 1 = cc in omega arith)
+done-tests true true (Some i) c e = absurd (let z : ◌≡◌ {A = ℕ} 0 1 = cc in omega arith)
 done-tests true false o c e = absurd (let z : ◌≡◌ {A = ℕ} 0 1 = cc in omega arith)
 done-tests false b o c e = absurd (let z : ◌≡◌ {A = ℕ} 0 1 = cc in omega arith)
 
-module _ (size : ℕ) (xs ys : List Float) (s : IndexCols) (e : index_checked size xs ys s ≡ Done) where
+module _ (size : ℕ) (xs ys : List Float) (s : IndexCols) (e : index_checked size xs ys s ≡ Ok tt) where
   pub accepted : AcceptedIndex size xs ys s
   unfolding index_checked
   accepted =
@@ -92,7 +89,7 @@ module _ (size : ℕ) (xs ys : List Float) (s : IndexCols) (e : index_checked si
 -- ---- and such points, a node size and columns as SCOPE asks are accepted
 
 no-outside : (xs ys : List Float) (i : ℕ) → length ys ≡ length xs → ((p : ℕ) → p < length xs → In01 (get_or xs p nan) × In01 (get_or ys p nan))
-    → first_outside xs ys i ≡ Nothing
+    → first_outside xs ys i ≡ None
 unfolding first_outside
 no-outside [] ys i l f = refl
 no-outside (x ∷ xs) [] i l f = refl
@@ -101,7 +98,7 @@ no-outside (x ∷ xs) (y ∷ ys) i l f =
     rw (is_true (in01 x) (In01→in01 x w.0), is_true (in01 y) (In01→in01 y w.1), first_outside)
     (no-outside xs ys (suc i) (omega arith) (λ p h. f (suc p) (omega arith)))
 
-pub accepts : (size : ℕ) (xs ys : List Float) (s : IndexCols) → AcceptedIndex size xs ys s → index_checked size xs ys s ≡ Done
+pub accepts : (size : ℕ) (xs ys : List Float) (s : IndexCols) → AcceptedIndex size xs ys s → index_checked size xs ys s ≡ Ok tt
 unfolding index_checked
 accepts size xs ys s A =
     rw (

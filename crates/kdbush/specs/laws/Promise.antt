@@ -1,7 +1,7 @@
 -- Of an index built from its points, what every search answers, in places, `range` and `within` alike: exactly the points that pass its
 -- test, each once, in one order of all places that no query changes (`answered-kept`). The own place of a query that is a point of the
 -- index is among them, and no search of such an index is refused as spoiled. Assumes nothing.
-use Rattle.std.specs.Prelude.{◌≡◌, refl, Bool, true, false, ◌&&◌, List, [], ◌∷◌, ◌++◌, ℕ, ◌≤◌, ◌<◌, T, get_or, drop, Float}
+use Rattle.std.specs.Prelude.{◌≡◌, refl, Bool, true, false, ◌&&◌, List, [], ◌∷◌, ◌++◌, ℕ, ◌≤◌, ◌<◌, T, get_or, drop, Float, Ok}
 use Rattle.std.proofs.Common.{sym, ap, ◌∙◌, subst, arith}
 use borrow.Author.Tests.{lt-ltb, le-leb}
 use Rattle.std.proofs.Math.ListN.{length}
@@ -14,7 +14,6 @@ use Rattle.kdsort.specs.Cols.{IndexCols, key}
 use Rattle.kdsort.specs.Tree.{Index}
 use Rattle.kdslots.specs.declared.Query.{Query}
 use Rattle.kdslots.specs.declared.Query.TheVariants.{Within}
-use Rattle.kdbush.specs.declared.SearchReply.TheVariants.{Found}
 use Rattle.kdslots.specs.Query.{passes_q, query_ok}
 use Rattle.kdslots.specs.Slots.{answers}
 use Rattle.kdbush.specs.Run.{places, sound, whole}
@@ -194,7 +193,7 @@ promised size xs ys s S I ok wide =
 -- a search of it with room for all its places is answered: no refusal, and the places at the front of the column
 module _ (size n : ℕ) (ids : List ℕ) (co : List Float) (P : Promised size n ids co) (q : Query) where
   module _ (out : List ℕ) (room : n ≤ length out) where
-    pub promised-listed : listed q size n ids co (length out) ≡ Found (length (found q size n ids co))
+    pub promised-listed : listed q size n ids co (length out) ≡ Ok (length (found q size n ids co))
     unfolding listed
     promised-listed =
         rw (
@@ -216,7 +215,7 @@ module _ (size n : ℕ) (ids : List ℕ) (co : List Float) (P : Promised size n 
         )
 
   module _ (fine : query_ok q ≡ true) (out : List ℕ) (room : n ≤ length out) where
-    pub promised-searched : searched q size n ids co (length out) ≡ Found (length (found q size n ids co))
+    pub promised-searched : searched q size n ids co (length out) ≡ Ok (length (found q size n ids co))
     unfolding searched
     promised-searched = rw (P.ok, le-leb n (length ids) P.wide, fine) (promised-listed out room)
 

@@ -1,31 +1,29 @@
 -- A search place by place, as the code makes it: its count and the lent column come to the definitions of Run. Assumes nothing.
-use Rattle.std.specs.Prelude.{Bool, true, false, ◌≡◌, refl, List, [], ◌∷◌, ◌++◌, ℕ, suc, ◌+◌, ltb, length, get_or, set}
+use Rattle.std.specs.Prelude.{Bool, true, false, ◌≡◌, refl, List, [], ◌∷◌, ◌++◌, ℕ, suc, ◌+◌, ltb, length, get_or, set, Option, Some, None}
 use Rattle.std.proofs.Common.{sym, ap, ◌∙◌, arith, add-one, add-zero, zero-add}
 use Rattle.std.proofs.lemmas.List.{length-map}
 use Rattle.std.proofs.lemmas.List.Edits.{sets}
 use Rattle.std.proofs.Math.Seq.{drop-nil}
-use Rattle.kdbush.specs.declared.Found.{Found}
-use Rattle.kdbush.specs.declared.Found.TheVariants.{All, Spoiled}
 use Rattle.kdbush.specs.Run.{places, sound, whole, filled}
 
 -- a reply beside what the column holds
 pub data Ran : Type 0 where
-  ran : Found → List ℕ → Ran
+  ran : Option ℕ → List ℕ → Ran
 
 -- the places p one after the other, `at` found before, an index of n: each goes to its position, if that is within the column. The first
 -- that is n or more ends it.
 unfoldable pub run : ℕ → ℕ → List ℕ → List ℕ → Ran
-run n at [] out = ran (All at) out
+run n at [] out = ran (Some at) out
 run n at (p ∷ ps) out =
     elim (ltb p n) [
       | true ↦ run n (at + 1) ps (set out at p)
-      | false ↦ ran Spoiled out
+      | false ↦ ran None out
     ]
 
 -- what follows, where nothing was spoiled
-abbrev pub next : Found → List ℕ → (ℕ → List ℕ → Ran) → Ran
-next (All k) out f = f k out
-next Spoiled out f = ran Spoiled out
+abbrev pub next : Option ℕ → List ℕ → (ℕ → List ℕ → Ran) → Ran
+next (Some k) out f = f k out
+next None out f = ran None out
 
 abbrev pub and_then : Ran → (ℕ → List ℕ → Ran) → Ran
 and_then (ran r out) f = next r out f
@@ -47,11 +45,11 @@ unfolding places
 places-length ids is = length-map is (λ i. get_or ids i 0)
 
 -- the reply: how many there are, or that one is spoiled
-abbrev pub pick_reply : Bool → ℕ → Found
-pick_reply true k = All k
-pick_reply false k = Spoiled
+abbrev pub pick_reply : Bool → ℕ → Option ℕ
+pick_reply true k = Some k
+pick_reply false k = None
 
-abbrev pub reply : ℕ → List ℕ → Found
+abbrev pub reply : ℕ → List ℕ → Option ℕ
 reply n ps = pick_reply (whole n ps) (length ps)
 
 run-sets : (n at : ℕ) (ps out : List ℕ) → run n at ps out ≡ ran (pick_reply (whole n ps) (at + length ps)) (sets out at (sound n ps))

@@ -1,12 +1,9 @@
--- `kdcount::count_slots` meets its contract: what is counted and what is left of the slots are all that are answered. Assumes nothing.
-use mathlib.Core.Path.{◌≡◌}
-use Prim.Native.Nat.{◌+◌, ◌-◌}
-use lib.ListN.{length}
+-- `kdcount::count_slots`: what is counted is what is answered of the slots below i. Assumes nothing.
+use Rattle.std.specs.Prelude.{◌≡◌, ◌+◌, ◌-◌, length}
 use Rattle.kdslots.specs.Slots.{over, scanned}
 use Rattle.kdcount.proofs.count_slots.Given as goal
 
 abbrev pub invariant-loop-i : goal.invariant-loop-i
-invariant-loop-i l = l.k + length (scanned (over l.q l.coords) l.i (l.hi - l.i)) ≡ length (scanned (over l.q l.coords) l.lo (l.hi - l.lo))
-
-abbrev pub decreases-loop-i : goal.decreases-loop-i
-decreases-loop-i l = l.hi - l.i
+invariant-loop-i l =
+    let s = over l.s.query l.s.coords.now in
+    l.k + length (scanned s l.i (l.fn.v.hi - l.i)) ≡ length (scanned s l.fn.v.lo (l.fn.v.hi - l.fn.v.lo))

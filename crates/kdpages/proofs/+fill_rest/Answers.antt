@@ -4,35 +4,44 @@ use Rattle.kdsort.specs.Shape.{shape, mid}
 use Rattle.kdslots.specs.Slots.{over, when, slots}
 use Rattle.kdwalk.specs.Cursor.{rest}
 use Rattle.kdpages.specs.Pages.{store}
-use Rattle.kdwalk.proofs.Firsts.{rest-leaf, rest-median, rest-right, rest-left}
+use Rattle.kdwalk.proofs.Firsts.{rest-leaf, rest-median, rest-right, rest-left, same_rest}
 use Rattle.kdpages.proofs.Stores.{more}
 use Rattle.kdpages.proofs.+fill_rest.Goals as goal
 
-pub returns-then-hi-lo : goal.returns-then-hi-lo
-returns-then-hi-lo t c =
+pub returns-then-len-most : goal.returns-then-len-most
+returns-then-len-most t c =
     let a = c.args in
+    let s = a.s.now in
     c.fill_from.ensures ∙ ap (λ (l : List ℕ). store 0 l a.page.now)
-    (sym (rest-leaf (over a.q a.coords.now) a.axis a.most a.lo a.hi a.c c.if-hi-lo.true))
+    (sym (rest-leaf (over s.query s.coords.now) a.v.axis (s.node_size + 1) a.v.lo a.v.hi a.c (omega arith)))
 
 pub returns-then-c-m : goal.returns-then-c-m
 returns-then-c-m t c =
     let a = c.args in
+    let s = a.s.now in
+    let o = over s.query s.coords.now in
+    let most = s.node_size + 1 in
     c.fill_rest.ensures ∙ ap (λ (l : List ℕ). store 0 l a.page.now)
-    (sym (rest-left (over a.q a.coords.now) a.axis a.most a.lo a.hi c.if-hi-lo.false a.c c.if-c-m.true))
+    (same_rest o most a.c c.left.ensures ∙ sym (rest-left o a.v.axis most a.v.lo a.v.hi (omega arith) a.c (omega arith)))
 
 pub returns-then-c-m-2 : goal.returns-then-c-m-2
 returns-then-c-m-2 t c =
     let a = c.args in
+    let s = a.s.now in
     c.fill_below.ensures ∙ ap (λ (l : List ℕ). store 0 l a.page.now)
-    (sym (rest-median (over a.q a.coords.now) a.axis a.most a.lo a.hi c.if-hi-lo.false a.c c.if-c-m-2.true))
+    (sym (rest-median (over s.query s.coords.now) a.v.axis (s.node_size + 1) a.v.lo a.v.hi (omega arith) a.c
+    (c.if-c-m-2.true ∙ c.median-m.ensures)))
 
 pub returns : goal.returns
 returns t c =
     let a = c.args in
-    let s = over a.q a.coords.now in
-    let m = mid a.lo a.hi in
-    let past : mid a.lo a.hi < a.c = omega (arith, c.if-c-m-2.false, c.if-c-m.false) in
+    let s = a.s.now in
+    let o = over s.query s.coords.now in
+    let most = s.node_size + 1 in
+    let m = mid a.v.lo a.v.hi in
+    let past : m < a.c = omega (arith, c.if-c-m-2.false, c.if-c-m.false) in
     c.fill_left.ensures
-    ∙ sym (more 0 c.fill_rest-k.result (rest s (1 - a.axis) (shape a.most (m + 1) a.hi) a.c)
-    (when (s.left a.axis m) (slots s (1 - a.axis) (shape a.most a.lo m))) a.page.now c.fill_rest-k.new.page c.fill_rest-k.ensures)
-    ∙ ap (λ (l : List ℕ). store 0 l a.page.now) (sym (rest-right s a.axis a.most a.lo a.hi c.if-hi-lo.false a.c past))
+    ∙ sym (more 0 c.fill_rest-k.result (rest o (1 - a.v.axis) (shape most (m + 1) a.v.hi) a.c)
+    (when (o.left a.v.axis m) (slots o (1 - a.v.axis) (shape most a.v.lo m))) a.page.now c.fill_rest-k.new.page
+    (c.fill_rest-k.ensures ∙ ap (λ (l : List ℕ). store 0 l a.page.now) (same_rest o most a.c c.right.ensures)))
+    ∙ ap (λ (l : List ℕ). store 0 l a.page.now) (sym (rest-right o a.v.axis most a.v.lo a.v.hi (omega arith) a.c past))

@@ -19,6 +19,11 @@ scanned-suc s i hi h = go (hi - i) (hi - (i + 1)) (omega arith)
     go : (a b : ℕ) → a ≡ suc b → scanned s i a ≡ when (s.test i) (i ∷ []) ++ scanned s (i + 1) b
     go a b e = rw e
 
+-- an interval by its bounds and its axis
+pub same_slots : (s : Search) (most : ℕ) {lo hi ax lo' hi' ax' : ℕ} → (lo ≡ lo') × (hi ≡ hi') × (ax ≡ ax')
+    → slots s ax (shape most lo hi) ≡ slots s ax' (shape most lo' hi')
+same_slots s most e = rw (e.0, e.1, e.2)
+
 pub slots-leaf : (s : Search) (ax most lo hi : ℕ) → hi - lo ≤ most → slots s ax (shape most lo hi) ≡ scanned s lo (hi - lo)
 unfolding slots
 slots-leaf s ax most lo hi h = rw (shape-leaf most lo hi h)

@@ -1,6 +1,6 @@
 -- `kdsort::sort`: the measure is the interval's length. Assumes nothing.
-use Prim.Native.Nat.{◌-◌}
+use Rattle.std.specs.Prelude.{◌-◌}
 use Rattle.kdsort.proofs.+sort.Given as goal
 
 abbrev pub decreases-sort : goal.decreases-sort
-decreases-sort l = l.hi - l.lo
+decreases-sort l = l.v.hi - l.v.lo

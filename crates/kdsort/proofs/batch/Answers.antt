@@ -6,8 +6,9 @@ use Prim.Native.Nat.{ℕ, ◌+◌, ◌-◌, ◌/◌, ◌<◌, ◌≤◌}
 use native.Mathlib.Omega.{arith}
 use lib.ListN.{length}
 use lib.Ieee.{Float}
-use Rattle.kdsort.specs.Cols.{IndexCols, index_cols}
-use Rattle.kdsort.specs.laws.Batches.{batch_entry, Ups, Downs, nearer-same, nearer-cols, batch-slots, batch-nearer}
+use Rattle.kdsort.specs.Cols.{IndexCols}
+use Rattle.kdsort.specs.Lent.{index_held_mut}
+use Rattle.kdsort.specs.laws.Batches.{batch_entry, Ups, Downs, nearer-cols, batch-nearer}
 use Rattle.kdsort.proofs.batch.Goals as goal
 
 -- what is known before the exchanges: xs and ys are the two lists, m and n their numbers of stops among `len` slots each
@@ -38,28 +39,15 @@ known i j len m n count a t s xs ys far half u d xs-is ys-is least =
       few = omega arith;
     }
 
-pub returns-then-j-i : goal.returns-then-j-i
-returns-then-j-i c = nearer-same _ _ _ _ _ c.requires.0
-
-pub exchange-requires : goal.exchange-requires
-exchange-requires c =
+pub returns-clause-slots : goal.returns-clause-slots
+returns-clause-slots c =
     let a = c.args in
-    let s = index_cols a.ids.now a.coords.now in
-    let h = known a.i a.j c.lesser-len.result c.stops_up-m.result c.stops_down-n.result c.lesser-count.result a.axis a.t s
-    c.stops_up-m.new.found c.stops_down-n.new.found c.if-j-i.false c.lesser-len.ensures c.stops_up-m.ensures
-    c.stops_down-n.ensures c.stops_up-m.auto.found c.stops_down-n.auto.found c.lesser-count.ensures in (
-      h.xs-long,
-      h.ys-long,
-      batch-slots a.axis a.t s a.i a.j _ _ _ _ _ _ h.up h.down h.apart c.lesser-count.result _
-          h.to-m h.to-n c.requires.1 c.requires.2,
-    )
-
-pub returns : goal.returns
-returns c =
-    let a = c.args in
-    let s = index_cols a.ids.now a.coords.now in
-    let h = known a.i a.j c.lesser-len.result c.stops_up-m.result c.stops_down-n.result c.lesser-count.result a.axis a.t s
-    c.stops_up-m.new.found c.stops_down-n.new.found c.if-j-i.false c.lesser-len.ensures c.stops_up-m.ensures
-    c.stops_down-n.ensures c.stops_up-m.auto.found c.stops_down-n.auto.found c.lesser-count.ensures in
+    let s = index_held_mut a.index.now in
+    let len = c.min-len.result in
+    let count = c.min-count.result in
+    let half : (len ≤ 64) × (len ≤ (a.j - a.i) / 2) = (omega arith, omega arith) in
+    let least : (count ≤ c.stops_up-m.result) × (count ≤ c.stops_down-n.result) = (omega arith, omega arith) in
+    let h = known a.i a.j len c.stops_up-m.result c.stops_down-n.result count a.axis a.t s c.stops_up-m.new.found c.stops_down-n.new.found
+    c.if-j-i.false half c.stops_up-m.ensures c.stops_down-n.ensures c.stops_up-m.auto.found c.stops_down-n.auto.found least in
     nearer-cols _ _ _ _ _ _ _ _ _ c.exchange.ensures
-    (batch-nearer a.axis a.t s a.i a.j _ _ _ _ _ _ h.up h.down h.apart c.lesser-count.result h.to-m h.to-n c.requires.3 c.requires.2)
+    (batch-nearer a.axis a.t s a.i a.j _ _ _ _ _ _ h.up h.down h.apart count h.to-m h.to-n c.requires.3 c.requires.2)

@@ -1,12 +1,9 @@
 -- `kdsort::partition`: what holds at the head of a pass, and how far each scan has come, with what stops it at the latest. The measures
 -- are how far the two ends are apart, and how far each scan has to go. Assumes nothing.
-use mathlib.Core.Path.{◌≡◌}
-use mathlib.Core.Bool.{false}
-use Prim.Native.Nat.{◌+◌, ◌-◌, ◌≤◌}
-use lib.Dec.{ltb}
-use lib.ListN.{length}
-use lib.Ieee.{lt}
-use Rattle.kdsort.specs.Cols.{index_cols, key}
+use Rattle.std.specs.Prelude.{◌≡◌, false, ◌+◌, ◌-◌, ◌≤◌, ltb}
+use Rattle.std.specs.Float.Ieee.{lt}
+use Rattle.kdsort.specs.Cols.{key}
+use Rattle.kdsort.specs.Lent.{index_held_mut, SameIndex}
 use Rattle.kdsort.specs.Select.{passes, placed}
 use Rattle.kdsort.specs.laws.Scans.{Up, Down}
 use Rattle.kdsort.proofs.Turns.{Low, Pass}
@@ -24,11 +21,11 @@ invariant-down l = Down l.axis l.t l.coords l.initial.j l.j × Low l.axis l.t l.
 abbrev pub decreases-down : goal.decreases-down
 decreases-down l = l.j
 
-abbrev pub invariant-loop-i : goal.invariant-loop-i
-invariant-loop-i l =
-    let s = placed l.axis l.t (index_cols l.fn.ids l.fn.coords) l.k l.left l.right in
-    Pass (passes (l.right - l.left) (ltb l.left l.right) l.axis l.t s l.left l.right) l.axis l.t l.left l.right (length l.fn.ids)
-    (length l.fn.coords) l.ids l.coords l.i l.j
+abbrev pub invariant-passes : goal.invariant-passes
+invariant-passes l =
+    let s = placed l.axis l.t (index_held_mut l.fn.index) l.k l.left l.right in
+    let P = passes (l.right - l.left) (ltb l.left l.right) l.axis l.t s l.left l.right in
+    Pass P l.axis l.t l.left l.right (index_held_mut l.index) l.i l.j × SameIndex l.fn.index l.index
 
-abbrev pub decreases-loop-i : goal.decreases-loop-i
-decreases-loop-i l = l.j - l.i
+abbrev pub decreases-passes : goal.decreases-passes
+decreases-passes l = l.j - l.i

@@ -1,18 +1,16 @@
 -- The first of an answer, of two answers joined; and up to where the slots after one are answered one by one. Assumes nothing.
-use Rattle.std.specs.Prelude.{true, false, ◌≡◌, refl, List, [], ◌∷◌, ◌++◌, ℕ, ◌+◌, ltb, eqb}
-use Rattle.kdwalk.specs.declared.Next.{Next}
-use Rattle.kdwalk.specs.declared.Next.TheVariants.{Slot, Done}
+use Rattle.std.specs.Prelude.{true, false, ◌≡◌, refl, List, [], ◌∷◌, ◌++◌, ℕ, ◌+◌, ltb, eqb, Option, Some, None}
 use Rattle.kdsort.specs.Shape.{Shape, leaf, node}
 
 -- the first of a list
-abbrev pub head_of : List ℕ → Next
-head_of [] = Done
-head_of (i ∷ l) = Slot i
+abbrev pub head_of : List ℕ → Option ℕ
+head_of [] = None
+head_of (i ∷ l) = Some i
 
 -- the first answer, and where there is none the other
-abbrev pub or_else : Next → Next → Next
-or_else (Slot i) o = Slot i
-or_else Done o = o
+abbrev pub or_else : Option ℕ → Option ℕ → Option ℕ
+or_else (Some i) o = Some i
+or_else None o = o
 
 pub head-append : (a b : List ℕ) → head_of (a ++ b) ≡ or_else (head_of a) (head_of b)
 head-append [] b = refl

@@ -1,6 +1,6 @@
 -- A walk over the answers by the cursor: where an answer has a slot, `rest` is what follows it; and what a caller's loop goes by, which
 -- is what is ahead of the cursor. Assumes nothing.
-use Rattle.std.specs.Prelude.{Bool, false, ◌&&◌, ◌≡◌, ℕ, zero, suc, ◌+◌, ◌-◌, ◌≤◌, ◌<◌, Float, length}
+use Rattle.std.specs.Prelude.{Bool, false, ◌&&◌, ◌≡◌, ℕ, zero, suc, ◌+◌, ◌-◌, ◌≤◌, ◌<◌, Float, length, Some, None, Ok, Err}
 use Rattle.std.proofs.Math.Bool.{true, cond}
 use Rattle.std.proofs.Math.Dec.{ltb}
 use Rattle.std.proofs.Math.Path.{refl, ap}
@@ -12,14 +12,14 @@ use Rattle.kdsort.specs.laws.Shape.{Spans, all, both, spans}
 use Rattle.kdslots.specs.declared.Query.{Query}
 use Rattle.kdslots.specs.Slots.{Search, when, scanned, slots, over, answers}
 use Rattle.std.proofs.Math.Seq.{append_snoc}
-use Rattle.kdwalk.specs.declared.Step.{Step}
-use Rattle.kdwalk.specs.declared.Step.TheVariants.{Slot, Done, Box, Spoiled}
+use Rattle.refusals.specs.declared.Refusal.TheVariants.{Box, Spoiled}
 use Rattle.kdslots.specs.Query.{query_ok}
 use Rattle.kdwalk.specs.Cursor.{rest, rest_of}
 use Rattle.kdslots.specs.Bounds.{coords_ok}
+use Rattle.kdslots.specs.laws.Bounds.{coords-is}
 use Rattle.kdslots.specs.laws.Intervals.{answers-length}
 use Rattle.kdslots.specs.laws.Members.{split, no-nil, when-all, sole}
-use Rattle.kdwalk.specs.Reply.{next_step, ending, walk, walk_after, first_step, after_step}
+use Rattle.kdwalk.specs.Reply.{Step, next_step, ending, walk, walk_after, first_step, after_step}
 
 pub scanned-rest : (s : Search) (i k : ℕ) (pre : List ℕ) (c : ℕ) (post : List ℕ) → scanned s i k ≡ pre ++ c ∷ post
     → (i ≤ c) × (c < i + k) × (scanned s (c + 1) (i + k - (c + 1)) ≡ post)
@@ -73,10 +73,9 @@ follows q cs size n pre c post e =
 
 -- what is ahead of a step: its slot, and what follows it
 abbrev pub ahead : Query → ℕ → ℕ → List Float → Step → List ℕ
-ahead q size n co (Slot c) = c ∷ rest_of q co size n c
-ahead q size n co Done = []
-ahead q size n co Box = []
-ahead q size n co Spoiled = []
+ahead q size n co (Ok (Some c)) = c ∷ rest_of q co size n c
+ahead q size n co (Ok None) = []
+ahead q size n co (Err e) = []
 
 -- the step stands in the walk: some slots are done, and it is the next of what is left, or how the walk ends
 pub record On (q : Query) (size n : ℕ) (co : List Float) (cur : Step) : Type 0 where
@@ -103,7 +102,7 @@ module _ (q : Query) (size n : ℕ) (co : List Float) where
   ahead-ending : ahead q size n co (ending q size n co) ≡ []
   ahead-ending = go (coords_ok size n (length co)) (query_ok q)
     where
-      go : (a b : Bool) → ahead q size n co (cond a (cond b Done Box) Spoiled) ≡ []
+      go : (a b : Bool) → ahead q size n co (cond a (cond b (Ok None) (Err Box)) (Err Spoiled)) ≡ []
       go true true = refl
       go true false = refl
       go false b = refl
@@ -112,10 +111,10 @@ module _ (q : Query) (size n : ℕ) (co : List Float) where
   ahead-next pre [] e = ahead-ending
   ahead-next pre (x ∷ l) e = ap (λ (z : List ℕ). x ∷ z) (walk-follows pre x l e).1
 
-  ending-no-slot : (i : ℕ) → ending q size n co ≡ Slot i → ⊥
+  ending-no-slot : (i : ℕ) → ending q size n co ≡ Ok (Some i) → ⊥
   ending-no-slot i = go (coords_ok size n (length co)) (query_ok q)
     where
-      go : (a b : Bool) → cond a (cond b Done Box) Spoiled ≡ Slot i → ⊥
+      go : (a b : Bool) → cond a (cond b (Ok None) (Err Box)) (Err Spoiled) ≡ Ok (Some i) → ⊥
       go true true e = let z : ◌≡◌ {A = ℕ} 0 1 = cc in omega arith
       go true false e = let z : ◌≡◌ {A = ℕ} 0 1 = cc in omega arith
       go false b e = let z : ◌≡◌ {A = ℕ} 0 1 = cc in omega arith
@@ -130,15 +129,15 @@ module _ (q : Query) (size n : ℕ) (co : List Float) where
   )
 
   -- a step at a slot: what is left begins with it
-  at_slot : (cur : Step) (c : ℕ) → cur ≡ Slot c → (o : On q size n co cur) → (post : List ℕ) × (walk q size n co ≡ o.done ++ c ∷ post)
+  at_slot : (cur : Step) (c : ℕ) → cur ≡ Ok (Some c) → (o : On q size n co cur) → (post : List ℕ) × (walk q size n co ≡ o.done ++ c ∷ post)
   at_slot cur c e o = go o.todo o.joins (sym e ∙ o.front)
     where
-      go : (t : List ℕ) → walk q size n co ≡ o.done ++ t → Slot c ≡ next_step (ending q size n co) t → (post : List ℕ)
+      go : (t : List ℕ) → walk q size n co ≡ o.done ++ t → Ok (Some c) ≡ next_step (ending q size n co) t → (post : List ℕ)
           × (walk q size n co ≡ o.done ++ c ∷ post)
       go [] j f = absurd (ending-no-slot c (sym f))
       go (x ∷ t) j f = let z : x ≡ c = cc in (t, j ∙ ap (λ (i : ℕ). o.done ++ i ∷ t) z)
 
-  pub on-slot : (cur : Step) (c : ℕ) → cur ≡ Slot c → On q size n co cur → c < n
+  pub on-slot : (cur : Step) (c : ℕ) → cur ≡ Ok (Some c) → On q size n co cur → c < n
   on-slot cur c e o = let p = at_slot cur c e o in (walk-follows o.done c p.0 p.1).0
 
   after_is : (pre : List ℕ) (c : ℕ) (post : List ℕ) → walk q size n co ≡ pre ++ c ∷ post
@@ -151,7 +150,7 @@ module _ (q : Query) (size n : ℕ) (co : List Float) where
       ap (next_step (ending q size n co)) g
 
   -- one step: the slot, and then what is ahead of the next
-  pub on-next : (cur : Step) (c : ℕ) (cur' : Step) → cur ≡ Slot c → On q size n co cur → cur' ≡ after_step q size n co c
+  pub on-next : (cur : Step) (c : ℕ) (cur' : Step) → cur ≡ Ok (Some c) → On q size n co cur → cur' ≡ after_step q size n co c
       → On q size n co cur' × (ahead q size n co cur ≡ c ∷ ahead q size n co cur')
   on-next cur c cur' e o f =
       let p = at_slot cur c e o in
@@ -164,7 +163,7 @@ module _ (q : Query) (size n : ℕ) (co : List Float) where
       )
 
   -- a step that is no slot is how the walk ends
-  pub on-end : (cur : Step) → ((i : ℕ) → cur ≡ Slot i → ⊥) → On q size n co cur → cur ≡ ending q size n co
+  pub on-end : (cur : Step) → ((i : ℕ) → cur ≡ Ok (Some i) → ⊥) → On q size n co cur → cur ≡ ending q size n co
   on-end cur h o = go o.todo o.front
     where
       go : (t : List ℕ) → cur ≡ next_step (ending q size n co) t → cur ≡ ending q size n co
@@ -177,3 +176,12 @@ module _ (q : Query) (size n : ℕ) (co : List Float) where
       go : (b : Bool) → length (cond b (answers q co size n) []) ≤ n
       go true = answers-length q co size n
       go false = omega arith
+
+  -- whatever n is, since an index of more slots than SCOPE takes is refused
+  pub walk-short : length (walk q size n co) ≤ 1048576
+  walk-short = go (coords_ok size n (length co)) (query_ok q) refl
+    where
+      go : (a b : Bool) → coords_ok size n (length co) ≡ a → length (cond (a && b) (answers q co size n) []) ≤ 1048576
+      go true true e = omega (arith, answers-length q co size n, (coords-is size n (length co) e).n-to)
+      go true false e = omega arith
+      go false b e = omega arith

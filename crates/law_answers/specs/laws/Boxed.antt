@@ -2,7 +2,7 @@
 -- its normalised corners, each once; so does a box of longitudes between the edges after the rule, and each half of one that is split. A
 -- ring lists exactly the entries that pass the distance test, each once. Nothing is asked but that the numbers of the question are taken
 -- (any other is refusal 9), and neither is ever refused 11. Assumes nothing.
-use Rattle.std.specs.Prelude.{◌≡◌, refl, Bool, true, false, cond, ◌&&◌, List, ◌++◌, ℕ, zero, suc, ◌+◌, ◌<◌, ◌≤◌, T, eqb, leb, get_or, Float}
+use Rattle.std.specs.Prelude.{◌≡◌, refl, Bool, true, false, cond, ◌&&◌, List, ◌++◌, ℕ, zero, suc, ◌+◌, ◌<◌, ◌≤◌, T, eqb, leb, get_or, Float, Ok, Err}
 use Rattle.std.proofs.Common.{ap, ap₂, sym, ◌∙◌, subst, arith, le_refl, leb-true, le-leb}
 use Rattle.std.proofs.Math.ListN.{length, length-map, get_or-map}
 use Rattle.std.specs.Float.{nan, binary64}
@@ -31,8 +31,9 @@ use Rattle.build_tables.specs.Options.{options_ok, table_count, zoom_used}
 use Rattle.build_tables.specs.Sound.{table_ok, packed, state_ok}
 use Rattle.build_tables.specs.laws.Sound.{used-between}
 use Rattle.build_tables.specs.State.{len_of}
-use Rattle.ask_base.specs.declared.Answer.TheVariants.{Listed, NoRoom, Box, Spoiled}
-use Rattle.ask_base.specs.Answers.{answer_number, fitted}
+use Rattle.refusals.specs.declared.Refusal.TheVariants.{NoRoom, Box, Spoiled}
+use Rattle.refusals.specs.Refusals.{number}
+use Rattle.ask_base.specs.Answers.{fitted}
 use Rattle.ask_base.specs.Asked.{Asked, refused, told, answer_of}
 use Rattle.build_tables.specs.Room.{index_room, room_of}
 use Rattle.build_tables.specs.laws.Roomy.{room-index}
@@ -171,12 +172,12 @@ abbrev pub used_by : Given → ℕ → Table
 used_by G zoom = built G (zoom_used G.options zoom)
 
 -- an answer that is told whole is not 11
-pub fits-somehow : (k room : ℕ) → fitted k room ≡ Spoiled → ⊥
+pub fits-somehow : (k room : ℕ) → fitted k room ≡ Err Spoiled → ⊥
 fits-somehow k room = go (leb k room)
   where
-    go : (b : Bool) → cond b (Listed k) (NoRoom k) ≡ Spoiled → ⊥
-    go true e = omega (arith, ap answer_number e)
-    go false e = omega (arith, ap answer_number e)
+    go : (b : Bool) → cond b (Ok k) (Err (NoRoom k)) ≡ Err Spoiled → ⊥
+    go true e = omega (arith, ap number e)
+    go false e = omega (arith, ap number e)
 
 -- ---- of a build that is accepted
 
@@ -293,13 +294,13 @@ module _ (G : Given) (a : AcceptedBuild G) where
         box-refused f = rw (index-sound, f)
 
         -- no box is refused 11
-        pub box-not-spoiled : (room : ℕ) → answer_of (box_by G l zoom west least east greatest) room ≡ Spoiled → ⊥
+        pub box-not-spoiled : (room : ℕ) → answer_of (box_by G l zoom west least east greatest) room ≡ Err Spoiled → ⊥
         box-not-spoiled room = by (box_ok G.options.coordinate_system west least east greatest) refl
           where
             by : (b : Bool) → box_ok G.options.coordinate_system west least east greatest ≡ b
-                → answer_of (box_by G l zoom west least east greatest) room ≡ Spoiled → ⊥
+                → answer_of (box_by G l zoom west least east greatest) room ≡ Err Spoiled → ⊥
             by true f h = let x = box-told f in fits-somehow (length x.0) room (sym (ap (λ (q : Asked). answer_of q room) x.1) ∙ h)
-            by false f h = let x = sym (ap (λ (q : Asked). answer_of q room) (box-refused f)) ∙ h in omega (arith, ap answer_number x)
+            by false f h = let x = sym (ap (λ (q : Asked). answer_of q room) (box-refused f)) ∙ h in omega (arith, ap number x)
 
       module _ (x y radius : Float) where
         -- a ring lists exactly the entries that pass the distance test, each once
@@ -317,9 +318,9 @@ module _ (G : Given) (a : AcceptedBuild G) where
         ring-refused f = rw (index-sound, f)
 
         -- no ring is refused 11
-        pub ring-not-spoiled : (room : ℕ) → answer_of (ring_by G l zoom x y radius) room ≡ Spoiled → ⊥
+        pub ring-not-spoiled : (room : ℕ) → answer_of (ring_by G l zoom x y radius) room ≡ Err Spoiled → ⊥
         ring-not-spoiled room = by (query_ok (Within x y radius)) refl
           where
-            by : (b : Bool) → query_ok (Within x y radius) ≡ b → answer_of (ring_by G l zoom x y radius) room ≡ Spoiled → ⊥
+            by : (b : Bool) → query_ok (Within x y radius) ≡ b → answer_of (ring_by G l zoom x y radius) room ≡ Err Spoiled → ⊥
             by true f h = let g = ring-listed f in fits-somehow (length g.0) room (sym (ap (λ (q : Asked). answer_of q room) g.1) ∙ h)
-            by false f h = let g = sym (ap (λ (q : Asked). answer_of q room) (ring-refused f)) ∙ h in omega (arith, ap answer_number g)
+            by false f h = let g = sym (ap (λ (q : Asked). answer_of q room) (ring-refused f)) ∙ h in omega (arith, ap number g)

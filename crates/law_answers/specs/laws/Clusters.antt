@@ -1,7 +1,7 @@
 -- Of a build that is accepted: the id of each of its clusters leads to its origin, where it is asked for and where a walk goes on into
 -- it; it has two children or more, its members in the order of the answers; and it expands at the zoom after the one that made it.
 -- Assumes nothing.
-use Rattle.std.specs.Prelude.{◌≡◌, refl, Bool, false}
+use Rattle.std.specs.Prelude.{◌≡◌, refl, Bool, false, Ok}
 use Rattle.std.proofs.Math.Path.{ap}
 use Rattle.std.proofs.Common.{ap₂, sym, ◌∙◌, subst, inl, inr}
 use Rattle.std.proofs.Math.Bool.{true}
@@ -23,12 +23,10 @@ use Rattle.ask_base.specs.Asked.{told}
 use Rattle.build_tables.specs.Room.{Columns, room_of}
 use Rattle.ask_base.specs.Columns.{table_at}
 use Rattle.ask_base.specs.Ids.{target_of, onward}
-use Rattle.ask_base.specs.declared.Target.{Target}
-use Rattle.ask_base.specs.declared.Target.TheVariants.{At}
+use Rattle.ask_base.specs.Ids.{Target, origin}
 use Rattle.ask_child_walk.specs.Kids.{kids_at, clean_at, childless}
 use Rattle.ask_cluster.specs.Children.{at_target, children_at, children_of}
 use Rattle.ask_cluster.specs.Expansion.{fetched, expand, zoom_at, zoom_of}
-use Rattle.ask_cluster.specs.declared.Expansion.TheVariants.{At as Expands-as-At}
 use Rattle.supercluster.specs.Build.{BuildColumns, need}
 use Rattle.supercluster.specs.laws.Load.{Holds}
 use Rattle.law_builds.specs.Given.{Given, AcceptedBuild, points, min_z, max_z}
@@ -82,7 +80,7 @@ module _ (G : Given) (a : AcceptedBuild G) (l : BuildColumns) (r : Holds (need G
     inside-len = let n = long-is G a T (let w = above in omega arith) top in let i = inside in omega arith
 
     -- asked for, it is found at its origin
-    pub target_is : target_of (state_by G) (room_of (columns_by G l)) (entry (built G z) j).id ≡ At T I
+    pub target_is : target_of (state_by G) (room_of (columns_by G l)) (entry (built G z) j).id ≡ Ok (origin T I)
     unfolding target_of
     target_is =
         let w = above in
@@ -96,7 +94,7 @@ module _ (G : Given) (a : AcceptedBuild G) (l : BuildColumns) (r : Holds (need G
         )
 
     -- and a walk in a smaller table goes on into it there
-    pub onward-is : (w : ℕ) → w ≤ z → onward (state_by G) w (entry (built G z) j).id ≡ At T I
+    pub onward-is : (w : ℕ) → w ≤ z → onward (state_by G) w (entry (built G z) j).id ≡ Ok (origin T I)
     unfolding onward
     onward-is w m =
         let v = above in
@@ -154,15 +152,15 @@ module _ (G : Given) (a : AcceptedBuild G) (l : BuildColumns) (r : Holds (need G
         ∙ rw not-childless (ap₂ (λ (c : Bool) (ks : List ℕ). told c ks) no-spoiled-slot kids-are)
 
     -- the question for the expansion zoom: that of the table of its origin, one above the zoom that made it
-    pub expansion-is : zoom_of (state_by G) (columns_by G l) (entry (built G z) j).id ≡ Expands-as-At
+    pub expansion-is : zoom_of (state_by G) (columns_by G l) (entry (built G z) j).id ≡ Ok
         (table_of (points G) (entry (built G z) j).id)
     unfolding zoom_of expand
     expansion-is =
         let w = above in
         let t = top in
         let n : max_z G + 1 - (T - 1) ≡ suc (max_z G + 1 - T) = omega arith in
-        ap (λ (t : Target). zoom_at t (λ u i. expand S C (max_z G + 1 - (u - 1)) (At u i) Id (u - 1) true)) target_is
-        ∙ ap (λ (m : ℕ). expand S C m (At T I) Id (T - 1) true) n
+        ap (λ (t : Target). zoom_at t (λ u i. expand S C (max_z G + 1 - (u - 1)) (Ok (origin u i)) Id (u - 1) true)) target_is
+        ∙ ap (λ (m : ℕ). expand S C m (Ok (origin T I)) Id (T - 1) true) n
         ∙ rw no-spoiled-slot (ap (λ (ks : List ℕ). fetched (table_at S C T) ks true (T - 1)
         (λ v. expand S C (max_z G + 1 - T) (onward S T v) v (T - 1 + 1) false)) kids-are)
         ∙ by (members_of G Id) two-members
@@ -170,10 +168,10 @@ module _ (G : Given) (a : AcceptedBuild G) (l : BuildColumns) (r : Holds (need G
         by : (ks : List ℕ) → 2 ≤ length ks
             →
             fetched (table_at S C T) ks true (T - 1)
-            (λ v. expand S C (max_z G + 1 - T) (onward S T v) v (T - 1 + 1) false) ≡ Expands-as-At T
+            (λ v. expand S C (max_z G + 1 - T) (onward S T v) v (T - 1 + 1) false) ≡ Ok T
         by [] e = absurd (omega arith)
         by (x ∷ []) e = absurd (omega arith)
-        by (x ∷ y ∷ ks) e = let m : T - 1 + 1 ≡ T = (let w = above in omega arith) in ap Expands-as-At m
+        by (x ∷ y ∷ ks) e = let m : T - 1 + 1 ≡ T = (let w = above in omega arith) in ap Ok m
 
   -- the children of a cluster that a zoom made are its group, in the order of the answers
   pub children-group : (z : ℕ) → min_z G ≤ z → z ≤ max_z G → (j i : ℕ) (ks : List ℕ) (e : Entry) → j < length (built G z) →

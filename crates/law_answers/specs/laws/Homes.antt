@@ -1,7 +1,7 @@
 -- Of a build that is accepted, in columns that hold it, what the tallies of one zoom come to. Each entry has exactly one tile that holds
 -- its centre, its home. That tile lists it. So a tile's tally is the sum of num over all entries of the table that are at home in it,
 -- and over all tiles of a zoom from 0 to 31 the tallies, of which none is refused, sum to N. Assumes nothing.
-use Rattle.std.specs.Prelude.{◌≡◌, refl, Bool, true, false, cond, ◌&&◌, List, [], ◌∷◌, ◌++◌, map, ℕ, ◌^◌, ◌≤◌, ◌<◌, eqb, length}
+use Rattle.std.specs.Prelude.{◌≡◌, refl, Bool, true, false, cond, ◌&&◌, List, [], ◌∷◌, ◌++◌, map, ℕ, ◌^◌, ◌≤◌, ◌<◌, eqb, length, Ok}
 use Rattle.std.proofs.Common.{sym, ap, ◌∙◌, subst, eqb-true, eq-eqb, lt-ltb, le-leb}
 use Rattle.std.proofs.Math.ListN.{get_or-eq_default}
 use Rattle.floats.specs.laws.Unit.{In01}
@@ -13,13 +13,13 @@ use Rattle.build_one_zoom.specs.laws.Keeps.{all-at}
 use Rattle.build_one_zoom.specs.laws.Sound.{Body}
 use Rattle.build_one_zoom.specs.Zoom.{num_of}
 use Rattle.ask_tile_table.specs.declared.Item.{Item}
-use Rattle.ask_tile_table.specs.declared.Tally.TheVariants.{Sum}
+use Rattle.refusals.specs.Refusals.{number}
 use Rattle.ask_tile_table.specs.Floor.{home_of}
 use Rattle.ask_tile_table.specs.laws.Floor.{home_below}
 use Rattle.ask_tile_table.specs.laws.Framed.{tile-is}
 use Rattle.ask_tile_table.specs.laws.Home.{home-inside}
 use Rattle.ask_tile_table.specs.laws.Lists.{Lists}
-use Rattle.ask_tile_table.specs.Tally.{tally_number, tally_value, at_home, weight_in, member, distinct}
+use Rattle.ask_tile_table.specs.Tally.{tally_value, at_home, weight_in, member, distinct}
 use Rattle.ask_tile_table.specs.laws.Distinct.{distinct-once, distinct-all}
 use Rattle.ask_tile_table.specs.Tile.{is_tile, here, item_of}
 use Rattle.ask_base.specs.Asked.{told}
@@ -108,13 +108,13 @@ module _ (G : Given) (a : AcceptedBuild G) (l : BuildColumns) (r : Holds (need G
         tile-every G a l r z x y tile p h (home-inside z x y (tile-is z x y tile) (entry (used_by G z) p) q.0 q.1 e)
 
     -- so the tally is the sum of num over all entries at home in the tile
-    pub tally-homes : tally_by G l z x y ≡ Sum (sum_to (length (used_by G z)) (λ p. weight_in z x y (entry (used_by G z) p)))
+    pub tally-homes : tally_by G l z x y ≡ Ok (sum_to (length (used_by G z)) (λ p. weight_in z x y (entry (used_by G z) p)))
     tally-homes =
         let t = used_by G z in
         let w = tally-told G a l r z x y tile in
         let ps = map (λ j. j.place) w.0 in
         w.2
-        ∙ ap Sum (total-members t (weight_in z x y) (no-weight z x y t) (distinct [] ps) (distinct-once [] ps)
+        ∙ ap Ok (total-members t (weight_in z x y) (no-weight z x y t) (distinct [] ps) (distinct-once [] ps)
         ∙ sum_same (length t) _ (λ p. weight_in z x y (entry t p)) (λ p h. all_of p h w.0 w.1 (at_home z x y (entry t p)) refl))
       where
         all_of : (p : ℕ) → p < length (used_by G z) → (i : List Item) → tile_by G l z x y ≡ told true i → (b : Bool)
@@ -133,8 +133,8 @@ module _ (G : Given) (a : AcceptedBuild G) (l : BuildColumns) (r : Holds (need G
 
   module _ (Z : z ≤ 31) where
     -- no tally of the zoom is refused
-    pub tallies-answered : (x y : ℕ) → x < 2 ^ z → y < 2 ^ z → tally_number (tally_by G l z x y) ≡ 0
-    tallies-answered x y h k = ap tally_number (tally-homes x y (is-tile z x y Z h k))
+    pub tallies-answered : (x y : ℕ) → x < 2 ^ z → y < 2 ^ z → number (tally_by G l z x y) ≡ 0
+    tallies-answered x y h k = ap number (tally-homes x y (is-tile z x y Z h k))
 
     -- and over all its tiles they sum to N
     pub tallies-sum : sum_to (2 ^ z) (λ y. sum_to (2 ^ z) (λ x. tally_value (tally_by G l z x y))) ≡ points G

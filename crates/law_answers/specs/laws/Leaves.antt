@@ -11,7 +11,7 @@ use Rattle.build_tables.specs.Ids.{origin_of, table_of}
 use Rattle.law_groups.specs.Sums.{one_if, sum, range}
 use Rattle.ask_base.specs.Asked.{told}
 use Rattle.build_tables.specs.Room.{Columns}
-use Rattle.ask_base.specs.declared.Target.{Target}
+use Rattle.ask_base.specs.Ids.{Target}
 use Rattle.ask_cluster.specs.Children.{at_target}
 use Rattle.ask_cluster.specs.Leaves.{Trip, went, leaf_walk, leaves_listed, leaves_at, leaves_of}
 use Rattle.supercluster.specs.Build.{BuildColumns, need}

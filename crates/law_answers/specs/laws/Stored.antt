@@ -1,6 +1,6 @@
 -- Of a build that is accepted, in columns that hold it: the state passes its check, and the table of each zoom and its index stand where
 -- the state says. Assumes nothing.
-use Rattle.std.specs.Prelude.{◌≡◌, take, Float}
+use Rattle.std.specs.Prelude.{◌≡◌, take, Float, Ok}
 use Rattle.std.proofs.Math.Path.{refl, ap, sym, subst}
 use Rattle.std.proofs.Common.{ap₂, ◌∙◌, drop-drop}
 use Rattle.std.proofs.Math.Logic.{⊎_elim}
@@ -26,10 +26,9 @@ use Rattle.build_tables.specs.laws.Roomy.{both, roomy-room}
 use Rattle.ask_base.specs.Columns.{table_at, ids_at, coords_at}
 use Rattle.build_all_zooms.specs.Zooms.{Plan, run_zooms, index_of_table, zooms_of, joined, joined_ids, joined_co}
 use Rattle.build_all_zooms.specs.laws.Running.{slots-ids, slots-co}
-use Rattle.supercluster.specs.declared.LoadReply.TheVariants.{Done}
 use Rattle.supercluster.specs.Build.{tables_of, built_state, BuildColumns, Outcome, written, need, checked, by_reply, loaded}
 use Rattle.supercluster.specs.laws.Held.{LaidOut, held, built-laid, built-held}
-use Rattle.supercluster.specs.laws.Load.{Holds, accepted, holds, replies, rows_in}
+use Rattle.supercluster.specs.laws.Load.{Holds, accepted, holds, replies, rows_in, verdict_of}
 use Rattle.supercluster.specs.laws.Over.{over-length}
 use Rattle.supercluster.specs.laws.Right.{Right, tables-right, tables-count, tables-room, roomy-written}
 use Rattle.law_builds.specs.Given.{Given, AcceptedBuild, points, min_z, max_z, plan, tables_of_build, lamps_in, energy_in, lamps_in-length}
@@ -316,11 +315,15 @@ module _ (G : Given) (a : AcceptedBuild G) where
 -- what holds of every build that is accepted, in columns that hold it, holds of what `load` replies and leaves where it refuses nothing
 pub of-load : (P : State → Columns → Type 0) (G : Given) (l : BuildColumns)
     → (AcceptedBuild G → Holds (need G.options (points G)) l → P (state_by G) (columns_by G l))
-    → (loaded_of G l).reply.reply ≡ Done → P (loaded_of G l).reply.state (columns_of (loaded_of G l).columns)
+    → (s : State) → (loaded_of G l).reply ≡ Ok s → P s (columns_of (loaded_of G l).columns)
 unfolding loaded
-of-load P G l f e =
+of-load P G l f s e =
     let o = G.options in
-    let d = sym (replies o G.xs G.ys G.energies l (checked o G.xs G.ys G.energies l)) ∙ e in
+    let r = checked o G.xs G.ys G.energies l in
+    let d : r ≡ Ok tt = sym (replies o G.xs G.ys G.energies l r) ∙ ap verdict_of e in
     let a = accepted o G.xs G.ys G.energies l d in
-    subst (λ (x : Outcome). P x.reply.state (columns_of x.columns)) (sym (ap (by_reply o G.xs G.ys G.energies l) d))
-    (f a.0 (holds (need o (points G)) l a.1))
+    let same = sym (ap (by_reply o G.xs G.ys G.energies l) d) in
+    let w : Ok (state_by G) ≡ Ok s = ap (λ (x : Outcome). x.reply) same ∙ e in
+    let q : state_by G ≡ s = cc in
+    subst (λ (x : Outcome). P s (columns_of x.columns)) same
+    (subst (λ (t : State). P t (columns_by G l)) q (f a.0 (holds (need o (points G)) l a.1)))

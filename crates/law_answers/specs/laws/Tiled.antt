@@ -3,7 +3,7 @@
 -- exactly those of the strip in the west, each once. So each entry whose place lies in the tile is listed, and each item is that of an
 -- entry in one of the three; where strips do not run, as on a plan with the option on, no entry is listed twice. The tally is the sum of
 -- num over the distinct places listed whose centre the tile holds. Neither is ever refused 11. Assumes nothing.
-use Rattle.std.specs.Prelude.{◌≡◌, refl, Bool, true, false, ◌&&◌, length}
+use Rattle.std.specs.Prelude.{◌≡◌, refl, Bool, true, false, ◌&&◌, length, Result, Ok, Err}
 use Rattle.std.proofs.Common.{ap, sym, ◌∙◌, subst, arith, eqb-true}
 use Rattle.std.proofs.Math.Path.{ap₂}
 use mathlib.Core.List.{List, [], ◌∷◌, ◌++◌, map, append-nil}
@@ -32,19 +32,18 @@ use Rattle.build_tables.specs.Entries.{Table, entry, xs_of, ys_of}
 use Rattle.build_tables.specs.Options.{zoom_used}
 use Rattle.build_one_zoom.specs.laws.Keeps.{all-at}
 use Rattle.build_one_zoom.specs.laws.Sound.{Body}
-use Rattle.ask_base.specs.declared.Answer.TheVariants.{Tile, Spoiled}
-use Rattle.ask_base.specs.Answers.{answer_number}
+use Rattle.refusals.specs.declared.Refusal.{Refusal}
+use Rattle.refusals.specs.declared.Refusal.TheVariants.{Tile, Spoiled}
+use Rattle.refusals.specs.Refusals.{number}
 use Rattle.ask_base.specs.Asked.{refused, told}
 use Rattle.ask_base.specs.Columns.{table_at, ids_at, coords_at}
 use Rattle.ask_tile_table.specs.declared.Item.{Item}
 use Rattle.ask_tile_table.specs.declared.TileSearch.{TileSearch}
-use Rattle.ask_tile_table.specs.declared.Tally.{Tally}
-use Rattle.ask_tile_table.specs.declared.Tally.TheVariants.{Sum, Tile as Tally-as-Tile, Spoiled as Tally-as-Spoiled}
 use Rattle.ask_tile_table.specs.laws.Framed.{tile-is}
 use Rattle.ask_tile_table.specs.laws.Inside.{InTile, inside-passes}
 use Rattle.ask_tile_table.specs.laws.Lists.{Lists, tile-whole, listed-whole}
 use Rattle.ask_tile_table.specs.laws.Wraps.{plan-wraps}
-use Rattle.ask_tile_table.specs.Tally.{tally_number, weight_in, distinct, total, tally_of}
+use Rattle.ask_tile_table.specs.Tally.{weight_in, distinct, total, tally_of}
 use Rattle.ask_tile_table.specs.Tile.{Visit, is_tile, edge, least, greatest, here, wraps, east_strip, west_strip, visits_of, visited}
 use Rattle.ask_tile_table.specs.Tile.{tile_listed, whole_tile, item_of, item_at, tile_items}
 use Rattle.ask_tile.specs.Asked.{TileAsked, tile_asked, tile_answer_of, some_of}
@@ -65,7 +64,7 @@ use Rattle.law_answers.specs.laws.Boxed.{Lies, Boxes, lies, boxes-of, used_by, s
 abbrev pub tile_by : Given → BuildColumns → ℕ → ℕ → ℕ → TileAsked
 tile_by G l z x y = tile_asked (state_by G) (columns_by G l) z x y
 
-abbrev pub tally_by : Given → BuildColumns → ℕ → ℕ → ℕ → Tally
+abbrev pub tally_by : Given → BuildColumns → ℕ → ℕ → ℕ → Result ℕ Refusal
 tally_by G l z x y = tallied (state_by G) (columns_by G l) z x y
 
 -- the items of places of a table, by a search
@@ -190,8 +189,8 @@ module _ (o : Options) (z x y : ℕ) (t : Table) where
 pub told_same : {a b : List Item} → ◌≡◌ {A = TileAsked} (told true a) (told true b) → a ≡ b
 told_same e = cc
 
-some-somehow : (k room : ℕ) → some_of k room ≡ Spoiled → ⊥
-some-somehow nought room e = omega (arith, ap answer_number e)
+some-somehow : (k room : ℕ) → some_of k room ≡ Err Spoiled → ⊥
+some-somehow nought room e = omega (arith, ap number e)
 some-somehow (suc k) room e = fits-somehow (suc k) room e
 
 -- ---- of a build that is accepted
@@ -338,7 +337,7 @@ module _ (G : Given) (a : AcceptedBuild G) (l : BuildColumns) (r : Holds (need G
         let f : w.0 ≡ i = told_same (sym w.1 ∙ e) in
         lists-all (Why G.options z x y t) j m.0 m.1 (subst (All (Why G.options z x y t)) (f ∙ m.2) q)
 
-    tally-is : tally_by G l z x y ≡ Sum (total (weight_in z x y) t (distinct [] (map (λ w. w.place) finds)))
+    tally-is : tally_by G l z x y ≡ Ok (total (weight_in z x y) t (distinct [] (map (λ w. w.place) finds)))
     unfolding tallied tally_of
     tally-is =
         rw (state-sound G a l r, tile)
@@ -349,34 +348,34 @@ module _ (G : Given) (a : AcceptedBuild G) (l : BuildColumns) (r : Holds (need G
     -- the tally is the sum, over the distinct places of the items that the tile lists, of the num of those entries whose centre the tile
     -- holds; 0 where there is none
     pub tally-told : (i : List Item) × (tile_by G l z x y ≡ told true i)
-        × (tally_by G l z x y ≡ Sum (total (weight_in z x y) (used_by G z) (distinct [] (map (λ j. j.place) i))))
+        × (tally_by G l z x y ≡ Ok (total (weight_in z x y) (used_by G z) (distinct [] (map (λ j. j.place) i))))
     tally-told = (
       tile_items t finds,
       told-items,
-      tally-is ∙ ap (λ (ps : List ℕ). Sum (total (weight_in z x y) t (distinct [] ps))) (sym (item-places t finds)),
+      tally-is ∙ ap (λ (ps : List ℕ). Ok (total (weight_in z x y) t (distinct [] ps))) (sym (item-places t finds)),
     )
 
   -- nor has it a tally
-  pub tally-refused : is_tile z x y ≡ false → tally_by G l z x y ≡ Tally-as-Tile
+  pub tally-refused : is_tile z x y ≡ false → tally_by G l z x y ≡ Err Tile
   unfolding tallied
   tally-refused f = rw (state-sound G a l r, f)
 
   -- no tile is refused 11
-  pub tile-not-spoiled : (room : ℕ) → tile_answer_of (tile_by G l z x y) room ≡ Spoiled → ⊥
+  pub tile-not-spoiled : (room : ℕ) → tile_answer_of (tile_by G l z x y) room ≡ Err Spoiled → ⊥
   tile-not-spoiled room = by (is_tile z x y) refl
     where
-      by : (b : Bool) → is_tile z x y ≡ b → tile_answer_of (tile_by G l z x y) room ≡ Spoiled → ⊥
+      by : (b : Bool) → is_tile z x y ≡ b → tile_answer_of (tile_by G l z x y) room ≡ Err Spoiled → ⊥
       by true f h = let w = tile-listed f in
           some-somehow (length w.0) room (sym (ap (λ (q : TileAsked). tile_answer_of q room) w.1) ∙ h)
-      by false f h = let w = sym (ap (λ (q : TileAsked). tile_answer_of q room) (tile-refused f)) ∙ h in omega (arith, ap answer_number w)
+      by false f h = let w = sym (ap (λ (q : TileAsked). tile_answer_of q room) (tile-refused f)) ∙ h in omega (arith, ap number w)
 
   -- nor its tally
-  pub tally-not-spoiled : tally_by G l z x y ≡ Tally-as-Spoiled → ⊥
+  pub tally-not-spoiled : tally_by G l z x y ≡ Err Spoiled → ⊥
   tally-not-spoiled = by (is_tile z x y) refl
     where
-      of : (sum : ℕ) → Sum sum ≡ Tally-as-Spoiled → ⊥
-      of sum e = omega (arith, ap tally_number e)
+      of : (sum : ℕ) → Ok sum ≡ Err Spoiled → ⊥
+      of sum e = omega (arith, ap number e)
 
-      by : (b : Bool) → is_tile z x y ≡ b → tally_by G l z x y ≡ Tally-as-Spoiled → ⊥
+      by : (b : Bool) → is_tile z x y ≡ b → tally_by G l z x y ≡ Err Spoiled → ⊥
       by true f h = of (total (weight_in z x y) t (distinct [] (map (λ w. w.place) finds))) (sym (tally-is f) ∙ h)
-      by false f h = let w = sym (tally-refused f) ∙ h in omega (arith, ap tally_number w)
+      by false f h = let w = sym (tally-refused f) ∙ h in omega (arith, ap number w)

@@ -1,6 +1,6 @@
 -- Of a build that is accepted: no question for children, leaves or an expansion zoom is refused 11, whatever the
 -- id, the limit, the offset and the room. Assumes nothing.
-use Rattle.std.specs.Prelude.{◌≡◌, refl, ◌⊎◌, Bool, cond, not, ◌&&◌, List, [], ◌∷◌, leb, ltb, eqb, take, drop}
+use Rattle.std.specs.Prelude.{◌≡◌, refl, ◌⊎◌, Bool, cond, not, ◌&&◌, List, [], ◌∷◌, leb, ltb, eqb, take, drop, Ok, Err}
 use Rattle.std.proofs.Common.{ap, sym, ◌∙◌, ltb-false, leb-true, leb-false, eqb-true}
 use Rattle.std.proofs.Math.Path.{subst}
 use Rattle.std.proofs.Math.Logic.{inl, inr, ⊎_elim}
@@ -17,19 +17,15 @@ use Rattle.build_tables.specs.Ids.{origin_of, table_of}
 use Rattle.build_tables.specs.Sound.{state_ok}
 use Rattle.build_tables.specs.State.{len_of}
 use Rattle.law_groups.specs.laws.Sums.{below}
-use Rattle.ask_base.specs.declared.Answer.TheVariants.{NoTree, NoCluster, Spoiled}
-use Rattle.ask_base.specs.declared.Target.{Target}
-use Rattle.ask_base.specs.declared.Target.TheVariants.{At, NoTree as Target-as-NoTree, NoCluster as Target-as-NoCluster}
+use Rattle.refusals.specs.declared.Refusal.TheVariants.{NoTree, NoCluster, Spoiled}
+use Rattle.ask_base.specs.Ids.{Target, origin}
 use Rattle.ask_base.specs.Asked.{Asked, refused, told, answer_of}
 use Rattle.build_tables.specs.Room.{Columns, room_of}
 use Rattle.ask_base.specs.Ids.{is_built, target_of}
 use Rattle.ask_child_walk.specs.Kids.{kids_at, clean_at, childless}
 use Rattle.ask_cluster.specs.Children.{at_target, children_at, children_of}
-use Rattle.ask_cluster.specs.Expansion.{expand, zoom_at, zoom_of}
+use Rattle.ask_cluster.specs.Expansion.{Expansion, expand, zoom_at, zoom_of}
 use Rattle.ask_cluster.specs.Leaves.{leaves_at, leaves_of}
-use Rattle.ask_cluster.specs.declared.Expansion.{Expansion}
-use Rattle.ask_cluster.specs.declared.Expansion.TheVariants.{At as Expands-as-At, NoTree as Expands-as-NoTree, NoCluster as Expands-as-NoCluster}
-use Rattle.ask_cluster.specs.declared.Expansion.TheVariants.{Spoiled as Expands-as-Spoiled}
 use Rattle.supercluster.specs.Build.{BuildColumns, need}
 use Rattle.supercluster.specs.laws.Load.{Holds}
 use Rattle.law_builds.specs.Given.{Given, AcceptedBuild, points, min_z, max_z}
@@ -46,7 +42,7 @@ use Rattle.law_answers.specs.laws.Leaves.{leaves-page}
 
 -- a question that is not refused 11, whatever the room
 abbrev Fine : Asked → Type 0
-Fine q = (room : ℕ) → answer_of q room ≡ Spoiled → ⊥
+Fine q = (room : ℕ) → answer_of q room ≡ Err Spoiled → ⊥
 
 fine-told : (l : List ℕ) → Fine (told true l)
 fine-told l room e = fits-somehow (length l) room e
@@ -59,22 +55,22 @@ fine-tree room e = let z : ◌≡◌ {A = ℕ} 0 1 = cc in omega arith
 
 -- an expansion zoom that is not refused 11
 abbrev Grows : Expansion → Type 0
-Grows x = x ≡ Expands-as-Spoiled → ⊥
+Grows x = x ≡ Err Spoiled → ⊥
 
-grows_at : (z : ℕ) → Grows (Expands-as-At z)
+grows_at : (z : ℕ) → Grows (Ok z)
 grows_at z e = let z : ◌≡◌ {A = ℕ} 0 1 = cc in omega arith
 
-grows_none : Grows Expands-as-NoCluster
+grows_none : Grows (Err NoCluster)
 grows_none e = let z : ◌≡◌ {A = ℕ} 0 1 = cc in omega arith
 
-grows-tree : Grows Expands-as-NoTree
+grows-tree : Grows (Err NoTree)
 grows-tree e = let z : ◌≡◌ {A = ℕ} 0 1 = cc in omega arith
 
 -- ---- where an id leads
 
-module _ (s : State) (cap id : ℕ) (good : state_ok s cap ≡ true) (P : Target → Type 0) (none : P Target-as-NoCluster) (tree : P Target-as-NoTree)
+module _ (s : State) (cap id : ℕ) (good : state_ok s cap ≡ true) (P : Target → Type 0) (none : P (Err NoCluster)) (tree : P (Err NoTree))
     (at : let T = table_of s.count id in let I = origin_of s.count id in s.count ≤ id → s.options.min_zoom < T
-    → T ≤ s.options.max_zoom + 1 → I < len_of s T → P (At T I)) where
+    → T ≤ s.options.max_zoom + 1 → I < len_of s T → P (Ok (origin T I))) where
   abbrev U : ℕ
   U = table_of s.count id
 
@@ -82,12 +78,12 @@ module _ (s : State) (cap id : ℕ) (good : state_ok s cap ≡ true) (P : Target
   O = origin_of s.count id
 
   by_place : (b : Bool) → leb (len_of s U) O ≡ b → s.count ≤ id → s.options.min_zoom < U → U ≤ s.options.max_zoom + 1
-      → P (cond b Target-as-NoCluster (At U O))
+      → P (cond b (Err NoCluster) (Ok (origin U O)))
   by_place true e n h k = none
   by_place false e n h k = at n h k (leb-false _ _ e)
 
   by-low : (b : Bool) → eqb U s.options.min_zoom ≡ b → s.count ≤ id → s.options.min_zoom ≤ U → U ≤ s.options.max_zoom + 1
-      → P (cond b Target-as-NoCluster (cond (leb (len_of s U) O) Target-as-NoCluster (At U O)))
+      → P (cond b (Err NoCluster) (cond (leb (len_of s U) O) (Err NoCluster) (Ok (origin U O))))
   by-low true e n h k = none
   by-low false e n h k = by_place (leb (len_of s U) O) refl n (more (eqb-false _ _ e)) k
     where
@@ -95,16 +91,16 @@ module _ (s : State) (cap id : ℕ) (good : state_ok s cap ≡ true) (P : Target
       more w = ⊎_elim (λ v. v) (λ v. absurd (w (omega arith))) (below s.options.min_zoom U)
 
   by-built : (a b : Bool) → leb s.options.min_zoom U ≡ a → leb U (s.options.max_zoom + 1) ≡ b → s.count ≤ id
-      → P (cond (not (a && b)) Target-as-NoTree
-      (cond (eqb U s.options.min_zoom) Target-as-NoCluster (cond (leb (len_of s U) O) Target-as-NoCluster (At U O))))
+      → P (cond (not (a && b)) (Err NoTree)
+      (cond (eqb U s.options.min_zoom) (Err NoCluster) (cond (leb (len_of s U) O) (Err NoCluster) (Ok (origin U O)))))
   by-built true true e d n = by-low (eqb U s.options.min_zoom) refl n (leb-true _ _ e) (leb-true _ _ d)
   by-built true false e d n = tree
   by-built false true e d n = tree
   by-built false false e d n = tree
 
   by-id : (b : Bool) → ltb id s.count ≡ b
-      → P (cond b Target-as-NoCluster (cond (not (is_built s U)) Target-as-NoTree
-      (cond (eqb U s.options.min_zoom) Target-as-NoCluster (cond (leb (len_of s U) O) Target-as-NoCluster (At U O)))))
+      → P (cond b (Err NoCluster) (cond (not (is_built s U)) (Err NoTree)
+      (cond (eqb U s.options.min_zoom) (Err NoCluster) (cond (leb (len_of s U) O) (Err NoCluster) (Ok (origin U O))))))
   by-id true e = none
   by-id false e = by-built (leb s.options.min_zoom U) (leb U (s.options.max_zoom + 1)) refl refl (ltb-false _ _ e)
 
@@ -217,27 +213,27 @@ module _ (G : Given) (a : AcceptedBuild G) (l : BuildColumns) (r : Holds (need G
         (sym (expansion-is G a l r (T - 1) j (omega arith) (omega arith) q b) ∙ ap (zoom_of S C) e ∙ w)
 
     none-grows : kids_at (state_by G) (columns_by G l) id T I ≡ [] →
-        Grows (expand (state_by G) (columns_by G l) (max_z G + 1 - (T - 1)) (At T I) id (T - 1) true)
+        Grows (expand (state_by G) (columns_by G l) (max_z G + 1 - (T - 1)) (Ok (origin T I)) id (T - 1) true)
     unfolding expand
     none-grows e =
         let m : suc (max_z G + 1 - T) ≡ max_z G + 1 - (T - 1) = omega arith in
-        subst (λ (v : ℕ). Grows (expand S C v (At T I) id (T - 1) true)) m (rw (no-spoiled, e) grows_none)
+        subst (λ (v : ℕ). Grows (expand S C v (Ok (origin T I)) id (T - 1) true)) m (rw (no-spoiled, e) grows_none)
 
     zoom-grows : Grows (zoom_of (state_by G) (columns_by G l) id) ⊎ Grows
-        (expand (state_by G) (columns_by G l) (max_z G + 1 - (T - 1)) (At T I) id (T - 1) true)
+        (expand (state_by G) (columns_by G l) (max_z G + 1 - (T - 1)) (Ok (origin T I)) id (T - 1) true)
     zoom-grows = ⊎_elim (λ e. inr (none-grows e)) (λ w. inl (made-grows w)) made-or-none
 
   -- ---- for every id
 
   -- no question for children is refused 11
-  pub children-not-spoiled : (id room : ℕ) → answer_of (children_of (state_by G) (columns_by G l) id) room ≡ Spoiled → ⊥
+  pub children-not-spoiled : (id room : ℕ) → answer_of (children_of (state_by G) (columns_by G l) id) room ≡ Err Spoiled → ⊥
   unfolding children_of
   children-not-spoiled id =
       by-target S (room_of C) id (state-sound G a l r) (λ t. Fine (at_target t (λ z i. children_at S C id z i))) fine-none fine-tree
       (λ n h k i. children-fine id n h k i)
 
   -- nor one for leaves
-  pub leaves-not-spoiled : (id limit offset room : ℕ) → answer_of (leaves_of (state_by G) (columns_by G l) id limit offset) room ≡ Spoiled → ⊥
+  pub leaves-not-spoiled : (id limit offset room : ℕ) → answer_of (leaves_of (state_by G) (columns_by G l) id limit offset) room ≡ Err Spoiled → ⊥
   leaves-not-spoiled id limit offset = ⊎_elim (λ w. w) (λ w. opened w) found
     where
       found : Fine (leaves_of S C id limit offset) ⊎ Fine (at_target (target_of S (room_of C) id) (λ z i. leaves_at S C id limit offset z i))
@@ -250,16 +246,16 @@ module _ (G : Given) (a : AcceptedBuild G) (l : BuildColumns) (r : Holds (need G
       opened w = unfold leaves_of in w
 
   -- nor one for an expansion zoom
-  pub expansion-not-spoiled : (id : ℕ) → zoom_of (state_by G) (columns_by G l) id ≡ Expands-as-Spoiled → ⊥
+  pub expansion-not-spoiled : (id : ℕ) → zoom_of (state_by G) (columns_by G l) id ≡ Err Spoiled → ⊥
   expansion-not-spoiled id = ⊎_elim (λ w. w) (λ w. opened w) found
     where
       found : Grows (zoom_of S C id) ⊎ Grows (zoom_at (target_of S (room_of C) id)
-          (λ t i. expand S C (max_z G + 1 - (t - 1)) (At t i) id (t - 1) true))
+          (λ t i. expand S C (max_z G + 1 - (t - 1)) (Ok (origin t i)) id (t - 1) true))
       found = by-target S (room_of C) id (state-sound G a l r)
-          (λ t. Grows (zoom_of S C id) ⊎ Grows (zoom_at t (λ t i. expand S C (max_z G + 1 - (t - 1)) (At t i) id (t - 1) true)))
+          (λ t. Grows (zoom_of S C id) ⊎ Grows (zoom_at t (λ t i. expand S C (max_z G + 1 - (t - 1)) (Ok (origin t i)) id (t - 1) true)))
           (inr grows_none) (inr grows-tree)
           (λ n h k i. zoom-grows id n h k i)
 
-      opened : Grows (zoom_at (target_of S (room_of C) id) (λ t i. expand S C (max_z G + 1 - (t - 1)) (At t i) id (t - 1) true)) →
+      opened : Grows (zoom_at (target_of S (room_of C) id) (λ t i. expand S C (max_z G + 1 - (t - 1)) (Ok (origin t i)) id (t - 1) true)) →
           Grows (zoom_of S C id)
       opened w = unfold zoom_of in w

@@ -21,7 +21,7 @@ use Rattle.build_one_zoom.specs.laws.Sound.{Body}
 use Rattle.law_groups.specs.laws.Sums.{below}
 use Rattle.build_tables.specs.Room.{Columns}
 use Rattle.ask_base.specs.Columns.{table_at}
-use Rattle.ask_base.specs.declared.Target.{Target}
+use Rattle.ask_base.specs.Ids.{Target}
 use Rattle.ask_child_walk.specs.Kids.{kids_at}
 use Rattle.ask_cluster.specs.Leaves.{Trip, went, enter, visit_child, after, steps, leaf_walk}
 use Rattle.supercluster.specs.Build.{BuildColumns, need}

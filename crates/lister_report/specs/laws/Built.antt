@@ -1,7 +1,7 @@
 -- What an accepted build leaves, in columns of the lister's lengths, is what there is to print: its tables, each within the columns, with
 -- room for each line. Assumes nothing.
 use mathlib.Core.List.{List, map}
-use Rattle.std.specs.Prelude.{◌≡◌, refl, ℕ, ◌+◌, ◌/◌, ◌≤◌, min, leb}
+use Rattle.std.specs.Prelude.{◌≡◌, refl, ℕ, ◌+◌, ◌/◌, ◌≤◌, min, leb, Result, Ok, Err}
 use Rattle.std.proofs.Math.Path.{ap, sym}
 use Rattle.std.proofs.Common.{◌∙◌, subst, arith}
 use Rattle.std.proofs.Math.ListN.{length}
@@ -16,15 +16,14 @@ use Rattle.build_tables.specs.declared.Entry.{Entry}
 use Rattle.build_tables.specs.declared.Options.{Options}
 use Rattle.build_tables.specs.declared.State.{State}
 use Rattle.build_all_zooms.specs.Zooms.{joined, laid_over}
-use Rattle.supercluster.specs.declared.LoadReply.{LoadReply}
-use Rattle.supercluster.specs.declared.LoadReply.TheVariants.{Done, Options as No-as-Options, Count, Point, Energy, Tables}
+use Rattle.refusals.specs.declared.Refusal.{Refusal}
+use Rattle.refusals.specs.Refusals.{number_of, carried_of}
 use Rattle.supercluster.specs.Build.{converted_all, BuildColumns, written, built_state, need, first_over, triple_ok, ordered}
-use Rattle.supercluster.specs.Build.{checked, load_number, load_carried, Outcome, outcome, loaded}
+use Rattle.supercluster.specs.Build.{checked, by_reply, Outcome, outcome, loaded}
 use Rattle.supercluster.specs.laws.Held.{held_by, built-held, built-within}
-use Rattle.supercluster.specs.laws.Load.{accepted, replies, number-done, holds, rows_in, EvenIn, by-reply}
+use Rattle.supercluster.specs.laws.Load.{accepted, holds, rows_in, EvenIn}
 use Rattle.supercluster.specs.laws.Over.{over-length}
 use Rattle.supercluster.specs.laws.Right.{tables-room}
-use Rattle.supercluster.specs.declared.Loaded.{Loaded}
 use Rattle.lister_text.specs.Text.{PointCols}
 use Rattle.lister_report.specs.Lines.{tables_text, refusal_text}
 use Rattle.lister_report.specs.Report.{lister_columns, tables_by, checked_by, loaded_by, answer_text, answer_room, build_text}
@@ -60,28 +59,35 @@ columns-sized =
     let even : EvenIn lister_columns = record { ey = refl; es = refl; ei = refl; ep = refl; en = refl; ew = refl } in
     record { x = refl; even = even; ids = refl; coords = refl; near = refl }
 
--- the reply of `load` in such columns is the one that the text goes by
-pub reply-is : (o : Options) (p : PointCols) (l l' : BuildColumns) (b : Loaded) → Sized l → outcome b l' ≡ loaded_by o p l
-    → b.reply ≡ checked_by o p lister_columns
-unfolding loaded
-reply-is o p l l' b s e =
-    ap (λ (q : Outcome). q.reply.reply) e ∙ replies o p.xs p.ys p.energies l (checked_by o p l)
-    ∙ checked-sized o p l lister_columns s columns-sized
+-- what was checked of a build, by what it replies
+abbrev pub Told : Result State Refusal → Result (Unit {0}) Refusal → Type 0
+Told (Ok s) r = r ≡ Ok tt
+Told (Err e) r = r ≡ Err e
 
-refused-by : (o : Options) (p : PointCols) (r : LoadReply) → (load_number r ≡ 0 → ⊥)
-    → answer_text o p r ≡ refusal_text (load_number r) (load_carried r)
-refused-by o p Done e = absurd (e refl)
-refused-by o p No-as-Options e = refl
-refused-by o p Count e = refl
-refused-by o p (Point i) e = refl
-refused-by o p (Energy i) e = refl
-refused-by o p Tables e = refl
+told-by : (o : Options) (p : PointCols) (l l' : BuildColumns) (b : Result State Refusal) (r : Result (Unit {0}) Refusal)
+    → outcome b l' ≡ by_reply o p.xs p.ys p.energies l r → Told b r
+told-by o p l l' (Ok s) (Ok d) e = refl
+told-by o p l l' (Ok s) (Err x) e =
+    let q : ◌≡◌ {A = Result State Refusal} (Ok s) (Err x) = ap (λ (q : Outcome). q.reply) e in
+    let z : ◌≡◌ {A = ℕ} 0 1 = cc in absurd (omega arith)
+told-by o p l l' (Err x) (Ok d) e =
+    let q : ◌≡◌ {A = Result State Refusal} (Err x) (Ok (built_state o (length p.xs) (tables_by o p))) = ap (λ (q : Outcome). q.reply) e in
+    let z : ◌≡◌ {A = ℕ} 0 1 = cc in absurd (omega arith)
+told-by o p l l' (Err x) (Err y) e =
+    let q : ◌≡◌ {A = Result State Refusal} (Err x) (Err y) = ap (λ (q : Outcome). q.reply) e in
+    let z : x ≡ y = cc in ap (λ (k : Refusal). Err k) (sym z)
+
+-- the reply of `load` in such columns is the one that the text goes by
+pub reply-is : (o : Options) (p : PointCols) (l l' : BuildColumns) (b : Result State Refusal) → Sized l → outcome b l' ≡ loaded_by o p l
+    → Told b (checked_by o p lister_columns)
+unfolding loaded
+reply-is o p l l' b s e = subst (Told b) (checked-sized o p l lister_columns s columns-sized) (told-by o p l l' b (checked_by o p l) e)
 
 -- what is printed for a refusal
-pub refused-text : (o : Options) (p : PointCols) (r : LoadReply) → r ≡ checked_by o p lister_columns → (load_number r ≡ 0 → ⊥)
-    → build_text o p ≡ refusal_text (load_number r) (load_carried r)
+pub refused-text : (o : Options) (p : PointCols) (e : Refusal) → checked_by o p lister_columns ≡ Err e
+    → build_text o p ≡ refusal_text (number_of e) (carried_of e)
 unfolding build_text
-refused-text o p r e h = ap (answer_text o p) (sym e) ∙ refused-by o p r h
+refused-text o p e q = ap (answer_text o p) q
 
 -- ---- an accepted build
 
@@ -91,7 +97,7 @@ pub record Printable (o : Options) (p : PointCols) (s : State) (l : BuildColumns
   pub holding : Holding s (rows_in l) answer_room
   pub text : tables_text (s.options.max_zoom + 1) (held_by s (rows_in l)) ≡ build_text o p
 
-module _ (o : Options) (p : PointCols) (l : BuildColumns) (s : Sized l) (done : checked_by o p l ≡ Done) where
+module _ (o : Options) (p : PointCols) (l : BuildColumns) (s : Sized l) (done : checked_by o p l ≡ Ok tt) where
   abbrev n : ℕ
   n = length p.xs
 
@@ -143,10 +149,14 @@ module _ (o : Options) (p : PointCols) (l : BuildColumns) (s : Sized l) (done : 
         text = ap (tables_text (o.max_zoom + 1)) h ∙ sym text;
       }
 
-pub printable : (o : Options) (p : PointCols) (l l' : BuildColumns) (b : Loaded) → Sized l → outcome b l' ≡ loaded_by o p l
-    → load_number b.reply ≡ 0 → Printable o p b.state l'
-printable o p l l' b s e n =
-    let done : checked_by o p l ≡ Done =
-    checked-sized o p l lister_columns s columns-sized ∙ sym (reply-is o p l l' b s e) ∙ number-done b.reply (omega (arith, n)) in
-    let is = e ∙ by-reply o p.xs p.ys p.energies l (checked_by o p l) Done refl done in
-    subst (λ (q : Outcome). Printable o p q.reply.state q.columns) (sym is) (built-printable o p l s done)
+pub printable : (o : Options) (p : PointCols) (l l' : BuildColumns) (s : State) → Sized l → outcome (Ok s) l' ≡ loaded_by o p l
+    → Printable o p s l'
+unfolding loaded
+printable o p l l' s z e =
+    let done : checked_by o p l ≡ Ok tt = told-by o p l l' (Ok s) (checked_by o p l) e in
+    let is : outcome (Ok s) l' ≡ by_reply o p.xs p.ys p.energies l (Ok tt) = e ∙ ap (by_reply o p.xs p.ys p.energies l) done in
+    let q : ◌≡◌ {A = Result State Refusal} (Ok s) (Ok (built_state o (length p.xs) (tables_by o p))) = ap (λ (x : Outcome). x.reply) is in
+    let same : s ≡ built_state o (length p.xs) (tables_by o p) = cc in
+    subst (λ (x : State). Printable o p x l') (sym same)
+    (subst (Printable o p (built_state o (length p.xs) (tables_by o p))) (sym (ap (λ (x : Outcome). x.columns) is))
+    (built-printable o p l z done))

@@ -1,10 +1,8 @@
 -- The first seven lines are read if and only if they stand there: head_read and head-ends. Assumes nothing.
-use Rattle.std.specs.Prelude.{List, ◌++◌, ◌≡◌, refl, ℕ, ◌+◌, ◌≤◌, drop}
+use Rattle.std.specs.Prelude.{List, ◌++◌, ◌≡◌, refl, ℕ, ◌+◌, ◌≤◌, drop, Option, Some, None}
 use Rattle.std.proofs.Common.{subst, ◌∙◌, arith}
 use Rattle.std.proofs.Math.ListN.{length}
 use Rattle.lister_text.specs.declared.Head.{Head}
-use Rattle.lister_text.specs.declared.Parsed.{Parsed}
-use Rattle.lister_text.specs.declared.Parsed.TheVariants.{Read, Refused}
 use Rattle.lister_text.specs.Text.{line, min_zoom_key, max_zoom_key, min_points_key, radius_key, extent_key, node_size_key, count_key, head_text}
 use Rattle.lister_text.specs.Text.{head_for, head_end}
 use Rattle.lister_text.specs.laws.Form.{head_of_text}
@@ -12,7 +10,7 @@ use Rattle.lister_text.specs.laws.Lines.{LeftText, past, goes_on, got}
 
 module _ (s : List ℕ) (a b m r e n k : ℕ) (t : List ℕ) where
   pub record HeadRead : Type 0 where
-    pub reads : head_of_text s ≡ Read (head_for a b m r e n k (head_end a b m r e n k))
+    pub reads : head_of_text s ≡ Some (head_for a b m r e n k (head_end a b m r e n k))
     pub rest : LeftText s (head_end a b m r e n k) t
 
   pub head_read : s ≡ head_text a b m r e n k t → a ≤ 255 → b ≤ 255 → m ≤ 255 → r ≤ 9999999 → e ≤ 9999999 → n ≤ 9999999 → k ≤ 1152 → HeadRead
@@ -65,24 +63,24 @@ pub record HeadStands (s : List ℕ) (h : Head) : Type 0 where
   pub hk : h.count ≤ 1152
   pub upto : h.next.at ≤ length s
 
-pub refused-not : {h : Head} → Refused ≡ Read h → ⊥
-refused-not e = let z : ◌≡◌ {A = ℕ} 0 1 = cc in omega arith
+none-not : {h : Head} → None ≡ Some h → ⊥
+none-not e = let z : ◌≡◌ {A = ℕ} 0 1 = cc in omega arith
 
-pub read-inj : (g h : Head) → Read g ≡ Read h → g ≡ h
-read-inj g h e = cc
+head-inj : (g h : Head) → Some g ≡ Some h → g ≡ h
+head-inj g h e = cc
 
-pub head-ends : (s : List ℕ) (h : Head) → head_of_text s ≡ Read h → HeadStands s h
+pub head-ends : (s : List ℕ) (h : Head) → head_of_text s ≡ Some h → HeadStands s h
 unfolding head_of_text
 head-ends s h q =
-    let go : Parsed → Parsed = λ x. x in
-    let g1 = got s 0 min_zoom_key 255 Refused _ go (Read h) refused-not q in
-    let g2 = got s g1.to max_zoom_key 255 Refused _ go (Read h) refused-not g1.goes in
-    let g3 = got s g2.to min_points_key 255 Refused _ go (Read h) refused-not g2.goes in
-    let g4 = got s g3.to radius_key 9999999 Refused _ go (Read h) refused-not g3.goes in
-    let g5 = got s g4.to extent_key 9999999 Refused _ go (Read h) refused-not g4.goes in
-    let g6 = got s g5.to node_size_key 9999999 Refused _ go (Read h) refused-not g5.goes in
-    let g7 = got s g6.to count_key 1152 Refused _ go (Read h) refused-not g6.goes in
-    let made : head_for g1.num g2.num g3.num g4.num g5.num g6.num g7.num g7.to ≡ h = read-inj _ _ g7.goes in
+    let go : Option Head → Option Head = λ x. x in
+    let g1 = got s 0 min_zoom_key 255 None _ go (Some h) none-not q in
+    let g2 = got s g1.to max_zoom_key 255 None _ go (Some h) none-not g1.goes in
+    let g3 = got s g2.to min_points_key 255 None _ go (Some h) none-not g2.goes in
+    let g4 = got s g3.to radius_key 9999999 None _ go (Some h) none-not g3.goes in
+    let g5 = got s g4.to extent_key 9999999 None _ go (Some h) none-not g4.goes in
+    let g6 = got s g5.to node_size_key 9999999 None _ go (Some h) none-not g5.goes in
+    let g7 = got s g6.to count_key 1152 None _ go (Some h) none-not g6.goes in
+    let made : head_for g1.num g2.num g3.num g4.num g5.num g6.num g7.num g7.to ≡ h = head-inj _ _ g7.goes in
     subst (λ (x : Head). HeadStands s x) made (record {
       is = g1.is _ (g2.is _ (g3.is _ (g4.is _ (g5.is _ (g6.is _ (g7.is _ refl))))));
       ha = g1.most;

@@ -1,9 +1,7 @@
 -- A line in a reading of several: where it stands, the reading goes on past it (`goes_on`, `past`); and where a reading went on past
 -- a line, the line stands there (`got`). Assumes nothing.
-use Rattle.std.specs.Prelude.{List, ◌++◌, ◌≡◌, refl, ℕ, ◌+◌, ◌≤◌, length, drop}
+use Rattle.std.specs.Prelude.{List, ◌++◌, ◌≡◌, refl, ℕ, ◌+◌, ◌≤◌, length, drop, Option, Some, None}
 use Rattle.std.proofs.Common.{ap, ◌∙◌, arith}
-use Rattle.lister_text.specs.declared.Value.{Value}
-use Rattle.lister_text.specs.declared.Value.TheVariants.{Number, Bad}
 use Rattle.lister_text.specs.laws.Scan.{line_of}
 use Rattle.lister_text.specs.Text.{line}
 use Rattle.lister_text.specs.laws.Form.{each_value, each_number}
@@ -34,19 +32,19 @@ pub record Got {B : Type 0} (s : List ℕ) (at : ℕ) (key : List ℕ) (max : �
 
 module _ {A B : Type 0} (s : List ℕ) (at : ℕ) (key : List ℕ) (max : ℕ) (other : A) (f : ℕ → ℕ → A) (go : A → B) (t : B)
     (no' : go other ≡ t → ⊥) where
-  got-by : (x : Value) → line_of s at key max ≡ x → go (each_value x other f) ≡ t → Got s at key max (λ v k. go (f v k)) t
-  got-by (Number v n) q e =
-      let l = line-ends s at key max v n q in
+  got-by : (x : Option (ℕ × ℕ)) → line_of s at key max ≡ x → go (each_value x other f) ≡ t → Got s at key max (λ v k. go (f v k)) t
+  got-by (Some p) q e =
+      let l = line-ends s at key max p.0 p.1 q in
       record {
-        num = v;
-        to = n.at;
+        num = p.0;
+        to = p.1;
         goes = e;
-        is = λ u r. l.is ∙ ap (λ (w : List ℕ). line key v ++ w) r;
+        is = λ u r. l.is ∙ ap (λ (w : List ℕ). line key p.0 ++ w) r;
         most = l.most;
         small = l.small;
         upto = l.upto;
       }
-  got-by Bad q e = absurd (no' e)
+  got-by None q e = absurd (no' e)
 
   pub got : go (each_value (line_of s at key max) other f) ≡ t → Got s at key max (λ v k. go (f v k)) t
   got e = got-by (line_of s at key max) refl e

@@ -1,11 +1,13 @@
 -- No two inputs that SCOPE takes have one writing: `text-one`. Assumes nothing.
 use Rattle.std.specs.Prelude.{List, [], ◌∷◌, ◌++◌, ◌≡◌, refl, ℕ, ◌+◌, ◌≤◌, length, drop}
 use Rattle.std.proofs.Common.{ap, sym, ◌∙◌, arith, length-append}
+use Rattle.std.proofs.lemmas.Option.{some_pair_parts}
 use Rattle.lister_text.specs.laws.Reading.{line_read, line-length, after}
 use Rattle.lister_text.specs.Text.{line, min_zoom_key, max_zoom_key, min_points_key, radius_key, extent_key, node_size_key, count_key, x_key}
+use Rattle.lister_text.specs.declared.LampText.{LampText}
 use Rattle.lister_text.specs.Text.{y_key}
 use Rattle.lister_text.specs.Text.{wh_key}
-use Rattle.lister_text.specs.Text.{LampText, Input, points_text, text, Small, Valid}
+use Rattle.lister_text.specs.Text.{Input, points_text, text, Small, Valid}
 
 -- two lines of one key that begin one text: their numbers are equal, and what follows them
 module _ (key : List ℕ) (v w : ℕ) (t u : List ℕ) (e : line key v ++ t ≡ line key w ++ u) (hv : v ≤ 9999999) (hw : w ≤ 9999999) where
@@ -16,7 +18,7 @@ module _ (key : List ℕ) (v w : ℕ) (t u : List ℕ) (e : line key v ++ t ≡ 
   same_number =
       let a = line_read all 0 key 9999999 v t (omega arith) refl hv hv in
       let b = line_read all 0 key 9999999 w u (omega arith) e hw hw in
-      cc
+      (some_pair_parts v w _ _ (sym a ∙ b)).0
 
   line-one : (v ≡ w) × (t ≡ u)
   line-one =

@@ -1,16 +1,15 @@
 -- Points are read if and only if they stand there: points-read and points-end. Assumes nothing.
-use Rattle.std.specs.Prelude.{Bool, true, false, List, [], ◌∷◌, ◌≡◌, refl, ℕ, zero, suc, ◌+◌, ◌-◌, ◌≤◌, length, drop}
+use Rattle.std.specs.Prelude.{Bool, true, false, List, [], ◌∷◌, ◌≡◌, refl, ℕ, zero, suc, ◌+◌, ◌-◌, ◌≤◌, length, drop, Option, Some, None}
 use Rattle.std.proofs.Common.{ap, sym, ◌∙◌, add-one, arith, eq-eqb, eqb-true, length-drop, drop_of_length-le}
-use Rattle.lister_text.specs.declared.WrittenPoint.{WrittenPoint}
-use Rattle.lister_text.specs.declared.WrittenPoint.TheVariants.{Stands, Missing}
-use Rattle.lister_text.specs.Text.{line, x_key, y_key, wh_key, LampText, PointCols, put_points, point_text, points_text, Small}
+use Rattle.lister_text.specs.declared.LampText.{LampText}
+use Rattle.lister_text.specs.Text.{line, x_key, y_key, wh_key, PointCols, put_points, point_text, points_text, Small}
 use Rattle.lister_text.specs.laws.Form.{each_point, point_of, points_ok, filled_form}
 use Rattle.lister_text.specs.laws.Lines.{LeftText, past, goes_on, got}
 
 -- the lines of a point that is left are read, and what follows them is left
 pub record PointRead (s : List ℕ) (at : ℕ) (p : LampText) (t : List ℕ) : Type 0 where
   pub to : ℕ
-  pub reads : point_of s at ≡ Stands p.x p.y p.wh (record { at = to })
+  pub reads : point_of s at ≡ Some (p, to)
   pub rest : LeftText s to t
 
 pub point-read : (s : List ℕ) (at : ℕ) (p : LampText) (t : List ℕ) → LeftText s at (point_text p t)
@@ -41,9 +40,10 @@ points-read (p ∷ ps) s at w sm =
     let here = point-read s at p (points_text ps) w sm.0 in
     let r = points-read ps s here.to here.rest sm.1 in
     record {
-      ok = ap (λ (q : WrittenPoint). each_point q false (λ _ k. points_ok (length ps) s k)) here.reads ∙ r.ok;
+      ok = ap (λ (q : Option (LampText × ℕ)). each_point q false (λ _ k. points_ok (length ps) s k)) here.reads ∙ r.ok;
       stored = λ i c.
-          ap (λ (q : WrittenPoint). each_point q c (λ o k. filled_form (length ps) s k (i + 1) (put_points c i (o ∷ [])))) here.reads
+          ap (λ (q : Option (LampText × ℕ)). each_point q c (λ o k. filled_form (length ps) s k (i + 1) (put_points c i (o ∷ []))))
+          here.reads
           ∙ r.stored (i + 1) (put_points c i (p ∷ [])) ∙ rw add-one;
     }
 
@@ -65,10 +65,10 @@ points-end zero s at e =
     let le : length s ≤ at = omega arith in
     record { ps = []; count = refl; is = drop_of_length-le s le; small = tt }
 points-end (suc n) s at e =
-    let go : WrittenPoint → Bool = λ q. each_point q false (λ _ k. points_ok n s k) in
-    let x = got s at x_key 9999999 Missing _ go true false-not e in
-    let y = got s x.to y_key 9999999 Missing _ go true false-not x.goes in
-    let w = got s y.to wh_key 9999999 Missing _ go true false-not y.goes in
+    let go : Option (LampText × ℕ) → Bool = λ q. each_point q false (λ _ k. points_ok n s k) in
+    let x = got s at x_key 9999999 None _ go true false-not e in
+    let y = got s x.to y_key 9999999 None _ go true false-not x.goes in
+    let w = got s y.to wh_key 9999999 None _ go true false-not y.goes in
     let r = points-end n s w.to w.goes in
     record {
       ps = record { x = x.num; y = y.num; wh = w.num } ∷ r.ps;

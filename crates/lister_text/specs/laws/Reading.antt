@@ -1,28 +1,46 @@
 -- A line is read if and only if it stands there: number-ends and line-ends say what was read, number_read and line_read that it is read.
 -- Assumes nothing.
-use Rattle.std.specs.Prelude.{Bool, false, cond, ◌≡◌, ℕ, zero, suc, ◌+◌, ◌-◌, ◌*◌, ◌/◌, ◌%◌, ◌^◌, ◌<◌, ◌≤◌, ltb, leb, eqb}
+use Rattle.std.specs.Prelude.{Bool, false, cond, ◌≡◌, ℕ, zero, suc, ◌+◌, ◌-◌, ◌*◌, ◌/◌, ◌%◌, ◌^◌, ◌<◌, ◌≤◌, ltb, leb, eqb, Option, Some, None, ◌&&◌}
+use Rattle.std.specs.Char.{is_ascii_digit}
+use Rattle.std.specs.List.{starts_with}
+use Rattle.std.proofs.lemmas.Bool.{false≢true}
+use Rattle.std.proofs.lemmas.Option.{some_pair_parts}
+use Rattle.std.proofs.lemmas.Slice.Eq.{starts_is}
+use Rattle.std.proofs.lemmas.Bool.Decides.{Decides-eqb}
 use Rattle.std.proofs.Math.Bool.{true}
 use mathlib.Core.List.{List, [], ◌∷◌, ◌++◌, append_assoc}
 use Rattle.std.proofs.Math.Path.{refl, ap, sym}
 use Rattle.std.proofs.Common.{◌∙◌, pow-suc, length-drop, drop-drop}
 use native.Mathlib.Omega.{arith}
-use borrow.Author.Tests.{le-ltb, eq-eqb, ne_eqb, ltb-true, ltb-false, eqb-true, leb-true, le-leb}
+use borrow.Author.Tests.{le-ltb, ne_eqb, ltb-true, ltb-false, eqb-true, leb-true, le-leb}
 use Rattle.std.proofs.Math.ListN.{length, drop, length-append}
 use Rattle.std.proofs.Math.Seq.{drop-append_seam}
-use Rattle.lister_text.specs.declared.Value.{Value}
-use Rattle.lister_text.specs.declared.Value.TheVariants.{Number, Bad}
-use Rattle.lister_text.specs.declared.Cursor.{Cursor}
 use Rattle.lister_text.specs.Digits.{decimal_of}
 use Rattle.lister_text.specs.laws.Digits.{one-digit, more-digits}
-use Rattle.lister_text.specs.laws.Scan.{starts_with, more_text, number_of, at_most, line_of}
+use Rattle.lister_text.specs.laws.Scan.{more_text, number_of, at_most, line_of}
 use Rattle.lister_text.specs.Text.{line}
 
 -- ---- digits
 
-bad-not : {v : ℕ} {n : Cursor} → Bad ≡ Number v n → ⊥
+bad-not : {v n : ℕ} → ◌≡◌ {A = Option (ℕ × ℕ)} None (Some (v, n)) → ⊥
 bad-not e = let z : ◌≡◌ {A = ℕ} 0 1 = cc in omega arith
 
-cond-bad : (b : Bool) (x : Value) {v : ℕ} {n : Cursor} → cond b Bad x ≡ Number v n → (b ≡ false) × (x ≡ Number v n)
+cond-else : (b : Bool) (x : Option (ℕ × ℕ)) {v n : ℕ} → cond b x None ≡ Some (v, n) → (b ≡ true) × (x ≡ Some (v, n))
+cond-else true x e = (refl, e)
+cond-else false x e = absurd (bad-not e)
+
+-- a digit is from 48 to 57
+both : (a b : Bool) → (a && b) ≡ true → (a ≡ true) × (b ≡ true)
+both true b e = (refl, e)
+both false b e = absurd (false≢true e)
+
+pub digit : (c : ℕ) → is_ascii_digit c ≡ true → (48 ≤ c) × (c ≤ 57)
+digit c e = let b = both (leb 48 c) (leb c 57) e in (leb-true 48 c b.0, leb-true c 57 b.1)
+
+is-digit : (d : ℕ) → d < 10 → is_ascii_digit (48 + d) ≡ true
+is-digit d h = simp (le-leb 48 (48 + d) (omega arith), le-leb (48 + d) 57 (omega arith))
+
+cond-bad : (b : Bool) (x : Option (ℕ × ℕ)) {v n : ℕ} → cond b None x ≡ Some (v, n) → (b ≡ false) × (x ≡ Some (v, n))
 cond-bad true x e = absurd (bad-not e)
 cond-bad false x e = (refl, e)
 
@@ -52,24 +70,24 @@ append-digit w d h l e =
 -- ---- what is read is what stands there
 
 -- `whole` is v's digits, a line's end and `rest`, and the place n leaves `rest` of what ends at `len`
-pub record Ends (whole : List ℕ) (len v : ℕ) (n : Cursor) : Type 0 where
+pub record Ends (whole : List ℕ) (len v : ℕ) (n : ℕ) : Type 0 where
   pub rest : List ℕ
   pub is : whole ≡ decimal_of 7 v ++ (10 ∷ rest)
-  pub past : n.at + length rest ≡ len
+  pub past : n + length rest ≡ len
   pub small : v ≤ 9999999
 
-module _ (c : ℕ) (l : List ℕ) (w at v : ℕ) (n : Cursor) (h : w ≤ 9999999) where
-  more-step : ((w' : ℕ) → w' ≤ 9999999 → more_text w' (at + 1) l ≡ Number v n → Ends (decimal_of 7 w' ++ l) (at + 1 + length l) v n)
+module _ (c : ℕ) (l : List ℕ) (w at v : ℕ) (n : ℕ) (h : w ≤ 9999999) where
+  more-step : ((w' : ℕ) → w' ≤ 9999999 → more_text w' (at + 1) l ≡ Some (v, n) → Ends (decimal_of 7 w' ++ l) (at + 1 + length l) v n)
       → (b : Bool) → eqb c 10 ≡ b
-      → cond b (Number w (record { at = at + 1 }))
-      (cond (ltb c 48) Bad (cond (ltb 57 c) Bad
-      (cond (ltb w 1) Bad (cond (ltb 999999 w) Bad (more_text (w * 10 + (c - 48)) (at + 1) l))))) ≡ Number v n
+      → cond b (Some (w, at + 1))
+      (cond (is_ascii_digit c)
+      (cond (ltb w 1) None (cond (ltb 999999 w) None (more_text (w * 10 + (c - 48)) (at + 1) l))) None) ≡ Some (v, n)
       → Ends (decimal_of 7 w ++ (c ∷ l)) (at + length (c ∷ l)) v n
   more-step ih true q e =
       let ten : c ≡ 10 = eqb-true c 10 q in
-      let same : w ≡ v = cc in
-      let cur : ◌≡◌ {A = Cursor} (record { at = at + 1 }) n = cc in
-      let place : at + 1 ≡ n.at = ap (λ (k : Cursor). k.at) cur in
+      let parts = some_pair_parts w v (at + 1) n e in
+      let same : w ≡ v = parts.0 in
+      let place : at + 1 ≡ n = parts.1 in
       record {
         rest = l;
         is = ap (λ (k : ℕ). decimal_of 7 w ++ (k ∷ l)) ten ∙ ap (λ (k : ℕ). decimal_of 7 k ++ (10 ∷ l)) same;
@@ -78,12 +96,10 @@ module _ (c : ℕ) (l : List ℕ) (w at v : ℕ) (n : Cursor) (h : w ≤ 9999999
         small = omega arith;
       }
   more-step ih false q e =
-      let a = cond-bad (ltb c 48) _ e in
-      let b = cond-bad (ltb 57 c) _ a.1 in
-      let d = cond-bad (ltb w 1) _ b.1 in
+      let a = cond-else (is_ascii_digit c) _ e in
+      let d = cond-bad (ltb w 1) _ a.1 in
       let f = cond-bad (ltb 999999 w) _ d.1 in
-      let lo : 48 ≤ c = ltb-false c 48 a.0 in
-      let hi : c ≤ 57 = ltb-false 57 c b.0 in
+      let lo = digit c a.0 in
       let some : 1 ≤ w = ltb-false w 1 d.0 in
       let few : w ≤ 999999 = ltb-false 999999 w f.0 in
       let r = ih (w * 10 + (c - 48)) (omega arith) f.1 in
@@ -96,21 +112,19 @@ module _ (c : ℕ) (l : List ℕ) (w at v : ℕ) (n : Cursor) (h : w ≤ 9999999
         small = r.small;
       }
 
-more-ends : (l : List ℕ) (w at v : ℕ) (n : Cursor) → w ≤ 9999999 → more_text w at l ≡ Number v n
+more-ends : (l : List ℕ) (w at v : ℕ) (n : ℕ) → w ≤ 9999999 → more_text w at l ≡ Some (v, n)
     → Ends (decimal_of 7 w ++ l) (at + length l) v n
 unfolding more_text
 more-ends [] w at v n h e = absurd (bad-not e)
 more-ends (c ∷ l) w at v n h e = more-step c l w at v n h (λ w' h' e'. more-ends l w' (at + 1) v n h' e') (eqb c 10) refl e
 
-pub number-ends : (l : List ℕ) (at v : ℕ) (n : Cursor) → number_of at l ≡ Number v n → Ends l (at + length l) v n
+pub number-ends : (l : List ℕ) (at v : ℕ) (n : ℕ) → number_of at l ≡ Some (v, n) → Ends l (at + length l) v n
 unfolding number_of
 number-ends [] at v n e = absurd (bad-not e)
 number-ends (c ∷ l) at v n e =
-    let a = cond-bad (ltb c 48) _ e in
-    let b = cond-bad (ltb 57 c) _ a.1 in
-    let lo : 48 ≤ c = ltb-false c 48 a.0 in
-    let hi : c ≤ 57 = ltb-false 57 c b.0 in
-    let r = more-ends l (c - 48) (at + 1) v n (omega arith) b.1 in
+    let a = cond-else (is_ascii_digit c) _ e in
+    let lo = digit c a.0 in
+    let r = more-ends l (c - 48) (at + 1) v n (omega arith) a.1 in
     let back : 48 + (c - 48) ≡ c = omega arith in
     record {
       rest = r.rest;
@@ -126,14 +140,14 @@ module _ (at n : ℕ) (t : List ℕ) where
   unfolding number_of
   read_one h =
       let e : 48 + n - 48 ≡ n = omega arith in
-      simp (le-ltb (48 + n) 48 (omega arith), le-ltb 57 (48 + n) (omega arith), e)
+      simp (is-digit n h, e)
 
   read_next : (d : ℕ) → d < 10 → 1 ≤ n → n ≤ 999999 → more_text n at ((48 + d) ∷ t) ≡ more_text (n * 10 + d) (at + 1) t
   unfolding more_text
   read_next d h l m =
       let e : 48 + d - 48 ≡ d = omega arith in
       let k : 48 + d ≡ 10 → ⊥ = λ q. omega arith in
-      simp (ne_eqb (48 + d) 10 k, le-ltb (48 + d) 48 (omega arith), le-ltb 57 (48 + d) (omega arith), le-ltb n 1 l, le-ltb 999999 n m, e)
+      simp (ne_eqb (48 + d) 10 k, is-digit d h, le-ltb n 1 l, le-ltb 999999 n m, e)
 
 module _ (k at n : ℕ) (t : List ℕ) (l : n ≤ 9999999) where
   read_by : ((u : List ℕ) → number_of at (decimal_of (suc k) (n / 10) ++ u) ≡ more_text (n / 10) (at + length (decimal_of (suc k) (n / 10))) u)
@@ -157,28 +171,17 @@ read_all zero at n t h l = rw (one-digit zero n (omega arith)) (read_one at n t 
 read_all (suc k) at n t h l = read_by k at n t l (λ u. read_all k at (n / 10) u (tenth k n h) (omega arith)) (ltb n 10) refl
 
 pub number_read : (at n : ℕ) (t : List ℕ) → n ≤ 9999999
-    → number_of at (decimal_of 7 n ++ (10 ∷ t)) ≡ Number n (record { at = at + length (decimal_of 7 n) + 1 })
+    → number_of at (decimal_of 7 n ++ (10 ∷ t)) ≡ Some (n, at + length (decimal_of 7 n) + 1)
 unfolding more_text
 number_read at n t h = read_all 6 at n (10 ∷ t) (omega arith) h
 
 -- ---- lines
 
-starts-text : (key r : List ℕ) → starts_with key (key ++ r) ≡ true
-unfolding starts_with
-starts-text [] r = refl
-starts-text (k ∷ ks) r = simp (eq-eqb k k refl, starts-text ks r)
+starts-text : (key r : List ℕ) → starts_with eqb (key ++ r) key ≡ true
+starts-text key r = (starts_is Decides-eqb (key ++ r) key (starts_with eqb (key ++ r) key) refl).1 r refl
 
-both_true : (b x : Bool) → cond b x false ≡ true → (b ≡ true) × (x ≡ true)
-both_true true x e = (refl, e)
-both_true false x e = (e, let z : ◌≡◌ {A = ℕ} 0 1 = cc in let y : ⊥ = omega arith in absurd y)
-
-text-starts : (key l : List ℕ) → starts_with key l ≡ true → l ≡ key ++ drop (length key) l
-unfolding starts_with
-text-starts [] l e = refl
-text-starts (k ∷ ks) [] e = let z : ◌≡◌ {A = ℕ} 0 1 = cc in let y : ⊥ = omega arith in absurd y
-text-starts (k ∷ ks) (c ∷ l) e =
-    let b = both_true (eqb c k) (starts_with ks l) e in
-    ap (λ (m : ℕ). m ∷ l) (eqb-true c k b.0) ∙ ap (λ (m : List ℕ). k ∷ m) (text-starts ks l b.1)
+text-starts : (key l : List ℕ) → starts_with eqb l key ≡ true → l ≡ key ++ drop (length key) l
+text-starts key l e = (starts_is Decides-eqb l key (starts_with eqb l key) refl).0 e
 
 regroup : (key d rest : List ℕ) → key ++ (d ++ (10 ∷ [])) ++ rest ≡ key ++ (d ++ (10 ∷ rest))
 regroup key d rest = simp append_assoc
@@ -198,45 +201,42 @@ within s at a rest h e =
 
 module _ (s : List ℕ) (at : ℕ) (key : List ℕ) (max v : ℕ) where
   pub line_read : (rest : List ℕ) → at ≤ length s → drop at s ≡ line key v ++ rest → v ≤ max → v ≤ 9999999
-      → line_of s at key max ≡ Number v (record { at = at + length (line key v) })
+      → line_of s at key max ≡ Some (v, at + length (line key v))
   unfolding line_of at_most line
   line_read rest h e m l =
       let e' : drop at s ≡ key ++ (decimal_of 7 v ++ (10 ∷ rest)) = e ∙ regroup key (decimal_of 7 v) rest in
-      let st : starts_with key (drop at s) ≡ true = ap (λ (u : List ℕ). starts_with key u) e' ∙ starts-text key _ in
+      let st : starts_with eqb (drop at s) key ≡ true = ap (λ (u : List ℕ). starts_with eqb u key) e' ∙ starts-text key _ in
       let nm : number_of (at + length key) (drop (at + length key) s)
-      ≡ Number v (record { at = at + length key + length (decimal_of 7 v) + 1 }) =
+      ≡ Some (v, at + length key + length (decimal_of 7 v) + 1) =
       ap (λ (u : List ℕ). number_of (at + length key) u) (after s at key _ e') ∙ number_read (at + length key) v rest l in
       let p : at + length key + length (decimal_of 7 v) + 1 ≡ at + length (line key v) = omega (arith, line-length key v) in
-      simp (le-ltb (length s) at h, st, nm, le-leb v max m) (ap (λ (k : ℕ). Number v (record { at = k })) p)
+      simp (le-ltb (length s) at h, st, nm, le-leb v max m) (ap (λ (k : ℕ). Some (v, k)) p)
 
   -- what a line that was read is
-  pub record Line (n : Cursor) : Type 0 where
-    pub is : drop at s ≡ line key v ++ drop n.at s
-    pub past : n.at ≡ at + length (line key v)
+  pub record Line (n : ℕ) : Type 0 where
+    pub is : drop at s ≡ line key v ++ drop n s
+    pub past : n ≡ at + length (line key v)
     pub most : v ≤ max
     pub small : v ≤ 9999999
     pub from : at ≤ length s
-    pub upto : n.at ≤ length s
+    pub upto : n ≤ length s
 
-  at-most-by : (w : ℕ) (m n : Cursor) (b : Bool) → leb w max ≡ b → cond b (Number w m) Bad ≡ Number v n → (Number w m ≡ Number v n)
+  at-most-by : (w : ℕ) (m n : ℕ) (b : Bool) → leb w max ≡ b
+      → cond {A = Option (ℕ × ℕ)} b (Some (w, m)) None ≡ Some (v, n) → (◌≡◌ {A = Option (ℕ × ℕ)} (Some (w, m)) (Some (v, n)))
       × (v ≤ max)
-  at-most-by w m n true q e = let same : w ≡ v = cc in (e, omega (arith, leb-true w max q))
+  at-most-by w m n true q e = let same : w ≡ v = (some_pair_parts w v m n e).0 in (e, omega (arith, leb-true w max q))
   at-most-by w m n false q e = absurd (bad-not e)
 
-  at-most : (x : Value) (n : Cursor) → at_most max x ≡ Number v n → (x ≡ Number v n) × (v ≤ max)
+  at-most : (x : Option (ℕ × ℕ)) (n : ℕ) → at_most max x ≡ Some (v, n) → (x ≡ Some (v, n)) × (v ≤ max)
   unfolding at_most
-  at-most (Number w m) n e = at-most-by w m n (leb w max) refl e
-  at-most Bad n e = absurd (bad-not e)
+  at-most (Some p) n e = at-most-by p.0 p.1 n (leb p.0 max) refl e
+  at-most None n e = absurd (bad-not e)
 
-  cond-else : (b : Bool) (x : Value) (n : Cursor) → cond b x Bad ≡ Number v n → (b ≡ true) × (x ≡ Number v n)
-  cond-else true x n e = (refl, e)
-  cond-else false x n e = absurd (bad-not e)
-
-  pub line-ends : (n : Cursor) → line_of s at key max ≡ Number v n → Line n
+  pub line-ends : (n : ℕ) → line_of s at key max ≡ Some (v, n) → Line n
   unfolding line_of line
   line-ends n e =
       let a = cond-bad (ltb (length s) at) _ e in
-      let b = cond-else (starts_with key (drop at s)) _ n a.1 in
+      let b = cond-else (starts_with eqb (drop at s) key) _ a.1 in
       let m = at-most (number_of (at + length key) (drop (at + length key) s)) n b.1 in
       let r = number-ends (drop (at + length key) s) (at + length key) v n m.0 in
       let from : at ≤ length s = ltb-false (length s) at a.0 in
@@ -245,10 +245,10 @@ module _ (s : List ℕ) (at : ℕ) (key : List ℕ) (max v : ℕ) where
       ∙ sym (regroup key (decimal_of 7 v) r.rest) in
       let len : length (drop (at + length key) s) ≡ length (decimal_of 7 v) + (length r.rest + 1) = ap length r.is
       ∙ length-append (decimal_of 7 v) (10 ∷ r.rest) ∙ omega arith in
-      let past : n.at ≡ at + length (line key v) = omega (arith, r.past, len, line-length key v) in
+      let past : n ≡ at + length (line key v) = omega (arith, r.past, len, line-length key v) in
       let all : length s - at ≡ length (line key v) + length r.rest = sym (length-drop at s) ∙ ap length whole
       ∙ length-append (line key v) r.rest in
-      let rest : drop n.at s ≡ r.rest = ap (λ (k : ℕ). drop k s) past ∙ after s at (line key v) r.rest whole in
+      let rest : drop n s ≡ r.rest = ap (λ (k : ℕ). drop k s) past ∙ after s at (line key v) r.rest whole in
       record {
         is = whole ∙ ap (λ (l : List ℕ). line key v ++ l) (sym rest);
         past = past;

@@ -1,7 +1,7 @@
 -- What `load` leaves, from what `supercluster::load` and `build_owners::fill` leave: the first is lent a front of `near`, the second fills
 -- the
 -- owners from the fronts of the columns. Assumes nothing.
-use Rattle.std.specs.Prelude.{◌≡◌, Float, take}
+use Rattle.std.specs.Prelude.{◌≡◌, Float, take, Result, Ok, Err}
 use Rattle.std.proofs.Math.Path.{refl, sym, ap, ap₂, subst}
 use Rattle.std.proofs.Common.{◌∙◌, leb-true, length-take, take-append-drop}
 use mathlib.Core.List.{List, ◌++◌, append_assoc}
@@ -18,13 +18,14 @@ use Rattle.build_tables.specs.Rows.{Cols, rows}
 use Rattle.build_tables.specs.laws.Roomy.{Roomy, front_cols}
 use Rattle.build_tables.specs.laws.Bounds.{options-are}
 use Rattle.build_all_zooms.specs.Zooms.{laid_over}
-use Rattle.supercluster.specs.declared.LoadReply.{LoadReply}
-use Rattle.supercluster.specs.declared.LoadReply.TheVariants.{Done, Options as No-as-Options, Count, Point, Energy, Tables}
-use Rattle.supercluster.specs.declared.Loaded.{Loaded}
+use Rattle.refusals.specs.declared.Refusal.{Refusal}
+use Rattle.refusals.specs.declared.Refusal.TheVariants.{Options as No-as-Options, Count, Point, Tables, NoTree, NoCluster, Tile, EmptyTile, Box, NoRoom, Spoiled, Text, Energy, Lamp}
+use Rattle.refusals.specs.Refusals.{number_of, number}
+use Rattle.build_tables.specs.declared.State.{State}
 use Rattle.supercluster.specs.Build.{BuildColumns, build_columns, Outcome, outcome, written, built_state, tables_of, need, room_in}
-use Rattle.supercluster.specs.Build.{checked_in, checked, load_number, unless_refused, refused_build, by_reply, loaded}
+use Rattle.supercluster.specs.Build.{checked_in, checked, unless_refused, by_reply, loaded}
 use Rattle.supercluster.specs.laws.Held.{held_by}
-use Rattle.supercluster.specs.laws.Load.{accepted, Holds, holds, replies}
+use Rattle.supercluster.specs.laws.Load.{accepted, Holds, holds, replies, verdict_of}
 use Rattle.supercluster.specs.laws.Over.{cut-over, over-length}
 use Rattle.supercluster.specs.laws.Ready.{Accepted, need-two}
 use Rattle.supercluster.specs.laws.Right.{roomy-written}
@@ -40,6 +41,23 @@ use Rattle.owners.specs.LoadedWith.{room_with, owned_outcome, loaded_with}
 left-refused : (n : ℕ) (column own : List ℕ) → 0 < n → unless_refused n column own ≡ own
 left-refused zero column own h = absurd (omega (arith, h))
 left-refused (suc n) column own h = refl
+
+-- the number of a refusal is not 0
+number-some : (e : Refusal) → 0 < number_of e
+number-some No-as-Options = omega arith
+number-some Count = omega arith
+number-some (Point i) = omega arith
+number-some Tables = omega arith
+number-some NoTree = omega arith
+number-some NoCluster = omega arith
+number-some Tile = omega arith
+number-some EmptyTile = omega arith
+number-some Box = omega arith
+number-some (NoRoom k) = omega arith
+number-some Spoiled = omega arith
+number-some Text = omega arith
+number-some (Energy i) = omega arith
+number-some Lamp = omega arith
 
 -- ---- a front of `near`
 
@@ -93,7 +111,7 @@ module _ (o : Options) (xs ys : List Float) (ws : List ℕ) (l : BuildColumns) (
   checked-cut = ap (checked_in o xs ys ws) (room_cut l own m e)
 
   -- a build that is not refused is accepted, and its columns hold it
-  pub done-accepted : checked_in o xs ys ws (room_with l own) ≡ Done → Accepted o xs ys ws × Holds (need o (length xs)) (cut_near m l)
+  pub done-accepted : checked_in o xs ys ws (room_with l own) ≡ Ok tt → Accepted o xs ys ws × Holds (need o (length xs)) (cut_near m l)
       × (need o (length xs) ≤ length own)
   done-accepted d =
       let a = accepted o xs ys ws (cut_near m l) (checked-cut ∙ d) in
@@ -101,7 +119,7 @@ module _ (o : Options) (xs ys : List Float) (ws : List ℕ) (l : BuildColumns) (
       let k = room_cut l own m e in
       (a.0, holds (need o (length xs)) (cut_near m l) a.1, least (need o (length xs)) (room_in (cut_near m l)) (room_in l) (length own) r k)
 
-  pub done_full : checked_in o xs ys ws (room_with l own) ≡ Done → Holds (need o (length xs)) l
+  pub done_full : checked_in o xs ys ws (room_with l own) ≡ Ok tt → Holds (need o (length xs)) l
   done_full d =
       let h = (done-accepted d).1 in
       let k = length-take m l.near in
@@ -116,14 +134,14 @@ module _ (o : Options) (xs ys : List Float) (ws : List ℕ) (l : BuildColumns) (
   front-in = omega arith
 
   -- a refusal leaves the front, and so the column
-  near-kept : (r : LoadReply) → rejoin_near m l.near (refused_build o r (cut_near m l)) ≡ refused_build o r l
-  near-kept r = ap (λ (q : List ℕ). refused_build o r (build_columns l.table l.ids l.coords q)) (take-append-drop m l.near)
+  near-kept : (e : Refusal) → rejoin_near m l.near (outcome (Err e) (cut_near m l)) ≡ outcome (Err e) l
+  near-kept e = ap (λ (q : List ℕ). outcome (Err e) (build_columns l.table l.ids l.coords q)) (take-append-drop m l.near)
 
   -- what a build leaves in the front, with what follows it, is what it leaves
-  near-back : (r : LoadReply) → checked_in o xs ys ws (room_with l own) ≡ r
+  near-back : (r : Result (Unit {0}) Refusal) → checked_in o xs ys ws (room_with l own) ≡ r
       → rejoin_near m l.near (by_reply o xs ys ws (cut_near m l) r) ≡ by_reply o xs ys ws l r
   unfolding written
-  near-back Done d =
+  near-back (Ok u) d =
       let a = done-accepted d in
       let b = options-are o a.0.options in
       let t = need-two o (length xs) b.zooms in
@@ -133,24 +151,20 @@ module _ (o : Options) (xs ys : List Float) (ws : List ℕ) (l : BuildColumns) (
       let n : length z ≡ length xs + length xs = length-replicate {A = ℕ} (length xs + length xs) 0 in
       let c : laid_over z (take m l.near) ++ drop m l.near ≡ laid_over z l.near =
       cut-over z l.near (laid_over z (take m l.near)) m front-in refl (over-length z (take m l.near) (omega arith) ∙ k) in
-      λ i. outcome (record { reply = Done; state = built_state o (length xs) (tables_of o xs ys ws) })
+      λ i. outcome (Ok (built_state o (length xs) (tables_of o xs ys ws)))
       (record {
         table = (written o.node_size (length xs) (tables_of o xs ys ws) l).table;
         ids = (written o.node_size (length xs) (tables_of o xs ys ws) l).ids;
         coords = (written o.node_size (length xs) (tables_of o xs ys ws) l).coords;
         near = c i;
       })
-  near-back No-as-Options d = near-kept No-as-Options
-  near-back Count d = near-kept Count
-  near-back (Point i) d = near-kept (Point i)
-  near-back (Energy i) d = near-kept (Energy i)
-  near-back Tables d = near-kept Tables
+  near-back (Err x) d = near-kept x
 
   -- ---- what `supercluster::load` left, in q and these columns; of `near` the front was lent
 
-  module _ (q : Loaded) (T : Cols) (ids : List ℕ) (co : List Float) (front : List ℕ)
+  module _ (q : Result State Refusal) (T : Cols) (ids : List ℕ) (co : List Float) (front : List ℕ)
       (E : outcome q (build_columns T ids co front) ≡ loaded o xs ys ws (cut_near m l)) where
-    abbrev reply : LoadReply
+    abbrev reply : Result (Unit {0}) Refusal
     reply = checked_in o xs ys ws (room_with l own)
 
     abbrev left : List ℕ → Outcome
@@ -160,22 +174,23 @@ module _ (o : Options) (xs ys : List Float) (ws : List ℕ) (l : BuildColumns) (
     unfolding loaded
     back-told = ap (rejoin_near m l.near) (E ∙ ap (by_reply o xs ys ws (cut_near m l)) checked-cut) ∙ near-back reply refl
 
-    reply-is : q.reply ≡ reply
-    reply-is = ap (λ (x : Outcome). x.reply.reply) back-told ∙ replies o xs ys ws l reply
+    reply-is : verdict_of q ≡ reply
+    reply-is = ap (λ (x : Outcome). verdict_of x.reply) back-told ∙ replies o xs ys ws l reply
 
     -- a refusal
-    pub refused-told : 0 < load_number q.reply → owned_outcome (left (front ++ drop m l.near)) own ≡ loaded_with o xs ys ws l own
+    pub refused-told : (e : Refusal) → q ≡ Err e → owned_outcome (left (front ++ drop m l.near)) own ≡ loaded_with o xs ys ws l own
     unfolding loaded_with
-    refused-told h =
-        let k : 0 < load_number reply = subst (λ (r : LoadReply). 0 < load_number r) reply-is h in
+    refused-told e h =
+        let k : 0 < number reply =
+        subst (λ (r : Result (Unit {0}) Refusal). 0 < number r) (sym (ap verdict_of h) ∙ reply-is) (number-some e) in
         ap₂ owned_outcome back-told (sym
-        (left-refused (load_number reply) (laid_over (owner_column (length xs) (tables_of o xs ys ws)) own) own k))
+        (left-refused (number reply) (laid_over (owner_column (length xs) (tables_of o xs ys ws)) own) own k))
 
     -- ---- no refusal
 
-    module _ (d : q.reply ≡ Done) where
-      done : reply ≡ Done
-      done = sym reply-is ∙ d
+    module _ (s : State) (d : q ≡ Ok s) where
+      done : reply ≡ Ok tt
+      done = sym reply-is ∙ ap verdict_of d
 
       a : AcceptedBuild (given_build o xs ys ws)
       a = (done-accepted done).0
@@ -183,39 +198,44 @@ module _ (o : Options) (xs ys : List Float) (ws : List ℕ) (l : BuildColumns) (
       full : Holds (need o (length xs)) l
       full = done_full done
 
-      built : left (front ++ drop m l.near) ≡ by_reply o xs ys ws l Done
+      built : left (front ++ drop m l.near) ≡ by_reply o xs ys ws l (Ok tt)
       built = back-told ∙ ap (by_reply o xs ys ws l) done
 
-      abbrev Ready : Outcome → Type 0
-      Ready x =
-          let s = x.reply.state in
+      -- the state is that of the build's tables
+      state-is : s ≡ built_state o (length xs) (tables_of o xs ys ws)
+      state-is =
+          let w : Ok s ≡ Ok (built_state o (length xs) (tables_of o xs ys ws)) = sym d ∙ ap (λ (x : Outcome). x.reply) built in cc
+
+      abbrev Ready : State → Outcome → Type 0
+      Ready s x =
           let k = table_count s.options * s.count in
           Roomy k x.columns.table × Climbable s (rows (front_cols k x.columns.table)) × (s.count ≤ length x.columns.near)
           × (k ≤ length own)
 
-      ready-built : Ready (by_reply o xs ys ws l Done)
+      ready-built : Ready (built_state o (length xs) (tables_of o xs ys ws)) (by_reply o xs ys ws l (Ok tt))
       ready-built =
           (roomy-written o xs ys ws l a full.table, front-climbable o xs ys ws a l full, near-some o xs ys ws l, (done-accepted done).2)
 
       -- what `build_owners::fill` is asked
-      pub fill-ready : let s = q.state in let k = table_count s.options * s.count in
+      pub fill-ready : let k = table_count s.options * s.count in
           Roomy k T × Climbable s (rows (front_cols k T)) × (s.count ≤ length (front ++ drop m l.near)) × (k ≤ length own)
-      fill-ready = subst Ready (sym built) ready-built
+      fill-ready = subst (Ready s) (sym built) (subst (λ (t : State). Ready t (by_reply o xs ys ws l (Ok tt))) (sym state-is) ready-built)
 
       -- what it leaves: the zeros of `near` stay, and the column is the owners'
-      abbrev Fills : List ℕ → List ℕ → Outcome → Type 0
-      Fills near own' x =
-          let s = x.reply.state in
+      abbrev Fills : State → List ℕ → List ℕ → Outcome → Type 0
+      Fills s near own' x =
           let R = rows (front_cols (table_count s.options * s.count) x.columns.table) in
           (near ≡ laid_over (replicate s.count 0) x.columns.near) × (own' ≡ laid_over (owner_column s.count (held_by s R)) own)
 
-      pub done-told : (near own' : List ℕ) → Fills near own' (left (front ++ drop m l.near))
+      pub done-told : (near own' : List ℕ) → Fills s near own' (left (front ++ drop m l.near))
           → owned_outcome (left near) own' ≡ loaded_with o xs ys ws l own
       unfolding loaded_with
       done-told near own' f =
-          let g : Fills near own' (by_reply o xs ys ws l Done) = subst (Fills near own') built f in
+          let g : Fills (built_state o (length xs) (tables_of o xs ys ws)) near own' (by_reply o xs ys ws l (Ok tt)) =
+          subst (λ (t : State). Fills t near own' (by_reply o xs ys ws l (Ok tt))) state-is (subst (Fills s near own') built f) in
           let e : near ≡ front ++ drop m l.near = g.0 ∙ near-zeros o xs ys ws l ∙ sym (ap (λ (x : Outcome). x.columns.near) built) in
           let c : own' ≡ laid_over (owner_column (length xs) (tables_of o xs ys ws)) own =
           g.1 ∙ ap (λ (t : List Table). laid_over (owner_column (length xs) t) own) (front-held o xs ys ws a l full) in
           let filled = laid_over (owner_column (length xs) (tables_of o xs ys ws)) own in
-          ap₂ owned_outcome (ap left e ∙ back-told) (c ∙ sym (ap (λ (r : LoadReply). unless_refused (load_number r) filled own) done))
+          ap₂ owned_outcome (ap left e ∙ back-told)
+          (c ∙ sym (ap (λ (r : Result (Unit {0}) Refusal). unless_refused (number r) filled own) done))

@@ -2,12 +2,11 @@
 use Rattle.std.specs.Prelude.{◌≡◌, ◌↔◌, true, List, [], ◌++◌, ℕ, suc, ◌+◌, ◌-◌, ◌*◌, ◌<◌, ◌≤◌, min, eqb, length, take, drop}
 use Rattle.std.proofs.Common.{ap, sym, ◌∙◌, subst, inl, inr, ⊎_elim, arith, le-leb, eq-eqb, ne_eqb, length-take, length-drop, drop_of_length-le, take_all, take-take}
 use Rattle.std.proofs.Math.Seq.{take-nil}
-use Rattle.supercluster.specs.declared.LoadReply.TheVariants.{Done}
+use Rattle.std.specs.Prelude.{Ok}
 use Rattle.build_tables.specs.declared.State.{State}
 use Rattle.build_tables.specs.Entries.{Table, entry}
 use Rattle.law_groups.specs.Sums.{one_if, sum, count, range, gate}
 use Rattle.law_groups.specs.laws.Sums.{below}
-use Rattle.ask_base.specs.declared.Answer.TheVariants.{Listed}
 use Rattle.ask_base.specs.Asked.{Asked, told, answer_of, column_of}
 use Rattle.build_tables.specs.Room.{Columns}
 use Rattle.ask_base.specs.Columns.{table_at}
@@ -31,7 +30,7 @@ use Rattle.owners.specs.Owners.{Between, IsCluster, Owned, Leaves, Owners}
 
 -- given room: an answer that goes to its end is the number of its items, and they stand at the front of the column, before what it held
 pub given-room : (q : Asked) (ls out : List ℕ) → q ≡ told true ls → length ls ≤ length out
-    → (answer_of q (length out) ≡ Listed (length ls)) × (column_of q out ≡ ls ++ drop (length ls) out)
+    → (answer_of q (length out) ≡ Ok (length ls)) × (column_of q out ≡ ls ++ drop (length ls) out)
 given-room q ls out e h = (
   ap (λ (x : Asked). answer_of x (length out)) e ∙ rw (le-leb (length ls) (length out) h),
   ap (λ (x : Asked). column_of x out) e ∙ ap (λ (x : List ℕ). x ++ drop (length ls) out) (take_all (length out) ls h),
@@ -96,11 +95,11 @@ module _ (G : Given) (a : AcceptedBuild G) (l : BuildColumns) (r : Holds (need G
     where
       fits : num_at S C z j ≡ length (lamps_of G z j) → page_asked S C z j limit 0 ≡ told true (lamps_of G z j) → (out : List ℕ)
           → num_at S C z j ≤ length out
-          → (answer_of (page_asked S C z j limit 0) (length out) ≡ Listed (num_at S C z j))
+          → (answer_of (page_asked S C z j limit 0) (length out) ≡ Ok (num_at S C z j))
           × (column_of (page_asked S C z j limit 0) out ≡ lamps_of G z j ++ drop (num_at S C z j) out)
       fits e p out n =
           let g = given-room _ (lamps_of G z j) out p (omega arith) in
-          (g.0 ∙ ap Listed (sym e), g.1 ∙ ap (λ (m : ℕ). lamps_of G z j ++ drop m out) (sym e))
+          (g.0 ∙ ap (λ (m : ℕ). Ok m) (sym e), g.1 ∙ ap (λ (m : ℕ). lamps_of G z j ++ drop m out) (sym e))
 
   fewer : (z j m n offset : ℕ) → IsCluster (state_by G) (columns_by G l) z j → m ≤ n
       → (ls : List ℕ) × (page_asked (state_by G) (columns_by G l) z j n offset ≡ told true ls)
@@ -231,6 +230,6 @@ module _ (G : Given) (a : AcceptedBuild G) (l : BuildColumns) (r : Holds (need G
 -- ---- of every build that `load` accepts
 
 -- what `load` replies and leaves has one owner for every lamp, where it replies no refusal
-pub one-owner : (G : Given) (l : BuildColumns) → (loaded_of G l).reply.reply ≡ Done
-    → Owners (loaded_of G l).reply.state (columns_of (loaded_of G l).columns) G.energies (owner G)
-one-owner G l e = of-load (λ s c. Owners s c G.energies (owner G)) G l (λ a r. owners G a l r) e
+pub one-owner : (G : Given) (l : BuildColumns) (s : State) → (loaded_of G l).reply ≡ Ok s
+    → Owners s (columns_of (loaded_of G l).columns) G.energies (owner G)
+one-owner G l s e = of-load (λ s c. Owners s c G.energies (owner G)) G l (λ a r. owners G a l r) s e

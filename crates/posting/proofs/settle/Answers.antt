@@ -1,6 +1,6 @@
 -- `posting::settle` meets its contract: each return is a case of the definition, and the lamp's own place lies in the finest table. Assumes
 -- nothing.
-use mathlib.Core.Path.{◌≡◌, ap₂, sym, ◌∙◌}
+use mathlib.Core.Path.{◌≡◌, ap, sym, ◌∙◌}
 use mathlib.Core.List.{List}
 use Prim.Native.Nat.{ℕ, ◌+◌, ◌<◌}
 use native.Mathlib.Omega.{arith}
@@ -26,41 +26,45 @@ standing : (s : State) (m n lamp : ℕ) → Ready s m n lamp → Stands s m (s.o
 standing s m n lamp r = ready-stands s m n lamp r (s.options.max_zoom + 1) (omega (arith, (bounds s m n lamp r).zooms)) (omega arith)
 
 -- the lamp's own energy lies in the column
-inside : (s : State) (m n lamp : ℕ) → Ready s m n lamp → (from p : ℕ) → from ≡ start_of s (s.options.max_zoom + 1) → p ≡ lamp
-    → from + p < m
-inside s m n lamp r from p e f = omega (arith, e, f, (standing s m n lamp r).ends, (bounds s m n lamp r).finest, r.1)
+inside : (s : State) (m n lamp : ℕ) → Ready s m n lamp → (from : ℕ) → from ≡ start_of s (s.options.max_zoom + 1)
+    → from + lamp < m
+inside s m n lamp r from e = omega (arith, e, (standing s m n lamp r).ends, (bounds s m n lamp r).finest, r.1)
 
 -- and is its figure so far
-figure-is : (s : State) (energy : List ℕ) (lamp from p : ℕ) → from ≡ start_of s (s.options.max_zoom + 1) → p ≡ lamp
-    → get_or energy (from + p) 0 ≡ figure_of s energy lamp
-figure-is s energy lamp from p e f = ap₂ (λ (i j : ℕ). get_or energy (i + j) 0) e f
-
-pub owner_by-requires : goal.owner_by-requires
-owner_by-requires c = spotted _ _ _ _ c.requires.0
-
-pub returns-then-owner_by-wide : goal.returns-then-owner_by-wide
-returns-then-owner_by-wide c =
-    let a = c.args in
-    another a.s a.energy.now a.owners.now a.lamp a.figure c.requires.0 c.requires.1
-    (λ e. c.if-owner_by-wide.true (c.owner_by.ensures ∙ e ∙ sym c.wide.ensures))
+figure-is : (s : State) (energy : List ℕ) (lamp from : ℕ) → from ≡ start_of s (s.options.max_zoom + 1)
+    → get_or energy (from + lamp) 0 ≡ figure_of s energy lamp
+figure-is s energy lamp from e = ap (λ (i : ℕ). get_or energy (i + lamp) 0) e
 
 pub start_of-requires : goal.start_of-requires
 start_of-requires c = (spotted _ _ _ _ c.requires.0).small
 
-pub overflow_add-before : goal.overflow_add-before
-overflow_add-before c = let i = inside _ _ _ _ c.requires.0 _ _ c.start_of.ensures c.wide-2.ensures in omega (arith, i)
+pub overflow_add-w : goal.overflow_add-w
+overflow_add-w c = let i = inside _ _ _ _ c.requires.0 _ c.start_of.ensures in omega (arith, i)
+
+pub offset_bounds-energy-start_of : goal.offset_bounds-energy-start_of
+offset_bounds-energy-start_of c = let i = inside _ _ _ _ c.requires.0 _ c.start_of.ensures in omega (arith, i)
 
 pub bounds-energy-start_of : goal.bounds-energy-start_of
-bounds-energy-start_of c = inside _ _ _ _ c.requires.0 _ _ c.start_of.ensures c.wide-2.ensures
+bounds-energy-start_of c = inside _ _ _ _ c.requires.0 _ c.start_of.ensures
+
+pub owner_at-requires : goal.owner_at-requires
+owner_at-requires c = spotted _ _ _ _ c.requires.0
+
+pub returns-then-owner_at-lamp : goal.returns-then-owner_at-lamp
+returns-then-owner_at-lamp c =
+    let a = c.args in
+    let s = a.s.now in
+    another s a.energy.now a.owners.now a.lamp a.figure c.requires.0 c.requires.1
+    (λ e. c.if-owner_at-lamp.true (c.owner_at.ensures ∙ e))
 
 -- past the first test the lamp is its own owner in the finest table
 pub returns-then-not-all_mend : goal.returns-then-not-all_mend
 returns-then-not-all_mend c =
     let a = c.args in
-    unable a.s a.energy.now a.owners.now a.lamp a.figure c.requires.0 c.requires.1
-    (sym c.owner_by.ensures ∙ c.if-owner_by-wide.false ∙ c.wide.ensures) _
-    (figure-is a.s a.energy.now a.lamp _ _ c.start_of.ensures c.wide-2.ensures)
-    (sym c.all_mend.ensures ∙ c.if-not-all_mend.true)
+    let s = a.s.now in
+    unable s a.energy.now a.owners.now a.lamp a.figure c.requires.0 c.requires.1
+    (sym c.owner_at.ensures ∙ c.if-owner_at-lamp.false) _
+    (figure-is s a.energy.now a.lamp _ c.start_of.ensures) (sym c.all_mend.ensures ∙ c.if-not-all_mend.true)
 
 pub mend_all-requires : goal.mend_all-requires
 mend_all-requires c = (c.requires.0, sym c.all_mend.ensures ∙ c.if-not-all_mend.false)
@@ -68,7 +72,8 @@ mend_all-requires c = (c.requires.0, sym c.all_mend.ensures ∙ c.if-not-all_men
 pub returns : goal.returns
 returns c =
     let a = c.args in
-    able a.s a.energy.now a.owners.now a.lamp a.figure c.requires.0 c.requires.1
-    (sym c.owner_by.ensures ∙ c.if-owner_by-wide.false ∙ c.wide.ensures) _
-    (figure-is a.s a.energy.now a.lamp _ _ c.start_of.ensures c.wide-2.ensures) _
+    let s = a.s.now in
+    able s a.energy.now a.owners.now a.lamp a.figure c.requires.0 c.requires.1
+    (sym c.owner_at.ensures ∙ c.if-owner_at-lamp.false) _
+    (figure-is s a.energy.now a.lamp _ c.start_of.ensures) _
     c.mend_all.ensures (sym c.all_mend.ensures ∙ c.if-not-all_mend.false)

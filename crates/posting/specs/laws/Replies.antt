@@ -2,13 +2,8 @@
 use Rattle.std.specs.Prelude.{◌≡◌, List, ℕ}
 use Rattle.floats.specs.laws.Replies.{same-reply}
 use Rattle.build_tables.specs.declared.State.{State}
-use Rattle.posting.specs.declared.PostReply.{PostReply}
-use Rattle.posting.specs.Post.{post_number, Posted, posted}
+use Rattle.posting.specs.Post.{Posted, posted}
 
 pub post-replies : (s : State) (energy owners : List ℕ) (lamp figure : ℕ) (r t : Posted) → r ≡ posted s energy owners lamp figure
     → t ≡ posted s energy owners lamp figure → r ≡ t
 post-replies s energy owners lamp figure r t = same-reply
-
--- the method of a reply
-pub number-replies : (e : PostReply) (r t : ℕ) → r ≡ post_number e → t ≡ post_number e → r ≡ t
-number-replies e r t = same-reply

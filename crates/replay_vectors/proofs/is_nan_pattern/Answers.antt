@@ -3,10 +3,10 @@ use borrow.Author.Tests.{eq-eqb, ne_eqb}
 use lib.Ieee.{nan_bits}
 use Rattle.replay_vectors.proofs.is_nan_pattern.Goals as goal
 
-pub returns-then-exponent-ne2047 : goal.returns-then-exponent-ne2047
+pub returns-then-exponent-eq2047 : goal.returns-then-exponent-eq2047
 unfolding nan_bits
-returns-then-exponent-ne2047 c = simp (ne_eqb _ _ c.if-exponent-ne2047.true)
+returns-then-exponent-eq2047 c = simp (eq-eqb _ _ c.if-exponent-eq2047.true)
 
-pub returns : goal.returns
+pub returns-else-exponent-eq2047 : goal.returns-else-exponent-eq2047
 unfolding nan_bits
-returns c = simp (eq-eqb _ _ c.if-exponent-ne2047.false)
+returns-else-exponent-eq2047 c = simp (ne_eqb _ _ c.if-exponent-eq2047.false)

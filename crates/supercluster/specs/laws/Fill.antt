@@ -12,7 +12,7 @@ use Rattle.floats.specs.Unit.{in01}
 use Rattle.range.specs.declared.CoordinateSystem.{CoordinateSystem}
 use Rattle.range.specs.declared.Point.{Point}
 use Rattle.range.specs.Range.{converted}
-use Rattle.kdbush.specs.declared.Outside.TheVariants.{At, Nothing}
+use Rattle.std.specs.Prelude.{Some, None}
 use Rattle.kdslots.specs.laws.All.{All}
 use Rattle.kdbush.specs.Reply.{first_outside}
 use Rattle.build_tables.specs.Entries.{Table, entry}
@@ -123,28 +123,28 @@ unfolding first_over
 over-step ws i h l = rw (add-one i) (ap (λ (q : List ℕ). first_over q i) (drop-cons ws i 0 h)
     ∙ rw (le-leb (get_or ws i 0) most_energy l, first_over))
 
-pub over-here : (ws : List ℕ) (i : ℕ) → i < length ws → most_energy < get_or ws i 0 → At i ≡ first_over (drop i ws) i
+pub over-here : (ws : List ℕ) (i : ℕ) → i < length ws → most_energy < get_or ws i 0 → Some i ≡ first_over (drop i ws) i
 unfolding first_over
 over-here ws i h l = sym (ap (λ (q : List ℕ). first_over q i) (drop-cons ws i 0 h) ∙ rw (lt-leb (get_or ws i 0) most_energy l, first_over))
 
-pub over-end : (ws : List ℕ) (i : ℕ) → length ws ≤ i → first_over (drop i ws) i ≡ Nothing
+pub over-end : (ws : List ℕ) (i : ℕ) → length ws ≤ i → first_over (drop i ws) i ≡ None
 unfolding first_over
 over-end ws i h = ap (λ (q : List ℕ). first_over q i) (drop_of_length-le ws {i = i} h)
 
 -- where there is none, every energy is small enough
-none-by : (w : ℕ) (ws : List ℕ) (i : ℕ) → ((k j : ℕ) → first_over ws j ≡ Nothing → get_or ws k 0 ≤ most_energy) → (b : Bool)
-    → leb w most_energy ≡ b → first_over (w ∷ ws) i ≡ Nothing → (k : ℕ) → get_or (w ∷ ws) k 0 ≤ most_energy
+none-by : (w : ℕ) (ws : List ℕ) (i : ℕ) → ((k j : ℕ) → first_over ws j ≡ None → get_or ws k 0 ≤ most_energy) → (b : Bool)
+    → leb w most_energy ≡ b → first_over (w ∷ ws) i ≡ None → (k : ℕ) → get_or (w ∷ ws) k 0 ≤ most_energy
 unfolding first_over
 none-by w ws i r true q e zero = leb-true w most_energy q
 none-by w ws i r true q e (suc k) = r k (suc i) (rw (q, first_over) at e)
-none-by w ws i r false q e k = let z : At i ≡ Nothing = rw (q, first_over) at e in let y : ◌≡◌ {A = ℕ} 0 1 = cc in absurd (omega arith)
+none-by w ws i r false q e k = let z : Some i ≡ None = rw (q, first_over) at e in let y : ◌≡◌ {A = ℕ} 0 1 = cc in absurd (omega arith)
 
-pub none_over : (ws : List ℕ) (i : ℕ) → first_over ws i ≡ Nothing → (k : ℕ) → get_or ws k 0 ≤ most_energy
+pub none_over : (ws : List ℕ) (i : ℕ) → first_over ws i ≡ None → (k : ℕ) → get_or ws k 0 ≤ most_energy
 none_over [] i e k = omega arith
 none_over (w ∷ ws) i e k = none-by w ws i (λ k j q. none_over ws j q k) _ refl e k
 
 -- and where every energy is, there is none
-pub all-light : (ws : List ℕ) (i : ℕ) → ((k : ℕ) → get_or ws k 0 ≤ most_energy) → first_over ws i ≡ Nothing
+pub all-light : (ws : List ℕ) (i : ℕ) → ((k : ℕ) → get_or ws k 0 ≤ most_energy) → first_over ws i ≡ None
 unfolding first_over
 all-light [] i h = refl
 all-light (w ∷ ws) i h = rw (le-leb w most_energy (h 0), first_over) (all-light ws (suc i) (λ k. h (suc k)))
@@ -174,13 +174,13 @@ module _ (c : CoordinateSystem) (xs ys : List Float) (i : ℕ) where
   pub outside-here : i < length xs → length ys ≡ length xs
       → (in01 (converted c (record { x = get_or xs i nan; y = get_or ys i nan })).x
       && in01 (converted c (record { x = get_or xs i nan; y = get_or ys i nan })).y) ≡ false
-      → At i ≡ first_outside (pxs (converted_all c (drop i xs) (drop i ys))) (pys (converted_all c (drop i xs) (drop i ys))) i
+      → Some i ≡ first_outside (pxs (converted_all c (drop i xs) (drop i ys))) (pys (converted_all c (drop i xs) (drop i ys))) i
   unfolding first_outside
   outside-here h e q = sym (ap (λ (l : List Point). first_outside (pxs l) (pys l) i) (left-cons h e) ∙ rw (q, first_outside))
 
   -- or there is none left
   pub outside-end : length xs ≤ i
-      → first_outside (pxs (converted_all c (drop i xs) (drop i ys))) (pys (converted_all c (drop i xs) (drop i ys))) i ≡ Nothing
+      → first_outside (pxs (converted_all c (drop i xs) (drop i ys))) (pys (converted_all c (drop i xs) (drop i ys))) i ≡ None
   unfolding first_outside converted_all
   outside-end h = ap (λ (l : List Float). first_outside (pxs (converted_all c l (drop i ys))) (pys (converted_all c l (drop i ys))) i)
       (drop_of_length-le xs {i = i} h)

@@ -1,6 +1,6 @@
 -- A build that is not refused: its points lie within [0,1] and its columns are long enough; and what it leaves in columns that were cut
 -- from longer ones. Assumes nothing.
-use Rattle.std.specs.Prelude.{◌≡◌, Bool, true, false, List, ◌++◌, map, ℕ, ◌+◌, ◌*◌, ◌/◌, ◌≤◌, min, leb, eqb, take, drop, Float}
+use Rattle.std.specs.Prelude.{◌≡◌, Bool, true, false, List, ◌++◌, map, ℕ, ◌+◌, ◌*◌, ◌≤◌, min, leb, eqb, take, drop, Float}
 use Rattle.std.proofs.Math.Path.{refl}
 use Rattle.std.proofs.Common.{ap, sym, ◌∙◌, arith, leb-true, eqb-true, length-take-le}
 use Rattle.std.proofs.Math.ListN.{length}
@@ -9,14 +9,14 @@ use Rattle.kdslots.specs.laws.Bounds.{and_both, count-is}
 use Rattle.kdslots.specs.Bounds.{count_ok}
 use Rattle.kdbush.specs.laws.Built.{none-outside}
 use Rattle.kdbush.specs.Reply.{pair_ok, first_outside}
-use Rattle.kdbush.specs.declared.Outside.{Outside}
-use Rattle.kdbush.specs.declared.Outside.TheVariants.{At, Nothing}
-use Rattle.supercluster.specs.declared.LoadReply.{LoadReply}
-use Rattle.supercluster.specs.declared.LoadReply.TheVariants.{Done, Options as No-as-Options, Count, Point as No-as-Point, Energy, Tables}
+use Rattle.std.specs.Prelude.{Option, Some, None, Result, Ok, Err}
+use Rattle.refusals.specs.declared.Refusal.{Refusal}
+use Rattle.refusals.specs.declared.Refusal.TheVariants.{Options as No-as-Options, Count, Point, Tables, NoTree, NoCluster, Tile, EmptyTile, Box, NoRoom, Spoiled, Text, Energy, Lamp}
+use Rattle.refusals.specs.Refusals.{number_of, number}
 use Rattle.build_tables.specs.laws.Columns.{xs-rows, ys-rows, seen-rows, id-rows, parent-rows, num-rows, energy-rows}
 use Rattle.build_tables.specs.Entries.{Table}
 use Rattle.build_tables.specs.Options.{options_ok}
-use Rattle.build_tables.specs.Room.{columns, room_by, room_of}
+use Rattle.build_tables.specs.Room.{columns, room_of}
 use Rattle.build_tables.specs.laws.Roomy.{Roomy, low, high, each-roomy, room-index, index-roomy, front_cols, front-roomy}
 use Rattle.build_tables.specs.Rows.{rows, each2}
 use Rattle.build_tables.specs.laws.Rows.{Even}
@@ -26,9 +26,7 @@ use Rattle.build_tables.specs.declared.State.{State}
 use Rattle.build_all_zooms.specs.Zooms.{joined, joined_ids, joined_co, laid_over}
 use Rattle.supercluster.specs.Build.{converted_all, tables_of, BuildColumns, build_columns, written, need, room_in, triple_ok, ordered}
 use Rattle.supercluster.specs.Build.{first_over}
-use Rattle.supercluster.specs.Build.{checked, by_reply, loaded, load_number, outcome, refused_build, built_state}
-use Rattle.build_tables.specs.State.{new_state}
-use Rattle.supercluster.specs.declared.Loaded.{Loaded}
+use Rattle.supercluster.specs.Build.{checked, by_reply, loaded, outcome, built_state}
 use Rattle.supercluster.specs.laws.Fill.{pxs, pys, none_over}
 use Rattle.supercluster.specs.laws.Over.{over-map, cut-over, zeros-front}
 use Rattle.supercluster.specs.laws.Ready.{Accepted, Made}
@@ -38,17 +36,17 @@ abbrev pub roomy : ℕ → BuildColumns → Bool
 roomy m l = leb m (room_in l)
 
 -- every test of a build that is not refused
-pub done-by : (a b : Bool) (p q : Outside) (r : Bool) → ordered a b p q r ≡ Done → (a ≡ true) × (b ≡ true) × (p ≡ Nothing) × (q ≡ Nothing)
+pub done-by : (a b : Bool) (p q : Option ℕ) (r : Bool) → ordered a b p q r ≡ Ok tt → (a ≡ true) × (b ≡ true) × (p ≡ None) × (q ≡ None)
     × (r ≡ true)
-done-by true true Nothing Nothing true e = (refl, refl, refl, refl, refl)
-done-by true true Nothing Nothing false e = let z : ◌≡◌ {A = ℕ} 0 1 = cc in absurd (omega arith)
-done-by true true Nothing (At i) r e = let z : ◌≡◌ {A = ℕ} 0 1 = cc in absurd (omega arith)
-done-by true true (At i) q r e = let z : ◌≡◌ {A = ℕ} 0 1 = cc in absurd (omega arith)
+done-by true true None None true e = (refl, refl, refl, refl, refl)
+done-by true true None None false e = let z : ◌≡◌ {A = ℕ} 0 1 = cc in absurd (omega arith)
+done-by true true None (Some i) r e = let z : ◌≡◌ {A = ℕ} 0 1 = cc in absurd (omega arith)
+done-by true true (Some i) q r e = let z : ◌≡◌ {A = ℕ} 0 1 = cc in absurd (omega arith)
 done-by true false p q r e = let z : ◌≡◌ {A = ℕ} 0 1 = cc in absurd (omega arith)
 done-by false b p q r e = let z : ◌≡◌ {A = ℕ} 0 1 = cc in absurd (omega arith)
 
 -- the points of an accepted build, and that its columns are long enough
-pub accepted : (o : Options) (xs ys : List Float) (ws : List ℕ) (l : BuildColumns) → checked o xs ys ws l ≡ Done → Accepted o xs ys ws
+pub accepted : (o : Options) (xs ys : List Float) (ws : List ℕ) (l : BuildColumns) → checked o xs ys ws l ≡ Ok tt → Accepted o xs ys ws
     × (roomy (need o (length xs)) l ≡ true)
 unfolding checked
 accepted o xs ys ws l e =
@@ -73,23 +71,37 @@ accepted o xs ys ws l e =
       w.4,
     )
 
+-- a reply without what it gives: done, or its refusal
+abbrev pub verdict_of : {A : Type 0} → Result A Refusal → Result (Unit {0}) Refusal
+verdict_of (Ok a) = Ok tt
+verdict_of (Err e) = Err e
+
 -- a build replies what was checked of it
-pub replies : (o : Options) (xs ys : List Float) (ws : List ℕ) (l : BuildColumns) (r : LoadReply) → (by_reply o xs ys ws l r).reply.reply ≡ r
-replies o xs ys ws l Done = refl
-replies o xs ys ws l No-as-Options = refl
-replies o xs ys ws l Count = refl
-replies o xs ys ws l (No-as-Point i) = refl
-replies o xs ys ws l (Energy i) = refl
-replies o xs ys ws l Tables = refl
+pub replies : (o : Options) (xs ys : List Float) (ws : List ℕ) (l : BuildColumns) (r : Result (Unit {0}) Refusal)
+    → verdict_of (by_reply o xs ys ws l r).reply ≡ r
+replies o xs ys ws l (Ok d) = refl
+replies o xs ys ws l (Err e) = refl
 
 -- only a build that is not refused has the number 0
-pub number-done : (r : LoadReply) → load_number r ≤ 0 → r ≡ Done
-number-done Done e = refl
-number-done No-as-Options e = absurd (omega (arith, e))
-number-done Count e = absurd (omega (arith, e))
-number-done (No-as-Point i) e = absurd (omega (arith, e))
-number-done (Energy i) e = absurd (omega (arith, e))
-number-done Tables e = absurd (omega (arith, e))
+pub number-done : {A : Type 0} (r : Result A Refusal) → number r ≤ 0 → (a : A) × (r ≡ Ok a)
+number-done (Ok a) e = (a, refl)
+number-done (Err x) e = absurd (no-refusal x e)
+  where
+    no-refusal : (x : Refusal) → number_of x ≤ 0 → ⊥
+    no-refusal No-as-Options h = omega (arith, h)
+    no-refusal Count h = omega (arith, h)
+    no-refusal (Point i) h = omega (arith, h)
+    no-refusal Tables h = omega (arith, h)
+    no-refusal NoTree h = omega (arith, h)
+    no-refusal NoCluster h = omega (arith, h)
+    no-refusal Tile h = omega (arith, h)
+    no-refusal EmptyTile h = omega (arith, h)
+    no-refusal Box h = omega (arith, h)
+    no-refusal (NoRoom k) h = omega (arith, h)
+    no-refusal Spoiled h = omega (arith, h)
+    no-refusal Text h = omega (arith, h)
+    no-refusal (Energy i) h = omega (arith, h)
+    no-refusal Lamp h = omega (arith, h)
 
 -- each column holds that much
 pub record Holds (m : ℕ) (l : BuildColumns) : Type 0 where
@@ -175,18 +187,16 @@ module _ (o : Options) (xs ys : List Float) (ws : List ℕ) (m : ℕ) (l l' : Bu
 
 -- ---- what `load` leaves, by its reply
 
-pub by-reply : (o : Options) (xs ys : List Float) (ws : List ℕ) (l : BuildColumns) (r r' : LoadReply) → r ≡ checked o xs ys ws l → r ≡ r'
+pub by-reply : (o : Options) (xs ys : List Float) (ws : List ℕ) (l : BuildColumns) (r r' : Result (Unit {0}) Refusal)
+    → r ≡ checked o xs ys ws l → r ≡ r'
     → loaded o xs ys ws l ≡ by_reply o xs ys ws l r'
 unfolding loaded
 by-reply o xs ys ws l r r' e f = ap (by_reply o xs ys ws l) (sym e ∙ f)
 
 module _ (o : Options) (xs ys : List Float) (ws : List ℕ) (l : BuildColumns) where
   -- the reply is what is checked, where the room that was counted is that of the ten columns
-  pub checked-by : (room : ℕ) (r : LoadReply)
-      → (let t = l.table in
-      let index = min (length l.ids) (length l.coords / 2) in
-      room ≡ min (room_by (length t.x) (length t.y) (length t.seen) (length t.id) (length t.parent) (length t.num)
-      (length t.energy) index) (length l.near))
+  pub checked-by : (room : ℕ) (r : Result (Unit {0}) Refusal)
+      → room ≡ room_in l
       → (let ps = converted_all o.coordinate_system xs ys in
       r ≡ ordered (options_ok o) (triple_ok xs ys ws) (first_outside (pxs ps) (pys ps) 0) (first_over ws 0) (leb (need o (length xs)) room))
       → r ≡ checked o xs ys ws l
@@ -194,19 +204,15 @@ module _ (o : Options) (xs ys : List Float) (ws : List ℕ) (l : BuildColumns) w
   checked-by room r h e = rw (sym h) e
 
   -- all tables, where it is no refusal
-  pub tables-told : (r : LoadReply) (s : State) (c : BuildColumns) → r ≡ checked o xs ys ws l → r ≡ Done
+  pub tables-told : (r : Result (Unit {0}) Refusal) (s : State) (c : BuildColumns) → r ≡ checked o xs ys ws l → r ≡ Ok tt
       → s ≡ built_state o (length xs) (tables_of o xs ys ws)
       → c ≡ written o.node_size (length xs) (tables_of o xs ys ws) l
-      → outcome (record { reply = Done; state = s }) c ≡ loaded o xs ys ws l
+      → outcome (Ok s) c ≡ loaded o xs ys ws l
   tables-told r s c e f p q =
-      let t : outcome (record { reply = Done; state = s }) c ≡ by_reply o xs ys ws l Done =
-      λ i. record { reply = record { reply = Done; state = p i }; columns = q i } in
-      t ∙ sym (by-reply o xs ys ws l r Done e f)
+      let t : outcome (Ok s) c ≡ by_reply o xs ys ws l (Ok tt) = λ i. record { reply = Ok (p i); columns = q i } in
+      t ∙ sym (by-reply o xs ys ws l r (Ok tt) e f)
 
-  -- and no table and no column written beside a refusal
-  pub refusal-told : (r b : LoadReply) (q : Loaded) → r ≡ checked o xs ys ws l → r ≡ b → by_reply o xs ys ws l b ≡ refused_build o b l
-      → q.reply ≡ b → q.state ≡ new_state o 0
-      → outcome q l ≡ loaded o xs ys ws l
-  refusal-told r b q e f h g k =
-      let t : outcome q l ≡ refused_build o b l = λ i. record { reply = record { reply = g i; state = k i }; columns = l } in
-      t ∙ sym (by-reply o xs ys ws l r b e f ∙ h)
+  -- and no column written beside a refusal
+  pub refusal-told : (r : Result (Unit {0}) Refusal) (e : Refusal) → r ≡ checked o xs ys ws l → r ≡ Err e
+      → outcome (Err e) l ≡ loaded o xs ys ws l
+  refusal-told r e q f = sym (by-reply o xs ys ws l r (Err e) q f)

@@ -171,7 +171,8 @@ fn element(result: &str, words: &str, checks: &mut Checks) -> Outcome {
 /// A load or store, of this and at this address: its alignment is checked, and named all the same, since what
 /// is not aligned does not come so far. Hands back the marks behind it.
 fn access<'a>(start: &str, words: &'a str, checks: &mut Checks) -> Result<&'a str, String> {
-    let (what, to) = words.split_once(", ptr ").ok_or("no pointer")?;
+    // The last one is the address: a type before it may have a pointer among its fields.
+    let (what, to) = words.rsplit_once(", ptr ").ok_or("no pointer")?;
     let (at, align) = to.split_once(", align ").ok_or("no alignment")?;
     let (align, marks) = alignment(align)?;
     assumes_nothing(&format!("{what}, {at}"))?;

@@ -7,8 +7,5 @@ use Rattle.build_tables.proofs.State.is_filled.Given as goal
 
 abbrev pub invariant-loop-left : goal.invariant-loop-left
 invariant-loop-left l =
-    (l.left ≤ table_count l.self.options) × (l.at + l.left * 1048576 ≤ table_count l.self.options * 1048576)
+    (l.at + l.left * 1048576 ≤ table_count l.self.options * 1048576)
     × (packed l.self l.cap l.left l.at ≡ packed l.self l.cap (table_count l.self.options) 0)
-
-abbrev pub decreases-loop-left : goal.decreases-loop-left
-decreases-loop-left l = l.left

@@ -6,9 +6,6 @@ use Rattle.range.proofs.DataRange.is_in_bounds.Goals as goal
 pub returns : goal.returns
 unfolding in_bounds of_bits
 returns c = simp (
-  c.both-3.ensures,
-  c.both-2.ensures,
-  c.both.ensures,
   c.both_finite-settings.ensures,
   c.offset.ensures,
   c.scale-scale.ensures,

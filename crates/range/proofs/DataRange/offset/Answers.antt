@@ -1,11 +1,8 @@
--- `DataRange::offset` meets its contract, by the cases of the setting. Assumes nothing.
+-- `DataRange::offset` meets its contract: std's `unwrap_or` is the definition's. Assumes nothing.
+use mathlib.Core.Path.{◌∙◌}
 use Rattle.range.specs.Range.{offset_of}
 use Rattle.range.proofs.DataRange.offset.Goals as goal
 
-pub returns-in-Given : goal.returns-in-Given
+pub returns : goal.returns
 unfolding offset_of
-returns-in-Given c = simp c.in-Given.is
-
-pub returns-in-Derived : goal.returns-in-Derived
-unfolding offset_of
-returns-in-Derived c = simp (c.in-Derived.is, c.smaller.ensures)
+returns c = c.unwrap_or.ensures ∙ simp (c.smaller.ensures)

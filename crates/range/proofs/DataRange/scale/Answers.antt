@@ -1,11 +1,8 @@
--- `DataRange::scale` meets its contract, by the cases of the setting. Assumes nothing.
+-- `DataRange::scale` meets its contract: std's `unwrap_or` is the definition's. Assumes nothing.
+use mathlib.Core.Path.{◌∙◌}
 use Rattle.range.specs.Range.{scale_of}
 use Rattle.range.proofs.DataRange.scale.Goals as goal
 
-pub returns-in-Given : goal.returns-in-Given
+pub returns : goal.returns
 unfolding scale_of
-returns-in-Given c = simp c.in-Given.is
-
-pub returns-in-Derived : goal.returns-in-Derived
-unfolding scale_of
-returns-in-Derived c = simp (c.in-Derived.is, c.larger.ensures, c.offset.ensures)
+returns c = c.unwrap_or.ensures ∙ simp (c.larger.ensures, c.offset.ensures)

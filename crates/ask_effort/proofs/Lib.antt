@@ -1,2 +1,0 @@
--- Laws that only this crate's own proofs use.
-pub mod Used

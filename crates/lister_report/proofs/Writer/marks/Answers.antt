@@ -1,0 +1,8 @@
+-- `lister_report::Writer::marks` meets its contract: its four parts, one after the other. Assumes nothing.
+use Rattle.std.proofs.Common.{arith}
+use Rattle.lister_report.specs.laws.Put.{put-near, put-more}
+use Rattle.lister_report.proofs.Writer.marks.Goals as goal
+
+pub returns : goal.returns
+returns c =
+    put-near (omega arith) (put-more (put-more (put-more c.or_dash.ensures c.byte.ensures) c.decimal.ensures) c.byte-2.ensures)

@@ -1,0 +1,61 @@
+// The refusals of every public function, in SCOPE's words: an error enum for all of them. A reply is a `Result`, `Ok` where nothing is
+// refused.
+#![tactic(auto)]
+
+ghost use Rattle.std.specs.Prelude.{◌≡◌};
+ghost use Rattle.refusals.specs.Refusals.{number_of, carried_of};
+
+// Why a call is refused. `Point` and `Energy` carry the first such point; `NoRoom` carries the whole length of the answer.
+#[derive(Clone, Copy, PartialEq, Eq, Debug)]
+pub enum Refusal {
+    Options,
+    Count,
+    Point(usize),
+    Tables,
+    NoTree,
+    NoCluster,
+    Tile,
+    EmptyTile,
+    Box,
+    NoRoom(usize),
+    Spoiled,
+    Text,
+    Energy(usize),
+    Lamp,
+}
+
+impl Refusal {
+    // SCOPE's number of the refusal.
+    pub fn number(self) -> u32
+        ensures { result ≡ number_of self }
+    {
+        match self {
+            Refusal::Options => 1,
+            Refusal::Count => 2,
+            Refusal::Point(_) => 3,
+            Refusal::Tables => 4,
+            Refusal::NoTree => 5,
+            Refusal::NoCluster => 6,
+            Refusal::Tile => 7,
+            Refusal::EmptyTile => 8,
+            Refusal::Box => 9,
+            Refusal::NoRoom(_) => 10,
+            Refusal::Spoiled => 11,
+            Refusal::Text => 12,
+            Refusal::Energy(_) => 15,
+            Refusal::Lamp => 16,
+        }
+    }
+
+    // What the refusal carries: 0 where it carries nothing.
+    pub fn carried(self) -> usize
+        ensures { result ≡ carried_of self }
+    {
+        match self {
+            Refusal::Point(i) => i,
+            Refusal::Energy(i) => i,
+            Refusal::NoRoom(k) => k,
+            _ => 0,
+        }
+    }
+}

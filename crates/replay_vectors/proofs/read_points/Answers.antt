@@ -1,7 +1,0 @@
--- `replay_vectors::read_points` is safe, and ends. Assumes nothing.
-use native.Mathlib.Omega.{arith}
-use mathlib.Core.Path.{refl}
-use Rattle.replay_vectors.proofs.read_points.Goals as goal
-
-pub loop-i-init : goal.loop-i-init
-loop-i-init c = (refl, refl, omega arith)
