@@ -7,6 +7,6 @@ pub mod Filled
 pub mod Columns
 -- Reached: a place that a walk may stand at: an entry of a table above that of min_zoom, of a sound state.
 pub mod Reached
--- Around: the ring around an entry of a table, as `ring_of` gives it and `Ring::next` walks over it a page at a time: its slots, and what
--- is ahead of a walk.
+-- Around: the ring around an entry of a table, as `ring_of` and `ring_at` give it and `Ring::next` walks over it a page at a time: its
+-- slots, and what is ahead of a walk.
 pub mod Around

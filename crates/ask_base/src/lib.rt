@@ -7,12 +7,13 @@ ghost use Rattle.std.specs.Prelude.{◌≡◌, ◌<◌, ◌≤◌, set};
 ghost use Rattle.build_tables.specs.Room.{index_room, room_of};
 ghost use Rattle.build_tables.specs.Lent.{tables_held};
 ghost use Rattle.build_tables.specs.Ids.{origin_of, table_of};
+ghost use Rattle.build_tables.specs.laws.Roomy.{Roomy};
 ghost use Rattle.build_tables.specs.laws.Sound.{Stands};
 ghost use Rattle.ask_base.specs.Answers.{fitted};
-ghost use Rattle.ask_base.specs.Columns.{ids_at, coords_at};
+ghost use Rattle.ask_base.specs.Columns.{table_at, ids_at, coords_at};
 ghost use Rattle.ask_base.specs.Ids.{origin, is_built, target_of, onward};
 ghost use Rattle.ask_base.specs.laws.Reached.{Reached};
-ghost use Rattle.ask_base.specs.laws.Around.{ring_held, ring_of};
+ghost use Rattle.ask_base.specs.laws.Around.{ring_held, ring_of, ring_at};
 
 mod ring;
 
@@ -116,25 +117,53 @@ pub fn go_on(s: &State, table: usize, id: u32) -> Result<Origin, Refusal>
     Ok(next)
 }
 
-// The ring around the origin in its table, in which its children are.
-pub fn ring_of<'a>(s: &State, t: &Tables<'a>, at: Origin) -> Ring<'a>
-    requires { Reached s.now (room_of (tables_held t.now)) at.table at.place }
-    ensures { ring_held result ≡ ring_of s.now (tables_held t.now) at.table at.place }
+// Where a ring lies: the part of the columns that holds its table, and the search in it, around (x, y).
+#[derive(Clone, Copy)]
+pub struct RingPart {
+    pub start: usize,
+    pub len: usize,
+    pub x: f64,
+    pub y: f64,
+    pub radius: f64,
+    pub node_size: usize,
+}
+
+// Where the ring around the origin in its table lies. The columns of the index may be of any length.
+pub fn ring_of(s: &State, t: &Tables<'_>, cap: usize, at: Origin) -> RingPart
+    requires reached { Reached s.now cap at.table at.place }
+    requires roomy { Roomy cap (tables_held t.now).table }
+    ensures { result ≡ ring_of s.now (table_at s.now (tables_held t.now) at.table) at.table at.place }
 {
     let o = s.options;
-    let table = t.table(
-        build_tables::start_of(*s, at.table),
-        build_tables::len_of(*s, at.table),
-    );
-    let e = table.entries.at(at.place);
-    let query = Query::Within {
-        qx: e.x,
-        qy: e.y,
-        radius: build_tables::radius_at(o.radius, o.extent, (at.table - 1) as u8),
-    };
-    let search = Search {
-        query,
+    let start = build_tables::start_of(*s, at.table);
+    let len = build_tables::len_of(*s, at.table);
+    let e = build_tables::entries_in(t, start, start + len).at(at.place);
+    let radius = build_tables::radius_at(o.radius, o.extent, (at.table - 1) as u8);
+    RingPart {
+        start,
+        len,
+        x: e.x,
+        y: e.y,
+        radius,
         node_size: o.node_size,
+    }
+}
+
+// The ring around the origin in its table, in which its children are.
+pub fn ring_at<'a>(s: &State, t: &Tables<'a>, cap: usize, at: Origin) -> Ring<'a>
+    requires reached { Reached s.now cap at.table at.place }
+    requires room { cap ≤ room_of (tables_held t.now) }
+    ensures { ring_held result ≡ ring_at s.now (tables_held t.now) at.table at.place }
+{
+    let g = ring_of(s, t, cap, at);
+    let table = build_tables::table_in(t, g.start, g.len);
+    let search = Search {
+        query: Query::Within {
+            qx: g.x,
+            qy: g.y,
+            radius: g.radius,
+        },
+        node_size: g.node_size,
         n: table.entries.len(),
         coords: table.index.coords,
     };

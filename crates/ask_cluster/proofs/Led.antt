@@ -18,7 +18,7 @@ use Rattle.ask_base.specs.Answers.{Answer}
 use Rattle.ask_base.specs.Asked.{Asked, refused, answer_of, column_of}
 use Rattle.ask_base.specs.Ids.{Target, target_of}
 use Rattle.ask_base.specs.laws.Reached.{Reached, target-reached}
-use Rattle.ask_base.specs.laws.Around.{Around, ring_of}
+use Rattle.ask_base.specs.laws.Around.{Around, ring_at}
 use Rattle.ask_child_walk.specs.Kids.{kids_at, clean_at}
 use Rattle.ask_child_walk.specs.laws.Next.{kids_reply, Listed, listed-around, all-is, refused-is}
 use Rattle.ask_cluster.specs.Children.{at_target}
@@ -59,7 +59,7 @@ pub record Looked (s : State) (c : Columns) (id z o : ℕ) (out : List ℕ) (r :
   pub column : out' ≡ filled (kids_at s c id z o) out
 
 -- it did, where the entry was reached
-pub looked : (s : State) (c : Columns) (id z o : ℕ) → Reached s (room_of c) z o → (g : Around) → g ≡ ring_of s c z o
+pub looked : (s : State) (c : Columns) (id z o : ℕ) → Reached s (room_of c) z o → (g : Around) → g ≡ ring_at s c z o
     → (out : List ℕ) (r : Answer) (out' : List ℕ) → Listed g id out r out' → Looked s c id z o out r out'
 looked s c id z o h g e out r out' l =
     let w = listed-around s c (room_of c) z o h (le_refl (room_of c)) g e id out r out' l in

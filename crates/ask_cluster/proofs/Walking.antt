@@ -19,7 +19,7 @@ use Rattle.refusals.specs.declared.Refusal.{Refusal}
 use Rattle.refusals.specs.declared.Refusal.TheVariants.{NoCluster, Spoiled}
 use Rattle.ask_base.specs.Columns.{table_at}
 use Rattle.ask_base.specs.laws.Reached.{Reached}
-use Rattle.ask_base.specs.laws.Around.{Around, ring_of, slots_of, ring-below}
+use Rattle.ask_base.specs.laws.Around.{Around, ring_at, slots_of, ring-below}
 use Rattle.ask_child_walk.specs.Kids.{kids_at, clean_at, childless}
 use Rattle.ask_child_walk.specs.laws.Next.{kids_in, clean_in, kids-around, clean-around, Further}
 use Rattle.ask_cluster.specs.declared.Sofar.{Sofar}
@@ -61,7 +61,7 @@ module _ (s : State) (c : Columns) (limit offset id t o : ℕ) (was : Sofar) (ou
   abbrev Ended : Walk → List ℕ → Type 0
   Ended r out = Walked s c limit offset id t o was.skipped was.listed out₀ r out
 
-  module _ (reach : Reached s (room_of c) t o) (eg : g ≡ ring_of s c t o) where
+  module _ (reach : Reached s (room_of c) t o) (eg : g ≡ ring_at s c t o) where
     pub walking-first : (ah : List ℕ) → ah ≡ slots_of g → Walking out₀ false was ah
     walking-first ah e =
         let k : kids_ahead ah ≡ K = ap (kids_in g id) e ∙ kids-around s c (room_of c) t o reach (le_refl (room_of c)) g eg id in
@@ -153,7 +153,7 @@ module _ (s : State) (c : Columns) (limit offset id t o : ℕ) (was : Sofar) (ou
               record { lamps = d.lamps; trip = u ∙ ap broke y; count = tt; left = d.left }
 
     -- at the child p, whose visit comes to r and leaves out'
-    module _ (eg : g ≡ ring_of s c t o) (p : ℕ) (e : Entry) (r : Walk) (out' : List ℕ)
+    module _ (eg : g ≡ ring_at s c t o) (p : ℕ) (e : Entry) (r : Walk) (out' : List ℕ)
         (v : Visited s c limit offset t e so.skipped so.listed out r out') (to : List ℕ) (z : Further g id ah p e to) where
       met_some : (a : Bool) → Met a (kids_ahead ah) → length K ≡ 0 → ⊥
       met_some true m = m

@@ -23,8 +23,9 @@ pub fn children(s: State, t: &Tables<'_>, cid: u32, out: &mut [u32]) -> Answer
     ensures { let a = children_of s (tables_held t.now) cid in
         (result ≡ answer_of a (length out.old)) × (out.new ≡ column_of a out.old) }
 {
-    let at = ask_base::find_target(&s, build_room::room(t), cid)?;
-    let g = ask_base::ring_of(&s, t, at);
+    let cap = build_room::room(t);
+    let at = ask_base::find_target(&s, cap, cid)?;
+    let g = ask_base::ring_at(&s, t, cap, at);
     let k = ask_child_walk::list_kids(&g, cid, out)?;
     if k == 0 {
         return Err(Refusal::NoCluster);
@@ -44,7 +45,7 @@ fn fetch(s: &State, t: &Tables<'_>, cid: u32, at: Origin) -> Result<Fetched, Ref
     requires { Reached s.now (room_of (tables_held t.now)) at.table at.place }
     ensures { result ≡ fetched_at s.now (tables_held t.now) cid at.table at.place }
 {
-    let g = ask_base::ring_of(s, t, at);
+    let g = ask_base::ring_at(s, t, build_room::room(t), at);
     let mut one = [0u32; 1];
     let k = ask_child_walk::list_kids(&g, cid, &mut one)?;
     if k == 0 {
@@ -181,7 +182,7 @@ fn walk_into(
     ensures { let t = w.now in
         Walked t.state.now (tables_held t.tables) t.limit t.offset cid at.table at.place was.skipped was.listed out.old result out.new }
 {
-    let g = ask_base::ring_of(w.state, &w.tables, at);
+    let g = ask_base::ring_at(w.state, &w.tables, build_room::room(&w.tables), at);
     let mut any = false;
     let mut so = was;
     let mut page = [0usize; 16];

@@ -12,7 +12,7 @@ ghost use Rattle.kdbush.specs.Reply.{index_ok};
 ghost use Rattle.ask_box_plan.specs.laws.Queries.{queries_of};
 ghost use Rattle.ask_effort_tests.specs.Tested.{testing};
 ghost use Rattle.ask_effort_tests.specs.Trials.{marks, trials};
-ghost use Rattle.ask_effort_tests.specs.Reply.{no_effort, effort_number_of, effort_carried_of, answer, column};
+ghost use Rattle.ask_effort_tests.specs.Reply.{no_effort, effort_number_of, effort_carried_of, effort_number, effort_carried, answer, column};
 ghost use Rattle.ask_effort_tests.specs.laws.Spend.{fresh, settled_tests, went_tests, spend};
 
 use ask_box_plan::BoxPlan;
@@ -58,6 +58,26 @@ impl EffortRefusal {
     }
 }
 
+// SCOPE's number of a reply: 0 where nothing is refused.
+pub fn effort_number(reply: Result<Effort, EffortRefusal>) -> u32
+    ensures { result ≡ effort_number reply }
+{
+    match reply {
+        Ok(_) => 0,
+        Err(refusal) => refusal.number(),
+    }
+}
+
+// What a reply carries: nothing found and nothing tested where it is refused 9 or 11.
+pub fn effort_carried(reply: Result<Effort, EffortRefusal>) -> Effort
+    ensures { result ≡ effort_carried reply }
+{
+    match reply {
+        Ok(e) => e,
+        Err(refusal) => refusal.carried(),
+    }
+}
+
 // How far a search came: how many places it found, and how many tests it may still make.
 #[derive(Clone, Copy)]
 struct Spent {
@@ -95,7 +115,7 @@ fn put(s: &Search<'_>, ids: &[u32], i: usize, at: Spent, out: &mut [u32]) -> Res
         return Err(End::Stopped(at.found));
     }
     let left = at.left - 1;
-    if !s.tests(i) {
+    if !kdslots::tests(s, i) {
         return Ok(Spent {
             found: at.found,
             left,
@@ -136,15 +156,15 @@ fn part(s: &Search<'_>, ids: &[u32], v: Interval, at: Spent, out: &mut [u32]) ->
         let most = s.now.node_size + 1 in
         went_tests result out.new ≡ spend s.now.n (marks t ids.now (slots (testing t) v.axis (shape most v.lo v.hi))) at out.old }
 {
-    if v.len() <= s.most() {
+    if v.len() <= kdslots::most(s) {
         return scan(s, ids, v, at, out);
     }
     let m = v.median();
     let mut k = put(s, ids, m, at, out)?;
-    if s.goes_right(v.axis, m) {
+    if kdslots::goes_right(s, v.axis, m) {
         k = part(s, ids, v.right(), k, out)?;
     }
-    if s.goes_left(v.axis, m) {
+    if kdslots::goes_left(s, v.axis, m) {
         return part(s, ids, v.left(), k, out);
     }
     Ok(k)

@@ -44,7 +44,7 @@ fn ask<'a>(
         return Err(Refusal::Tile);
     }
     let u = s.options.zoom_used(z) as usize;
-    let table = t.table(s.starts[u] as usize, s.lens[u] as usize);
+    let table = build_tables::table_in(t, s.starts[u] as usize, s.lens[u] as usize);
     Ok(AskedTile {
         options: s.options,
         z: z as u32,
@@ -90,8 +90,10 @@ pub fn tile_lent(
 pub fn tally_lent(s: &StateParts<'_>, t: &Tables<'_>, z: u8, x: u32, y: u32) -> Result<u64, Refusal>
     ensures { result ≡ tallied (whole_state s.now) (tables_held t.now) z x y }
 {
-    let r = ask(s, t, z, x, y)?.add_up()?;
-    Ok(r.sum)
+    match ask(s, t, z, x, y)?.add_up() {
+        Ok(r) => Ok(r.sum),
+        Err(_) => Err(Refusal::Spoiled),
+    }
 }
 
 // The parts of a state.

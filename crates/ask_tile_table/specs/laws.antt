@@ -35,5 +35,7 @@ pub mod Home
 -- Added: the tally of a tile that is asked for of a table: the three searches, one after the other, tallied by the edges of the tile, are
 -- the tally of what the tile finds.
 pub mod Added
+-- Replies: any two values that meet the contract of `tally_value`, which is public, are equal.
+pub mod Replies
 -- Wraps: when strips run: always where the option is off, and for longitude either way; on a plan with the option on never.
 pub mod Wraps

@@ -10,6 +10,7 @@ ghost use Rattle.kdwalk.specs.laws.Cursor.{head_of};
 ghost use Rattle.kdpages.specs.Pages.{tail_of};
 ghost use Rattle.build_tables.specs.Rows.{rows};
 ghost use Rattle.build_tables.specs.Lent.{held};
+ghost use Rattle.ask_tile_table.specs.Tally.{tally_value};
 ghost use Rattle.ask_tile_table.specs.Tile.{is_tile, wraps, margin, side, strip, here, has_strip, strip_at, rounded, item_of};
 ghost use Rattle.ask_tile_table.specs.laws.Framed.{Framed, FramedIf};
 ghost use Rattle.ask_tile_table.specs.laws.Runs.{left_runs, run_tile};
@@ -69,17 +70,27 @@ pub struct Home {
 }
 
 // A tally on its way: how many are listed, and their sum.
-#[derive(Clone, Copy)]
+#[derive(Clone, Copy, PartialEq, Eq, Debug)]
 pub struct Running {
     pub count: usize,
     pub sum: u64,
 }
 
-// What cuts a tally short: an entry that cannot be listed, or marks that cannot tell what was counted before.
+// What cuts a tally short: an entry that cannot be listed, or marks that cannot tell what was counted before; and the tally so far.
 #[derive(Clone, Copy, PartialEq, Eq, Debug)]
 pub enum Cut {
-    Unlisted,
-    Unsure,
+    Unlisted(Running),
+    Unsure(Running),
+}
+
+// What the answer of a tally carries: the sum, 0 where it is refused.
+pub fn tally_value(answer: Result<u64, Refusal>) -> u64
+    ensures { result ≡ tally_value answer }
+{
+    match answer {
+        Ok(sum) => sum,
+        Err(_) => 0,
+    }
 }
 
 // 2^z.
@@ -350,7 +361,7 @@ impl AskedTile<'_> {
     }
 
     // The tally of what the tile finds, with N bytes of marks: a mark for each place of the table.
-    fn add_among<const N: usize>(&self) -> Result<Running, Refusal>
+    fn add_among<const N: usize>(&self) -> Result<Running, Running>
         requires { (N ≤ 131072) × (length self.now.table.entries.x.now ≤ 8 * N) }
         ensures { result ≡ asked_tally self.now }
     {
@@ -360,7 +371,7 @@ impl AskedTile<'_> {
 
     // The tally of what the tile finds, with a mark for each place of the table.
     // A smaller table has fewer marks, so that fewer are cleared.
-    fn add_all(&self) -> Result<Running, Refusal>
+    fn add_all(&self) -> Result<Running, Running>
         ensures { result ≡ asked_tally self.now }
     {
         if self.table.entries.len() <= 131072 {
@@ -379,9 +390,9 @@ impl AskedTile<'_> {
         8192 < n && across(self.z) < n as u64 / across(self.z)
     }
 
-    // The tally of what the tile finds.
+    // The tally of what the tile finds; or that of what comes before an entry that cannot be listed.
     // Where it finds few entries of a large table, as most do if the zoom has enough tiles, few marks tell.
-    pub fn add_up(&self) -> Result<Running, Refusal>
+    pub fn add_up(&self) -> Result<Running, Running>
         ensures { result ≡ asked_tally self.now }
     {
         if self.is_crowded() {
@@ -390,17 +401,21 @@ impl AskedTile<'_> {
         let few = 8192 < self.table.entries.len();
         let mut marks = [0u8; 1024];
         match self.add_with(few, &mut marks) {
-            Err(Cut::Unsure) => self.add_all(),
+            Err(Cut::Unsure(_)) => self.add_all(),
             r => settled(r),
         }
     }
 }
 
 // A tally that was sure: what cut it short is an entry that cannot be listed.
-fn settled(r: Result<Running, Cut>) -> Result<Running, Refusal>
+fn settled(r: Result<Running, Cut>) -> Result<Running, Running>
     ensures { result ≡ settled r }
 {
-    r.map_err(|_| Refusal::Spoiled)
+    match r {
+        Ok(a) => Ok(a),
+        Err(Cut::Unlisted(a)) => Err(a),
+        Err(Cut::Unsure(a)) => Err(a),
+    }
 }
 
 // 2^j.
@@ -484,11 +499,11 @@ impl Home {
         ensures bound { Within (r.count + 1) result }
     {
         let Some(e) = entry_named(t, p) else {
-            return Err(Cut::Unlisted);
+            return Err(Cut::Unlisted(r));
         };
         let q = mark_of(few, p as usize);
         if in_doubt(few, r.count, is_marked(marks, q)) {
-            return Err(Cut::Unsure);
+            return Err(Cut::Unsure(r));
         }
         let sum = add_once(marks, q, self.weigh(e), r.sum);
         Ok(Running {

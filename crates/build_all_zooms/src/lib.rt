@@ -181,26 +181,27 @@ fn index_parts(
     );
 }
 
-// The same of columns as structs.
+// The same, of the index's columns as a struct.
 pub fn index_part(
-    t: &EntriesMut<'_>,
+    xs: &[f64],
+    ys: &[f64],
     index: &mut IndexMut<'_>,
     size: usize,
     start: usize,
     len: usize,
 )
     requires le_len { (1 ≤ len) × (len ≤ 1048576) × (start ≤ 67108864) × (1 ≤ size) × (size ≤ 65535) }
-    requires fact { let c = held_mut t.now in
+    requires fact { let n = length xs.now in
         let i = index_held_mut index.old in
-        (length c.y ≡ length c.x) × (start + len ≤ length c.x) × (start + len ≤ length i.ids) × ((start + len) * 2 ≤ length i.co) }
-    requires inside { Inside (part start len t.now.x.now) (part start len t.now.y.now) }
-    ensures put { let made = index_of size (part start len t.now.x.now) (part start len t.now.y.now) in
+        (length ys.now ≡ n) × (start + len ≤ n) × (start + len ≤ length i.ids) × ((start + len) * 2 ≤ length i.co) }
+    requires inside { Inside (part start len xs.now) (part start len ys.now) }
+    ensures put { let made = index_of size (part start len xs.now) (part start len ys.now) in
         let i = index_held_mut index.old in
         let j = index_held_mut index.new in
         (j.ids ≡ put_at start len made.ids i.ids) × (j.co ≡ put_at (start * 2) (len * 2) made.co i.co) }
     ensures lent { SameIndex index.old index.new }
 {
-    index_parts(&*t.x, &*t.y, index.ids, index.coords, size, start, len);
+    index_parts(xs, ys, index.ids, index.coords, size, start, len);
 }
 
 // The part of the index that is the table's at `start`, of `len` entries, to be read.
@@ -242,7 +243,8 @@ fn one_zoom(
     let radius = build_tables::radius_at(o.radius, o.extent, z);
     let own = own_index(index, start, len);
     let d = zoom_step(t, own, near, o, radius, start, len, z, n);
-    index_part(t, index, o.node_size, start + len, d);
+    let made = t.lent();
+    index_part(made.x, made.y, index, o.node_size, start + len, d);
     d
 }
 

@@ -34,3 +34,6 @@ pub mod Notes
 pub mod Searchable
 -- Bare: energies decide nothing: a zoom of a table without its energies is the zoom of the table, without them.
 pub mod Bare
+-- Back: the columns that a call came back with, and that each is as long as it was, as the caller's proof has them: first among what was
+-- lent to it.
+pub mod Back

@@ -7,7 +7,7 @@ ghost use Rattle.std.specs.Prelude.{◌≡◌, ◌⊎◌, ℕ, suc, ◌+◌, ◌
 ghost use Rattle.build_tables.specs.Entries.{unset};
 ghost use Rattle.build_tables.specs.Rows.{rows};
 ghost use Rattle.build_tables.specs.laws.Roomy.{Roomy, front_cols};
-ghost use Rattle.build_tables.specs.Lent.{held_mut};
+ghost use Rattle.build_tables.specs.Lent.{tables_held};
 ghost use Rattle.build_tables.specs.Options.{table_count};
 ghost use Rattle.build_tables.specs.State.{start_of, len_of};
 ghost use Rattle.build_all_zooms.specs.Zooms.{laid_over};
@@ -16,7 +16,7 @@ ghost use Rattle.build_owners.specs.OwnerColumn.{owner_column};
 ghost use Rattle.build_owners.specs.laws.Climbs.{rows_of, lead_of, Chain, seat_of, owner_on, finer, Climbable};
 ghost use Rattle.build_owners.specs.laws.Fills.{Wrote, lead_from, Sends, Sent, next_owner, Sits};
 
-use build_tables::{Entries, EntriesMut, Entry, State};
+use build_tables::{Entries, Entry, State, Tables};
 
 // A build: the entries of its tables, and the state that says which they are.
 #[derive(Clone, Copy)]
@@ -136,12 +136,13 @@ impl Build<'_, '_> {
     }
 }
 
-// The owners in every table of a build, in the fronts of the columns. The front of `near` is room to work, and is left as zeros.
-pub fn fill(t: &EntriesMut<'_>, s: State, near: &mut [u32], owners: &mut [u32])
-    requires { let c = held_mut t.now in
+// The owners in every table of a build, in the fronts of the columns: those of the index are not read, and may be of any length. The front
+// of `near` is room to work, and is left as zeros.
+pub fn fill(t: &Tables<'_>, s: State, near: &mut [u32], owners: &mut [u32])
+    requires { let c = (tables_held t.now).table in
         let m = table_count s.options * s.count in
         Roomy m c × Climbable s (rows (front_cols m c)) × (s.count ≤ length near.old) × (m ≤ length owners.old) }
-    ensures { let R = rows (front_cols (table_count s.options * s.count) (held_mut t.now)) in
+    ensures { let R = rows (front_cols (table_count s.options * s.count) (tables_held t.now).table) in
         (near.new ≡ laid_over (replicate s.count 0) near.old)
         × (owners.new ≡ laid_over (owner_column s.count (held_by s R)) owners.old) }
 {

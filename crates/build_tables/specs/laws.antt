@@ -18,5 +18,5 @@ pub mod Lent
 pub mod Ids
 -- Radius: for the radius and the extent that a build takes the radius of a zoom is finite and not below 0.
 pub mod Radius
--- Replies: any two replies that meet the contract of a public method of the options or the state are equal.
+-- Replies: any two replies that meet the contract of a public method of the options or the state, or of `new_state`, are equal.
 pub mod Replies

@@ -11,8 +11,10 @@ ghost use Rattle.build_tables.specs.Ids.{cluster_id, origin_of, table_of};
 ghost use Rattle.build_tables.specs.Radius.{radius_at};
 
 mod columns;
+mod parts;
 
 pub use columns::{Entries, EntriesMut, Table, Tables, TablesMut};
+pub use parts::{entries_in, table_in};
 use range::{CoordinateSystem, DataRange};
 
 // What a build goes by.

@@ -47,10 +47,7 @@ use supercluster::Points;
 fn number(reply: Result<(), Refusal>) -> u32
     ensures { result ≡ number reply }
 {
-    match reply {
-        Ok(()) => 0,
-        Err(refusal) => refusal.number(),
-    }
+    refusals::number(&reply)
 }
 
 // The same, and behind a pointer what the refusal carries, or 0.
@@ -58,10 +55,7 @@ fn tell_done(reply: Result<(), Refusal>, carried: &mut usize) -> u32
     ensures number { result ≡ number reply }
     ensures carried { carried.new ≡ refusal_carried reply }
 {
-    *carried = match reply {
-        Ok(()) => 0,
-        Err(refusal) => refusal.carried(),
-    };
+    *carried = refusals::refusal_carried(&reply);
     number(reply)
 }
 
@@ -70,16 +64,8 @@ fn tell(reply: Result<usize, Refusal>, carried: &mut usize) -> u32
     ensures number { result ≡ number reply }
     ensures carried { carried.new ≡ carried_by reply }
 {
-    match reply {
-        Ok(k) => {
-            *carried = k;
-            0
-        }
-        Err(refusal) => {
-            *carried = refusal.carried();
-            refusal.number()
-        }
-    }
+    *carried = refusals::carried(reply);
+    refusals::number(&reply)
 }
 
 // The same of a sum: 0 where it is refused.
@@ -87,16 +73,8 @@ fn tell_sum(reply: Result<u64, Refusal>, sum: &mut usize) -> u32
     ensures number { result ≡ number reply }
     ensures sum { sum.new ≡ tally_value reply }
 {
-    match reply {
-        Ok(k) => {
-            *sum = k as usize;
-            0
-        }
-        Err(refusal) => {
-            *sum = 0;
-            refusal.number()
-        }
-    }
+    *sum = ask_tile_table::tally_value(reply) as usize;
+    refusals::number(&reply)
 }
 
 // The same of a box within an effort: how many were found, how many slots were tested, and whether a test was left.
@@ -111,14 +89,11 @@ fn tell_effort(
     ensures tested { tested.new ≡ (effort_carried reply).tested }
     ensures stopped { stopped.new ≡ (effort_carried reply).stopped }
 {
-    let (number, e) = match reply {
-        Ok(e) => (0, e),
-        Err(refusal) => (refusal.number(), refusal.carried()),
-    };
+    let e = ask_effort_tests::effort_carried(reply);
     *items = e.items;
     *tested = e.tested;
     *stopped = e.stopped;
-    number
+    ask_effort_tests::effort_number(reply)
 }
 
 // The same of a step of a walk: its slot, or the largest usize where it has none.
@@ -126,16 +101,8 @@ fn tell_step(step: Result<Option<usize>, Refusal>, slot: &mut usize) -> u32
     ensures number { result ≡ number step }
     ensures slot { slot.new ≡ step_carried step }
 {
-    match step {
-        Ok(next) => {
-            *slot = next.unwrap_or(usize::MAX);
-            0
-        }
-        Err(refusal) => {
-            *slot = usize::MAX;
-            refusal.number()
-        }
-    }
+    *slot = kdwalk::step_carried(step);
+    refusals::number(&step)
 }
 
 // The index of N points, xs_len of them, whose coordinates are from 0 to 1. Written are the first N entries of ids (the place of
@@ -1378,7 +1345,7 @@ fn look_up(s: &State, t: &Tables<'_>, zoom: usize, place: usize) -> Result<Entry
         return Err(Refusal::NoCluster);
     }
     let start = build_tables::start_of(*s, zoom);
-    let table = t.table(start, len);
+    let table = build_tables::table_in(t, start, len);
     Ok(table.entries.at(place))
 }
 

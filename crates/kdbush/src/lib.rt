@@ -22,7 +22,7 @@ fn put(s: &Search<'_>, ids: &[u32], i: usize, at: usize, out: &mut [u32]) -> Opt
     ensures { let o = over s.now.query s.now.coords.now in
         ran result out.new ≡ run s.now.n at (places ids.now (when (o.test i) (i ∷ []))) out.old }
 {
-    if !s.tests(i) {
+    if !kdslots::tests(s, i) {
         return Some(at);
     }
     let p = ids[i];
@@ -57,15 +57,15 @@ fn part(s: &Search<'_>, ids: &[u32], v: Interval, at: usize, out: &mut [u32]) ->
     ensures { let o = over s.now.query s.now.coords.now in
         ran result out.new ≡ run s.now.n at (places ids.now (slots o v.axis (shape (s.now.node_size + 1) v.lo v.hi))) out.old }
 {
-    if v.len() <= s.most() {
+    if v.len() <= kdslots::most(s) {
         return scan(s, ids, v, at, out);
     }
     let m = v.median();
     let mut k = put(s, ids, m, at, out)?;
-    if s.goes_right(v.axis, m) {
+    if kdslots::goes_right(s, v.axis, m) {
         k = part(s, ids, v.right(), k, out)?;
     }
-    if s.goes_left(v.axis, m) {
+    if kdslots::goes_left(s, v.axis, m) {
         return part(s, ids, v.left(), k, out);
     }
     Some(k)
@@ -127,7 +127,7 @@ pub fn search(s: &Search<'_>, ids: &[u32], out: &mut [u32]) -> Result<usize, Ref
     if !is_index(s, ids) {
         return Err(Refusal::Spoiled);
     }
-    let k = part(s, ids, s.narrow(s.most()), 0, out).ok_or(Refusal::Spoiled)?;
+    let k = part(s, ids, kdslots::narrow(s, kdslots::most(s)), 0, out).ok_or(Refusal::Spoiled)?;
     if out.len() < k {
         return Err(Refusal::NoRoom(k));
     }

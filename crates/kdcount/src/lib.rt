@@ -15,7 +15,7 @@ fn count_slots(s: &Search<'_>, v: Interval) -> usize
 {
     let mut k = 0;
     for i in v.lo..v.hi {
-        k += s.tests(i) as usize;
+        k += kdslots::tests(s, i) as usize;
     }
     k
 }
@@ -25,13 +25,13 @@ fn count_part(s: &Search<'_>, v: Interval) -> usize
     requires { (2 * v.hi ≤ length s.now.coords.now) × (s.now.node_size ≤ 65535) }
     ensures { result ≡ length (slots (over s.now.query s.now.coords.now) v.axis (shape (s.now.node_size + 1) v.lo v.hi)) }
 {
-    if v.len() <= s.most() {
+    if v.len() <= kdslots::most(s) {
         return count_slots(s, v);
     }
     let m = v.median();
-    let median = s.tests(m) as usize;
-    let goes_right = s.goes_right(v.axis, m);
-    let goes_left = s.goes_left(v.axis, m);
+    let median = kdslots::tests(s, m) as usize;
+    let goes_right = kdslots::goes_right(s, v.axis, m);
+    let goes_left = kdslots::goes_left(s, v.axis, m);
     let right = if goes_right {
         count_part(s, v.right())
     } else {
@@ -50,5 +50,5 @@ pub fn count(s: &Search<'_>) -> usize
     requires { (2 * s.now.n ≤ length s.now.coords.now) × (s.now.node_size ≤ 65535) }
     ensures { result ≡ length (answers s.now.query s.now.coords.now s.now.node_size s.now.n) }
 {
-    count_part(s, s.narrow(s.most()))
+    count_part(s, kdslots::narrow(s, kdslots::most(s)))
 }

@@ -36,7 +36,7 @@ fn fill_from(s: &Search<'_>, from: usize, hi: usize, at: usize, page: &mut [usiz
         if page.len() <= k {
             return k;
         }
-        if own.tests(i) {
+        if kdslots::tests(&own, i) {
             page[k] = i;
             k += 1;
         }
@@ -54,11 +54,11 @@ fn fill_in(s: &Search<'_>, v: Interval, at: usize, page: &mut [usize]) -> usize
     if page.len() <= at {
         return at;
     }
-    if v.len() <= s.most() {
+    if v.len() <= kdslots::most(s) {
         return fill_from(s, v.lo, v.hi, at, page);
     }
     let m = v.median();
-    if s.tests(m) {
+    if kdslots::tests(s, m) {
         page[at] = m;
         return fill_below(s, v, at + 1, page);
     }
@@ -72,7 +72,7 @@ fn fill_below(s: &Search<'_>, v: Interval, at: usize, page: &mut [usize]) -> usi
     ensures { let o = over s.now.query s.now.coords.now in
         stored result page.new ≡ store at (below o v.axis (s.now.node_size + 1) v.lo v.hi) page.old }
 {
-    if s.goes_right(v.axis, v.median()) {
+    if kdslots::goes_right(s, v.axis, v.median()) {
         let k = fill_in(s, v.right(), at, page);
         return fill_left(s, v, k, page);
     }
@@ -88,7 +88,7 @@ fn fill_left(s: &Search<'_>, v: Interval, at: usize, page: &mut [usize]) -> usiz
         stored result page.new
         ≡ store at (when (o.left v.axis m) (slots o (1 - v.axis) (shape (s.now.node_size + 1) v.lo m))) page.old }
 {
-    if s.goes_left(v.axis, v.median()) {
+    if kdslots::goes_left(s, v.axis, v.median()) {
         return fill_in(s, v.left(), at, page);
     }
     at
@@ -100,7 +100,7 @@ fn fill_rest(s: &Search<'_>, v: Interval, c: usize, page: &mut [usize]) -> usize
     ensures { let o = over s.now.query s.now.coords.now in
         stored result page.new ≡ store 0 (rest o v.axis (shape (s.now.node_size + 1) v.lo v.hi) c) page.old }
 {
-    if v.len() <= s.most() {
+    if v.len() <= kdslots::most(s) {
         return fill_from(s, c + 1, v.hi, 0, page);
     }
     let m = v.median();
@@ -126,8 +126,8 @@ fn fill_page(s: &Search<'_>, from: Onward, page: &mut [usize]) -> usize
     }
     match from {
         Onward::Start => {
-            let v = s.narrow(s.most());
-            if v.len() <= s.most() {
+            let v = kdslots::narrow(s, kdslots::most(s));
+            if v.len() <= kdslots::most(s) {
                 return fill_from(s, v.lo, v.hi, 0, page);
             }
             fill_in(s, v, 0, page)

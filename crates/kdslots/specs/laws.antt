@@ -22,3 +22,5 @@ pub mod Reaches
 pub mod Complete
 -- Corner: SCOPE's corner, over an index of three slots: x = 0.25 - 2 ^ -55, asked for with qx = 1 and radius 0.75.
 pub mod Corner
+-- Replies: any two replies that meet the contract of a public method of a query or a search are equal.
+pub mod Replies

@@ -115,81 +115,80 @@ impl Search<'_> {
     {
         node_size_ok(self.node_size) && count_ok(self.n) && 2 * self.n <= self.coords.len()
     }
+}
 
-    // The most slots that are not split.
-    pub fn most(&self) -> usize
-        requires { self.now.node_size ≤ 65535 }
-        ensures { result ≡ self.now.node_size + 1 }
-    {
-        self.node_size + 1
-    }
+// The most slots that are not split.
+pub fn most(s: &Search<'_>) -> usize
+    requires { s.now.node_size ≤ 65535 }
+    ensures { result ≡ s.now.node_size + 1 }
+{
+    s.node_size + 1
+}
 
-    // Whether the slot i is answered.
-    pub fn tests(&self, i: usize) -> bool
-        requires { 2 * i + 1 < length self.now.coords.now }
-        ensures { let s = self.now in result ≡ (over s.query s.coords.now).test i }
-    {
-        self.query
-            .passes(self.coords[2 * i], self.coords[2 * i + 1])
-    }
+// Whether the slot i is answered.
+pub fn tests(s: &Search<'_>, i: usize) -> bool
+    requires { 2 * i + 1 < length s.now.coords.now }
+    ensures { result ≡ (over s.now.query s.now.coords.now).test i }
+{
+    s.query.passes(s.coords[2 * i], s.coords[2 * i + 1])
+}
 
-    // Whether the part left of the median m is searched.
-    pub fn goes_left(&self, axis: usize, m: usize) -> bool
-        requires { (2 * m + 1 < length self.now.coords.now) × (axis < 2) }
-        ensures { let s = self.now in result ≡ (over s.query s.coords.now).left axis m }
-    {
-        let v = self.coords[2 * m + axis];
-        match self.query {
-            Query::Range { min_x, min_y, .. } => on_axis(axis, min_x, min_y) <= v,
-            Query::Within { qx, qy, radius } => {
-                let p = on_axis(axis, qx, qy);
-                !((v < p) & too_far(v, p, radius))
-            }
+// Whether the part left of the median m is searched.
+pub fn goes_left(s: &Search<'_>, axis: usize, m: usize) -> bool
+    requires { (2 * m + 1 < length s.now.coords.now) × (axis < 2) }
+    ensures { result ≡ (over s.now.query s.now.coords.now).left axis m }
+{
+    let v = s.coords[2 * m + axis];
+    match s.query {
+        Query::Range { min_x, min_y, .. } => on_axis(axis, min_x, min_y) <= v,
+        Query::Within { qx, qy, radius } => {
+            let p = on_axis(axis, qx, qy);
+            !((v < p) & too_far(v, p, radius))
         }
     }
+}
 
-    // Whether the part right of it is searched. (Apart from the left: which comparison is made decides what a NaN does.)
-    pub fn goes_right(&self, axis: usize, m: usize) -> bool
-        requires { (2 * m + 1 < length self.now.coords.now) × (axis < 2) }
-        ensures { let s = self.now in result ≡ (over s.query s.coords.now).right axis m }
-    {
-        let v = self.coords[2 * m + axis];
-        match self.query {
-            Query::Range { max_x, max_y, .. } => on_axis(axis, max_x, max_y) >= v,
-            Query::Within { qx, qy, radius } => {
-                let p = on_axis(axis, qx, qy);
-                !((p < v) & too_far(v, p, radius))
-            }
+// Whether the part right of it is searched. (Apart from the left: which comparison is made decides what a NaN does.)
+pub fn goes_right(s: &Search<'_>, axis: usize, m: usize) -> bool
+    requires { (2 * m + 1 < length s.now.coords.now) × (axis < 2) }
+    ensures { result ≡ (over s.now.query s.now.coords.now).right axis m }
+{
+    let v = s.coords[2 * m + axis];
+    match s.query {
+        Query::Range { max_x, max_y, .. } => on_axis(axis, max_x, max_y) >= v,
+        Query::Within { qx, qy, radius } => {
+            let p = on_axis(axis, qx, qy);
+            !((p < v) & too_far(v, p, radius))
         }
     }
+}
 
-    // An interval that has all that is answered: while it has more than `most` slots and only one side of its median is searched, the
-    // rest is left out. No median is answered there.
-    pub fn narrow(&self, most: usize) -> Interval
-        requires { 2 * self.now.n ≤ length self.now.coords.now }
-        ensures hi_value { let s = over self.now.query self.now.coords.now in
-            slots s result.axis (shape most result.lo result.hi) ≡ slots s 0 (shape most 0 self.now.n) }
-        ensures hi_le_n { result.hi ≤ self.now.n }
-    {
-        let mut v = Interval {
-            lo: 0,
-            hi: self.n,
-            axis: 0,
-        };
-        while most < v.len() {
-            let m = v.median();
-            if self.goes_right(v.axis, m) {
-                if self.goes_left(v.axis, m) {
-                    return v;
-                }
-                v = v.right();
-            } else {
-                if !self.goes_left(v.axis, m) {
-                    return v;
-                }
-                v = v.left();
+// An interval that has all that is answered: while it has more than `most` slots and only one side of its median is searched, the
+// rest is left out. No median is answered there.
+pub fn narrow(s: &Search<'_>, most: usize) -> Interval
+    requires { 2 * s.now.n ≤ length s.now.coords.now }
+    ensures hi_value { let o = over s.now.query s.now.coords.now in
+        slots o result.axis (shape most result.lo result.hi) ≡ slots o 0 (shape most 0 s.now.n) }
+    ensures hi_le_n { result.hi ≤ s.now.n }
+{
+    let mut v = Interval {
+        lo: 0,
+        hi: s.n,
+        axis: 0,
+    };
+    while most < v.len() {
+        let m = v.median();
+        if goes_right(s, v.axis, m) {
+            if goes_left(s, v.axis, m) {
+                return v;
             }
+            v = v.right();
+        } else {
+            if !goes_left(s, v.axis, m) {
+                return v;
+            }
+            v = v.left();
         }
-        v
     }
+    v
 }

@@ -9,7 +9,7 @@ ghost use Rattle.kdslots.specs.Slots.{over, when, scanned, slots};
 ghost use Rattle.kdslots.specs.laws.Intervals.{below};
 ghost use Rattle.kdwalk.specs.laws.Cursor.{head_of, leaf_end};
 ghost use Rattle.kdwalk.specs.Cursor.{rest};
-ghost use Rattle.kdwalk.specs.Reply.{walk_checked, first_step, after_step};
+ghost use Rattle.kdwalk.specs.Reply.{walk_checked, first_step, after_step, step_carried};
 
 use kdslots::{Interval, Search};
 use refusals::Refusal;
@@ -20,7 +20,7 @@ fn first_from(s: &Search<'_>, from: usize, hi: usize) -> Option<usize>
     ensures { let o = over s.now.query s.now.coords.now in result ≡ head_of (scanned o from (hi - from)) }
 {
     for i in from..hi {
-        if s.tests(i) {
+        if kdslots::tests(s, i) {
             return Some(i);
         }
     }
@@ -34,11 +34,11 @@ fn first_in(s: &Search<'_>, v: Interval) -> Option<usize>
     ensures { let o = over s.now.query s.now.coords.now in
         result ≡ head_of (slots o v.axis (shape (s.now.node_size + 1) v.lo v.hi)) }
 {
-    if v.len() <= s.most() {
+    if v.len() <= kdslots::most(s) {
         return first_from(s, v.lo, v.hi);
     }
     let m = v.median();
-    if s.tests(m) {
+    if kdslots::tests(s, m) {
         return Some(m);
     }
     first_below(s, v)
@@ -50,7 +50,7 @@ fn first_below(s: &Search<'_>, v: Interval) -> Option<usize>
     requires { Covers s.now v × (v.lo < v.hi) }
     ensures { let o = over s.now.query s.now.coords.now in result ≡ head_of (below o v.axis (s.now.node_size + 1) v.lo v.hi) }
 {
-    if s.goes_right(v.axis, v.median()) {
+    if kdslots::goes_right(s, v.axis, v.median()) {
         if let Some(i) = first_in(s, v.right()) {
             return Some(i);
         }
@@ -66,7 +66,7 @@ fn first_left(s: &Search<'_>, v: Interval) -> Option<usize>
         let m = mid v.lo v.hi in
         result ≡ head_of (when (o.left v.axis m) (slots o (1 - v.axis) (shape (s.now.node_size + 1) v.lo m))) }
 {
-    if s.goes_left(v.axis, v.median()) {
+    if kdslots::goes_left(s, v.axis, v.median()) {
         return first_in(s, v.left());
     }
     None
@@ -78,7 +78,7 @@ fn leaf_end(s: &Search<'_>, c: usize) -> usize
     ensures { result ≡ leaf_end (shape (s.now.node_size + 1) 0 s.now.n) c }
 {
     // By its two ends, since an interval was slower here: each step of a walk goes through this loop.
-    let most = s.most();
+    let most = kdslots::most(s);
     let mut lo = 0;
     let mut hi = s.n;
     while most < hi - lo {
@@ -101,7 +101,7 @@ fn next_in(s: &Search<'_>, v: Interval, c: usize) -> Option<usize>
     ensures { let o = over s.now.query s.now.coords.now in
         result ≡ head_of (rest o v.axis (shape (s.now.node_size + 1) v.lo v.hi) c) }
 {
-    if v.len() <= s.most() {
+    if v.len() <= kdslots::most(s) {
         return first_from(s, c + 1, v.hi);
     }
     let m = v.median();
@@ -135,7 +135,7 @@ pub fn first(s: &Search<'_>) -> Result<Option<usize>, Refusal>
     ensures { let a = s.now in result ≡ first_step a.query a.node_size a.n a.coords.now }
 {
     check(s)?;
-    let v = s.narrow(s.most());
+    let v = kdslots::narrow(s, kdslots::most(s));
     Ok(first_in(s, v))
 }
 
@@ -156,4 +156,15 @@ pub fn after(s: &Search<'_>, c: usize) -> Result<Option<usize>, Refusal>
         axis: 0,
     };
     Ok(next_in(s, whole, c))
+}
+
+// The slot that a step of a walk carries: the largest usize where it carries none.
+pub fn step_carried(step: Result<Option<usize>, Refusal>) -> usize
+    ensures { result ≡ step_carried step }
+{
+    match step {
+        Ok(Some(i)) => i,
+        Ok(None) => usize::MAX,
+        Err(_) => usize::MAX,
+    }
 }

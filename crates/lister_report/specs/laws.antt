@@ -4,7 +4,7 @@
 pub mod Hex
 -- Put: what it is to store bytes in a buffer, and to store a text part by part.
 pub mod Put
--- Parts: the lines of a table, one by one.
+-- Parts: the lines of a table, one by one: of a table, and of a part of the rows that is one.
 pub mod Parts
 -- Held: what is asked to print the tables of a state, and their lines one table after the other, from the finest down.
 pub mod Held

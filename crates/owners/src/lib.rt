@@ -11,7 +11,7 @@ ghost use Rattle.owners.specs.LoadedWith.{owned_outcome, loaded_with};
 ghost use Rattle.owners.specs.Owners.{Owners};
 ghost use Rattle.owners.specs.KeptOwners.{KeptOwners};
 
-use build_tables::{EntriesMut, Options, State, TablesMut};
+use build_tables::{Options, State, Tables, TablesMut};
 use refusals::Refusal;
 use supercluster::Points;
 
@@ -87,7 +87,7 @@ fn load_in(
         coords,
         &mut near[..most],
     )?;
-    let entries = EntriesMut {
+    let tables = Tables {
         x,
         y,
         seen,
@@ -95,8 +95,10 @@ fn load_in(
         parent,
         num,
         energy,
+        ids,
+        coords,
     };
-    build_owners::fill(&entries, s, near, owners);
+    build_owners::fill(&tables, s, near, owners);
     Ok(s)
 }
 

@@ -3,7 +3,7 @@
 #![tactic(auto)]
 
 ghost use Rattle.std.specs.Prelude.{◌≡◌};
-ghost use Rattle.refusals.specs.Refusals.{number_of, carried_of};
+ghost use Rattle.refusals.specs.Refusals.{number_of, carried_of, number, carried, refusal_carried};
 
 // Why a call is refused. `Point` and `Energy` carry the first such point; `NoRoom` carries the whole length of the answer.
 #[derive(Clone, Copy, PartialEq, Eq, Debug)]
@@ -58,4 +58,34 @@ impl Refusal {
             _ => 0,
         }
     }
+}
+
+// SCOPE's number of a reply: 0 where nothing is refused.
+pub fn number<T>(reply: &Result<T, Refusal>) -> u32
+    ensures { result ≡ number reply.now }
+{
+    match reply {
+        Ok(_) => 0,
+        Err(refusal) => refusal.number(),
+    }
+}
+
+// What a reply carries: how many there are, or what its refusal carries.
+pub fn carried(reply: Result<usize, Refusal>) -> usize
+    ensures { result ≡ carried reply }
+{
+    match reply {
+        Ok(k) => k,
+        Err(refusal) => refusal.carried(),
+    }
+}
+
+// What the refusal of a reply carries: 0 where nothing is refused.
+pub fn refusal_carried<T>(reply: &Result<T, Refusal>) -> usize
+    ensures { result ≡ refusal_carried reply.now }
+{
+    if let Err(refusal) = reply {
+        return refusal.carried();
+    }
+    0
 }

@@ -5,6 +5,7 @@
 // and writing.
 #![tactic(auto)]
 
+ghost use Rattle.std.specs.Prelude.{◌≤◌};
 ghost use Rattle.replay_lister.specs.Prints.{prints_is};
 
 use lister_report::ListerColumns;
@@ -39,13 +40,20 @@ fn replay_text(text: &mut [u8], want: &mut [u8]) -> Result<Verdict, Malformed> {
     Ok(replay_vectors::judged(prints(text, want), Function::Report))
 }
 
+// Replays a case whose text and whose expected lines are of these lengths.
+fn replay_lengths(n: usize, m: usize) -> Result<Verdict, Malformed>
+    requires { (n ≤ 65537) × (m ≤ 156672) }
+{
+    let mut text = [0u8; 65537];
+    let mut want = [0u8; 156672];
+    replay_text(&mut text[..n], &mut want[..m])
+}
+
 // Replays the case that begins with this number, the length of its text.
 fn replay_case(bits: u64) -> Result<Verdict, Malformed> {
     let n = replay_vectors::count_of(bits, 65537)?;
     let m = replay_vectors::count_of(replay_vectors::next_bits(true)?, 156672)?;
-    let mut text = [0u8; 65537];
-    let mut want = [0u8; 156672];
-    replay_text(&mut text[..n], &mut want[..m])
+    replay_lengths(n, m)
 }
 
 // Replays standard input, and writes how that ended.

@@ -43,7 +43,7 @@ places-compared a b r e =
     (places-equal a b, λ q. subst (λ (l : List ℕ). same_places a l ≡ true) q (places-self a))
 
 -- the same of numbers with a sign
-long-equal : (a b : ℤ) → eq_long a b ≡ true → a ≡ b
+pub long-equal : (a b : ℤ) → eq_long a b ≡ true → a ≡ b
 long-equal (pos a) (pos b) e = ap pos (eqb-true a b e)
 long-equal (pos a) (negsuc b) e = absurd (not-both e)
 long-equal (negsuc a) (pos b) e = absurd (not-both e)
@@ -52,6 +52,16 @@ long-equal (negsuc a) (negsuc b) e = ap negsuc (eqb-true a b e)
 long-self : (a : ℤ) → eq_long a a ≡ true
 long-self (pos a) = eq-eqb a a refl
 long-self (negsuc a) = eq-eqb a a refl
+
+pub eq-long : (a b : ℤ) → a ≡ b → eq_long a b ≡ true
+eq-long a b e = subst (λ (z : ℤ). eq_long a z ≡ true) e (long-self a)
+
+other : (a b : ℤ) (t : Bool) → eq_long a b ≡ t → (a ≡ b → ⊥) → t ≡ false
+other a b true e h = absurd (h (long-equal a b e))
+other a b false e h = refl
+
+pub ne-long : (a b : ℤ) → (a ≡ b → ⊥) → eq_long a b ≡ false
+ne-long a b h = other a b (eq_long a b) refl h
 
 pub longs-equal : (a b : List ℤ) → same_longs a b ≡ true → a ≡ b
 unfolding same_longs

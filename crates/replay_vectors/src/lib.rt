@@ -415,13 +415,13 @@ impl fmt::Display for Function {
 impl fmt::Display for Score {
     fn fmt<W: fmt::Write>(&self, f: &mut fmt::Formatter<W>) -> fmt::Result {
         if self.cases == 0 {
-            return f.write_str("no case");
+            return f.write_str("no case\n");
         }
-        writeln!(f, "cases={} differences={}", self.cases, self.differences)?;
+        write!(f, "cases={} differences={}\n", self.cases, self.differences)?;
         match self.first {
-            None => f.write_str("no difference"),
+            None => f.write_str("no difference\n"),
             Some(Difference { case, function }) => {
-                write!(f, "first difference: case={case} function={function}")
+                write!(f, "first difference: case={case} function={function}\n")
             }
         }
     }
@@ -430,23 +430,20 @@ impl fmt::Display for Score {
 impl fmt::Display for Stopped {
     fn fmt<W: fmt::Write>(&self, f: &mut fmt::Formatter<W>) -> fmt::Result {
         match self {
-            Stopped::Malformed(case) => write!(f, "case={case} is not of the form"),
-            Stopped::TooMany => write!(f, "more than {MOST} cases"),
+            Stopped::Malformed(case) => write!(f, "case={case} is not of the form\n"),
+            Stopped::TooMany => write!(f, "more than {MOST} cases\n"),
         }
     }
 }
 
-// What is written to standard output, by `io` as everything that is read.
+// What is written to standard output, by `io` as everything that is read. Where the write of a piece fails, the next is tried all the same.
 #[derive(Clone, Copy)]
 struct Output;
 
 impl fmt::Write for Output {
     fn write_str(&mut self, text: &str) -> fmt::Result {
-        if io::write_all(STDOUT_FILENO, text.as_bytes()) {
-            Ok(())
-        } else {
-            Err(fmt::Error)
-        }
+        io::write_all(STDOUT_FILENO, text.as_bytes());
+        Ok(())
     }
 }
 
@@ -454,7 +451,7 @@ impl fmt::Write for Output {
 pub fn say_ending(ending: Result<Score, Stopped>) {
     let mut output = Output;
     let _written = match ending {
-        Ok(score) => writeln!(output, "{score}"),
-        Err(stopped) => writeln!(output, "{stopped}"),
+        Ok(score) => write!(output, "{score}"),
+        Err(stopped) => write!(output, "{stopped}"),
     };
 }

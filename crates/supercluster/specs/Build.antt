@@ -6,6 +6,7 @@ use Rattle.range.specs.declared.CoordinateSystem.{CoordinateSystem}
 use Rattle.range.specs.declared.Point.{Point}
 use Rattle.range.specs.Range.{converted}
 use Rattle.std.specs.Prelude.{Option, Some, None, Result, Ok, Err}
+use Rattle.std.specs.Result.{result_unwrap_or}
 use Rattle.refusals.specs.declared.Refusal.{Refusal}
 use Rattle.refusals.specs.declared.Refusal.TheVariants.{Options as No-as-Options, Count, Point as No-as-Point, Energy, Tables}
 use Rattle.kdbush.specs.Reply.{pair_ok, first_outside}
@@ -13,6 +14,7 @@ use Rattle.build_tables.specs.declared.Options.{Options}
 use Rattle.build_tables.specs.declared.State.{State}
 use Rattle.build_tables.specs.declared.Entry.{Entry}
 use Rattle.build_tables.specs.Options.{options_ok, table_count}
+use Rattle.build_tables.specs.State.{new_state}
 use Rattle.build_tables.specs.Entries.{Table, never, unset, xs_of, ys_of, seen_of, ids_of, parents_of, nums_of, energies_of}
 use Rattle.build_tables.specs.Rows.{Cols, cols, each2}
 use Rattle.build_tables.specs.Room.{columns, room_of}
@@ -135,6 +137,10 @@ pub record Outcome : Type 0 where
 
 abbrev pub outcome : Result State Refusal → BuildColumns → Outcome
 outcome b l = record { reply = b; columns = l }
+
+-- the state that a caller has by `unwrap_or`: beside a refusal stand the options as given and no tables
+abbrev pub state_left : Options → Result State Refusal → State
+state_left o r = result_unwrap_or r (new_state o 0)
 
 -- a refusal writes no column
 abbrev pub by_reply : Options → List Float → List Float → List ℕ → BuildColumns → Result (Unit {0}) Refusal → Outcome

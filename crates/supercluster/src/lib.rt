@@ -108,7 +108,8 @@ fn build_in(
 {
     let n = points.xs.len();
     fill(o.coordinate_system, points, t);
-    build_all_zooms::index_part(t, index, o.node_size, 0, n);
+    let e = t.lent();
+    build_all_zooms::index_part(e.x, e.y, index, o.node_size, 0, n);
     let s = first_state(o, n);
     let st = build_all_zooms::run_zooms(t, index, near, s, n as u32);
     clear(near);
@@ -274,7 +275,7 @@ pub fn load(o: Options, points: &Points<'_>, t: &mut TablesMut<'_>) -> Result<St
         outcome result (columns_held t.new) ≡ loaded o p.xs.now p.ys.now p.energies.now (columns_held t.old) }
     ensures lent { SameTables t.old t.new }
 {
-    check(o, points, build_room::room_all(t))?;
+    check(o, points, build_room::room_for_build(t))?;
     let state = build_fronts(
         o, points, t.x, t.y, t.seen, t.id, t.parent, t.num, t.energy, t.ids, t.coords, t.near,
     );

@@ -1,5 +1,5 @@
--- The ring around an entry of a table, as `ring_of` gives it and `Ring::next` walks over it a page at a time: its slots, and what is
--- ahead of a walk. Where the entry's place is no finite number the search is none that kdwalk takes, and the walk has no slots. No
+-- The ring around an entry of a table, as `ring_of` and `ring_at` give it and `Ring::next` walks over it a page at a time: its slots, and
+-- what is ahead of a walk. Where the entry's place is no finite number the search is none that kdwalk takes, and the walk has no slots. No
 -- definition of a question goes by this walk: children are what `within` answers (ask_child_walk/specs/Kids), and that the walk goes
 -- over all of it is a law there (ask_child_walk/specs/Within). Assumes nothing.
 use Rattle.std.specs.Prelude.{◌≡◌, List, [], ◌∷◌, ℕ, ◌-◌, ◌<◌, ◌≤◌, length, Float, Option, Some}
@@ -14,12 +14,13 @@ use Rattle.kdwalk.specs.laws.Cursor.{head_of}
 use Rattle.kdwalk.specs.laws.Walk.{walk-length}
 use Rattle.kdpages.specs.Pages.{begun, ahead_of, tail_of, ahead-begun, walk-below, next-slot, below_next, next-end}
 use Rattle.build_tables.specs.declared.State.{State}
-use Rattle.build_tables.specs.State.{len_of}
+use Rattle.build_tables.specs.State.{start_of, len_of}
 use Rattle.build_tables.specs.Entries.{Table, entry}
 use Rattle.build_tables.specs.Radius.{radius_at}
 use Rattle.build_tables.specs.Rows.{rows}
 use Rattle.build_tables.specs.Room.{Columns}
 use Rattle.build_tables.specs.Lent.{held}
+use Rattle.ask_base.specs.declared.RingPart.{RingPart}
 use Rattle.ask_base.specs.declared.ring.Ring.{Ring}
 use Rattle.ask_base.specs.Columns.{table_at, ids_at, coords_at}
 
@@ -43,15 +44,28 @@ ring_held g = record {
   node_size = g.search.node_size;
 }
 
--- the ring around the entry o of zoom z's table: its radius is that of zoom z - 1
-abbrev pub ring_of : State → Columns → ℕ → ℕ → Around
-ring_of s c z o = record {
+-- where the ring around the entry o of the table t of zoom z lies: its radius is that of zoom z - 1
+abbrev pub ring_of : State → Table → ℕ → ℕ → RingPart
+ring_of s t z o = record {
+  start = start_of s z;
+  len = len_of s z;
+  x = (entry t o).x;
+  y = (entry t o).y;
+  radius = radius_at s.options.radius s.options.extent (z - 1);
+  node_size = s.options.node_size;
+}
+
+abbrev pub query_of : RingPart → Query
+query_of g = Within g.x g.y g.radius
+
+-- the ring around the entry o of zoom z's table, in the lent columns
+abbrev pub ring_at : State → Columns → ℕ → ℕ → Around
+ring_at s c z o = record {
   table = table_at s c z;
   len = len_of s z;
   ids = ids_at s c.ids z;
   coords = coords_at s c.coords z;
-  query =
-      Within (entry (table_at s c z) o).x (entry (table_at s c z) o).y (radius_at s.options.radius s.options.extent (z - 1));
+  query = query_of (ring_of s (table_at s c z) z o);
   node_size = s.options.node_size;
 }
 

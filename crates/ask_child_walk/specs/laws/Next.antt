@@ -22,7 +22,7 @@ use Rattle.ask_base.specs.Answers.{Answer}
 use Rattle.build_tables.specs.Room.{Columns, room_of}
 use Rattle.ask_base.specs.Columns.{table_at}
 use Rattle.ask_base.specs.laws.Reached.{Reached}
-use Rattle.ask_base.specs.laws.Around.{Around, ring_of, slots_of, ahead_in}
+use Rattle.ask_base.specs.laws.Around.{Around, ring_at, slots_of, ahead_in}
 use Rattle.ask_child_walk.specs.declared.Child.{Child}
 use Rattle.ask_child_walk.specs.Kids.{kids_of, kids_at, clean_at}
 use Rattle.ask_child_walk.specs.laws.Within.{around-places}
@@ -49,7 +49,7 @@ Listed g id out r out' =
 
 -- those of the ring around an entry are the children around it: the ring goes over what `within` answers
 module _ (s : State) (c : Columns) (cap z o : ℕ) (r : Reached s cap z o) (h : cap ≤ room_of c) (g : Around)
-    (e : g ≡ ring_of s c z o) where
+    (e : g ≡ ring_at s c z o) where
   pub kids-around : (id : ℕ) → kids_in g id (slots_of g) ≡ kids_at s c id z o
   unfolding kids_at
   kids-around id =

@@ -33,7 +33,7 @@ use Rattle.build_tables.specs.Room.{Columns, room_of}
 use Rattle.ask_base.specs.Columns.{table_at, ids_at, coords_at}
 use Rattle.ask_base.specs.laws.Columns.{coords-length, stands-index}
 use Rattle.ask_base.specs.laws.Reached.{Reached, reached-stands, near}
-use Rattle.ask_base.specs.laws.Around.{ring_of, slots_of}
+use Rattle.ask_base.specs.laws.Around.{ring_at, slots_of}
 use Rattle.ask_child_walk.specs.Kids.{query_around, places_around}
 
 -- ---- a sum of squares that is not above a finite number has finite parts
@@ -145,7 +145,7 @@ square-fine r f a b =
 
 -- the slots of the ring around the entry o of zoom z's table
 abbrev pub slots_around : State → Columns → ℕ → ℕ → List ℕ
-slots_around s c z o = slots_of (ring_of s c z o)
+slots_around s c z o = slots_of (ring_at s c z o)
 
 -- in columns that have room for the state's tables
 module _ (s : State) (c : Columns) (cap z o : ℕ) (r : Reached s cap z o) (h : cap ≤ room_of c) where

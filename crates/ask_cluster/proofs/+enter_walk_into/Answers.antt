@@ -57,6 +57,9 @@ enter-returns-in-Err-clause-opened t c f h =
     _ c.in_ok-at.was on.1 c.walk_into.result _ c.walk_into.ensures.trip f h in
     refused-so _ _ _ _ _ _ (rw c.in-Err.is at o)
 
+pub enter-returns-in-Err-clause-broke : goal.enter-returns-in-Err-clause-broke
+enter-returns-in-Err-clause-broke t c = refl
+
 -- ---- the children one after the other
 
 pub walk_into-loop-kid-init : goal.walk_into-loop-kid-init
@@ -65,9 +68,9 @@ walk_into-loop-kid-init t c =
     let w = a.w.now in
     let s = w.state.now in
     let l = tables_held w.tables in
-    let g = ring_held c.ring_of-g.result in
+    let g = ring_held c.ring_at-g.result in
     let b = ring-begun g _ c.begin-from.result c.begin-from.ensures in
-    (refl, walking-first s l w.limit w.offset a.cid a.at.table a.at.place a.was a.out.now g c.requires c.ring_of-g.ensures _ b)
+    (refl, walking-first s l w.limit w.offset a.cid a.at.table a.at.place a.was a.out.now g c.requires c.ring_at-g.ensures _ b)
 
 pub walk_into-returns-in_err-kid : goal.walk_into-returns-in_err-kid
 walk_into-returns-in_err-kid t c =
@@ -75,7 +78,7 @@ walk_into-returns-in_err-kid t c =
     let w = a.w.now in
     let s = w.state.now in
     let l = tables_held w.tables in
-    let g = ring_held c.ring_of-g.result in
+    let g = ring_held c.ring_at-g.result in
     let p = c.loop-kid in
     let k = c.next_child in
     let n = near c.requires in
@@ -90,7 +93,7 @@ walk_into-returns-then-any t c =
     let w = a.w.now in
     let s = w.state.now in
     let l = tables_held w.tables in
-    let g = ring_held c.ring_of-g.result in
+    let g = ring_held c.ring_at-g.result in
     let p = c.loop-kid in
     let k = c.next_child in
     let n = near c.requires in
@@ -104,7 +107,7 @@ walk_into-returns t c =
     let w = a.w.now in
     let s = w.state.now in
     let l = tables_held w.tables in
-    let g = ring_held c.ring_of-g.result in
+    let g = ring_held c.ring_at-g.result in
     let p = c.loop-kid in
     let k = c.next_child in
     let n = near c.requires in
@@ -118,7 +121,7 @@ walk_into-returns-in_err-so-in-Entered t c =
     let w = a.w.now in
     let s = w.state.now in
     let l = tables_held w.tables in
-    let g = ring_held c.ring_of-g.result in
+    let g = ring_held c.ring_at-g.result in
     let p = c.loop-kid in
     let k = c.next_child in
     let n = near c.requires in
@@ -131,7 +134,7 @@ walk_into-returns-in_err-so-in-Entered t c =
     let q = err_from_is_err_and r.result r.ensures.1 in
     let d = c.in_err-so-in-Entered.was in
     let b = rw d at c.enter.ensures.broke in
-    rw (q.1, q.2) (walking-broke _ _ _ _ _ _ _ _ _ _ n.table _ _ _ _ p.invariant.1 c.ring_of-g.ensures _ e c.enter.result _ v _ z _ d b)
+    rw (q.1, q.2) (walking-broke _ _ _ _ _ _ _ _ _ _ n.table _ _ _ _ p.invariant.1 c.ring_at-g.ensures _ e c.enter.result _ v _ z _ d b)
 
 pub walk_into-returns-in_err-so-in-Listed : goal.walk_into-returns-in_err-so-in-Listed
 walk_into-returns-in_err-so-in-Listed t c =
@@ -139,7 +142,7 @@ walk_into-returns-in_err-so-in-Listed t c =
     let w = a.w.now in
     let s = w.state.now in
     let l = tables_held w.tables in
-    let g = ring_held c.ring_of-g.result in
+    let g = ring_held c.ring_at-g.result in
     let p = c.loop-kid in
     let k = c.next_child in
     let n = near c.requires in
@@ -152,7 +155,7 @@ walk_into-returns-in_err-so-in-Listed t c =
     let q = err_from_is_err_and r.result r.ensures.1 in
     let d = c.in_err-so-in-Listed.was in
     let b = rw d at c.list_one.ensures.broke in
-    rw (q.1, q.2) (walking-broke _ _ _ _ _ _ _ _ _ _ n.table _ _ _ _ p.invariant.1 c.ring_of-g.ensures _ e c.list_one.result _ v _ z _ d b)
+    rw (q.1, q.2) (walking-broke _ _ _ _ _ _ _ _ _ _ n.table _ _ _ _ p.invariant.1 c.ring_at-g.ensures _ e c.list_one.result _ v _ z _ d b)
 
 pub walk_into-returns-then-so-w : goal.walk_into-returns-then-so-w
 walk_into-returns-then-so-w t c =
@@ -160,7 +163,7 @@ walk_into-returns-then-so-w t c =
     let w = a.w.now in
     let s = w.state.now in
     let l = tables_held w.tables in
-    let g = ring_held c.ring_of-g.result in
+    let g = ring_held c.ring_at-g.result in
     let p = c.loop-kid in
     let k = c.next_child in
     let n = near c.requires in
@@ -179,7 +182,7 @@ walk_into-returns-then-so-w t c =
       | walk_into-in-Skipped u ↦
           by _ u.in-Skipped.is _ _ (λ f h. does-nothing p.so.listed p.out _ (λ j i. i)) (Ok m.so) m.out u.out-is (ap Ok u.so-is)
     ] in
-    walking-stop _ _ _ _ _ _ _ _ _ _ n.table _ _ _ _ p.invariant.1 c.ring_of-g.ensures _ e (Ok m.so) m.out v _ z _ refl c.if-so-w.true
+    walking-stop _ _ _ _ _ _ _ _ _ _ n.table _ _ _ _ p.invariant.1 c.ring_at-g.ensures _ e (Ok m.so) m.out v _ z _ refl c.if-so-w.true
 
 pub walk_into-loop-kid-smaller : goal.walk_into-loop-kid-smaller
 walk_into-loop-kid-smaller t c =
@@ -187,7 +190,7 @@ walk_into-loop-kid-smaller t c =
     let w = a.w.now in
     let s = w.state.now in
     let l = tables_held w.tables in
-    let g = ring_held c.ring_of-g.result in
+    let g = ring_held c.ring_at-g.result in
     let p = c.loop-kid in
     let k = c.next_child in
     let n = near c.requires in
@@ -202,7 +205,7 @@ walk_into-loop-kid-preserved t c =
     let w = a.w.now in
     let s = w.state.now in
     let l = tables_held w.tables in
-    let g = ring_held c.ring_of-g.result in
+    let g = ring_held c.ring_at-g.result in
     let p = c.loop-kid in
     let k = c.next_child in
     let n = near c.requires in
@@ -221,6 +224,6 @@ walk_into-loop-kid-preserved t c =
       | walk_into-in-Skipped u ↦
           by _ u.in-Skipped.is _ _ (λ f h. does-nothing p.so.listed p.out _ (λ j i. i)) (Ok m.so) m.out u.out-is (ap Ok u.so-is)
     ] in
-    let r = c.ring_of-g.ensures in
+    let r = c.ring_at-g.ensures in
     let h = walking_on _ _ _ _ _ _ _ _ _ _ n.table _ _ _ _ p.invariant.1 r _ e (Ok m.so) m.out v _ z _ refl c.if-so-w.false m.auto.out in
     (k.auto.page ∙ p.invariant.0, h)

@@ -15,7 +15,7 @@ pub returns-in_err-k : goal.returns-in_err-k
 returns-in_err-k c =
     let a = c.args in
     let l = tables_held a.t.now in
-    let g = c.ring_of-g in
+    let g = c.ring_at-g in
     let k = c.list_kids in
     let w : Looked a.s.now l a.cid a.at.table a.at.place (0 ∷ []) k.result k.new.out =
     looked a.s.now l a.cid a.at.table a.at.place c.requires (ring_held g.result) g.ensures (0 ∷ []) k.result k.new.out k.ensures in
@@ -26,7 +26,7 @@ pub returns-then-k-eq0 : goal.returns-then-k-eq0
 returns-then-k-eq0 c =
     let a = c.args in
     let l = tables_held a.t.now in
-    let g = c.ring_of-g in
+    let g = c.ring_at-g in
     let k = c.list_kids in
     let w : Looked a.s.now l a.cid a.at.table a.at.place (0 ∷ []) k.result k.new.out =
     looked a.s.now l a.cid a.at.table a.at.place c.requires (ring_held g.result) g.ensures (0 ∷ []) k.result k.new.out k.ensures in
@@ -36,7 +36,7 @@ pub returns-then-k-gt1 : goal.returns-then-k-gt1
 returns-then-k-gt1 c =
     let a = c.args in
     let l = tables_held a.t.now in
-    let g = c.ring_of-g in
+    let g = c.ring_at-g in
     let k = c.list_kids in
     let w : Looked a.s.now l a.cid a.at.table a.at.place (0 ∷ []) k.result k.new.out =
     looked a.s.now l a.cid a.at.table a.at.place c.requires (ring_held g.result) g.ensures (0 ∷ []) k.result k.new.out k.ensures in
@@ -46,7 +46,7 @@ pub at-e-requires : goal.at-e-requires
 at-e-requires c =
     let a = c.args in
     let l = tables_held a.t.now in
-    let g = c.ring_of-g in
+    let g = c.ring_at-g in
     let k = c.list_kids in
     let w : Looked a.s.now l a.cid a.at.table a.at.place (0 ∷ []) k.result k.new.out =
     looked a.s.now l a.cid a.at.table a.at.place c.requires (ring_held g.result) g.ensures (0 ∷ []) k.result k.new.out k.ensures in
@@ -57,7 +57,7 @@ pub returns-then-e-gt1 : goal.returns-then-e-gt1
 returns-then-e-gt1 c =
     let a = c.args in
     let l = tables_held a.t.now in
-    let g = c.ring_of-g in
+    let g = c.ring_at-g in
     let k = c.list_kids in
     let w : Looked a.s.now l a.cid a.at.table a.at.place (0 ∷ []) k.result k.new.out =
     looked a.s.now l a.cid a.at.table a.at.place c.requires (ring_held g.result) g.ensures (0 ∷ []) k.result k.new.out k.ensures in
@@ -68,7 +68,7 @@ pub returns : goal.returns
 returns c =
     let a = c.args in
     let l = tables_held a.t.now in
-    let g = c.ring_of-g in
+    let g = c.ring_at-g in
     let k = c.list_kids in
     let w : Looked a.s.now l a.cid a.at.table a.at.place (0 ∷ []) k.result k.new.out =
     looked a.s.now l a.cid a.at.table a.at.place c.requires (ring_held g.result) g.ensures (0 ∷ []) k.result k.new.out k.ensures in

@@ -33,7 +33,7 @@ part-requires t c =
     let a = c.args in
     let s = a.s.now in
     let ms = marks (over s.query s.coords.now) a.ids.now (c.median-m.result ∷ []) in
-    let u = spend-sum s.n ms a.at c.in_ok-k.k a.out.now c.put.new.out c.in_ok-k.ensures in
+    let u = spend-sum s.n ms a.at (Ok c.in_ok-k.k) a.out.now c.put.new.out c.in_ok-k.ensures in
     omega (arith, u)
 
 pub returns-in_err-k-2 : goal.returns-in_err-k-2
@@ -87,8 +87,8 @@ part-requires-then-goes_left t c =
     let o = over s.query s.coords.now in
     let m = c.median-m.result in
     let rights = slots (testing o) (1 - a.v.axis) (shape (s.node_size + 1) (m + 1) a.v.hi) in
-    let u = spend-sum s.n (marks o a.ids.now (m ∷ [])) a.at c.in_ok-k.k a.out.now c.put.new.out c.in_ok-k.ensures in
-    let v = spend-sum s.n (marks o a.ids.now (when (o.right a.v.axis m) rights)) c.in_ok-k.k c.if-goes_right.k c.put.new.out
+    let u = spend-sum s.n (marks o a.ids.now (m ∷ [])) a.at (Ok c.in_ok-k.k) a.out.now c.put.new.out c.in_ok-k.ensures in
+    let v = spend-sum s.n (marks o a.ids.now (when (o.right a.v.axis m) rights)) c.in_ok-k.k (Ok c.if-goes_right.k) c.put.new.out
     c.if-goes_right.out (right t (goal.at.part-requires-then-goes_left t c).After-goes_left) in
     omega (arith, u, v)
 

@@ -81,7 +81,7 @@ part-requires-in-Some c =
     let co = a.index.now.coords.now in
     let w = coords-is a.node_size a.n (length co) (and_both (coords_ok a.node_size a.n (length co)) (leb a.n (length ids)) c.requires).0 in
     let v = wide_enough a.p.now a.node_size a.n ids co c.requires in
-    let u = spend-sum a.n (of_query a.p.now a.node_size a.n ids co a.p.now.first) (fresh a.allowance) c.in_ok-k.k a.out.now c.part.new.out
+    let u = spend-sum a.n (of_query a.p.now a.node_size a.n ids co a.p.now.first) (fresh a.allowance) (Ok c.in_ok-k.k) a.out.now c.part.new.out
     c.in_ok-k.ensures in
     omega (arith, u)
 

@@ -1,5 +1,5 @@
 -- `scan` meets its contract: what is left of the interval gives the rest of the tests. Assumes nothing.
-use Rattle.std.proofs.Common.{◌≡◌, sym, refl, ◌∙◌, [], ◌∷◌, Err, arith, rules}
+use Rattle.std.proofs.Common.{◌≡◌, sym, refl, ◌∙◌, [], ◌∷◌, Ok, Err, arith, rules}
 use Rattle.kdslots.specs.Slots.{over}
 use Rattle.ask_effort_tests.specs.Trials.{marks}
 use Rattle.ask_effort_tests.specs.laws.Spend.{spend-sum}
@@ -29,7 +29,7 @@ loop-i-preserved c =
     let j = c.in_ok-k.k in
     let o = c.put.new.out in (
       c.put.auto.out ∙ c.loop-i.invariant.0,
-      omega (arith, spend-sum s.n (marks t a.ids.now (i ∷ [])) c.loop-i.k j c.loop-i.out o c.in_ok-k.ensures),
+      omega (arith, spend-sum s.n (marks t a.ids.now (i ∷ [])) c.loop-i.k (Ok j) c.loop-i.out o c.in_ok-k.ensures),
       c.loop-i.invariant.2 ∙ scan-more t a.ids.now s.n i a.v.hi c.loop-i.k j c.loop-i.out o c.loop-i-test.true c.in_ok-k.ensures,
     )
 

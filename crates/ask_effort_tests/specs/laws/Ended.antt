@@ -124,5 +124,5 @@ ends n a ms r out o room e =
 -- what is left is no more than the allowance
 pub left-small : (n a : ℕ) (ms : List Mark) (r : Result Spent End) (out o : List ℕ) → went_tests r o ≡ spend n ms (fresh a) out
     → IfOk r (λ s. s.left ≤ a)
-left-small n a ms (Ok s) out o e = omega (arith, spend-sum n ms (fresh a) s out o e)
+left-small n a ms (Ok s) out o e = omega (arith, spend-sum n ms (fresh a) (Ok s) out o e)
 left-small n a ms (Err x) out o e = tt

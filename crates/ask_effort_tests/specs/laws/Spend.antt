@@ -74,9 +74,14 @@ spend-ended n ms ps s e out o f = rw (spend-append n ms ps s out, ← f)
 
 -- ---- what is found and what is left never exceed what they were
 
+-- what a search has found and what is left of its allowance, however it ended: nothing is left where it stopped
+abbrev pub found_left : Result Spent End → ℕ
+found_left (Ok s) = s.found + s.left
+found_left (Err (Stopped k)) = k
+found_left (Err End-as-Spoiled) = 0
+
 sum : Went → ℕ
-sum (went_tests (Ok s) out) = s.found + s.left
-sum (went_tests (Err e) out) = 0
+sum (went_tests r out) = found_left r
 
 sum_step : (n : ℕ) (m : Mark) (s : Spent) (out : List ℕ) → sum (step n m s out) ≤ s.found + s.left
 unfolding sum
@@ -96,9 +101,9 @@ sum-spend n (m ∷ ms) s out = go (step n m s out) (sum_step n m s out) (λ t o.
     go : (w : Went) → sum w ≤ s.found + s.left → ((t : Spent) (o : List ℕ) → sum (spend n ms t o) ≤ t.found + t.left)
         → sum (then_spent w (λ t o. spend n ms t o)) ≤ s.found + s.left
     go (went_tests (Ok t) o) h f = omega (arith, f t o)
-    go (went_tests (Err e) o) h f = omega arith
+    go (went_tests (Err e) o) h f = h
 
-pub spend-sum : (n : ℕ) (ms : List Mark) (s r : Spent) (out o : List ℕ) → went_tests (Ok r) o ≡ spend n ms s out
-    → r.found + r.left ≤ s.found + s.left
+pub spend-sum : (n : ℕ) (ms : List Mark) (s : Spent) (r : Result Spent End) (out o : List ℕ) → went_tests r o ≡ spend n ms s out
+    → found_left r ≤ s.found + s.left
 unfolding sum
 spend-sum n ms s r out o e = omega (arith, ap sum e, sum-spend n ms s out)

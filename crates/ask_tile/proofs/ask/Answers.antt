@@ -44,8 +44,8 @@ bounds-s-u-2 c =
     (sym (c.is_sound.ensures ∙ ap (state_ok s) c.room.ensures) ∙ c.if-not-is_sound.false) in
     omega (arith, p.table, c.zoom_used-u.ensures)
 
-pub table-table-requires : goal.table-table-requires
-table-table-requires c =
+pub table_in-table-requires : goal.table_in-table-requires
+table_in-table-requires c =
     let a = c.args in
     let s = whole_state a.s.now in
     let p = spot s (tables_held a.t.now) a.z
@@ -58,8 +58,8 @@ invariant_of-result c =
     let s = whole_state a.s.now in
     let p = spot s (tables_held a.t.now) a.z
     (sym (c.is_sound.ensures ∙ ap (state_ok s) c.room.ensures) ∙ c.if-not-is_sound.false) in
-    let l : length c.table-table.result.entries.x.now ≡ get_or s.lens c.zoom_used-u.result 0 =
-    ap (λ (k : Cols). length k.x) c.table-table.ensures.entries
+    let l : length c.table_in-table.result.entries.x.now ≡ get_or s.lens c.zoom_used-u.result 0 =
+    ap (λ (k : Cols). length k.x) c.table_in-table.ensures.entries
     ∙ part-long (get_or s.starts c.zoom_used-u.result 0) (get_or s.lens c.zoom_used-u.result 0) a.t.now.x.now
     (rw c.zoom_used-u.ensures p.rows-held.hx) in
     let n = rw c.zoom_used-u.ensures at l in
@@ -75,6 +75,6 @@ returns c =
     let a = c.args in
     let s = whole_state a.s.now in
     let e = c.zoom_used-u.ensures in
-    let w = c.table-table.ensures in
+    let w = c.table_in-table.ensures in
     asks s (tables_held a.t.now) a.z a.x a.y _ (sym (c.is_sound.ensures ∙ ap (state_ok s) c.room.ensures) ∙ c.if-not-is_sound.false)
     (sym c.is_tile.ensures ∙ c.if-not-is_tile.false) refl refl refl refl (rw e at w.entries) (rw e at w.ids) (rw e at w.coords)

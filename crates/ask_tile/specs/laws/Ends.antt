@@ -124,11 +124,12 @@ module _ (s : State) (c : Columns) (z x y : ℕ) where
   refused-no-tile e f = rw (e, f) (refl, refl)
 
   -- the sum of a tally that went to its end
-  abbrev pub sum_of : Result Running Refusal → Result ℕ Refusal
+  abbrev pub sum_of : Result Running Running → Result ℕ Refusal
   sum_of (Ok r) = Ok r.sum
-  sum_of (Err e) = Err e
+  sum_of (Err r) = Err Spoiled
 
-  sum-is : (b : Bool) (k u : ℕ) → sum_of (cond b (Ok (record { count = k; sum = u })) (Err Spoiled)) ≡ tally_sum b u
+  sum-is : (b : Bool) (k u : ℕ)
+      → sum_of (cond b (Ok (record { count = k; sum = u })) (Err (record { count = k; sum = u }))) ≡ tally_sum b u
   sum-is true k u = refl
   sum-is false k u = refl
 

@@ -2,7 +2,6 @@
 -- tally of what the tile finds. Assumes nothing.
 use Rattle.std.specs.Prelude.{◌≡◌, Bool, false, List, ◌++◌, ◌&&◌, Option, Result, Ok, Err, ℕ, length}
 use Rattle.std.proofs.Common.{sym, ap, ◌∙◌, subst}
-use Rattle.refusals.specs.declared.Refusal.{Refusal}
 use Rattle.build_tables.specs.Lent.{held}
 use Rattle.build_tables.specs.laws.Rows.{rows-length}
 use Rattle.ask_tile_table.specs.declared.asked.AskedTile.{AskedTile}
@@ -22,8 +21,8 @@ use Rattle.ask_tile_table.specs.laws.Three.{own_search, end_search, three}
 abbrev pub counted_by : AskedTile → Bool → Home → Option TileSearch → ℕ → ℕ → List ℕ → HeldMarks
 counted_by a few h g k s m = counted few (weight_by h) (table_of a) k s (places_in (walked_of a g)) m
 
--- the tally of a tile: its sum over what the tile finds
-abbrev pub asked_tally : AskedTile → Result Running Refusal
+-- the tally of a tile: of what the tile finds
+abbrev pub asked_tally : AskedTile → Result Running Running
 asked_tally a = running_of (weight_in a.z a.x a.y) (table_of a) (asked_visits a)
 
 module _ (a : AskedTile) (few : Bool) (M : List ℕ) (n : Blank few (length a.table.entries.x.now) M) (h : Home)

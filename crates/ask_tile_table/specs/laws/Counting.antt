@@ -2,15 +2,13 @@
 -- it was counted before, and the tally is the sum over the distinct places. Where marks are few, a place has that of its remainder: one
 -- that is not marked was not counted before; where it is marked, or many are counted, the tally ends unsure. Where it is sure, it is the
 -- sum over the distinct places too. Assumes nothing.
-use Rattle.std.specs.Prelude.{◌≡◌, Bool, cond, ◌&&◌, ◌||◌, Result, Ok, Err, IfOk, ℕ, ◌+◌, ◌*◌, ◌%◌, ◌≤◌, leb, ltb, length}
+use Rattle.std.specs.Prelude.{◌≡◌, Bool, cond, ◌&&◌, ◌||◌, Result, Ok, Err, ℕ, ◌+◌, ◌*◌, ◌%◌, ◌≤◌, leb, ltb, length}
 use Rattle.std.proofs.Math.Path.{refl}
 use Rattle.std.proofs.Common.{sym, ap, ◌∙◌}
 use Rattle.std.proofs.Math.Bool.{true, false}
 use mathlib.Core.List.{List, [], ◌∷◌, ◌++◌, map}
 use Rattle.floats.specs.Unit.{in01}
 use Rattle.kdslots.specs.laws.Bounds.{and_both}
-use Rattle.refusals.specs.declared.Refusal.{Refusal}
-use Rattle.refusals.specs.declared.Refusal.TheVariants.{Spoiled}
 use Rattle.build_tables.specs.declared.Entry.{Entry}
 use Rattle.build_tables.specs.Entries.{Table, entry}
 use Rattle.ask_tile_table.specs.declared.TileSearch.{TileSearch}
@@ -33,9 +31,17 @@ marks_held {m = m} e = m
 abbrev pub running : ℕ → ℕ → Running
 running k s = record { count = k; sum = s }
 
+-- the tally, cut short or not
+abbrev pub tallied_in : Result Running Cut → Running
+tallied_in (Ok a) = a
+tallied_in (Err (Unlisted a)) = a
+tallied_in (Err (Unsure a)) = a
+
 -- a tally of at most n, whose sum the nums allow
 abbrev pub Within : ℕ → Result Running Cut → Type 0
-Within n r = IfOk r (λ a. (a.count ≤ n) × (a.sum ≤ a.count * 4294967295))
+Within n r =
+    let a = tallied_in r in
+    (a.count ≤ n) × (a.sum ≤ a.count * 4294967295)
 
 -- the places of visits
 abbrev pub places_in : List Visit → List ℕ
@@ -77,10 +83,10 @@ counted few w t k s (p ∷ ps) m =
     elim (listable t p) [
       | true ↦
           elim (doubt few k (marked_places m (mark_of few p))) [
-            | true ↦ held_marks (Err Unsure) m
+            | true ↦ held_marks (Err (Unsure (running k s))) m
             | false ↦ counted few w t (k + 1) (added (w (entry t p)) (mark_of few p) s m) ps (marking_place (mark_of few p) m)
           ]
-      | false ↦ held_marks (Err Unlisted) m
+      | false ↦ held_marks (Err (Unlisted (running k s))) m
     ]
 
 -- ---- one after the other
@@ -122,12 +128,12 @@ module _ (few : Bool) (w : Entry → ℕ) (t : Table) where
   unfolding counted
   counted_none k s m = refl
 
-  pub counted-bad : (k s p : ℕ) (m : List ℕ) → listable t p ≡ false → held_marks (Err Unlisted) m ≡ counted few w t k s (p ∷ []) m
+  pub counted-bad : (k s p : ℕ) (m : List ℕ) → listable t p ≡ false → held_marks (Err (Unlisted (running k s))) m ≡ counted few w t k s (p ∷ []) m
   unfolding counted
   counted-bad k s p m e = rw (e, counted)
 
   pub counted-doubt : (k s p : ℕ) (m : List ℕ) → listable t p ≡ true → doubt few k (marked_places m (mark_of few p)) ≡ true
-      → held_marks (Err Unsure) m ≡ counted few w t k s (p ∷ []) m
+      → held_marks (Err (Unsure (running k s))) m ≡ counted few w t k s (p ∷ []) m
   unfolding counted
   counted-doubt k s p m e d = rw (e, counted) (rw d)
 
@@ -178,16 +184,19 @@ counted_same few w v f t k s (p ∷ ps) m =
         q))
     go false e d i h = rw (e, counted)
 
--- what the tally of a list of visits comes to
-abbrev pub running_of : (Entry → ℕ) → Table → List Visit → Result Running Refusal
-running_of w t vs = cond (whole_tile t vs) (Ok (running (length (tile_listed t vs)) (tally_of w t vs))) (Err Spoiled)
+-- what the tally of a list of visits comes to: where an entry cannot be listed, the tally of those before it
+abbrev pub running_of : (Entry → ℕ) → Table → List Visit → Result Running Running
+running_of w t vs =
+    let r = running (length (tile_listed t vs)) (tally_of w t vs) in
+    cond (whole_tile t vs) (Ok r) (Err r)
 
 -- whether the marks could not tell; and a tally that was sure
 abbrev pub is_unsure : Result Running Cut → Bool
 is_unsure (Ok a) = false
-is_unsure (Err Unlisted) = false
-is_unsure (Err Unsure) = true
+is_unsure (Err (Unlisted a)) = false
+is_unsure (Err (Unsure a)) = true
 
-abbrev pub settled : Result Running Cut → Result Running Refusal
+abbrev pub settled : Result Running Cut → Result Running Running
 settled (Ok a) = Ok a
-settled (Err c) = Err Spoiled
+settled (Err (Unlisted a)) = Err a
+settled (Err (Unsure a)) = Err a

@@ -1,6 +1,6 @@
 -- A tile's three searches, one after the other, are what the tile finds: each walk goes over its whole answer, and what one leaves the
 -- next goes on from. Assumes nothing.
-use Rattle.std.specs.Prelude.{◌≡◌, refl, Bool, true, false, ◌&&◌, ◌||◌, List, ◌++◌, Option, Some, Ok, Err, ℕ, ◌+◌, ◌^◌, ◌≤◌, eqb, length, ℤ, Float}
+use Rattle.std.specs.Prelude.{◌≡◌, refl, Bool, true, false, ◌&&◌, ◌||◌, List, ◌++◌, Option, Some, Result, Ok, Err, ℕ, ◌+◌, ◌^◌, ◌≤◌, eqb, length, ℤ, Float}
 use Rattle.std.proofs.Common.{sym, ap, ◌∙◌, subst, append-nil, arith}
 use Rattle.kdslots.specs.Bounds.{coords_ok}
 use Rattle.kdslots.specs.Query.{query_ok}
@@ -94,14 +94,38 @@ no-strips o z x y t ids co e = own_range o z x y t ids co (ap (λ (w : Bool). w 
 -- ---- three runs, one after the other; each ends the listing, or the next goes on
 
 -- a run that ended well has listed at most n more
-pub listed-few : (a : AskedTile) (k j : ℕ) (g : Option TileSearch) (out o : List ℕ) (xs ys p q : List ℤ)
+pub listed-few : (t : Table) (k j n : ℕ) (g : Option TileSearch) (ids : List ℕ) (co : List Float) (r : Result ℕ Refusal) (out o : List ℕ)
+    (xs ys a b : List ℤ)
+    → r ≡ Ok j
+    → left_runs r o a b ≡ run_tile t k (walked_turns g n ids co) out xs ys → j ≤ k + n
+listed-few t k j n g ids co r out o xs ys a b h e =
+    omega (arith, run-count t k j (walked_turns g n ids co) out o xs ys a b (rw h at e), walked-length g n ids co)
+
+module _ (t : Table) (A B C : List Visit) (out : List ℕ) (xs ys : List ℤ) where
+  pub first_ends : (r : Result ℕ Refusal) (f : Refusal) (o : List ℕ) (a b : List ℤ) → r ≡ Err f
+      → left_runs r o a b ≡ run_tile t 0 A out xs ys
+      → left_runs (Err f) o a b ≡ run_tile t 0 (A ++ (B ++ C)) out xs ys
+  first_ends r f o a b h e = run_ends t 0 A (B ++ C) out o xs ys a b f (rw h at e)
+
+  module _ (r : Result ℕ Refusal) (k : ℕ) (o : List ℕ) (a b : List ℤ) (h : r ≡ Ok k)
+      (e : left_runs r o a b ≡ run_tile t 0 A out xs ys) where
+    rest : run_tile t 0 (A ++ (B ++ C)) out xs ys ≡ run_tile t k (B ++ C) o a b
+    rest = run_more t 0 k A (B ++ C) out o xs ys a b (rw h at e)
+
+    pub second-ends : (s : Result ℕ Refusal) (f : Refusal) (p : List ℕ) (u v : List ℤ) → s ≡ Err f
+        → left_runs s p u v ≡ run_tile t k B o a b
+        → left_runs (Err f) p u v ≡ run_tile t 0 (A ++ (B ++ C)) out xs ys
+    second-ends s f p u v g d = run_ends t k B C o p a b u v f (rw g at d) ∙ sym rest
+
+    pub third-ends : (s : Result ℕ Refusal) (j : ℕ) (p : List ℕ) (u v : List ℤ) → s ≡ Ok j → left_runs s p u v ≡ run_tile t k B o a b
+        → (w : Left) → w ≡ run_tile t j C p u v → w ≡ run_tile t 0 (A ++ (B ++ C)) out xs ys
+    third-ends s j p u v g d w q = q ∙ sym (run_more t k j B C o p a b u v (rw g at d)) ∙ sym rest
+
+-- of a tile that is asked for: its own range, and the strips at the ends
+pub asked-few : (a : AskedTile) (k j : ℕ) (g : Option TileSearch) (out o : List ℕ) (xs ys p q : List ℤ)
     → left_runs (Ok j) o p q ≡ run_tile (table_of a) k (walked_of a g) out xs ys → j ≤ k + length a.table.entries.x.now
-listed-few a k j g out o xs ys p q e =
-    omega (
-      arith,
-      run-count (table_of a) k j (walked_of a g) out o xs ys p q e,
-      walked-length g (length a.table.entries.x.now) a.table.index.ids.now a.table.index.coords.now,
-    )
+asked-few a k j g out o xs ys p q e =
+    listed-few (table_of a) k j (length a.table.entries.x.now) g a.table.index.ids.now a.table.index.coords.now (Ok j) out o xs ys p q refl e
 
 module _ (a : AskedTile) (out : List ℕ) (xs ys : List ℤ) where
   -- the run of what a search finds, k being listed
@@ -111,31 +135,30 @@ module _ (a : AskedTile) (out : List ℕ) (xs ys : List ℤ) where
   abbrev pub run_all : Left
   run_all = run_tile (table_of a) 0 (asked_visits a) out xs ys
 
-  abbrev A : List Visit
-  A = walked_of a (own_search a)
+  abbrev own : List Visit
+  own = walked_of a (own_search a)
 
-  abbrev B : List Visit
-  B = walked_of a (end_search a East)
+  abbrev at : RowEnd → List Visit
+  at end = walked_of a (end_search a end)
 
-  abbrev C : List Visit
-  C = walked_of a (end_search a West)
-
-  joined : run_tile (table_of a) 0 (A ++ (B ++ C)) out xs ys ≡ run_all
+  joined : run_tile (table_of a) 0 (own ++ (at East ++ at West)) out xs ys ≡ run_all
   joined = ap (λ (vs : List Visit). run_tile (table_of a) 0 vs out xs ys) (sym (three a))
 
-  pub first_ends : (g : Option TileSearch) → g ≡ own_search a → (f : Refusal) (o : List ℕ) (p q : List ℤ)
+  pub own-ends : (g : Option TileSearch) → g ≡ own_search a → (f : Refusal) (o : List ℕ) (p q : List ℤ)
       → left_runs (Err f) o p q ≡ run_by g 0 out xs ys → left_runs (Err f) o p q ≡ run_all
-  first_ends g h f o p q e = run_ends (table_of a) 0 A (B ++ C) out o xs ys p q f (rw h at e) ∙ joined
+  own-ends g h f o p q e =
+      first_ends (table_of a) own (at East) (at West) out xs ys (Err f) f o p q refl (rw h at e) ∙ joined
 
   module _ (g : Option TileSearch) (h : g ≡ own_search a) (k : ℕ) (o : List ℕ) (p q : List ℤ)
       (e : left_runs (Ok k) o p q ≡ run_by g 0 out xs ys) (s : Option TileSearch) (i : s ≡ end_search a East) where
-    rest : run_tile (table_of a) k (B ++ C) o p q ≡ run_all
-    rest = sym (run_more (table_of a) 0 k A (B ++ C) out o xs ys p q (rw h at e)) ∙ joined
-
-    pub second-ends : (f : Refusal) (u : List ℕ) (v w : List ℤ) → left_runs (Err f) u v w ≡ run_by s k o p q
+    pub east-ends : (f : Refusal) (u : List ℕ) (v w : List ℤ) → left_runs (Err f) u v w ≡ run_by s k o p q
         → left_runs (Err f) u v w ≡ run_all
-    second-ends f u v w d = run_ends (table_of a) k B C o u p q v w f (rw i at d) ∙ rest
+    east-ends f u v w d =
+        second-ends (table_of a) own (at East) (at West) out xs ys (Ok k) k o p q refl (rw h at e) (Err f) f u v w refl (rw i at d) ∙ joined
 
-    pub third-ends : (j : ℕ) (u : List ℕ) (v w : List ℤ) → left_runs (Ok j) u v w ≡ run_by s k o p q
+    pub west-ends : (j : ℕ) (u : List ℕ) (v w : List ℤ) → left_runs (Ok j) u v w ≡ run_by s k o p q
         → (t : Option TileSearch) → t ≡ end_search a West → (l : Left) → l ≡ run_by t j u v w → l ≡ run_all
-    third-ends j u v w d t m l n = rw m at n ∙ sym (run_more (table_of a) k j B C o u p q v w (rw i at d)) ∙ rest
+    west-ends j u v w d t m l n =
+        third-ends (table_of a) own (at East) (at West) out xs ys (Ok k) k o p q refl (rw h at e) (Ok j) j u v w refl (rw i at d) l
+        (rw m at n)
+        ∙ joined

@@ -9,7 +9,6 @@ use Rattle.std.proofs.Math.ListN.{length-set}
 use Rattle.std.proofs.lemmas.List.{length-replicate}
 use Rattle.std.proofs.lemmas.Bool.{eqb-false}
 use Rattle.kdslots.specs.laws.Bounds.{and_both}
-use Rattle.refusals.specs.declared.Refusal.TheVariants.{Spoiled}
 use Rattle.build_tables.specs.declared.Entry.{Entry}
 use Rattle.build_tables.specs.Entries.{Table, entry}
 use Rattle.ask_tile_table.specs.declared.Running.{Running}
@@ -100,14 +99,14 @@ module _ (few : Bool) (n : ℕ) (m seen : List ℕ) (p : ℕ) (h : p < n) (e : m
 -- whether everything was tallied, how many are listed and their tally; but few marks may leave it unsure
 data Good : Bool → HeldMarks → Bool → ℕ → ℕ → Type 0 where
   good : {few : Bool} {k s : ℕ} {m : List ℕ} → Good few (held_marks (Ok (running k s)) m) true k s
-  spoiled : {few : Bool} {k s : ℕ} {m : List ℕ} → Good few (held_marks (Err Unlisted) m) false k s
-  unsure : {b : Bool} {i u : ℕ} {m : List ℕ} → Good true (held_marks (Err Unsure) m) b i u
+  spoiled : {few : Bool} {k s : ℕ} {m : List ℕ} → Good few (held_marks (Err (Unlisted (running k s))) m) false k s
+  unsure : {b : Bool} {i u : ℕ} {r : Running} {m : List ℕ} → Good true (held_marks (Err (Unsure r)) m) b i u
 
 good-is : (few : Bool) (r : Result Running Cut) (m : List ℕ) (h : HeldMarks) (b : Bool) (i u : ℕ) → held_marks r m ≡ h → Good few h b i u
-    → (few && is_unsure r) ≡ false → settled r ≡ cond b (Ok (running i u)) (Err Spoiled)
+    → (few && is_unsure r) ≡ false → settled r ≡ cond b (Ok (running i u)) (Err (running i u))
 good-is few r m _ b i u e good f = ap settled (let q : r ≡ Ok (running i u) = cc in q)
-good-is few r m _ b i u e spoiled f = ap settled (let q : r ≡ Err Unlisted = cc in q)
-good-is few r m _ b i u e unsure f = absurd (let q : r ≡ Err Unsure = cc in no (sym (ap is_unsure q) ∙ f))
+good-is few r m _ b i u e spoiled f = ap settled (let q : r ≡ Err (Unlisted (running i u)) = cc in q)
+good-is few r m _ b i u e (unsure {r = x}) f = absurd (let q : r ≡ Err (Unsure x) = cc in no (sym (ap is_unsure q) ∙ f))
 
 -- what is counted of vs after k listed with the tally s
 abbrev Counts : Bool → (Entry → ℕ) → Table → ℕ → ℕ → List Visit → List ℕ → List ℕ → Type 0
@@ -164,7 +163,7 @@ counts few w t k s (v ∷ vs) m seen a =
         → (marked_places m (mark_of few v.place) ≡ false → Counts few w t (k + 1) (s + w (entry t v.place)) vs
         (mark_place m (mark_of few v.place)) (v.place ∷ seen))
         → Good few (elim d [
-          | true ↦ held_marks (Err Unsure) m
+          | true ↦ held_marks (Err (Unsure (running k s))) m
           | false ↦ counted few w t (k + 1) (added (w (entry t v.place)) (mark_of few v.place) s m) (places_in vs)
               (marking_place (mark_of few v.place) m)
         ])
@@ -172,7 +171,7 @@ counts few w t k s (v ∷ vs) m seen a =
     sifted true d l c f = doubted few d
       where
         doubted : (few : Bool) → doubt few k (marked_places m (mark_of few v.place)) ≡ true → {b : Bool} {i u : ℕ}
-            → Good few (held_marks (Err Unsure) m) b i u
+            → Good few (held_marks (Err (Unsure (running k s))) m) b i u
         doubted true d = unsure
         doubted false d = absurd (no (sym d))
     sifted false d l c f = go (marked_places m (mark_of few v.place)) refl d l c f
@@ -183,7 +182,7 @@ counts few w t k s (v ∷ vs) m seen a =
         → Counts few w t k s (v ∷ vs) m seen
     at true e c f = rw (e, counted, whole_tile, tile_listed)
         (sifted (doubt few k (marked_places m (mark_of few v.place))) refl (inside e) c (f (inside e)))
-    at false e c f = rw (e, counted, whole_tile, tile_listed) spoiled
+    at false e c f = rw (e, counted, whole_tile, tile_listed) (rw (add-zero, add-zero) spoiled)
 
 -- from no marks; few may leave it unsure
 pub counted_is : (few : Bool) (w : Entry → ℕ) (t : Table) (z : List ℕ) → Blank few (length t) z

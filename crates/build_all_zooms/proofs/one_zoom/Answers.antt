@@ -1,10 +1,10 @@
 -- `build_all_zooms::one_zoom` meets its contract: what holds between two zooms gives what the scan and the index ask, and the scan and the
 -- index together advance the tables by one. Assumes nothing.
-use Rattle.std.proofs.Common.{◌≡◌, ℕ, suc, ◌-◌, ◌*◌, ◌≤◌, List, length, arith, Float}
+use Rattle.std.proofs.Common.{◌≡◌, ap, sym, ◌∙◌, ℕ, suc, ◌-◌, ◌*◌, ◌≤◌, List, length, arith, Float}
 use Rattle.build_tables.specs.Columns.{part}
 use Rattle.build_tables.specs.Entries.{Table}
 use Rattle.build_tables.specs.Lent.{held_mut}
-use Rattle.build_tables.specs.Rows.{rows}
+use Rattle.build_tables.specs.Rows.{Cols, rows}
 use Rattle.build_tables.specs.laws.Lent.{same-even}
 use Rattle.build_tables.specs.Radius.{radius_at}
 use Rattle.build_one_zoom.specs.Near.{near_of}
@@ -73,6 +73,9 @@ zoomed-by : (p : Plan) (M z start len : ℕ) (t : Table) (ids : List ℕ) (co : 
     → Zoomed p z start len d t t'
 zoomed-by p M z start len t ids co lz r rad e t' d i c ei ec s = scanned p M z start len t ids co lz r rad e t' d (rw (ei, ec) at s)
 
+pub lent-made-requires : goal.lent-made-requires
+lent-made-requires c = same-even c.args.t.now c.zoom_step-d.new.t c.zoom_step-d.ensures.lent c.requires.0
+
 pub index_part-requires-clause-le_len : goal.index_part-requires-clause-le_len
 index_part-requires-clause-le_len c =
     let a = c.args in
@@ -111,9 +114,11 @@ index_part-requires-clause-fact c =
     let v = zoomed-by p m a.z a.start a.len t ids co c.requires.2 r c.radius_at-radius.result c.radius_at-radius.ensures (rows came)
     w.result _ _ own.ids own.coords w.ensures.rows in
     let h = short p m a.z a.start a.len t ids co c.requires.2 r (rows came) w.result v in
+    let ex : c.lent-made.result.x.now ≡ came.x = ap (λ (q : Cols). q.x) c.lent-made.ensures in
+    let ey : c.lent-made.result.y.now ≡ came.y = ap (λ (q : Cols). q.y) c.lent-made.ensures in
     let room = step_room p m a.z a.start a.len t ids co c.requires.2 r in (
-      (same-even a.t.now w.new.t w.ensures.lent c.requires.0).ey,
-      omega (arith, h, room, w.ensures.lent.kx),
+      ap length ey ∙ (same-even a.t.now w.new.t w.ensures.lent c.requires.0).ey ∙ sym (ap length ex),
+      omega (arith, h, room, w.ensures.lent.kx, ap length ex),
       omega (arith, h, room, r.ids-long),
       omega (arith, h, room, r.co-long),
     )
@@ -133,7 +138,9 @@ index_part-requires-clause-inside c =
     let v = zoomed-by p m a.z a.start a.len t ids co c.requires.2 r c.radius_at-radius.result c.radius_at-radius.ensures (rows came)
     w.result _ _ own.ids own.coords w.ensures.rows in
     let e = same-even a.t.now w.new.t w.ensures.lent c.requires.0 in
-    inside-made p a.z a.start a.len w.result t came e v (made-body p m a.z a.start a.len t ids co c.requires.2 r)
+    let ex : c.lent-made.result.x.now ≡ came.x = ap (λ (q : Cols). q.x) c.lent-made.ensures in
+    let ey : c.lent-made.result.y.now ≡ came.y = ap (λ (q : Cols). q.y) c.lent-made.ensures in
+    rw (ex, ey) (inside-made p a.z a.start a.len w.result t came e v (made-body p m a.z a.start a.len t ids co c.requires.2 r))
 
 pub returns-clause-rows : goal.returns-clause-rows
 returns-clause-rows c =
@@ -152,4 +159,7 @@ returns-clause-rows c =
     let i = c.index_part in
     let e = same-even a.t.now w.new.t w.ensures.lent c.requires.0 in
     let j = i.new.index in
-    advanced p a.z a.start a.len w.result t came e v ids j.ids.now co j.coords.now i.ensures.put.0 i.ensures.put.1
+    let ex : c.lent-made.result.x.now ≡ came.x = ap (λ (q : Cols). q.x) c.lent-made.ensures in
+    let ey : c.lent-made.result.y.now ≡ came.y = ap (λ (q : Cols). q.y) c.lent-made.ensures in
+    advanced p a.z a.start a.len w.result t came e v ids j.ids.now co j.coords.now (rw (ex, ey) at i.ensures.put.0)
+    (rw (ex, ey) at i.ensures.put.1)

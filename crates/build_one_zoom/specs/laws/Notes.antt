@@ -184,6 +184,16 @@ unfolding Noted
 noted-at at len near notes t i e n h q =
     subst (λ (v : Entry). Tells i (get_or notes (at + i) 0) (near v.x v.y)) (get_or-take len t i none h ∙ q) (n i h)
 
+-- one more note is cleared
+pub cleared_more : (at : ℕ) (notes : List ℕ) (i : ℕ) → at + i < length notes → ((j : ℕ) → j < i → get_or notes (at + j) 0 ≡ 0)
+    → (j : ℕ) → j < i + 1 → get_or (set notes (at + i) 0) (at + j) 0 ≡ 0
+cleared_more at notes i h f j k = go (eqb j i) refl
+  where
+    go : (b : Bool) → eqb j i ≡ b → get_or (set notes (at + i) 0) (at + j) 0 ≡ 0
+    go true e = rw (eqb-true j i e) (get_or-set_same notes (at + i) 0 0 h)
+    go false e = get_or-set_other notes (at + i) (at + j) 0 0 (λ q. eqb-false j i e (omega (arith, q)))
+        ∙ f j (let n = eqb-false j i e in omega (arith, k, n))
+
 -- notes from `at` on that are zeros, as their part of the column is lent and comes back
 pub cleared : (at : ℕ) (notes zeros rest : List ℕ) → at ≤ length notes → ((i : ℕ) → i < length zeros → get_or zeros i 0 ≡ 0) → (i : ℕ)
     → i < length zeros

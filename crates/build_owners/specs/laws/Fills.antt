@@ -1,13 +1,13 @@
 -- Columns that are written place by place: one table's owners from those of the finer table, and one table after the other until the
 -- column is `owner_column`. Assumes nothing.
-use Rattle.std.specs.Prelude.{◌≡◌, refl, ◌⊎◌, ℕ, zero, suc, ◌+◌, ◌-◌, ◌*◌, ◌<◌, ◌≤◌, get_or, take}
+use Rattle.std.specs.Prelude.{◌≡◌, refl, ◌⊎◌, ℕ, zero, suc, ◌+◌, ◌-◌, ◌*◌, ◌<◌, ◌≤◌, get_or, set, take, replicate}
 use Rattle.std.proofs.Math.Path.{sym, ap}
-use Rattle.std.proofs.Common.{ap₂, ◌∙◌, subst, inl, inr, ⊎_elim, suc-mul, mul-le-mul, le_refl, take-append-drop, get_or-take, get_or-append-add, drop-drop, length-take-le}
+use Rattle.std.proofs.Common.{ap₂, ◌∙◌, subst, inl, inr, ⊎_elim, suc-mul, mul-le-mul, le_refl, add-one, length-set, take-append-drop, get_or-set_same, get_or-set_other, get_or-take, get_or-append-add, drop-drop, length-take-le}
 use mathlib.Core.List.{List, ◌++◌, map, append_assoc}
 use Rattle.std.proofs.Math.Nat.{zero-mul}
 use native.Mathlib.Omega.{arith}
 use Rattle.std.proofs.Math.ListN.{length, drop, length-drop, length-append, get_or-append}
-use Rattle.std.proofs.lemmas.List.{length-map}
+use Rattle.std.proofs.lemmas.List.{length-map, get_or-replicate, length-replicate}
 use Rattle.std.proofs.Math.Seq.{get_or-drop, ext_get_or}
 use Rattle.build_tables.specs.Entries.{Table, entry, unset}
 use Rattle.build_all_zooms.specs.Zooms.{laid_over}
@@ -25,9 +25,43 @@ pub record Wrote (at n : ℕ) (f : ℕ → ℕ) (a b : List ℕ) : Type 0 where
   pub each : (l : ℕ) → l < n → get_or b (at + l) 0 ≡ f l
   pub kept : (j : ℕ) → (j < at) ⊎ (at + n ≤ j) → get_or b j 0 ≡ get_or a j 0
 
+pub wrote_none : (at : ℕ) (f : ℕ → ℕ) (a : List ℕ) → Wrote at 0 f a a
+wrote_none at f a = record { long = refl; each = λ l h. absurd (omega arith); kept = λ j h. refl }
+
+pub wrote-more : (at i v : ℕ) (f : ℕ → ℕ) (a b : List ℕ) → Wrote at i f a b → at + i < length b → v ≡ f i
+    → Wrote at (suc i) f a (set b (at + i) v)
+wrote-more at i v f a b w h e =
+    record {
+      long = length-set b (at + i) v ∙ w.long;
+      each = λ l k. ⊎_elim (λ q. get_or-set_other b (at + i) (at + l) v 0 (λ d. omega arith) ∙ w.each l q) (λ q. here l k q) (below l i);
+      kept = λ j k. get_or-set_other b (at + i) j v 0 (λ d. ⊎_elim (λ q. omega arith) (λ q. omega arith) k)
+          ∙ w.kept j (⊎_elim (λ q. inl q) (λ q. inr (omega arith)) k);
+    }
+  where
+    here : (l : ℕ) → l < suc i → i ≤ l → get_or (set b (at + i) v) (at + l) 0 ≡ f l
+    here l k q =
+        let s : i ≡ l = omega arith in
+        subst (λ (m : ℕ). get_or (set b (at + i) v) (at + m) 0 ≡ f m) s (get_or-set_same b (at + i) v 0 h ∙ e)
+
+-- from the front on, a loop's next place
+pub wrote-next : (i v : ℕ) (f : ℕ → ℕ) (a b : List ℕ) → Wrote 0 i f a b → i < length b → v ≡ f i → Wrote 0 (i + 1) f a (set b i v)
+wrote-next i v f a b w h e =
+    let z : 0 + i ≡ i = omega arith in
+    subst (λ (k : ℕ). Wrote 0 k f a (set b i v)) (sym (add-one i))
+    (subst (λ (k : ℕ). Wrote 0 (suc i) f a (set b k v)) z (wrote-more 0 i v f a b w (omega arith) e))
+
 -- the same values
 pub wrote_as : (at n : ℕ) (f g : ℕ → ℕ) (a b : List ℕ) → Wrote at n f a b → ((l : ℕ) → l < n → f l ≡ g l) → Wrote at n g a b
 wrote_as at n f g a b w h = record { long = w.long; each = λ l k. w.each l k ∙ h l k; kept = w.kept }
+
+-- a column of n places, all of them zeros
+pub wrote-zeros : (n : ℕ) (a b : List ℕ) → length a ≡ n → Wrote 0 n (λ l. 0) a b → b ≡ replicate n 0
+wrote-zeros n a b h w =
+    ext_get_or 0 b (replicate n 0) (w.long ∙ h ∙ sym (length-replicate {A = ℕ} n 0))
+    (λ i k. let m : i < n = omega (arith, k, w.long, h) in at_front i m ∙ sym (get_or-replicate n i 0 0 m))
+  where
+    at_front : (i : ℕ) → i < n → get_or b i 0 ≡ 0
+    at_front i m = let z : 0 + i ≡ i = omega arith in ap (λ (j : ℕ). get_or b j 0) (sym z) ∙ w.each i m
 
 -- ---- where the places of the finer table go
 
@@ -47,6 +81,15 @@ pub record Sends (n : ℕ) (ss : List ℕ) (R : Table) (start len : ℕ) (own : 
 -- the first i entries are found where the owners of their lamps stand
 abbrev pub Sent : (ℕ → ℕ) → ℕ → List ℕ → Type 0
 Sent at i to = (d : ℕ) → d < i → get_or to (at d) 0 ≡ d
+
+pub sent-more : (at : ℕ → ℕ) (i : ℕ) (to : List ℕ) → Sent at i to → at i < length to → ((d : ℕ) → d < i → at d ≡ at i → ⊥)
+    → Sent at (suc i) (set to (at i) i)
+sent-more at i to s h o d k = ⊎_elim (λ q. get_or-set_other to (at i) (at d) i 0 (λ e. o d q e) ∙ s d q) (λ q. here q) (below d i)
+  where
+    here : i ≤ d → get_or (set to (at i) i) (at d) 0 ≡ d
+    here q =
+        let e : i ≡ d = omega arith in
+        subst (λ (m : ℕ). get_or (set to (at i) i) (at m) 0 ≡ m) e (get_or-set_same to (at i) i 0 h)
 
 -- ---- each lamp's next owner
 

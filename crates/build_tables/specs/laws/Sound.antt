@@ -1,4 +1,5 @@
--- Each table of a sound state stands within the columns, and its options and its count are within their bounds. Assumes nothing.
+-- Each table of a sound state stands within the columns, and its options and its count are within their bounds. A state of no points, as
+-- one beside a refused build has none, is never sound. Assumes nothing.
 use Rattle.std.specs.Prelude.{Bool, true, false, cond, ◌&&◌, ◌≡◌, refl, ℕ, zero, suc, ◌+◌, ◌-◌, ◌<◌, ◌≤◌, leb, ltb, eqb}
 use Rattle.std.proofs.Common.{subst, arith, leb-true, eqb-true, ltb-true, ltb-false}
 use Rattle.kdslots.specs.Bounds.{count_ok}
@@ -7,7 +8,7 @@ use Rattle.build_tables.specs.declared.Options.{Options}
 use Rattle.build_tables.specs.declared.State.{State}
 use Rattle.build_tables.specs.Options.{options_ok, table_count, zoom_used}
 use Rattle.build_tables.specs.laws.Bounds.{InBounds, options-are}
-use Rattle.build_tables.specs.State.{start_of, len_of}
+use Rattle.build_tables.specs.State.{new_state, start_of, len_of}
 use Rattle.build_tables.specs.Sound.{table_ok, packed, state_ok}
 
 -- ---- what a sound state gives
@@ -150,3 +151,14 @@ packed-last s cap k at h = go k (omega arith)
   where
     go : (a : ℕ) → a ≡ 0 → packed s cap a at ≡ leb at cap
     go a e = rw e
+
+-- ---- a state of no points and no tables: whatever its options and the columns, every question refuses it
+
+pub none-sound : (o : Options) (cap : ℕ) → state_ok (new_state o 0) cap ≡ false
+unfolding state_ok
+none-sound o cap =
+    go (options_ok o) (eqb (len_of (new_state o 0) (o.max_zoom + 1)) 0) (packed (new_state o 0) cap (table_count o) 0)
+  where
+    go : (a b c : Bool) → (a && count_ok 0 && b && c) ≡ false
+    go true b c = refl
+    go false b c = refl

@@ -38,8 +38,8 @@ returns-then-len-place c =
     let b : Built a.s.now k a.zoom = record { good = good; low = c.if-zoom-o.false; high = c.if-o-zoom.false } in
     read_past a.s.now k a.zoom a.place b c.len_of-len.ensures c.if-len-place.true
 
-pub table-table-requires : goal.table-table-requires
-table-table-requires c =
+pub table_in-table-requires : goal.table_in-table-requires
+table_in-table-requires c =
     let a = c.args in
     let k = tables_held a.t.now in
     let good = sym (ap (state_ok a.s.now) c.room.ensures) ∙ sym c.is_sound.ensures ∙ c.if-not-is_sound.false in
@@ -52,7 +52,7 @@ at-requires c =
     let k = tables_held a.t.now in
     let good = sym (ap (state_ok a.s.now) c.room.ensures) ∙ sym c.is_sound.ensures ∙ c.if-not-is_sound.false in
     let b : Built a.s.now k a.zoom = record { good = good; low = c.if-zoom-o.false; high = c.if-o-zoom.false } in
-    let w = long a.s.now k a.zoom b c.start_of-start.ensures c.len_of-len.ensures c.table-table.result c.table-table.ensures.entries in
+    let w = long a.s.now k a.zoom b c.start_of-start.ensures c.len_of-len.ensures c.table_in-table.result c.table_in-table.ensures.entries in
     omega (arith, w, c.if-len-place.false)
 
 pub returns : goal.returns
@@ -63,4 +63,4 @@ returns c =
     let b : Built a.s.now k a.zoom = record { good = good; low = c.if-zoom-o.false; high = c.if-o-zoom.false } in
     let n = c.len_of-len.ensures in
     read_at a.s.now k a.zoom a.place _ b n c.if-len-place.false
-    (entry-is a.s.now k a.zoom b c.start_of-start.ensures n c.table-table.result c.table-table.ensures.entries a.place c.at.ensures)
+    (entry-is a.s.now k a.zoom b c.start_of-start.ensures n c.table_in-table.result c.table_in-table.ensures.entries a.place c.at.ensures)

@@ -1,12 +1,14 @@
 -- Any two replies that meet the contract of `report` are equal, and so is all that they leave in what was lent; and the answer counts
--- bytes of the buffer. Assumes nothing.
+-- bytes of the buffer. Any two columns of zeros are equal. Assumes nothing.
 use Rattle.std.specs.Prelude.{List, ◌≡◌, ℕ, ◌≤◌, length, take, drop}
 use Rattle.std.proofs.Common.{ap, sym, ◌∙◌, arith, length-append, length-take-le}
 use Rattle.floats.specs.laws.Replies.{same-reply}
 use Rattle.build_all_zooms.specs.Zooms.{laid_over}
 use Rattle.lister_text.specs.laws.OneInput.{text-one}
 use Rattle.lister_text.specs.Text.{Input}
-use Rattle.lister_report.specs.Report.{lines_of, refused_line, Lending, left, Reports, read, refused_report}
+use Rattle.supercluster.specs.Build.{BuildColumns}
+use Rattle.lister_report.specs.declared.ListerColumns.{ListerColumns}
+use Rattle.lister_report.specs.Report.{lines_of, refused_line, Lending, left, Reports, read, refused_report, lister_held, lister_columns}
 
 pub report-replies : (s : List ℕ) (d : Lending) (r t : ℕ) (d' d'' : Lending) → Reports s d r d' → Reports s d t d'' → (r ≡ t) × (d' ≡ d'')
 report-replies s d r t d' d'' (read i v e n l) (read j w f m k) =
@@ -27,3 +29,21 @@ pub report-counts : (s : List ℕ) (d : Lending) (r : ℕ) (d' : Lending) → Re
 unfolding left
 report-counts s d r d' (read i v e n l) = counts (lines_of i) d.out d'.out r n (ap (λ (q : Lending). q.out) l)
 report-counts s d r d' (refused_report no' n l) = counts refused_line d.out d'.out r n (ap (λ (q : Lending). q.out) l)
+
+-- the columns that hold this
+abbrev made_of : BuildColumns → ListerColumns
+made_of c = record {
+  x = c.table.x;
+  y = c.table.y;
+  seen = c.table.seen;
+  id = c.table.id;
+  parent = c.table.parent;
+  num = c.table.num;
+  energy = c.table.energy;
+  ids = c.ids;
+  coords = c.coords;
+  near = c.near;
+}
+
+pub zeros-replies : (r t : ListerColumns) → lister_held r ≡ lister_columns → lister_held t ≡ lister_columns → r ≡ t
+zeros-replies r t n m = ap made_of (same-reply n m)

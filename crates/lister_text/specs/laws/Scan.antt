@@ -1,8 +1,11 @@
 -- What is read of a line, each part over what is left of the text. Assumes nothing.
-use Rattle.std.specs.Prelude.{ℕ, ◌+◌, ◌-◌, ◌*◌, cond, List, [], ◌∷◌, ◌≡◌, refl, ltb, leb, eqb, length, drop, Option, Some, None}
+use Rattle.std.specs.Prelude.{ℕ, suc, ◌+◌, ◌-◌, ◌*◌, ◌<◌, ◌≤◌, Bool, true, false, cond, List, [], ◌∷◌, ◌≡◌, refl, ltb, leb, eqb, length, drop, take, get_or, Option, Some, None}
 use Rattle.std.specs.Char.{is_ascii_digit}
 use Rattle.std.specs.List.{starts_with}
-use Rattle.std.proofs.Common.{ap, sym, ◌∙◌, drop-drop}
+use Rattle.std.proofs.Common.{◌&&◌, ap, sym, ◌∙◌, drop-drop, drop_of_length-le, eqb-true, eq-eqb}
+use Rattle.std.proofs.Math.Numerals.{add-one}
+use Rattle.std.proofs.Math.Seq.{drop-cons}
+use Rattle.std.proofs.lemmas.Bool.Decides.{same_from_decides, Decides-eqb}
 use Rattle.std.proofs.lemmas.Option.{none-some, some_pair_parts}
 
 -- what was read with the place past it, where it was
@@ -86,3 +89,51 @@ module _ (at : ℕ) (l : List ℕ) (e : None ≡ byte_at at l) where
   pub number-end : number_of at l ≡ None
   unfolding number_of
   number-end = ap (number_of at) (no-byte at l e)
+
+-- ---- what a place of a text is read as, by the byte that stands there; past the end nothing is
+
+-- two bytes are compared either way round
+eqb-turned : (k c : ℕ) → eqb k c ≡ eqb c k
+eqb-turned k c =
+    same_from_decides (eqb k c) (eqb c k) (Decides-eqb k c)
+    ((λ e. sym (eqb-true c k e)), (λ e. eq-eqb c k (sym e)))
+
+first-same : (b b' r : Bool) → b ≡ b' → (b && r) ≡ cond b' r false
+first-same true true r e = refl
+first-same true false r e = ap (λ (b : Bool). b && r) e
+first-same false true r e = ap (λ (b : Bool). b && r) e
+first-same false false r e = refl
+
+starts-cons : (k c : ℕ) (ks s : List ℕ) → starts_with eqb (c ∷ s) (k ∷ ks) ≡ cond (eqb c k) (starts_with eqb s ks) false
+starts-cons k c ks s = first-same (eqb k c) (eqb c k) (starts_with eqb s ks) (eqb-turned k c)
+
+module _ (s : List ℕ) (at : ℕ) where
+  pub here : at < length s → drop at s ≡ get_or s at 0 ∷ drop (at + 1) s
+  here h = rw (add-one, drop-cons s at 0)
+
+  pub starts-here : (key : List ℕ) (i : ℕ) → at < length s → i < length key
+      → starts_with eqb (drop at s) (drop i key)
+      ≡ cond (eqb (get_or s at 0) (get_or key i 0)) (starts_with eqb (drop (at + 1) s) (drop (i + 1) key)) false
+  starts-here key i h k =
+      rw (add-one, drop-cons s at 0 h, add-one, drop-cons key i 0 k)
+      (starts-cons (get_or key i 0) (get_or s at 0) (drop (suc i) key) (drop (suc at) s))
+
+  pub starts-short : (key : List ℕ) (i : ℕ) → length s ≤ at → i < length key → starts_with eqb (drop at s) (drop i key) ≡ false
+  starts-short key i h k = rw (drop_of_length-le s h, drop-cons key i 0 k)
+
+  pub starts-all : (key : List ℕ) (i : ℕ) → length key ≤ i → starts_with eqb (drop at s) (drop i key) ≡ true
+  starts-all key i h = rw (drop_of_length-le key h)
+
+  pub more-here : (v : ℕ) → at < length s → more_text v at (drop at s) ≡ more_text v at (get_or s at 0 ∷ drop (at + 1) s)
+  more-here v h = rw (here h)
+
+  pub more-short : (v : ℕ) → length s ≤ at → more_text v at (drop at s) ≡ None
+  unfolding more_text
+  more-short v h = rw (drop_of_length-le s h)
+
+  pub number-here : at < length s → number_of at (drop at s) ≡ number_of at (get_or s at 0 ∷ drop (at + 1) s)
+  number-here h = rw (here h)
+
+  pub number_short : length s ≤ at → number_of at (drop at s) ≡ None
+  unfolding number_of
+  number_short h = rw (drop_of_length-le s h)

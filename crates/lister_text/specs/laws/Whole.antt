@@ -45,7 +45,7 @@ refused-not e = let z : ◌≡◌ {A = ℕ} 0 1 = cc in omega arith
 pub err-inj : {d e : Refusal} → ◌≡◌ {A = Result Head Refusal} (Err d) (Err e) → d ≡ e
 err-inj q = cc
 
-read-inj : (g h : Head) → ◌≡◌ {A = Result Head Refusal} (Ok g) (Ok h) → g ≡ h
+pub read-inj : (g h : Head) → ◌≡◌ {A = Result Head Refusal} (Ok g) (Ok h) → g ≡ h
 read-inj g h e = cc
 
 cond-refused : (b : Bool) (x : Result Head Refusal) (h : Head) → cond b (Err Text) x ≡ Ok h → (b ≡ false) × (x ≡ Ok h)

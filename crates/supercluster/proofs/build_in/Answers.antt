@@ -5,11 +5,14 @@ use lib.Seq.{set-set}
 use Rattle.build_tables.specs.declared.State.{State}
 use Rattle.build_tables.specs.laws.Bounds.{options-are}
 use Rattle.build_tables.specs.Lent.{held_mut}
-use Rattle.build_tables.specs.Rows.{rows}
+use Rattle.build_tables.specs.Rows.{Cols, rows}
 use Rattle.build_tables.specs.laws.Rows.{rows-length}
 use Rattle.build_tables.specs.laws.Lent.{same-even}
 use Rattle.supercluster.specs.laws.Ready.{need-some, slots-put, coords-put, first-inside, ready_at, made_at}
 use Rattle.supercluster.proofs.build_in.Goals as goal
+
+pub lent-e-requires : goal.lent-e-requires
+lent-e-requires c = same-even c.args.t.now c.fill.new.t c.fill.ensures.lent c.requires.0
 
 pub index_part-requires-clause-le_len : goal.index_part-requires-clause-le_len
 index_part-requires-clause-le_len c =
@@ -20,9 +23,12 @@ pub index_part-requires-clause-fact : goal.index_part-requires-clause-fact
 index_part-requires-clause-fact c =
     let l = c.fill.ensures.lent in
     let z = options-are c.args.o c.requires.1.options in
+    let t = held_mut c.fill.new.t in
+    let ex : length c.lent-e.result.x.now ≡ length t.x = ap (λ (q : Cols). length q.x) c.lent-e.ensures in
+    let ey : length c.lent-e.result.y.now ≡ length t.y = ap (λ (q : Cols). length q.y) c.lent-e.ensures in
     let w = need-some c.args.o (length c.args.points.now.xs.now) z.zooms in (
-      (same-even c.args.t.now c.fill.new.t l c.requires.0).ey,
-      omega (arith, l.kx, c.requires.2, w),
+      ey ∙ (same-even c.args.t.now c.fill.new.t l c.requires.0).ey ∙ sym ex,
+      omega (arith, ex, l.kx, c.requires.2, w),
       omega (arith, c.requires.3, w),
       omega (arith, c.requires.4, w),
     )
@@ -31,9 +37,11 @@ pub index_part-requires-clause-inside : goal.index_part-requires-clause-inside
 index_part-requires-clause-inside c =
     let a = c.args in
     let p = a.points.now in
+    let t = held_mut c.fill.new.t in
     let e = same-even a.t.now c.fill.new.t c.fill.ensures.lent c.requires.0 in
-    first-inside a.o p.xs.now p.ys.now p.energies.now c.requires.1 (held_mut c.fill.new.t) (rows (held_mut a.t.now)) e.ey
-    c.fill.ensures.rows
+    let ex : c.lent-e.result.x.now ≡ t.x = ap (λ (q : Cols). q.x) c.lent-e.ensures in
+    let ey : c.lent-e.result.y.now ≡ t.y = ap (λ (q : Cols). q.y) c.lent-e.ensures in
+    rw (ex, ey) (first-inside a.o p.xs.now p.ys.now p.energies.now c.requires.1 t (rows (held_mut a.t.now)) e.ey c.fill.ensures.rows)
 
 pub first_state-s-requires : goal.first_state-s-requires
 first_state-s-requires c = (c.requires.1.few, (options-are c.args.o c.requires.1.options).zoom-to)
@@ -47,6 +55,8 @@ run_zooms-st-requires c =
     let t = held_mut c.fill.new.t in
     let i = c.index_part.new.index in
     let f = a.index.now in
+    let ex : c.lent-e.result.x.now ≡ t.x = ap (λ (q : Cols). q.x) c.lent-e.ensures in
+    let ey : c.lent-e.result.y.now ≡ t.y = ap (λ (q : Cols). q.y) c.lent-e.ensures in
     let put = c.index_part.ensures.put in
     let same = c.index_part.ensures.lent in
     let Z = a.o.max_zoom + 1 in
@@ -58,8 +68,8 @@ run_zooms-st-requires c =
           (omega (arith, (options-are a.o c.requires.1.options).zooms)),
       ready_at a.o p.xs.now p.ys.now p.energies.now c.requires.1 (rows t) (rows (held_mut a.t.now)) i.ids.now f.ids.now
           i.coords.now f.coords.now c.fill.ensures.rows (rows-length t ∙ l.kx ∙ c.requires.2) c.requires.3 c.requires.4
-          same.ids_length same.coords_length (slots-put a.o.node_size n t e.ey i.ids.now f.ids.now put.0)
-          (coords-put a.o.node_size n t e.ey i.coords.now f.coords.now put.1) c.first_state-s.result (length t.x) h
+          same.ids_length same.coords_length (slots-put a.o.node_size n t e.ey i.ids.now f.ids.now (rw (ex, ey) at put.0))
+          (coords-put a.o.node_size n t e.ey i.coords.now f.coords.now (rw (ex, ey) at put.1)) c.first_state-s.result (length t.x) h
           (l.kx ∙ c.requires.2),
       subst (λ (v : State). set v.starts (v.options.max_zoom + 1) 0 ≡ v.starts) (sym h) (set-set (replicate 32 0) Z 0 0),
       subst (λ (v : State). set v.lens (v.options.max_zoom + 1) n ≡ v.lens) (sym h) (set-set (replicate 32 0) Z n n),
@@ -74,6 +84,8 @@ returns-clause-made c =
     let t = held_mut c.fill.new.t in
     let i = c.index_part.new.index in
     let f = a.index.now in
+    let ex : c.lent-e.result.x.now ≡ t.x = ap (λ (q : Cols). q.x) c.lent-e.ensures in
+    let ey : c.lent-e.result.y.now ≡ t.y = ap (λ (q : Cols). q.y) c.lent-e.ensures in
     let put = c.index_part.ensures.put in
     let same = c.index_part.ensures.lent in
     let z = c.run_zooms-st.new.t in
@@ -81,7 +93,7 @@ returns-clause-made c =
     let e = same-even a.t.now c.fill.new.t l c.requires.0 in
     made_at a.o p.xs.now p.ys.now p.energies.now c.requires.1 (rows t) (rows (held_mut a.t.now)) i.ids.now f.ids.now i.coords.now
     f.coords.now c.fill.ensures.rows (rows-length t ∙ l.kx ∙ c.requires.2) c.requires.3 c.requires.4 same.ids_length
-    same.coords_length (slots-put a.o.node_size n t e.ey i.ids.now f.ids.now put.0)
-    (coords-put a.o.node_size n t e.ey i.coords.now f.coords.now put.1) c.first_state-s.result c.run_zooms-st.result
+    same.coords_length (slots-put a.o.node_size n t e.ey i.ids.now f.ids.now (rw (ex, ey) at put.0))
+    (coords-put a.o.node_size n t e.ey i.coords.now f.coords.now (rw (ex, ey) at put.1)) c.first_state-s.result c.run_zooms-st.result
     (rows (held_mut z)) j.ids.now j.coords.now c.clear.new.near c.first_state-s.ensures c.run_zooms-st.ensures.rows
     (c.clear.ensures ∙ ap (λ (k : ℕ). replicate k 0) (c.run_zooms-st.auto.near ∙ c.requires.5))

@@ -1,6 +1,6 @@
 -- A build that is not refused: its points lie within [0,1] and its columns are long enough; and what it leaves in columns that were cut
--- from longer ones. Assumes nothing.
-use Rattle.std.specs.Prelude.{◌≡◌, Bool, true, false, List, ◌++◌, map, ℕ, ◌+◌, ◌*◌, ◌≤◌, min, leb, eqb, take, drop, Float}
+-- from longer ones. And the state beside a reply, that of a refused build too. Assumes nothing.
+use Rattle.std.specs.Prelude.{◌≡◌, Bool, true, false, List, ◌++◌, map, ℕ, ◌+◌, ◌*◌, ◌≤◌, min, leb, eqb, take, drop, replicate, Float}
 use Rattle.std.proofs.Math.Path.{refl}
 use Rattle.std.proofs.Common.{ap, sym, ◌∙◌, arith, leb-true, eqb-true, length-take-le}
 use Rattle.std.proofs.Math.ListN.{length}
@@ -17,6 +17,9 @@ use Rattle.build_tables.specs.laws.Columns.{xs-rows, ys-rows, seen-rows, id-rows
 use Rattle.build_tables.specs.Entries.{Table}
 use Rattle.build_tables.specs.Options.{options_ok}
 use Rattle.build_tables.specs.Room.{columns, room_of}
+use Rattle.build_tables.specs.State.{new_state}
+use Rattle.build_tables.specs.Sound.{state_ok}
+use Rattle.build_tables.specs.laws.Sound.{none-sound}
 use Rattle.build_tables.specs.laws.Roomy.{Roomy, low, high, each-roomy, room-index, index-roomy, front_cols, front-roomy}
 use Rattle.build_tables.specs.Rows.{rows, each2}
 use Rattle.build_tables.specs.laws.Rows.{Even}
@@ -26,7 +29,7 @@ use Rattle.build_tables.specs.declared.State.{State}
 use Rattle.build_all_zooms.specs.Zooms.{joined, joined_ids, joined_co, laid_over}
 use Rattle.supercluster.specs.Build.{converted_all, tables_of, BuildColumns, build_columns, written, need, room_in, triple_ok, ordered}
 use Rattle.supercluster.specs.Build.{first_over}
-use Rattle.supercluster.specs.Build.{checked, by_reply, loaded, outcome, built_state}
+use Rattle.supercluster.specs.Build.{checked, by_reply, loaded, Outcome, outcome, state_left, built_state}
 use Rattle.supercluster.specs.laws.Fill.{pxs, pys, none_over}
 use Rattle.supercluster.specs.laws.Over.{over-map, cut-over, zeros-front}
 use Rattle.supercluster.specs.laws.Ready.{Accepted, Made}
@@ -216,3 +219,45 @@ module _ (o : Options) (xs ys : List Float) (ws : List ℕ) (l : BuildColumns) w
   pub refusal-told : (r : Result (Unit {0}) Refusal) (e : Refusal) → r ≡ checked o xs ys ws l → r ≡ Err e
       → outcome (Err e) l ≡ loaded o xs ys ws l
   refusal-told r e q f = sym (by-reply o xs ys ws l r (Err e) q f)
+
+-- ---- the state that is left beside a reply, whatever build it is of
+
+pub left-done : (o : Options) (s : State) → state_left o (Ok s) ≡ s
+left-done o s = refl
+
+-- a refusal leaves these options, no points and no tables
+pub left-refused : (o : Options) (e : Refusal) → state_left o (Err e) ≡ new_state o 0
+left-refused o e = refl
+
+-- what `load` leaves by a refusal, for every input: such a state, which no question goes by, and the columns as they were
+pub record RefusedBuild (o : Options) (e : Refusal) (l : BuildColumns) (b : Outcome) : Type 0 where
+  pub reply : b.reply ≡ Err e
+  pub options : (state_left o b.reply).options ≡ o
+  pub count : (state_left o b.reply).count ≡ 0
+  pub starts : (state_left o b.reply).starts ≡ replicate 32 0
+  pub lens : (state_left o b.reply).lens ≡ replicate 32 0
+  pub unsound : (cap : ℕ) → state_ok (state_left o b.reply) cap ≡ false
+  pub columns : b.columns ≡ l
+
+module _ (o : Options) (xs ys : List Float) (ws : List ℕ) (l : BuildColumns) where
+  pub refused-build : (e : Refusal) → (loaded o xs ys ws l).reply ≡ Err e → RefusedBuild o e l (loaded o xs ys ws l)
+  unfolding loaded
+  refused-build e h = by (checked o xs ys ws l) e h
+    where
+      by : (r : Result (Unit {0}) Refusal) (e : Refusal) → (by_reply o xs ys ws l r).reply ≡ Err e
+          → RefusedBuild o e l (by_reply o xs ys ws l r)
+      by (Ok d) e h = absurd (let z : ◌≡◌ {A = ℕ} 0 1 = cc in omega arith)
+      by (Err f) e h =
+          record {
+            reply = h;
+            options = refl;
+            count = refl;
+            starts = refl;
+            lens = refl;
+            unsound = λ cap. none-sound o cap;
+            columns = refl;
+          }
+
+  -- and where it is not refused, the state of the build
+  pub done-build : (s : State) → (loaded o xs ys ws l).reply ≡ Ok s → state_left o (loaded o xs ys ws l).reply ≡ s
+  done-build s h = ap (state_left o) h

@@ -5,7 +5,7 @@ use Rattle.build_tables.specs.Rows.{rows}
 use Rattle.build_tables.specs.laws.Rows.{rows-length}
 use Rattle.lister_report.specs.Lines.{line_text, line_room, table_text}
 use Rattle.lister_report.specs.laws.Put.{storing-step, storing-end}
-use Rattle.lister_report.specs.laws.Parts.{line-next, line-none}
+use Rattle.lister_report.specs.laws.Parts.{entry-line, entry-none}
 use Rattle.lister_report.proofs.Writer.table.Goals as goal
 
 pub loop-i-preserved : goal.loop-i-preserved
@@ -18,7 +18,7 @@ loop-i-preserved c =
       omega (arith, p.near, l.invariant.0),
       storing-step a.self.now (table_text a.zoom 0 q) l.self c.line.new.self (table_text a.zoom l.i (drop l.i q))
           (line_text a.zoom l.i c.at.result) (table_text a.zoom (l.i + 1) (drop (l.i + 1) q)) line_room l.invariant.1
-          (line-next q a.zoom l.i c.at.result (omega arith) c.at.ensures) p,
+          (entry-line q a.zoom l.i c.at.result (omega arith) c.at.ensures) p,
     )
 
 pub returns : goal.returns
@@ -28,4 +28,4 @@ returns c =
     let q = rows (held a.t.now) in
     let n = rows-length (held a.t.now) in
     storing-end a.self.now (table_text a.zoom 0 q) l.self (table_text a.zoom l.i (drop l.i q)) (line_room * length a.t.now.x.now)
-    l.invariant.1 (line-none q a.zoom l.i (omega arith)) (omega (arith, l.invariant.0))
+    l.invariant.1 (entry-none q a.zoom l.i (omega arith)) (omega (arith, l.invariant.0))

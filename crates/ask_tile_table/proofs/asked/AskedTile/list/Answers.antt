@@ -2,7 +2,7 @@
 use Rattle.std.proofs.Common.{◌≡◌, Result, Some, Err, ℕ, ap, ◌∙◌, rules, arith}
 use Rattle.refusals.specs.declared.Refusal.{Refusal}
 use Rattle.ask_tile_table.specs.laws.Runs.{left_runs}
-use Rattle.ask_tile_table.specs.laws.Three.{own-may, end-may, listed-few, first_ends, second-ends, third-ends}
+use Rattle.ask_tile_table.specs.laws.Three.{own-may, end-may, asked-few, own-ends, east-ends, west-ends}
 use Rattle.ask_tile_table.specs.declared.RowEnd.TheVariants.{East, West}
 use Rattle.ask_tile_table.proofs.asked.AskedTile.list.Goals as goal
 
@@ -15,7 +15,7 @@ returns-in_err-a c =
     let n = c.list_by.new in
     let e : c.from_residual.result ≡ Err c.in_err-a.field-0.0 = search rules in
     ap (λ (r : Result ℕ Refusal). left_runs r n.out n.px n.py) e
-    ∙ first_ends a.self.now a.out.now a.px.now a.py.now (Some c.own_range.result) (ap Some c.own_range.ensures) c.in_err-a.field-0.0
+    ∙ own-ends a.self.now a.out.now a.px.now a.py.now (Some c.own_range.result) (ap Some c.own_range.ensures) c.in_err-a.field-0.0
     n.out n.px n.py c.in_err-a.ensures
 
 pub list_by-requires-2-clause-framed : goal.list_by-requires-2-clause-framed
@@ -26,7 +26,7 @@ list_by-requires-2-clause-room c =
     let a = c.args in
     omega (
       arith,
-      listed-few a.self.now 0 c.in_ok-a.a (Some c.own_range.result) a.out.now c.list_by.new.out a.px.now a.py.now c.list_by.new.px
+      asked-few a.self.now 0 c.in_ok-a.a (Some c.own_range.result) a.out.now c.list_by.new.out a.px.now a.py.now c.list_by.new.px
           c.list_by.new.py c.in_ok-a.ensures,
       a.self.now.most,
     )
@@ -38,7 +38,7 @@ returns-in_err-b c =
     let m = c.list_by-2.new in
     let e : c.from_residual-in_err-b.result ≡ Err c.in_err-b.field-0.0 = search rules in
     ap (λ (r : Result ℕ Refusal). left_runs r m.out m.px m.py) e
-    ∙ second-ends a.self.now a.out.now a.px.now a.py.now (Some c.own_range.result) (ap Some c.own_range.ensures) c.in_ok-a.a n.out n.px n.py
+    ∙ east-ends a.self.now a.out.now a.px.now a.py.now (Some c.own_range.result) (ap Some c.own_range.ensures) c.in_ok-a.a n.out n.px n.py
     c.in_ok-a.ensures c.strip.result c.strip.ensures c.in_err-b.field-0.0 m.out m.px m.py c.in_err-b.ensures
 
 pub list_by-requires-3-clause-framed : goal.list_by-requires-3-clause-framed
@@ -51,8 +51,8 @@ list_by-requires-3-clause-room c =
     let m = c.list_by-2.new in
     omega (
       arith,
-      listed-few a.self.now 0 c.in_ok-a.a (Some c.own_range.result) a.out.now n.out a.px.now a.py.now n.px n.py c.in_ok-a.ensures,
-      listed-few a.self.now c.in_ok-a.a c.in_ok-b.b c.strip.result n.out m.out n.px n.py m.px m.py c.in_ok-b.ensures,
+      asked-few a.self.now 0 c.in_ok-a.a (Some c.own_range.result) a.out.now n.out a.px.now a.py.now n.px n.py c.in_ok-a.ensures,
+      asked-few a.self.now c.in_ok-a.a c.in_ok-b.b c.strip.result n.out m.out n.px n.py m.px m.py c.in_ok-b.ensures,
       a.self.now.most,
     )
 
@@ -61,6 +61,6 @@ returns c =
     let a = c.args in
     let n = c.list_by.new in
     let m = c.list_by-2.new in
-    third-ends a.self.now a.out.now a.px.now a.py.now (Some c.own_range.result) (ap Some c.own_range.ensures) c.in_ok-a.a n.out n.px n.py
+    west-ends a.self.now a.out.now a.px.now a.py.now (Some c.own_range.result) (ap Some c.own_range.ensures) c.in_ok-a.a n.out n.px n.py
     c.in_ok-a.ensures c.strip.result c.strip.ensures c.in_ok-b.b m.out m.px m.py c.in_ok-b.ensures c.strip-2.result
     c.strip-2.ensures _ c.list_by-3.ensures

@@ -1,13 +1,13 @@
--- `kdslots::Search::narrow` meets its contract: what is left out answers nothing. The measure is the interval's length. Assumes nothing.
+-- `kdslots::narrow` meets its contract: what is left out answers nothing. The measure is the interval's length. Assumes nothing.
 use Rattle.std.proofs.Common.{◌≡◌, ◌+◌, sym, ◌∙◌, true, false, arith}
 use Rattle.kdsort.specs.Shape.{mid}
 use Rattle.kdslots.specs.Slots.{over}
 use Rattle.kdslots.proofs.Narrows.{only-right, only-left, unanswered}
-use Rattle.kdslots.proofs.Search.narrow.Goals as goal
+use Rattle.kdslots.proofs.narrow.Goals as goal
 
 pub loop-v-preserved-then-goes_right : goal.loop-v-preserved-then-goes_right
 loop-v-preserved-then-goes_right c =
-    let a = c.args.self.now in
+    let a = c.args.s.now in
     let s = over a.query a.coords.now in
     let v = c.loop-v.v in
     let m = mid v.0 v.1.0 in
@@ -25,7 +25,7 @@ loop-v-preserved-then-goes_right c =
 
 pub loop-v-preserved : goal.loop-v-preserved
 loop-v-preserved c =
-    let a = c.args.self.now in
+    let a = c.args.s.now in
     let s = over a.query a.coords.now in
     let v = c.loop-v.v in
     let m = mid v.0 v.1.0 in
