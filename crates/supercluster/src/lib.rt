@@ -110,10 +110,10 @@ fn build_in(
     fill(o.coordinate_system, points, t);
     let e = t.lent();
     build_all_zooms::index_part(e.x, e.y, index, o.node_size, 0, n);
-    let s = first_state(o, n);
-    let st = build_all_zooms::run_zooms(t, index, near, s, n as u32);
+    let mut s = first_state(o, n);
+    build_all_zooms::run_zooms(t, index, near, &mut s, n as u32);
     clear(near);
-    st
+    s
 }
 
 // The same, of columns lent one by one: what is left behind a part is known only where its columns are whole parameters.
@@ -279,5 +279,13 @@ pub fn load(o: Options, points: &Points<'_>, t: &mut TablesMut<'_>) -> Result<St
     let state = build_fronts(
         o, points, t.x, t.y, t.seen, t.id, t.parent, t.num, t.energy, t.ids, t.coords, t.near,
     );
-    Ok(state)
+    // By its fields: a state that is moved whole would have an archive call `memcpy`, which it has no other need of.
+    let starts = state.starts;
+    let lens = state.lens;
+    Ok(State {
+        options: state.options,
+        count: state.count,
+        starts,
+        lens,
+    })
 }

@@ -46,8 +46,8 @@ index_part-requires-clause-inside c =
 pub first_state-s-requires : goal.first_state-s-requires
 first_state-s-requires c = (c.requires.1.few, (options-are c.args.o c.requires.1.options).zoom-to)
 
-pub run_zooms-st-requires : goal.run_zooms-st-requires
-run_zooms-st-requires c =
+pub run_zooms-requires : goal.run_zooms-requires
+run_zooms-requires c =
     let a = c.args in
     let p = a.points.now in
     let n = length p.xs.now in
@@ -88,12 +88,12 @@ returns-clause-made c =
     let ey : c.lent-e.result.y.now ≡ t.y = ap (λ (q : Cols). q.y) c.lent-e.ensures in
     let put = c.index_part.ensures.put in
     let same = c.index_part.ensures.lent in
-    let z = c.run_zooms-st.new.t in
-    let j = c.run_zooms-st.new.index in
+    let z = c.run_zooms.new.t in
+    let j = c.run_zooms.new.index in
     let e = same-even a.t.now c.fill.new.t l c.requires.0 in
     made_at a.o p.xs.now p.ys.now p.energies.now c.requires.1 (rows t) (rows (held_mut a.t.now)) i.ids.now f.ids.now i.coords.now
     f.coords.now c.fill.ensures.rows (rows-length t ∙ l.kx ∙ c.requires.2) c.requires.3 c.requires.4 same.ids_length
     same.coords_length (slots-put a.o.node_size n t e.ey i.ids.now f.ids.now (rw (ex, ey) at put.0))
-    (coords-put a.o.node_size n t e.ey i.coords.now f.coords.now (rw (ex, ey) at put.1)) c.first_state-s.result c.run_zooms-st.result
-    (rows (held_mut z)) j.ids.now j.coords.now c.clear.new.near c.first_state-s.ensures c.run_zooms-st.ensures.rows
-    (c.clear.ensures ∙ ap (λ (k : ℕ). replicate k 0) (c.run_zooms-st.auto.near ∙ c.requires.5))
+    (coords-put a.o.node_size n t e.ey i.coords.now f.coords.now (rw (ex, ey) at put.1)) c.first_state-s.result c.run_zooms.new.s
+    (rows (held_mut z)) j.ids.now j.coords.now c.clear.new.near c.first_state-s.ensures c.run_zooms.ensures.rows
+    (c.clear.ensures ∙ ap (λ (k : ℕ). replicate k 0) (c.run_zooms.auto.near ∙ c.requires.5))
