@@ -13,7 +13,7 @@ ghost use Rattle.build_all_zooms.specs.Zooms.{laid_over};
 ghost use Rattle.supercluster.specs.Build.{converted_all, finest, written, built_state, tables_of, need, first_over, triple_ok};
 ghost use Rattle.supercluster.specs.Build.{ordered, outcome, loaded};
 ghost use Rattle.supercluster.specs.Lent.{columns_held, given_all_mut, lent_all_mut};
-ghost use Rattle.supercluster.specs.laws.Ready.{Accepted, Made, first_state};
+ghost use Rattle.supercluster.specs.laws.Ready.{Accepted, Made};
 ghost use Rattle.supercluster.specs.laws.Load.{Holds};
 
 use build_tables::{EntriesMut, Entry, Options, State, TablesMut};
@@ -71,20 +71,6 @@ fn clear(near: &mut [u32])
     }
 }
 
-// The state before the first zoom: the finest table alone.
-fn first_state(o: Options, n: usize) -> State
-    requires { (n ≤ 1048576) × (o.max_zoom ≤ 30) }
-    ensures { result ≡ first_state o n }
-{
-    let count = n as u32;
-    build_tables::with_table(
-        build_tables::new_state(o, count),
-        o.max_zoom as usize + 1,
-        0,
-        count,
-    )
-}
-
 // The build, in columns that just hold it.
 fn build_in(
     o: Options,
@@ -110,8 +96,13 @@ fn build_in(
     fill(o.coordinate_system, points, t);
     let e = t.lent();
     build_all_zooms::index_part(e.x, e.y, index, o.node_size, 0, n);
-    let mut s = first_state(o, n);
-    build_all_zooms::run_zooms(t, index, near, &mut s, n as u32);
+    let count = n as u32;
+    let mut s = build_tables::new_state(o, count);
+    // Before the first zoom there is the finest table alone.
+    let finest = o.max_zoom as usize + 1;
+    s.starts[finest] = 0;
+    s.lens[finest] = count;
+    build_all_zooms::run_zooms(t, index, near, &mut s, count);
     clear(near);
     s
 }
