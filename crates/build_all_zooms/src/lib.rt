@@ -248,8 +248,7 @@ fn one_zoom(
     d
 }
 
-// The zooms from that below the table at 0, of n entries, down to min_zoom. The state stays where the caller has it: a zoom writes where its
-// table starts and how long it is.
+// The zooms from that below the table at 0, of n entries, down to min_zoom.
 pub fn run_zooms(
     t: &mut EntriesMut<'_>,
     index: &mut IndexMut<'_>,
@@ -279,7 +278,6 @@ pub fn run_zooms(
         let d = one_zoom(t, index, near, o, start, len, z, n);
         start = start + len;
         len = d;
-        s.starts[z as usize] = start as u32;
-        s.lens[z as usize] = len as u32;
+        build_tables::with_table(s, z as usize, start as u32, len as u32);
     }
 }

@@ -97,11 +97,9 @@ fn build_in(
     let e = t.lent();
     build_all_zooms::index_part(e.x, e.y, index, o.node_size, 0, n);
     let count = n as u32;
-    let mut s = build_tables::new_state(o, count);
     // Before the first zoom there is the finest table alone.
-    let finest = o.max_zoom as usize + 1;
-    s.starts[finest] = 0;
-    s.lens[finest] = count;
+    let mut s = build_tables::new_state(o, count);
+    build_tables::with_table(&mut s, o.max_zoom as usize + 1, 0, count);
     build_all_zooms::run_zooms(t, index, near, &mut s, count);
     clear(near);
     s
@@ -270,7 +268,7 @@ pub fn load(o: Options, points: &Points<'_>, t: &mut TablesMut<'_>) -> Result<St
     let state = build_fronts(
         o, points, t.x, t.y, t.seen, t.id, t.parent, t.num, t.energy, t.ids, t.coords, t.near,
     );
-    // By its fields: a state that is moved whole would have an archive call `memcpy`, which it has no other need of.
+    // By its fields: moved whole it would go by `memcpy` (`with_table`).
     let starts = state.starts;
     let lens = state.lens;
     Ok(State {

@@ -1,6 +1,7 @@
 -- `build_all_zooms::run_zooms` meets its contract: at the head of the loop the table of zoom z stands indexed, and what is written with
 -- what is left to write is the whole. Assumes nothing.
-use Rattle.std.proofs.Common.{◌≡◌, ◌+◌, refl, length, sym, ◌∙◌, arith}
+use Rattle.std.proofs.Common.{◌≡◌, ◌+◌, refl, length, ap, sym, ◌∙◌, arith}
+use Rattle.build_tables.specs.declared.State.{State}
 use Rattle.build_tables.specs.Columns.{part}
 use Rattle.build_tables.specs.Lent.{held_mut}
 use Rattle.build_tables.specs.Rows.{rows}
@@ -40,8 +41,8 @@ one_zoom-d-requires c =
           c.loop-z-test.true v.3),
     )
 
-pub overflow_cast-s-in-loop-z-2 : goal.overflow_cast-s-in-loop-z-2
-overflow_cast-s-in-loop-z-2 c =
+pub overflow_cast-len-in-loop-z : goal.overflow_cast-len-in-loop-z
+overflow_cast-len-in-loop-z c =
     let a = c.args in
     let l = c.loop-z in
     let w = c.one_zoom-d in
@@ -69,7 +70,8 @@ loop-z-preserved c =
     let came = held_mut w.new.t in
     let i = l.index in
     let j = w.new.index in
-    let same : length (rows came) ≡ length (rows old) = rows-length came ∙ w.ensures.lent.kx ∙ sym (rows-length old) in (
+    let same : length (rows came) ≡ length (rows old) = rows-length came ∙ w.ensures.lent.kx ∙ sym (rows-length old) in
+    let e = c.with_table.ensures in (
       same_then a.t.now l.t w.new.t v.0 w.ensures.lent,
       index_then h i j v.1 w.ensures.index,
       omega (arith, c.loop-z-test.true),
@@ -78,9 +80,10 @@ loop-z-preserved c =
       turn-progress p m l.z l.start l.len (rows old) i.ids.now i.coords.now c.loop-z-test.true v.3 w.result (rows came) j.ids.now
           j.coords.now w.ensures.rows same w.ensures.index.ids_length w.ensures.index.coords_length
           (whole_progress p (zooms_of a.s.now.options) (part 0 a.n first) a.s.now.starts a.s.now.lens) first h.ids.now h.coords.now l.s.starts
-          l.s.lens _ _ v.4 refl refl,
-      v.5,
-      v.6,
+          l.s.lens c.with_table.new.s.starts c.with_table.new.s.lens v.4 (ap (λ (q : State). q.starts) e)
+          (ap (λ (q : State). q.lens) e),
+      ap (λ (q : State). q.options) e ∙ v.5,
+      ap (λ (q : State). q.count) e ∙ v.6,
     )
 
 pub returns-clause-rows : goal.returns-clause-rows
