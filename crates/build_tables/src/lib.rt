@@ -216,8 +216,8 @@ pub fn new_state(options: Options, count: u32) -> State
     }
 }
 
-// With the table of one more zoom. The state stays where the caller has it: what moves a whole state calls `memcpy`, which an archive for C
-// has no other need of.
+// Adds the table of one more zoom. The state is written where its caller has it: handed over and back, it had an archive for C call
+// `memcpy`, which it has no other need of.
 pub fn with_table(s: &mut State, zoom: usize, start: u32, len: u32)
     requires { zoom < 32 }
     ensures { s.new ≡ with_table s.old zoom start len }

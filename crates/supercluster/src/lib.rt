@@ -268,7 +268,8 @@ pub fn load(o: Options, points: &Points<'_>, t: &mut TablesMut<'_>) -> Result<St
     let state = build_fronts(
         o, points, t.x, t.y, t.seen, t.id, t.parent, t.num, t.energy, t.ids, t.coords, t.near,
     );
-    // By its fields: moved whole it would go by `memcpy` (`with_table`).
+    // Field by field: handed on whole, it was copied by `memcpy`, as `build_tables::with_table` says. A field that is an array goes by a
+    // variable, as the prover asks.
     let starts = state.starts;
     let lens = state.lens;
     Ok(State {

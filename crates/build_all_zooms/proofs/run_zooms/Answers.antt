@@ -79,8 +79,8 @@ loop-z-preserved c =
           j.coords.now w.ensures.rows same w.ensures.index.ids_length w.ensures.index.coords_length,
       turn-progress p m l.z l.start l.len (rows old) i.ids.now i.coords.now c.loop-z-test.true v.3 w.result (rows came) j.ids.now
           j.coords.now w.ensures.rows same w.ensures.index.ids_length w.ensures.index.coords_length
-          (whole_progress p (zooms_of a.s.now.options) (part 0 a.n first) a.s.now.starts a.s.now.lens) first h.ids.now h.coords.now l.s.starts
-          l.s.lens c.with_table.new.s.starts c.with_table.new.s.lens v.4 (ap (λ (q : State). q.starts) e)
+          (whole_progress p (zooms_of a.s.now.options) (part 0 a.n first) a.s.now.starts a.s.now.lens) first h.ids.now h.coords.now
+          l.s.starts l.s.lens c.with_table.new.s.starts c.with_table.new.s.lens v.4 (ap (λ (q : State). q.starts) e)
           (ap (λ (q : State). q.lens) e),
       ap (λ (q : State). q.options) e ∙ v.5,
       ap (λ (q : State). q.count) e ∙ v.6,
