@@ -127,7 +127,7 @@ fn fate_of(offset: u32, skipped: u32, num: u32) -> Fate
 #[derive(Clone, Copy)]
 struct Tour<'a> {
     state: &'a State,
-    tables: Tables<'a>,
+    tables: &'a Tables<'a>,
     limit: u32,
     offset: u32,
 }
@@ -157,9 +157,9 @@ fn list_one(count: u32, lamp: u32, so: Sofar, out: &mut [u32]) -> Result<Sofar, 
 // The child cluster id is entered.
 #[cycle(enter_walk_into)]
 fn enter(w: &Tour<'_>, table: usize, id: u32, so: Sofar, out: &mut [u32]) -> Result<Sofar, Refusal>
-    requires { Reached w.now.state.now (room_of (tables_held w.now.tables)) table 0 }
+    requires { Reached w.now.state.now (room_of (tables_held w.now.tables.now)) table 0 }
     ensures opened { let t = w.now in
-        Opened t.state.now (tables_held t.tables) t.limit t.offset table id so.skipped so.listed out.old result out.new }
+        Opened t.state.now (tables_held t.tables.now) t.limit t.offset table id so.skipped so.listed out.old result out.new }
     ensures broke { BrokeBy false result }
 {
     let at = ask_base::go_on(w.state, table, id)?;
@@ -178,11 +178,11 @@ fn walk_into(
     was: Sofar,
     out: &mut [u32],
 ) -> Result<Sofar, Refusal>
-    requires { Reached w.now.state.now (room_of (tables_held w.now.tables)) at.table at.place }
+    requires { Reached w.now.state.now (room_of (tables_held w.now.tables.now)) at.table at.place }
     ensures { let t = w.now in
-        Walked t.state.now (tables_held t.tables) t.limit t.offset cid at.table at.place was.skipped was.listed out.old result out.new }
+        Walked t.state.now (tables_held t.tables.now) t.limit t.offset cid at.table at.place was.skipped was.listed out.old result out.new }
 {
-    let g = ask_base::ring_at(w.state, &w.tables, build_room::room(&w.tables), at);
+    let g = ask_base::ring_at(w.state, w.tables, build_room::room(w.tables), at);
     let mut any = false;
     let mut so = was;
     let mut page = [0usize; 16];
@@ -241,7 +241,7 @@ pub fn leaves(
     }
     let w = Tour {
         state: &s,
-        tables: *t,
+        tables: t,
         limit,
         offset,
     };

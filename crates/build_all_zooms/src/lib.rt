@@ -253,31 +253,31 @@ pub fn run_zooms(
     t: &mut EntriesMut<'_>,
     index: &mut IndexMut<'_>,
     near: &mut [u32],
-    s: State,
+    s: &mut State,
     n: u32,
-) -> State
+)
     requires { let c = held_mut t.old in
         let i = index_held_mut index.old in
-        Even c × (n + n ≤ length near.old) × (s.options.min_zoom ≤ s.options.max_zoom + 1)
-        × Running (zoom_plan s.options n) (length c.x) (zooms_of s.options) 0 n (rows c) i.ids i.co
-        × (set s.starts (s.options.max_zoom + 1) 0 ≡ s.starts) × (set s.lens (s.options.max_zoom + 1) n ≡ s.lens) }
+        let b = s.old in
+        Even c × (n + n ≤ length near.old) × (b.options.min_zoom ≤ b.options.max_zoom + 1)
+        × Running (zoom_plan b.options n) (length c.x) (zooms_of b.options) 0 n (rows c) i.ids i.co
+        × (set b.starts (b.options.max_zoom + 1) 0 ≡ b.starts) × (set b.lens (b.options.max_zoom + 1) n ≡ b.lens) }
     ensures rows { let r = rows (held_mut t.old) in
         let i = index_held_mut index.old in
         let j = index_held_mut index.new in
-        Finished (zoom_plan s.options n) (zooms_of s.options) s result (part 0 n r) r (rows (held_mut t.new))
+        let o = s.old.options in
+        Finished (zoom_plan o n) (zooms_of o) s.old s.new (part 0 n r) r (rows (held_mut t.new))
         i.ids j.ids i.co j.co }
     ensures lent { SameColumns t.old t.new }
     ensures index { SameIndex index.old index.new }
 {
     let o = s.options;
-    let mut st = s;
     let mut start: usize = 0;
     let mut len = n as usize;
     for z in (o.min_zoom..o.max_zoom + 1).rev() {
         let d = one_zoom(t, index, near, o, start, len, z, n);
         start = start + len;
         len = d;
-        st = build_tables::with_table(st, z as usize, start as u32, len as u32);
+        build_tables::with_table(s, z as usize, start as u32, len as u32);
     }
-    st
 }

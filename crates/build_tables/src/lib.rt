@@ -216,15 +216,14 @@ pub fn new_state(options: Options, count: u32) -> State
     }
 }
 
-// With the table of one more zoom.
-pub fn with_table(s: State, zoom: usize, start: u32, len: u32) -> State
+// Adds the table of one more zoom. The state is written where its caller has it: handed over and back, it had an archive for C call
+// `memcpy`, which it has no other need of.
+pub fn with_table(s: &mut State, zoom: usize, start: u32, len: u32)
     requires { zoom < 32 }
-    ensures { result ≡ with_table s zoom start len }
+    ensures { s.new ≡ with_table s.old zoom start len }
 {
-    let mut t = s;
-    t.starts[zoom] = start;
-    t.lens[zoom] = len;
-    t
+    s.starts[zoom] = start;
+    s.lens[zoom] = len;
 }
 
 // The id of the cluster made at the place `origin` of the table zoom + 1, in a build of n points.

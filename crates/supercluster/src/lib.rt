@@ -13,7 +13,7 @@ ghost use Rattle.build_all_zooms.specs.Zooms.{laid_over};
 ghost use Rattle.supercluster.specs.Build.{converted_all, finest, written, built_state, tables_of, need, first_over, triple_ok};
 ghost use Rattle.supercluster.specs.Build.{ordered, outcome, loaded};
 ghost use Rattle.supercluster.specs.Lent.{columns_held, given_all_mut, lent_all_mut};
-ghost use Rattle.supercluster.specs.laws.Ready.{Accepted, Made, first_state};
+ghost use Rattle.supercluster.specs.laws.Ready.{Accepted, Made};
 ghost use Rattle.supercluster.specs.laws.Load.{Holds};
 
 use build_tables::{EntriesMut, Entry, Options, State, TablesMut};
@@ -71,20 +71,6 @@ fn clear(near: &mut [u32])
     }
 }
 
-// The state before the first zoom: the finest table alone.
-fn first_state(o: Options, n: usize) -> State
-    requires { (n ≤ 1048576) × (o.max_zoom ≤ 30) }
-    ensures { result ≡ first_state o n }
-{
-    let count = n as u32;
-    build_tables::with_table(
-        build_tables::new_state(o, count),
-        o.max_zoom as usize + 1,
-        0,
-        count,
-    )
-}
-
 // The build, in columns that just hold it.
 fn build_in(
     o: Options,
@@ -110,10 +96,13 @@ fn build_in(
     fill(o.coordinate_system, points, t);
     let e = t.lent();
     build_all_zooms::index_part(e.x, e.y, index, o.node_size, 0, n);
-    let s = first_state(o, n);
-    let st = build_all_zooms::run_zooms(t, index, near, s, n as u32);
+    let count = n as u32;
+    // Before the first zoom there is the finest table alone.
+    let mut s = build_tables::new_state(o, count);
+    build_tables::with_table(&mut s, o.max_zoom as usize + 1, 0, count);
+    build_all_zooms::run_zooms(t, index, near, &mut s, count);
     clear(near);
-    st
+    s
 }
 
 // The same, of columns lent one by one: what is left behind a part is known only where its columns are whole parameters.
@@ -279,5 +268,14 @@ pub fn load(o: Options, points: &Points<'_>, t: &mut TablesMut<'_>) -> Result<St
     let state = build_fronts(
         o, points, t.x, t.y, t.seen, t.id, t.parent, t.num, t.energy, t.ids, t.coords, t.near,
     );
-    Ok(state)
+    // Field by field: handed on whole, it was copied by `memcpy`, as `build_tables::with_table` says. A field that is an array goes by a
+    // variable, as the prover asks.
+    let starts = state.starts;
+    let lens = state.lens;
+    Ok(State {
+        options: state.options,
+        count: state.count,
+        starts,
+        lens,
+    })
 }

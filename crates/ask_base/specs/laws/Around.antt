@@ -55,6 +55,7 @@ ring_of s t z o = record {
   node_size = s.options.node_size;
 }
 
+-- its query: what lies around the origin, within the ring's radius
 abbrev pub query_of : RingPart → Query
 query_of g = Within g.x g.y g.radius
 

@@ -19,7 +19,7 @@ decreases-walk_into l = 2 * (32 - l.at.table) + 1
 abbrev pub invariant-walk_into-loop-kid : goal.invariant-walk_into-loop-kid
 invariant-walk_into-loop-kid l =
     let g = ring_held l.g in
-    let c = tables_held l.w.tables in
+    let c = tables_held l.w.tables.now in
     (length l.page ≡ 16)
     × Walking l.w.state.now c l.w.limit l.w.offset l.cid l.at.table l.at.place l.initial.so l.initial.out g l.out l.any l.so
     (ahead_in g l.page l.from)

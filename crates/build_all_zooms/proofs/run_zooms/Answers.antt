@@ -15,13 +15,13 @@ use Rattle.build_all_zooms.proofs.run_zooms.Goals as goal
 pub loop-z-init : goal.loop-z-init
 loop-z-init c =
     let a = c.args in
-    let o = a.s.options in
+    let o = a.s.now.options in
     let i = a.index.now in (
       same-refl a.t.now,
       index-refl i,
       c.requires.2,
       c.requires.3,
-      turn-start (zoom_plan o a.n) (o.max_zoom + 1) a.n (rows (held_mut a.t.now)) i.ids.now i.coords.now a.s.starts a.s.lens
+      turn-start (zoom_plan o a.n) (o.max_zoom + 1) a.n (rows (held_mut a.t.now)) i.ids.now i.coords.now a.s.now.starts a.s.now.lens
           c.requires.2 c.requires.4 c.requires.5,
       refl,
       refl,
@@ -37,7 +37,7 @@ one_zoom-d-requires c =
       same-even a.t.now l.t v.0 c.requires.0,
       omega (arith, l.auto.near, c.requires.1),
       omega (arith, c.loop-z-test.true),
-      rw v.0.kx (turn-ready (zoom_plan a.s.options a.n) m l.z l.start l.len (rows (held_mut l.t)) i.ids.now i.coords.now
+      rw v.0.kx (turn-ready (zoom_plan a.s.now.options a.n) m l.z l.start l.len (rows (held_mut l.t)) i.ids.now i.coords.now
           c.loop-z-test.true v.3),
     )
 
@@ -51,7 +51,7 @@ overflow_cast-len-in-loop-z c =
     let i = l.index in
     let j = w.new.index in
     let same : length (rows came) ≡ length (rows old) = rows-length came ∙ w.ensures.lent.kx ∙ sym (rows-length old) in
-    let r = turn-running (zoom_plan a.s.options a.n) (length a.t.now.x.now) l.z l.start l.len (rows old) i.ids.now i.coords.now
+    let r = turn-running (zoom_plan a.s.now.options a.n) (length a.t.now.x.now) l.z l.start l.len (rows old) i.ids.now i.coords.now
     c.loop-z-test.true l.invariant.3 w.result (rows came) j.ids.now j.coords.now w.ensures.rows same w.ensures.index.ids_length
     w.ensures.index.coords_length in
     omega (arith, r.len-few, r.able.few)
@@ -62,7 +62,7 @@ loop-z-preserved c =
     let l = c.loop-z in
     let v = l.invariant in
     let w = c.one_zoom-d in
-    let p = zoom_plan a.s.options a.n in
+    let p = zoom_plan a.s.now.options a.n in
     let m = length a.t.now.x.now in
     let first = rows (held_mut a.t.now) in
     let h = a.index.now in
@@ -71,7 +71,7 @@ loop-z-preserved c =
     let i = l.index in
     let j = w.new.index in
     let same : length (rows came) ≡ length (rows old) = rows-length came ∙ w.ensures.lent.kx ∙ sym (rows-length old) in
-    let e = c.with_table-st.ensures in (
+    let e = c.with_table.ensures in (
       same_then a.t.now l.t w.new.t v.0 w.ensures.lent,
       index_then h i j v.1 w.ensures.index,
       omega (arith, c.loop-z-test.true),
@@ -79,8 +79,8 @@ loop-z-preserved c =
           j.coords.now w.ensures.rows same w.ensures.index.ids_length w.ensures.index.coords_length,
       turn-progress p m l.z l.start l.len (rows old) i.ids.now i.coords.now c.loop-z-test.true v.3 w.result (rows came) j.ids.now
           j.coords.now w.ensures.rows same w.ensures.index.ids_length w.ensures.index.coords_length
-          (whole_progress p (zooms_of a.s.options) (part 0 a.n first) a.s.starts a.s.lens) first h.ids.now h.coords.now l.st.starts
-          l.st.lens c.with_table-st.result.starts c.with_table-st.result.lens v.4 (ap (λ (q : State). q.starts) e)
+          (whole_progress p (zooms_of a.s.now.options) (part 0 a.n first) a.s.now.starts a.s.now.lens) first h.ids.now h.coords.now
+          l.s.starts l.s.lens c.with_table.new.s.starts c.with_table.new.s.lens v.4 (ap (λ (q : State). q.starts) e)
           (ap (λ (q : State). q.lens) e),
       ap (λ (q : State). q.options) e ∙ v.5,
       ap (λ (q : State). q.count) e ∙ v.6,
@@ -92,6 +92,6 @@ returns-clause-rows c =
     let l = c.loop-z in
     let i = l.index in
     let h = a.index.now in
-    turn_end (zoom_plan a.s.options a.n) (length a.t.now.x.now) l.z (zooms_of a.s.options) l.start l.len a.n
-    (rows (held_mut l.t)) i.ids.now i.coords.now (rows (held_mut a.t.now)) h.ids.now h.coords.now a.s l.st
+    turn_end (zoom_plan a.s.now.options a.n) (length a.t.now.x.now) l.z (zooms_of a.s.now.options) l.start l.len a.n
+    (rows (held_mut l.t)) i.ids.now i.coords.now (rows (held_mut a.t.now)) h.ids.now h.coords.now a.s.now l.s
     c.loop-z-test.false l.invariant.3 l.invariant.4 l.invariant.5 l.invariant.6

@@ -21,6 +21,6 @@ invariant-loop-z l =
     SameColumns l.initial.t l.t × SameIndex l.initial.index l.index × (l.o.min_zoom ≤ l.z)
     × Running p (length l.initial.t.x.now) k l.start l.len here j.ids.now j.coords.now
     × Progress p
-    (whole_progress p (l.initial.z - l.o.min_zoom) (part 0 l.initial.len first) l.initial.st.starts l.initial.st.lens) first i.ids.now
-    i.coords.now k l.start l.len here j.ids.now j.coords.now l.st.starts l.st.lens
-    × (l.st.options ≡ l.initial.st.options) × (l.st.count ≡ l.initial.st.count)
+    (whole_progress p (l.initial.z - l.o.min_zoom) (part 0 l.initial.len first) l.initial.s.starts l.initial.s.lens) first i.ids.now
+    i.coords.now k l.start l.len here j.ids.now j.coords.now l.s.starts l.s.lens
+    × (l.s.options ≡ l.initial.s.options) × (l.s.count ≡ l.initial.s.count)

@@ -1,5 +1,5 @@
--- Each table of a sound state stands within the columns, and its options and its count are within their bounds. A state of no points, as
--- one beside a refused build has none, is never sound. Assumes nothing.
+-- Each table of a sound state stands within the columns, and its options and its count are within their bounds. A state of no points is
+-- never sound. Assumes nothing.
 use Rattle.std.specs.Prelude.{Bool, true, false, cond, ◌&&◌, ◌≡◌, refl, ℕ, zero, suc, ◌+◌, ◌-◌, ◌<◌, ◌≤◌, leb, ltb, eqb}
 use Rattle.std.proofs.Common.{subst, arith, leb-true, eqb-true, ltb-true, ltb-false}
 use Rattle.kdslots.specs.Bounds.{count_ok}

@@ -3,6 +3,7 @@
 use Rattle.std.proofs.Common.{◌≡◌, ℕ, ap, sym, ◌∙◌, subst, arith, ◌+◌, ◌≤◌, length, set, replicate}
 use lib.Seq.{set-set}
 use Rattle.build_tables.specs.declared.State.{State}
+use Rattle.build_tables.specs.State.{with_table}
 use Rattle.build_tables.specs.laws.Bounds.{options-are}
 use Rattle.build_tables.specs.Lent.{held_mut}
 use Rattle.build_tables.specs.Rows.{Cols, rows}
@@ -43,11 +44,13 @@ index_part-requires-clause-inside c =
     let ey : c.lent-e.result.y.now ≡ t.y = ap (λ (q : Cols). q.y) c.lent-e.ensures in
     rw (ex, ey) (first-inside a.o p.xs.now p.ys.now p.energies.now c.requires.1 t (rows (held_mut a.t.now)) e.ey c.fill.ensures.rows)
 
-pub first_state-s-requires : goal.first_state-s-requires
-first_state-s-requires c = (c.requires.1.few, (options-are c.args.o c.requires.1.options).zoom-to)
+pub with_table-requires : goal.with_table-requires
+with_table-requires c =
+    let z = (options-are c.args.o c.requires.1.options).zoom-to in
+    omega (arith, z)
 
-pub run_zooms-st-requires : goal.run_zooms-st-requires
-run_zooms-st-requires c =
+pub run_zooms-requires : goal.run_zooms-requires
+run_zooms-requires c =
     let a = c.args in
     let p = a.points.now in
     let n = length p.xs.now in
@@ -60,7 +63,7 @@ run_zooms-st-requires c =
     let put = c.index_part.ensures.put in
     let same = c.index_part.ensures.lent in
     let Z = a.o.max_zoom + 1 in
-    let h = c.first_state-s.ensures in
+    let h = c.with_table.ensures ∙ ap (λ (v : State). with_table v Z 0 n) c.new_state-s.ensures in
     let e = same-even a.t.now c.fill.new.t l c.requires.0 in (
       e,
       omega (arith, c.requires.5),
@@ -69,7 +72,7 @@ run_zooms-st-requires c =
       ready_at a.o p.xs.now p.ys.now p.energies.now c.requires.1 (rows t) (rows (held_mut a.t.now)) i.ids.now f.ids.now
           i.coords.now f.coords.now c.fill.ensures.rows (rows-length t ∙ l.kx ∙ c.requires.2) c.requires.3 c.requires.4
           same.ids_length same.coords_length (slots-put a.o.node_size n t e.ey i.ids.now f.ids.now (rw (ex, ey) at put.0))
-          (coords-put a.o.node_size n t e.ey i.coords.now f.coords.now (rw (ex, ey) at put.1)) c.first_state-s.result (length t.x) h
+          (coords-put a.o.node_size n t e.ey i.coords.now f.coords.now (rw (ex, ey) at put.1)) c.with_table.new.s (length t.x) h
           (l.kx ∙ c.requires.2),
       subst (λ (v : State). set v.starts (v.options.max_zoom + 1) 0 ≡ v.starts) (sym h) (set-set (replicate 32 0) Z 0 0),
       subst (λ (v : State). set v.lens (v.options.max_zoom + 1) n ≡ v.lens) (sym h) (set-set (replicate 32 0) Z n n),
@@ -88,12 +91,13 @@ returns-clause-made c =
     let ey : c.lent-e.result.y.now ≡ t.y = ap (λ (q : Cols). q.y) c.lent-e.ensures in
     let put = c.index_part.ensures.put in
     let same = c.index_part.ensures.lent in
-    let z = c.run_zooms-st.new.t in
-    let j = c.run_zooms-st.new.index in
+    let z = c.run_zooms.new.t in
+    let j = c.run_zooms.new.index in
+    let h = c.with_table.ensures ∙ ap (λ (v : State). with_table v (a.o.max_zoom + 1) 0 n) c.new_state-s.ensures in
     let e = same-even a.t.now c.fill.new.t l c.requires.0 in
     made_at a.o p.xs.now p.ys.now p.energies.now c.requires.1 (rows t) (rows (held_mut a.t.now)) i.ids.now f.ids.now i.coords.now
     f.coords.now c.fill.ensures.rows (rows-length t ∙ l.kx ∙ c.requires.2) c.requires.3 c.requires.4 same.ids_length
     same.coords_length (slots-put a.o.node_size n t e.ey i.ids.now f.ids.now (rw (ex, ey) at put.0))
-    (coords-put a.o.node_size n t e.ey i.coords.now f.coords.now (rw (ex, ey) at put.1)) c.first_state-s.result c.run_zooms-st.result
-    (rows (held_mut z)) j.ids.now j.coords.now c.clear.new.near c.first_state-s.ensures c.run_zooms-st.ensures.rows
-    (c.clear.ensures ∙ ap (λ (k : ℕ). replicate k 0) (c.run_zooms-st.auto.near ∙ c.requires.5))
+    (coords-put a.o.node_size n t e.ey i.coords.now f.coords.now (rw (ex, ey) at put.1)) c.with_table.new.s c.run_zooms.new.s
+    (rows (held_mut z)) j.ids.now j.coords.now c.clear.new.near h c.run_zooms.ensures.rows
+    (c.clear.ensures ∙ ap (λ (k : ℕ). replicate k 0) (c.run_zooms.auto.near ∙ c.requires.5))
